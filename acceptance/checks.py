@@ -1,7 +1,5 @@
 """Runs the checks that unittest finds, side by side, and those that want the machine to themselves in turn."""
 
-from __future__ import annotations
-
 import collections
 import concurrent.futures
 import os
@@ -15,29 +13,21 @@ FOLDERS = [TOP / "acceptance", TOP / "tools"]
 LONGEST = "test_memory"
 
 
-class Outcome(typing.NamedTuple):
-    """What came of a check: its name, what is wrong, if that is anything, and why it was skipped, if it was."""
-
-    name: str
-    wrong: str = ""
-    skipped: str = ""
-
-
 def flat(suite: unittest.TestSuite) -> typing.Iterator[unittest.TestCase]:
     """The checks of a suite."""
     for it in suite:
         yield from flat(it) if isinstance(it, unittest.TestSuite) else [it]
 
 
-def outcome(name: str) -> Outcome:
-    """Runs a check by its name."""
+def outcome(name: str) -> tuple[str, str, str]:
+    """Runs a check by its name: the name, what is wrong, if that is anything, and why it was skipped, if it was."""
     result = unittest.TestResult()
     unittest.TestLoader().loadTestsFromName(name).run(result)
-    wrong = [trace for _, trace in [*result.failures, *result.errors]]
-    return Outcome(name, "\n".join(wrong), "".join(why for _, why in result.skipped[:1]))
+    wrong = "\n".join(trace for _, trace in [*result.failures, *result.errors])
+    return name, wrong, "".join(why for _, why in result.skipped[:1])
 
 
-def outcomes(checks: list[unittest.TestCase]) -> typing.Iterator[Outcome]:
+def outcomes(checks: list[unittest.TestCase]) -> typing.Iterator[tuple[str, str, str]]:
     """What comes of these checks."""
     alone = [it.id() for it in checks if getattr(it, "alone", False)]
     others = sorted({it.id() for it in checks} - set(alone), key=lambda it: (not it.startswith(LONGEST), it))
@@ -50,17 +40,15 @@ def run_all() -> tuple[int, int]:
     """Runs all checks. How many passed, and how many failed."""
     suites = [unittest.TestLoader().discover(str(it), top_level_dir=str(it)) for it in FOLDERS]
     passed, failed = collections.Counter(), collections.Counter()
-    for it in outcomes([check for suite in suites for check in flat(suite)]):
-        if it.wrong:
-            print(f"{it.name} FAILED\n{it.wrong}", flush=True)
-        elif it.skipped:
-            print(f"{it.name} skipped, since {it.skipped}", flush=True)
-        module = it.name.split(".")[0].removeprefix("test_")
-        passed[module] += not it.wrong and not it.skipped
-        failed[module] += bool(it.wrong)
+    for name, wrong, skipped in outcomes([check for suite in suites for check in flat(suite)]):
+        if wrong or skipped:
+            print(f"{name} FAILED\n{wrong}" if wrong else f"{name} skipped, since {skipped}", flush=True)
+        module = name.split(".")[0].removeprefix("test_")
+        passed[module] += not wrong and not skipped
+        failed[module] += bool(wrong)
     for module in sorted(passed):
         print(f"{module}: {passed[module]} passed, {failed[module]} failed", flush=True)
-    return sum(passed.values()), sum(failed.values())
+    return passed.total(), failed.total()
 
 
 if __name__ == "__main__":

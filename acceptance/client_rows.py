@@ -9,21 +9,18 @@ for their causes is held against what all clients were answered. A checkpoint fo
 each entry once: what all checkpoints report comes to all that was accepted.
 """
 
-from __future__ import annotations
-
 import bisect
 import collections
 
-import compare
-from compare import misfit_of_layout, numbers_of
-from fixtures import Wrong, expect
-from plain_session import MOST_CELLS, MOST_ENTRIES, MOST_LIFE, RANGES, Limits, Part, Said, Session, read_line
+from compare import FOLDED, Counts, check_layout, numbers_of
+from fixtures import Client, Wrong, expect
+from plain_session import MOST, MOST_CELLS, MOST_ENTRIES, MOST_LIFE, RANGES, Limits, Part, Said, Session, read_line
 
-BYTES_OF_A_COMMAND, BYTES_OF_A_LISTED_ROW, BYTES_OF_A_SESSION = 330, 60, 100_000
 FULL, NO_CELL, OVER = 6, 9, 10
 Number = tuple[int, int]
 Row = tuple[int, int]
-Counts = dict[str, int]
+# a count for each partition
+ByPart = collections.Counter[int]
 
 
 def said_in(statement: str) -> Said:
@@ -38,8 +35,8 @@ class Own:
         # (what bounds the partitions of all is held elsewhere)
         self.session = Session(splits)
         self.given: list[Number] = []
-        # by partition: rows that went, and entries that checkpoints folded
-        self.gone, self.folded = collections.Counter(), collections.Counter()
+        # rows that went, and entries that checkpoints folded
+        self.gone, self.folded = ByPart(), ByPart()
         # which refusals came of which partition alone
         self.refused: set[tuple[int, int]] = set()
         self.listed = 0
@@ -51,31 +48,22 @@ class Own:
         """The rows by partition and serial."""
         return {(part.number, serial): row for part in self.session.parts for serial, row in part.rows.items()}
 
-    @property
-    def kept(self) -> collections.Counter:
-        """By partition: commands that were accepted."""
-        return collections.Counter({part.number: part.kept for part in self.session.parts})
+    def accepted(self, with_untold: bool = False) -> ByPart:
+        """Commands that were accepted; also those that may have been besides, if they are wanted."""
+        return ByPart({part.number: part.kept + with_untold * part.untold for part in self.session.parts})
 
-    @property
-    def untold(self) -> collections.Counter:
-        """By partition: commands that may have been accepted besides."""
-        return collections.Counter({part.number: part.untold for part in self.session.parts if part.untold})
-
-    @property
-    def accepted(self) -> int:
-        return sum(self.kept.values())
-
-    @property
-    def inserted(self) -> int:
-        return len(self.given)
-
-    @property
-    def deleted(self) -> int:
-        return sum(self.gone.values())
+    def counts(self) -> Counts:
+        """What its replies say of the totals."""
+        least, most = self.accepted().total(), self.accepted(with_untold=True).total()
+        inserted, deleted = len(self.given), self.gone.total()
+        return Counts(least=least, most=most, inserted=inserted, deleted=deleted, listed=self.listed)
 
     def parts_asked(self, said: Said) -> list[int]:
         """The numbers of the partitions that a command asks in turn, where a key isn't outside."""
-        parts = self.session.parts_of(said)
+        return self.asked_of(said, self.session.parts_of(said))
+
+    def asked_of(self, said: Said, parts: list[Part]) -> list[int]:
+        """The same, of the partitions that it names."""
         if said[0] in ("layout", "checkpoint") or (said[0] == "update" and parts and not parts[0].has(said[1][2])):
             return []
         return [part.number for part in parts]
@@ -83,7 +71,8 @@ class Own:
     def take(self, statement: str, lines: list[str]) -> None:
         """Holds a reply against the own rows, and does to them what the statement says."""
         said = said_in(statement)
-        asked = self.parts_asked(said)
+        parts = self.session.parts_of(said)
+        asked = self.asked_of(said, parts)
         is_over = len(asked) == 1 and (OVER, asked[0]) in self.refused
         refusal = self.refusal_of(said, asked, lines)
         if refusal == OVER or (refusal and not is_over):
@@ -92,13 +81,15 @@ class Own:
             self.session.leave_without_memory(said)
         elif is_over:
             raise Wrong(f"{statement}: the life of its partition was over, got {lines}")
-        elif said[0] == "layout":
-            self.look_at(statement, said[1][0], lines)
-        elif said[0] == "checkpoint" and said[1][0] < len(self.session.parts):
-            self.fold(statement, said[1][0], lines)
+        elif said[0] == "layout" and parts:
+            head = check_layout(lines, parts[0])
+            expect(f"{statement}: lines", head[-1] + 1, len(lines))
+            expect(f"{statement}: whether it has the own rows", True, head[1] >= len(parts[0].rows))
+        elif said[0] == "checkpoint" and parts:
+            self.fold(statement, parts[0].number, lines)
         else:
             if said[0] == "insert":
-                self.take_number(statement, self.session.parts[asked[0]], lines)
+                self.take_number(statement, parts[0], lines)
             expect(statement, self.session.answer(said), lines)
             self.listed += len(lines) - 1 if said[0] == "select" else 0
             if lines[0].startswith("gone "):
@@ -106,42 +97,34 @@ class Own:
 
     def refusal_of(self, said: Said, asked: list[int], lines: list[str]) -> int | None:
         """The number of a refusal for a limit that may come; None where it is none of these."""
-        if not asked or len(lines) != 1:
+        if not asked or len(lines) != 1 or not lines[0].startswith("refused "):
             return None
         (kind, numbers), limits = said, self.limits
         needs_cell = kind == "insert" or (kind == "update" and numbers[1] in self.session.parts[numbers[0]].rows)
         may_come = {
-            FULL: limits.history < MOST_ENTRIES and not limits.is_automatic,
-            NO_CELL: limits.cells < MOST_CELLS and needs_cell,
-            OVER: limits.life < MOST_LIFE,
+            f"refused {FULL} {limits.history}": (FULL, limits.history < MOST_ENTRIES and not limits.is_automatic),
+            f"refused {NO_CELL}": (NO_CELL, limits.cells < MOST_CELLS and needs_cell),
+            f"refused {OVER}": (OVER, limits.life < MOST_LIFE),
         }
-        right = {f"refused {FULL} {limits.history}": FULL, f"refused {NO_CELL}": NO_CELL, f"refused {OVER}": OVER}
-        found = right.get(lines[0])
-        return found if may_come.get(found) else None
+        number, may = may_come.get(lines[0], (None, False))
+        return number if may else None
 
     def fold(self, statement: str, part: int, lines: list[str]) -> None:
         """Holds the reply to a checkpoint, which reports how many entries went, of all clients together."""
-        folded = numbers_of(lines[0], ["folded"]) if len(lines) == 1 else None
-        if folded is None or folded[0] > self.limits.history:
+        folded = numbers_of(lines[0], FOLDED) if len(lines) == 1 else []
+        if not folded or folded[0] > self.limits.history:
             raise Wrong(f"{statement}: wanted at most {self.limits.history} entries, got {lines}")
         self.folded[part] += folded[0]
 
     def take_number(self, statement: str, part: Part, lines: list[str]) -> None:
         """Takes the number of a row from the reply. It is the partition's, and greater than those before it."""
-        serial = lines[0].removeprefix(f"row {part.number}.")
-        if serial == lines[0] or not serial.isdecimal() or int(serial) < part.next:
+        number, *serial = numbers_of(lines[0], "row #.#") or [-1]
+        if number != part.number or serial[0] < part.next:
             raise Wrong(f"{statement}: wanted a row number of partition {part.number} from {part.next}, got {lines}")
-        part.next = int(serial)
-        self.given.append((part.number, part.next))
+        part.next = serial[0]
+        self.given.append((number, part.next))
 
-    def look_at(self, statement: str, number: int, lines: list[str]) -> None:
-        """Holds a layout against its equations. It has at least the own rows of its partition."""
-        part, head = self.session.parts[number], numbers_of(lines[0], compare.HEAD)
-        misfit, taken = misfit_of_layout(lines, part, head[1] if head else -1)
-        if misfit or taken != len(lines) or head[1] < len(part.rows):
-            raise Wrong(f"{statement}: {misfit or f'{len(part.rows)} rows are own'}: {lines[:3]}")
-
-    def front(self, standing: dict[Number, Row], closed=()) -> tuple[collections.Counter, collections.Counter, int]:
+    def front(self, standing: dict[Number, Row], closed=()) -> tuple[ByPart, ByPart, int]:
         """What became of the statements whose replies weren't read, given the own rows that stand, but for closed ones.
 
         By partition the least and the greatest number of commands that were accepted of them, and the most rows that
@@ -152,7 +135,7 @@ class Own:
         found = collections.defaultdict(collections.deque)
         for number in sorted(standing.keys() - own.keys()):
             found[number[0]].append(number)
-        least, most, listed, may_refuse = collections.Counter(), collections.Counter(), 0, self.limits != Limits()
+        least, most, listed, may_refuse = ByPart(), ByPart(), 0, self.limits != Limits()
         for said in map(said_in, self.unread):
             if said[0] in RANGES:
                 most.update(self.parts_asked(said))
@@ -171,9 +154,7 @@ class Own:
                     most[part.number] += 1
                 elif not may_refuse:
                     break
-        if any(found.values()):
-            left = [it[0] for it in found.values() if it]
-            raise Wrong(f"{self.low} to {self.high}: rows that no front of what was sent leaves: {left}")
+        expect("rows that no front of what was sent leaves", [], [it[0] for it in found.values() if it])
         return least, most, listed
 
     def keep(self, part: Part, number: Number, row: Row) -> None:
@@ -193,9 +174,49 @@ class Account:
 
     def __init__(self, splits: list[int]) -> None:
         self.splits, self.rows, self.given, self.closed = splits, {}, [0] * (len(splits) + 1), {}
-        # what the look itself asked: commands that were accepted, rows that it was given, and entries that it folded
-        self.asked = self.inserted = 0
-        self.folded = collections.Counter()
+        # what the look itself asked, and how many entries it folded
+        self.counts, self.folded = Counts(), 0
+
+    def look(self, connection: Client, clients: list[Own], limits: Limits) -> None:
+        """Reads all rows by a session that is alone, and learns how many each partition was given.
+
+        It does so after checkpoints, so that no history is full.
+        """
+        ends = [0, *self.splits, MOST]
+        self.fold(connection)
+        if limits.life == MOST_LIFE:
+            self.read_rows(connection.answer(f"select 0 {MOST}"))
+            self.counts.update(least=len(self.given), most=len(self.given))
+        for part in range(len(self.given) if limits.life < MOST_LIFE else 0):
+            lines = connection.answer(f"select {ends[part]} {ends[part + 1]}")
+            if lines == ["refused 10"]:
+                # (where its life is over its layout says how many rows there are)
+                self.closed[part] = int(connection.answer(f"layout {part}")[0].split(" ")[3])
+            else:
+                self.read_rows(lines)
+                self.counts.update(least=1, most=1)
+        self.fold(connection)
+        for part in range(len(self.given)):
+            self.given[part] = self.given_to(part, ends[part], connection, clients, limits)
+        self.fold(connection)
+        self.counts["listed"] += len(self.rows)
+
+    def fold(self, connection: Client) -> None:
+        """Folds each history."""
+        for part in range(len(self.given)):
+            (line,) = connection.answer(f"checkpoint {part}")
+            self.folded += int(line.removeprefix("folded "))
+
+    def given_to(self, part: int, key: int, connection: Client, clients: list[Own], limits: Limits) -> int:
+        """How many rows a partition was given: the number of one more, or those that it has and those that went."""
+        (line,) = [""] if part in self.closed else connection.answer(f"insert {key} 0")
+        if number := numbers_of(line, f"row {part}.#"):
+            self.counts.update(least=1, most=1, inserted=1)
+            return number[0]
+        allowed = [""] + ["refused 9"] * (limits != Limits()) + ["refused 10"] * (limits.life < MOST_LIFE)
+        if line not in allowed:
+            raise Wrong(f"an insert into partition {part}: {line!r}")
+        return self.rows_of(part) + sum(client.gone[part] for client in clients)
 
     def read_rows(self, lines: list[str]) -> None:
         """Takes the lines of a select of all keys, or of those of partitions in turn."""
@@ -213,8 +234,7 @@ class Account:
 
     def of_owners(self, owners: list[Own]) -> list[dict[Number, Row]]:
         """The rows of each owner, in order. Wrong where a row is nobody's."""
-        lows = [it.low for it in owners]
-        parted = [{} for _ in owners]
+        lows, parted = [it.low for it in owners], [{} for _ in owners]
         for number, row in self.rows.items():
             at = bisect.bisect_right(lows, row[0]) - 1
             if at < 0 or row[0] >= owners[at].high:
@@ -230,64 +250,43 @@ class Account:
 def check_numbers(account: Account, clients: list[Own]) -> None:
     """Each number of a row was given once; in a closed partition some to inserts whose replies weren't read."""
     given = sorted(number for client in clients for number in client.given)
+    right = [(part, it) for part, count in enumerate(account.given) for it in range(count)]
     if not account.closed:
-        right = [(part, it) for part, count in enumerate(account.given) for it in range(count)]
         expect("numbers of rows, each given once", right, given)
         return
-    if len(set(given)) != len(given) or any(number >= account.given[part] for part, number in given):
-        raise Wrong(f"numbers of rows, of {account.given} that were given: one came twice, or is none of these")
+    strange = collections.Counter(given) - collections.Counter(right)
+    expect("numbers of rows that came twice, or weren't given", [], list(strange))
     sent = [said[1][0] for client in clients for said in map(said_in, client.unread) if said[0] == "insert"]
-    unread = collections.Counter(bisect.bisect_right(account.splits, key) for key in sent)
+    unread = ByPart(bisect.bisect_right(account.splits, key) for key in sent)
     for part, count in enumerate(account.given):
         missing = count - sum(number[0] == part for number in given)
         if missing > (unread[part] if part in account.closed else 0):
             raise Wrong(f"partition {part} was given {count} rows, and {missing} of them to nobody")
 
 
-def check_causes(account: Account, clients: list[Own], least: dict[int, int], most: dict[int, int]) -> None:
+def check_causes(account: Account, clients: list[Own], least: ByPart, most: ByPart) -> None:
     """No partition has accepted more than its life, and one that refused for a limit as many as that, at least."""
     refused, limits = set().union(*(client.refused for client in clients)), clients[0].limits
-    causes = {FULL: limits.history, NO_CELL: limits.cells, OVER: limits.life}
+    refused |= {(OVER, part) for part in account.closed}
+    bounds = {FULL: limits.history, NO_CELL: limits.cells, OVER: limits.life}
     for part in range(len(account.given)):
-        if least[part] > limits.life or account.rows_of(part) > limits.cells:
-            raise Wrong(f"partition {part} accepted {least[part]} or more, and has {account.rows_of(part)}: {limits}")
-        early = [number for number, bound in causes.items() if (number, part) in refused and most[part] < bound]
-        if early or (part in account.closed and most[part] < limits.life):
-            raise Wrong(f"partition {part} accepted {most[part]} at most, and refused with {early or OVER}: {limits}")
+        early = [number for number, bound in bounds.items() if (number, part) in refused and most[part] < bound]
+        if early or least[part] > limits.life or account.rows_of(part) > limits.cells:
+            accepted = f"{least[part]} to {most[part]}, has {account.rows_of(part)}, and refused early with {early}"
+            raise Wrong(f"partition {part} accepted {accepted}: {limits}")
 
 
 def come_to(account: Account, clients: list[Own]) -> Counts:
     """Holds the clients' rows against all that stands: the counts that the totals have to agree with."""
     clients = sorted(clients, key=lambda it: it.low)
-    least, most, listed = collections.Counter(), collections.Counter(), 0
+    least, most, counts = ByPart(), ByPart(), Counts()
     for client, standing in zip(clients, account.of_owners(clients)):
-        of_unread = client.front(standing, account.closed)
-        least += client.kept + of_unread[0]
-        most += client.kept + client.untold + of_unread[1]
-        listed += client.listed + of_unread[2]
+        *of_unread, listed = client.front(standing, account.closed)
+        least += client.accepted() + of_unread[0]
+        most += client.accepted(with_untold=True) + of_unread[1]
+        counts += client.counts() + Counts(listed=listed)
     check_numbers(account, clients)
     check_causes(account, clients, least, most)
-    inserted = sum(account.given) if account.closed else sum(client.inserted for client in clients)
-    deleted = sum(client.deleted for client in clients)
-    expect("rows held", inserted - deleted, len(account.rows) + sum(account.closed.values()))
-    counts = {"least": sum(least.values()), "most": sum(most.values())}
-    return counts | {"inserted": inserted, "deleted": deleted, "listed": listed}
-
-
-def check_folded(accepted: int, folded: int) -> None:
-    """Each command that was accepted was folded once, since the last checkpoint of each partition came at the end."""
-    expect("entries that checkpoints folded", accepted, folded)
-
-
-def check_totals(line: str, counts: Counts) -> int:
-    """Holds the totals line against what the clients' statements come to. The number of accepted commands."""
-    names = ["least", "most", "inserted", "deleted"]
-    misfit = compare.misfit_of_totals(line.removesuffix("\n"), *(counts[it] for it in names))
-    if misfit:
-        raise Wrong(misfit)
-    return int(line.split()[1])
-
-
-def most_bytes(accepted: int, listed: int, sessions: int) -> int:
-    """How many bytes a server may take beyond those of its start, after so many sessions."""
-    return BYTES_OF_A_COMMAND * accepted + BYTES_OF_A_LISTED_ROW * listed + BYTES_OF_A_SESSION * sessions
+    inserted = sum(account.given) if account.closed else counts["inserted"]
+    expect("rows held", inserted - counts["deleted"], len(account.rows) + sum(account.closed.values()))
+    return Counts({**counts, "least": least.total(), "most": most.total(), "inserted": inserted})

@@ -9,92 +9,89 @@ the pending deletions and with the pending insertions, and as many as the list h
 partition's keys to the other; and there are as many of each as are known, at least.
 """
 
-from __future__ import annotations
-
+import collections
 import dataclasses
+import functools
+import re
 
+from fixtures import Wrong, expect
 from plain_session import NO_CELL, RANGES, Part, Said, Session
 
 SHORT = "refused 8"
-HEAD = ["layout", "rows", "column", "out", "in", "cells", "free", "pieces"]
-TOTALS = ["accepted", "inserted", "deleted", "held"]
+# lines with numbers, each of which stands for a #
+LAYOUT, PIECE = "layout # rows # column # out # in # cells # free # pieces #", "piece # # #"
+TOTALS, FOLDED = "accepted # inserted # deleted # held #", "folded #"
+# what replies say of the totals: `least` and `most` commands that histories keep, since a range that was refused may
+# have been answered in part, and rows that were `inserted`, `deleted` and `listed`
+Counts = collections.Counter[str]
 
 
 @dataclasses.dataclass
 class Seen:
-    """What is wrong, or None; how many statements found no memory; the answers; and what they say of the totals."""
+    """How many statements found no memory, the answers, and what they say of the totals."""
 
-    wrong: str | None = None
     short: int = 0
     answers: list[list[str]] = dataclasses.field(default_factory=list)
-    inserted: int = 0
-    deleted: int = 0
-    # the fewest and the most commands that histories keep: a range that was refused may have been answered in part
-    accepted: int = 0
-    accepted_most: int = 0
+    counts: Counts = dataclasses.field(default_factory=collections.Counter)
 
     def count(self, said: Said, parts: int, answer: list[str] | Part) -> None:
         """Counts the answer to a statement that asks so many partitions."""
         is_kept = parts and not isinstance(answer, Part) and said[0] != "checkpoint"
         if is_kept and not answer[0].startswith("refused"):
-            self.accepted += parts
-            self.accepted_most += parts
-            self.inserted += said[0] == "insert"
-            self.deleted += answer[0].startswith("gone")
+            inserted, deleted = said[0] == "insert", answer[0].startswith("gone")
+            self.counts.update(least=parts, most=parts, inserted=inserted, deleted=deleted)
 
 
-def numbers_in(words: list[str]) -> list[int] | None:
-    """The numbers that words are, written as they are: decimal digits, without zeros before them."""
-    # (int() would take signs and more)
-    are_all = all(it.isascii() and it.isdecimal() and str(int(it)) == it for it in words)
-    return [int(it) for it in words] if are_all else None
+@functools.cache
+def pattern_of(form: str) -> re.Pattern[str]:
+    return re.compile(form.replace(".", "[.]").replace("#", "(0|[1-9][0-9]*)"))
 
 
-def numbers_of(line: str, names: list[str]) -> list[int] | None:
-    """The numbers of a line after these names, each name before its number; None where the line has another form."""
-    words = line.split(" ")
-    return numbers_in(words[1::2]) if len(words) == 2 * len(names) and words[::2] == names else None
+def numbers_of(line: str, form: str) -> list[int]:
+    """The numbers of a line, written without zeros before them; none where it has another form."""
+    found = pattern_of(form).fullmatch(line)
+    return [int(it) for it in found.groups()] if found else []
 
 
-def misfit_of_totals(line: str, least: int, most: int, inserted: int, deleted: int) -> str | None:
-    """What is wrong with a totals line, where so many commands were accepted at least and at most; or None."""
-    totals = numbers_of(line, TOTALS)
-    if totals and least <= totals[0] <= most and totals[1:] == [inserted, deleted, inserted - deleted]:
-        return None
-    return f"totals {line!r}, where replies say {least} to {most}, {inserted}, {deleted}, {inserted - deleted}"
+def check_totals(line: str, counts: Counts) -> int:
+    """Holds a totals line. The number of accepted commands."""
+    accepted, *others = numbers_of(line.removesuffix("\n"), TOTALS) or [-1]
+    right = [counts["inserted"], counts["deleted"], counts["inserted"] - counts["deleted"]]
+    if not counts["least"] <= accepted <= counts["most"] or others != right:
+        raise Wrong(f"totals {line!r}, where replies say {dict(counts)}")
+    return accepted
 
 
-def misfit_of_layout(lines: list[str], part: Part, rows: int) -> tuple[str | None, int]:
-    """What is wrong with the layout at the front of lines, of a partition with so many rows; and how long it is."""
-    head = numbers_of(lines[0], HEAD) if lines else None
-    if head is None:
-        return "no head line", 1
-    number, reported, column, out, pending, cells, free, pieces = head
-    low, sizes = part.low, 0
-    for line in lines[1 : pieces + 1]:
-        kind, *words = line.split(" ")
-        piece = numbers_in(words)
-        if kind != "piece" or not piece or len(piece) != 3 or piece[0] != low or piece[1] < low:
-            return f"the pieces don't join at {line!r}", pieces + 1
-        low, sizes = piece[1], sizes + piece[2]
-    if len(lines) <= pieces or low != part.high:
-        return f"the pieces end at {low}", pieces + 1
-    is_right = number == part.number and sizes == column and column + pending + free == cells
-    is_right = is_right and reported == column - out + pending == rows
-    return None if is_right else f"equations: {lines[0]!r}, sizes {sizes}, rows {rows}", pieces + 1
+def check_layout(lines: list[str], part: Part, rows: int | None = None) -> list[int]:
+    """Holds the layout at the front of these lines, of a partition with so many rows, if that is known.
+
+    The numbers of its first line.
+    """
+    head = numbers_of(lines[0] if lines else "", LAYOUT)
+    pieces = [numbers_of(it, PIECE) for it in lines[1 : head[-1] + 1]] if head else []
+    if not head or len(pieces) != head[-1] or not all(pieces):
+        raise Wrong(f"no layout, but {lines[:3]}")
+    number, reported, column, out, pending, cells, free, _ = head
+    lows, highs, sizes = ([it[at] for it in pieces] for at in range(3))
+    expect("ends of pieces, which join", [part.low, *highs], [*lows, part.high])
+    expect("ends of pieces, which rise", sorted([*lows, part.high]), [*lows, part.high])
+    expect(lines[0], (part.number, sum(sizes), cells), (number, column, column + pending + free))
+    expect(f"{lines[0]}: rows", (reported, reported if rows is None else rows), (column - out + pending, reported))
+    return head
 
 
-def misfit_of_look(part: Part, lines: list[str]) -> tuple[str | None, int]:
-    """The same, beside what is known of the partition's cells. It reports whether there is one for one row more."""
-    misfit, taken = misfit_of_layout(lines, part, len(part.rows))
-    if misfit is None:
-        _, _, column, out, pending, cells, free, _ = numbers_of(lines[0], HEAD)
-        is_right = part.waiting <= out <= len(part.doomed) and cells <= part.limits.cells
-        is_right = is_right and pending >= len(part.fresh) and column - out >= len(part.settled)
+def look(lines: list[str], part: Part) -> int:
+    """The same, beside what is known of the partition's cells. It reports whether there is one for one row more.
+
+    How many lines it has.
+    """
+    _, _, column, out, pending, cells, free, pieces = check_layout(lines, part, len(part.rows))
+    is_right = part.waiting <= out <= len(part.doomed) and cells <= part.limits.cells
+    if not is_right or pending < len(part.fresh) or column - out < len(part.settled):
         known = f"out {part.waiting} to {len(part.doomed)}, in {len(part.fresh)} or more, settled {len(part.settled)}"
-        misfit = None if is_right else f"{lines[0]!r}, where cells are {part.limits.cells} at most, {known}"
-        part.has_cell = cells < part.limits.cells or free > 0
-    return misfit, taken
+        raise Wrong(f"{lines[0]!r}, where cells are {part.limits.cells} at most, {known}")
+    part.has_cell = cells < part.limits.cells or free > 0
+    return pieces + 1
 
 
 def answer_of(session: Session, said: Said, line: str) -> list[str] | Part:
@@ -102,7 +99,7 @@ def answer_of(session: Session, said: Said, line: str) -> list[str] | Part:
     parts = session.parts_of(said)
     if parts and said[0] == "checkpoint":
         # (as many entries as the list has kept, or more by some of those that were never reported)
-        folded = numbers_of(line, ["folded"])
+        folded = numbers_of(line, FOLDED)
         if folded and parts[0].kept < folded[0] <= parts[0].kept + parts[0].untold:
             parts[0].kept = folded[0]
     if parts and line == NO_CELL and said[0] in ("insert", "update"):
@@ -110,52 +107,42 @@ def answer_of(session: Session, said: Said, line: str) -> list[str] | Part:
     return session.answer(said)
 
 
-def held(
-    session: Session, said: Said, lines: list[str], at: int, seen: Seen, may_be_first: bool
-) -> tuple[str | None, int]:
-    """What is wrong with the answer that begins at this line, and how long it is; see `compare`."""
-    line, parts = lines[at] if at < len(lines) else "", len(session.parts_of(said))
+def take(session: Session, said: Said, lines: list[str], seen: Seen, may_be_first: bool) -> int:
+    """Holds the answer at the front of these lines; see `compare`. How many lines it has."""
+    line, parts = lines[0] if lines else "", len(session.parts_of(said))
     if line == SHORT:
         seen.short += 1
-        seen.accepted_most += parts - 1 if said[0] in RANGES else 0
+        seen.counts["most"] += parts - 1 if said[0] in RANGES else 0
         if not parts or (session.is_refused_without_memory(said) and not may_be_first):
-            return f"{SHORT} where no memory is asked for", 1
+            raise Wrong(f"{SHORT} where no memory is asked for")
         session.leave_without_memory(said)
-        return None, 1
+        return 1
     answer = answer_of(session, said, line)
     seen.count(said, parts, answer)
     if isinstance(answer, Part):
-        return misfit_of_look(answer, lines[at:])
-    got = lines[at : at + len(answer)]
-    return (None if got == answer else f"wanted {answer[:4]!r}, got {got[:4]!r}"), len(answer)
-
-
-def lines_of(wrote: bytes) -> list[str] | None:
-    """The lines of a text; None where it is none, or its last line has no end."""
-    is_text = wrote.isascii() and wrote[-1:] in (b"", b"\n")
-    return wrote.decode("ascii").split("\n")[:-1] if is_text else None
+        return look(lines, answer)
+    expect("the reply", answer, lines[: len(answer)])
+    return len(answer)
 
 
 def compare(
     said: list[Said], wrote: bytes, session: Session | None = None, short: int = 0, may_be_first: bool = False
 ) -> Seen:
-    """Compares what a session wrote with what was said in it: `short` statements at most found no memory.
+    """Holds what a session wrote against what was said in it: `short` statements at most found no memory.
 
     Where that `may_be_first` it may come before another refusal that is due as well, as it does at a desk.
     """
-    session, seen, lines, at = session or Session(), Seen(), lines_of(wrote), 0
-    if lines is None:
-        seen.wrong = f"no lines of text: {wrote[-80:]!r}"
-        return seen
+    if not wrote.isascii() or wrote[-1:] not in (b"", b"\n"):
+        raise Wrong(f"no lines of text: {wrote[-80:]!r}")
+    session, seen, lines = session or Session(), Seen(), wrote.decode("ascii").split("\n")[:-1]
     for number, one in enumerate(said, 1):
-        wrong, taken = held(session, one, lines, at, seen, may_be_first)
-        if wrong:
-            seen.wrong = f"statement {number}, {one!r}: {wrong}"
-            return seen
-        seen.answers.append(lines[at : at + taken])
-        at += taken
-    if at < len(lines):
-        seen.wrong = f"{len(lines) - at} lines too many, {lines[at]!r} first"
-    elif seen.short > short:
-        seen.wrong = f"{seen.short} statements were answered {SHORT}, and only {short} calls were refused"
+        try:
+            taken = take(session, one, lines, seen, may_be_first)
+        except Wrong as wrong:
+            raise Wrong(f"statement {number}, {one!r}: {wrong}") from wrong
+        seen.answers.append(lines[:taken])
+        lines = lines[taken:]
+    expect("lines that answer nothing", [], lines)
+    if seen.short > short:
+        raise Wrong(f"{seen.short} statements were answered {SHORT}, and only {short} calls were refused")
     return seen

@@ -1,33 +1,41 @@
-"""What checks stand on: the program, a server and its clients, a child that ends, and one that is refused memory.
+"""What checks stand on: the program, a server and its clients, a child that ends, one on a terminal, and one that is
+refused memory.
 
 `python3 -m unittest acceptance.test_NAME` runs a module of checks on the program of this checkout, or on the one that
 CRACKD names; `-k WORD` runs those whose name has the word.
 """
 
-from __future__ import annotations
-
 import atexit
 import concurrent.futures
 import contextlib
+import fcntl
 import functools
 import os
 import pathlib
+import pty
 import re
+import select
 import shutil
+import signal
 import socket
 import struct
 import subprocess
 import tempfile
+import termios
 import threading
+import time
 import typing
 import unittest
 
 TOP = pathlib.Path(__file__).resolve().parent.parent
 CRATES = TOP / "crates"
-# how long a child or a server may take, and how often another port is tried
-SECONDS, TRIES, MOST_WORKERS = 60, 5, 64
+# how long a child or a server may take, and a client wait for a worker; and how often another port is tried
+SECONDS, PATIENT_SECONDS, TRIES, MOST_WORKERS = 60, 120, 5, 64
 COMPILERS = ["cc", "gcc", "clang", "tcc"]
 PORT_IS_TAKEN = "crackd: refused 17\n"
+CONTROL_C, CONTROL_D = "\x03", "\x04"
+# (a terminal that can do nothing is sent no marks for the editing of a line)
+DUMB = {"TERM": "dumb", "INPUTRC": "/dev/null"}
 Ended = tuple[int, typing.Any, typing.Any]
 
 
@@ -76,33 +84,18 @@ def add(of: type[unittest.TestCase], name: str, check: typing.Callable, *given: 
     setattr(of, f"test_{words}", lambda self: check(self, *given))
 
 
-def add_seeds(of: type[Case], seeds: typing.Iterable[int], fault: typing.Callable[[str, int], str | None]) -> None:
-    """Adds a check for each seed of what a function says is wrong with the program."""
+def add_seeds(of: type[Case], seeds: typing.Iterable[int], check: typing.Callable[[str, int], object]) -> None:
+    """Adds a check for each seed, which calls a function of the program and of the seed."""
     for seed in seeds:
-        add(of, f"seed {seed:02}", lambda self, seed: self.assertIsNone(fault(self.program, seed)), seed)
+        add(of, f"seed {seed:02}", lambda self, seed: check(self.program, seed), seed)
 
 
 def ran(command: typing.Iterable[object], given: str | bytes | None = b"", seconds: float = SECONDS, **how) -> Ended:
     """Runs a child to its end: its status, and what it wrote and complained; as text, if it is given a text."""
     streams = {} if {"stdout", "stderr"} & how.keys() else {"capture_output": True}
-    source = {} if "stdin" in how else {"input": given}
-    words = list(map(str, command))
-    it = subprocess.run(words, text=isinstance(given, str), timeout=seconds, check=False, **streams, **source, **how)
+    how = streams | ({} if "stdin" in how else {"input": given}) | how
+    it = subprocess.run(list(map(str, command)), text=isinstance(given, str), timeout=seconds, check=False, **how)
     return it.returncode, it.stdout, it.stderr
-
-
-@contextlib.contextmanager
-def watched(command: list[str], seconds: float = SECONDS, **how) -> typing.Iterator[subprocess.Popen]:
-    """A child with pipes for all that it reads and writes, which is killed where it hasn't ended in time."""
-    pipes = dict.fromkeys(["stdin", "stdout", "stderr"], subprocess.PIPE)
-    child = subprocess.Popen(command, **{**pipes, **how})
-    watch = threading.Timer(seconds, child.kill)
-    watch.start()
-    try:
-        with child:
-            yield child
-    finally:
-        watch.cancel()
 
 
 @contextlib.contextmanager
@@ -116,25 +109,24 @@ def side_by_side(work: typing.Callable[[], object]) -> typing.Iterator[None]:
         thread.join()
 
 
-def all_at_once(work: typing.Callable, *given: typing.Sequence) -> list:
+def all_at_once(work: typing.Callable, given: typing.Sequence) -> list:
     """What a function returns for each of what is given, each on a thread of its own."""
-    with concurrent.futures.ThreadPoolExecutor(len(given[0])) as pool:
-        return list(pool.map(work, *given))
-
-
-def write_pieces(target: typing.IO[bytes], given: bytes, piece: int) -> None:
-    """Writes bytes to a pipe in pieces of so many, and closes it."""
-    # (a session that has ended reads no more)
-    with contextlib.suppress(BrokenPipeError), target:
-        for at in range(0, len(given), piece):
-            os.write(target.fileno(), given[at : at + piece])
+    with concurrent.futures.ThreadPoolExecutor(len(given)) as pool:
+        return list(pool.map(work, given))
 
 
 def fed(command: list[str], given: bytes, piece: int = 65536) -> Ended:
     """Runs a child that is given bytes in pieces of so many: its status, what it wrote, and what it complained."""
-    with watched(command) as it, side_by_side(lambda: write_pieces(it.stdin, given, piece)):
-        wrote, complained = it.stdout.read(), it.stderr.read()
-    return it.returncode, wrote, complained
+    source, target = os.pipe()
+
+    def feed() -> None:
+        # (a session that has ended reads no more)
+        with contextlib.suppress(BrokenPipeError), open(target, "wb", buffering=0) as file:
+            for at in range(0, len(given), piece):
+                file.write(given[at : at + piece])
+
+    with side_by_side(feed), open(source, "rb") as file:
+        return ran(command, stdin=file)
 
 
 def free_port() -> int:
@@ -165,7 +157,7 @@ class Server:
             self.__exit__()
             raise Wrong(f"the server said {line!r} and {self.last[2]!r}")
 
-    def __enter__(self) -> Server:
+    def __enter__(self) -> typing.Any:
         return self
 
     def __exit__(self, *_: object) -> None:
@@ -211,7 +203,7 @@ def serving(program: str, totals: typing.Sequence, workers: int, sessions: int, 
 class Client:
     """A connection that sends lines and reads lines."""
 
-    def __init__(self, port: int, seconds: float = SECONDS, room: int | None = None) -> None:
+    def __init__(self, port: int, room: int | None = None, seconds: float = PATIENT_SECONDS) -> None:
         self.socket = socket.socket()
         if room:
             self.socket.setsockopt(socket.SOL_SOCKET, socket.SO_RCVBUF, room)
@@ -228,9 +220,6 @@ class Client:
 
     def send(self, text: str) -> None:
         self.socket.sendall(text.encode())
-
-    def send_all(self, statements: typing.Iterable[str]) -> None:
-        self.send("".join(f"{it}\n" for it in statements))
 
     def sends_no_more(self) -> None:
         self.socket.shutdown(socket.SHUT_WR)
@@ -256,11 +245,6 @@ class Client:
         """Sends a statement, whose reply must be these lines."""
         expect(statement, list(wanted), self.answer(statement))
 
-    def talk(self, text: str) -> None:
-        """Asks statements, each a line `STATEMENT | REPLY`, with a further `|` before each further line of a reply."""
-        for line in text.strip().splitlines():
-            self.ask(*map(str.strip, line.split("|")))
-
     def is_at_end(self) -> None:
         expect("after the last reply", "", self.lines.readline())
 
@@ -275,6 +259,42 @@ def length_of(head: str) -> int:
     return 1 + int(words[-1]) if words[:1] in (["rows"], ["layout"]) else 1
 
 
+def bytes_of(process: int, name: str) -> int:
+    """The bytes that a process's status has under a name; 0 once it has ended."""
+    try:
+        text = pathlib.Path(f"/proc/{process}/status").read_text(encoding="ascii")
+    except (FileNotFoundError, ProcessLookupError):
+        return 0
+    found = re.search(rf"^{name}:\s*(\d+) kB$", text, re.MULTILINE)
+    return int(found[1]) * 1024 if found else 0
+
+
+def served_bytes(program: str, limit: int, *commands: int) -> list[int]:
+    """How many bytes a server of this limit has in memory once so many commands were answered, and so many more: counts
+    of four clients, 5,000 at a time."""
+    words = ["--until-eof", "--quiet", "--policy", "auto", "--auto-checkpoint", "--limit", str(limit)]
+    rows, at_once, bytes_then = 1000, 5000, []
+    replies = b"count 800\n" * at_once
+    with Server(program, 4, *words) as server, contextlib.ExitStack() as stack:
+        clients = [stack.enter_context(Client(server.port)) for _ in range(4)]
+        for key in range(rows):
+            clients[0].ask(f"insert {key} 1", f"row 0.{key}")
+
+        def count_all(client: Client) -> None:
+            for _ in range(more // len(clients) // at_once):
+                client.send("count 100 900\n" * at_once)
+                expect("counts", replies, client.lines.buffer.read(len(replies)))
+
+        for more in commands:
+            all_at_once(count_all, clients)
+            bytes_then.append(bytes_of(server.process.pid, "VmRSS"))
+        for it in clients:
+            it.end()
+        server.close()
+        server.wait((rows + sum(commands), rows, 0, rows))
+    return bytes_then
+
+
 @functools.cache
 def refusing_library() -> str | None:
     """The library that refuses memory, compiled from refusing.c; None where that can't be done."""
@@ -287,25 +307,77 @@ def refusing_library() -> str | None:
     return None
 
 
-class Refusing:
-    """Which calls for memory are refused to a child, and what came of it."""
+@contextlib.contextmanager
+def refusing(**which: int) -> typing.Iterator[tuple[dict[str, str], typing.Callable[[], tuple[int, int]]]]:
+    """The environment of a child that is refused these calls for memory, and what then reads how many calls there were,
+    and how many were refused."""
+    words = {f"REFUSE_{name.upper()}": str(it) for name, it in which.items()}
+    with tempfile.NamedTemporaryFile(prefix="crackd-refused-") as file:
+        file.truncate(16)
+        words |= {"REFUSE_TELLS": file.name, "LD_PRELOAD": refusing_library() or ""}
+        yield {**os.environ, **words}, lambda: struct.unpack("QQ", pathlib.Path(file.name).read_bytes())
 
-    def __init__(self, **which: int) -> None:
-        self.which = {f"REFUSE_{name.upper()}": str(it) for name, it in which.items()}
 
-    def __enter__(self) -> Refusing:
-        self.file = tempfile.NamedTemporaryFile(prefix="crackd-refused-")
-        self.file.truncate(16)
+class Terminal:
+    """A pseudo-terminal, and a program that it controls, in a folder. What is typed is shown where it `echoes`."""
+
+    def __init__(self, command: list[str], folder: str, environment={}, stderr=None, ignored=(), echoes=True) -> None:
+        self.shown = ""
+        self.end, other = pty.openpty()
+        if not echoes:
+            attributes = termios.tcgetattr(other)
+            attributes[3] &= ~termios.ECHO
+            termios.tcsetattr(other, termios.TCSANOW, attributes)
+
+        def control() -> None:
+            # (so that a control-C reaches the program, and it is told when the terminal hangs up)
+            fcntl.ioctl(0, termios.TIOCSCTTY, 0)
+            for number in (signal.SIGHUP, signal.SIGINT):
+                signal.signal(number, signal.SIG_IGN if number in ignored else signal.SIG_DFL)
+
+        how = {"stdin": other, "stdout": other, "stderr": stderr or other, "start_new_session": True}
+        how |= {"cwd": folder, "env": {**os.environ, **DUMB, **environment}, "preexec_fn": control}
+        self.process = subprocess.Popen(command, **how)
+        os.close(other)
+
+    def __enter__(self) -> typing.Any:
         return self
 
     def __exit__(self, *_: object) -> None:
-        self.file.close()
+        self.process.kill()
+        self.process.wait()
+        self.hang_up()
 
-    def environment(self) -> dict[str, str]:
-        """The environment of a child whose calls are to be refused so."""
-        return {**os.environ, **self.which, "REFUSE_TELLS": self.file.name, "LD_PRELOAD": refusing_library() or ""}
+    def hang_up(self) -> None:
+        """Closes the terminal, if it is open."""
+        if self.end is not None:
+            os.close(self.end)
+        self.end = None
 
-    def counted(self) -> tuple[int, int]:
-        """How many calls there were, and how many were refused."""
-        self.file.seek(0)
-        return struct.unpack("QQ", self.file.read(16))
+    def type(self, text: str) -> None:
+        os.write(self.end, text.encode())
+
+    def read(self, seconds: float) -> bool:
+        """Whether more was shown within this time."""
+        given = b""
+        if select.select([self.end], [], [], seconds)[0]:
+            # (a terminal says by an error that its program has ended)
+            with contextlib.suppress(OSError):
+                given = os.read(self.end, 65536)
+        self.shown += given.decode().replace("\r\n", "\n")
+        return bool(given)
+
+    def wait_for(self, pattern: str) -> re.Match[str]:
+        """Waits until a pattern is shown, and forgets what was shown up to its end. The match."""
+        until = time.monotonic() + SECONDS
+        while not (found := re.search(pattern, self.shown)):
+            if not self.read(max(0, until - time.monotonic())):
+                raise Wrong(f"wanted {pattern!r}, was shown {self.shown!r}")
+        self.shown = self.shown[found.end() :]
+        return found
+
+    def expect_end(self, status: int) -> None:
+        """The program must end with this status, and show nothing more."""
+        while self.read(SECONDS):
+            pass
+        expect("status, and what else was shown", (status, ""), (self.process.wait(SECONDS), self.shown))

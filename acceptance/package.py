@@ -5,8 +5,6 @@ Prints what unittest does, and last 'package: N passed, M failed'; tests that ar
 counted nowhere.
 """
 
-from __future__ import annotations
-
 import functools
 import os
 import pathlib

@@ -1,4 +1,4 @@
-"""The plain model of a session: its bytes are read by the grammar of docs/SPECIFICATION.md, and its statements are
+"""The plain model of a session, and of CSV: bytes are read by the grammar of docs/SPECIFICATION.md, and statements are
 answered by lists of rows. Written from the rules alone.
 
 A statement that was read is the text of a refusal, or a kind with its numbers. All four policies answer alike. Cells
@@ -12,9 +12,8 @@ checkpoints are made when they are due, rows that wait for their burial are buri
 refused with 9 exactly where rows are as many as there may be cells.
 """
 
-from __future__ import annotations
-
 import bisect
+import re
 import typing
 
 # the ends of keys and payloads; a range may end at the first number above all keys
@@ -35,7 +34,10 @@ FIELDS = {
     **dict.fromkeys(["layout", "checkpoint"], [PART]),
     "quit": [],
 }
-Said = typing.Union[str, tuple[str, list]]
+Said = str | tuple[str, list]
+HEADER, MARK = b"key,payload\n", b"\xef\xbb\xbf"
+# what is quoted of a field of CSV, the rest of it, and what ends it
+FIELD = re.compile(rb'(?:"([^"]*(?:""[^"]*)*)(?:"|\Z))?([^,\r\n]*)([,\r\n]|\Z)')
 
 
 class Refused(Exception):
@@ -70,10 +72,7 @@ def bounds_of(words: typing.Sequence[str]) -> tuple[list[int], Limits]:
 
 def lines(given: bytes) -> list[bytes]:
     """The lines of a session's input, without what ends them."""
-    cut = given.split(b"\n")
-    if not cut[-1]:
-        cut.pop()
-    return [it[:-1] if it.endswith(b"\r") else it for it in cut]
+    return [it.removesuffix(b"\r") for it in given.removesuffix(b"\n").split(b"\n")] if given else []
 
 
 def value(word: bytes, least: int, most: int) -> int | None:
@@ -350,3 +349,41 @@ def replies(given: bytes, splits: typing.Iterable[int] = ()) -> bytes:
     """The text of the replies to a session without layouts."""
     session = Session(splits)
     return text_of(line for it in statements(given) for line in session.answer(it))
+
+
+def records(given: bytes) -> list[list[bytes]]:
+    """The records of CSV, each as the list of its fields, as RFC 4180 has them.
+
+    A field that begins with a quote goes on to the next quote that isn't doubled, and what stands after that quote
+    belongs to it; a line feed or a carriage return ends a record; a line without anything is none.
+    """
+    found, fields = [], []
+    for it in FIELD.finditer(given.removeprefix(MARK)):
+        quoted, rest, end = it.groups(b"")
+        if fields or it[0] != end or end == b",":
+            fields.append(quoted.replace(b'""', b'"') + rest)
+        if fields and end != b",":
+            found.append(fields)
+            fields = []
+    return found
+
+
+def exported(given: bytes, splits: typing.Iterable[int] = (), limits: Limits = Limits()) -> tuple[int, bytes, bytes]:
+    """What comes of CSV that is loaded and exported: the status, the export, and the complaint.
+
+    Refused are the first record that is no row, by its number, and a row of a partition that is at a limit.
+    """
+    wrote, session = b"", Session(splits, limits)
+    try:
+        for number, fields in enumerate(records(given), 1):
+            row = values(fields, FIELDS["insert"])
+            if row is not None:
+                session.part_of(row[0]).insert(*row)
+            elif number > 1 or fields != [b"key", b"payload"]:
+                raise Refused(f"refused 19 {number}")
+        wrote += HEADER
+        for part in session.parts:
+            wrote += b"".join(b"%d,%d\n" % (key, payload) for _, key, payload in part.between(0, MOST))
+    except Refused as refused:
+        return 1, wrote, f"crackd: {refused}\n".encode("ascii")
+    return 0, wrote, b""

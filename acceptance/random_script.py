@@ -6,8 +6,6 @@ refused with 6. Keys and ends of ranges are often splits, or beside one, or at a
 either sign. Checkpoints stand amid the other statements.
 """
 
-from __future__ import annotations
-
 import random
 import typing
 
@@ -19,7 +17,6 @@ from plain_session import Limits, Part, Session, read_line, statements
 # where numbers of 31, 32, 63 and 64 bits end: one that is held in too few bits, or with another sign, is another one
 EDGES = [0, 1, 2**31 - 1, 2**31, 2**32 - 1, 2**32, 2**32 + 1, 2**63 - 1, 2**63, 2**63 + 1, 2**64 - 2, 2**64 - 1, 2**64]
 STATEMENTS = 1000
-SECONDS = 20
 SEEDS = range(36)
 # by the seed: the greatest key; and how many splits, with how many entries histories have that get full, which those of
 # the greatest keys do, and about how many commands a partition accepts in all where limits are small
@@ -60,6 +57,13 @@ def payload_text(numbers: random.Random, payload: int) -> str:
     return sign + str(abs(payload)).rjust(numbers.choice([0, 0, 0, 20]), "0")
 
 
+def changed(numbers: random.Random, text: bytes, likely: bytes) -> bytes:
+    """Bytes in which one was changed, put in or taken out, half of the time by a likely one."""
+    at = numbers.randrange(len(text) + 1)
+    byte = b"%c" % (numbers.randrange(256) if numbers.random() < 0.5 else numbers.choice(likely))
+    return text[:at] + numbers.choice([byte, b""]) + text[at + numbers.randrange(2) :]
+
+
 def bad_lines(key: int, serial: int, low: int) -> list[str]:
     """Lines that are no statements: words that are none, and numbers and signs past the limits."""
     words = [f"insert {key}", f"Delete 0.{serial}", f"delete {serial}", f"sum {low}", "rows", "checkpoint"]
@@ -69,37 +73,43 @@ def bad_lines(key: int, serial: int, low: int) -> list[str]:
     return [*words, *(f"insert {key} {it}" for it in payloads), *keys, *rows]
 
 
+def kind_of(numbers: random.Random, often: dict[str, int]) -> str:
+    """One of these kinds, each of which comes so often."""
+    return numbers.choices(list(often), list(often.values()))[0]
+
+
+def statement(kind: str, row: str, key: object, payload: object, low: object, high: object, policy: object) -> str:
+    """A statement of a kind, with those of these words that it has."""
+    words = {
+        "insert": f"{key} {payload}",
+        "delete": row,
+        "update": f"{row} {key} {payload}",
+        "layout": row.split(".")[0],
+        "checkpoint": row.split(".")[0],
+        "policy": policy,
+        "quit": "",
+    }
+    return f"{kind} {words.get(kind, f'{low} {high}')}".rstrip(" ")
+
+
 def random_statement(numbers: random.Random, session: Session, most: int) -> str:
     """A statement. Keys are at most `most`."""
     bound = lambda: random_bound(numbers, session.splits, most)
     key, payload = min(bound(), most), payload_text(numbers, random_payload(numbers))
-    part = numbers.choice(session.parts)
-    serial = numbers.randrange(part.next + 2)
+    part, kind = numbers.choice(session.parts), kind_of(numbers, KINDS)
+    number, serial = part.number, numbers.randrange(part.next + 2)
     low, high = sorted((bound(), numbers.choice([bound(), bound(), MOST, MOST, numbers.choice(EDGES)])))
-    (kind,) = numbers.choices(list(KINDS), list(KINDS.values()))
-    near = min(max(key, part.low), part.high - 1) if numbers.random() < 0.7 else key
-    other = len(session.parts) + numbers.randrange(3)
-    match kind:
-        case "insert":
-            return f"insert {key} {payload}"
-        case "delete":
-            return f"delete {part.number}.{serial}"
-        case "update":
-            return f"update {part.number}.{serial} {near} {payload}"
-        case it if it in RANGES:
-            return f"{kind} {low} {high}"
-        case "layout" | "checkpoint":
-            return f"{kind} {part.number}"
-        case "policy":
-            return f"policy {numbers.choice(POLICIES)}"
-        case "other part":
-            of_rows = [f"delete {other}.{serial}", f"update {other}.{serial} {key} {payload}"]
-            return numbers.choice([*of_rows, f"layout {other}", f"checkpoint {other}"])
-        case "bad range":
-            ends = numbers.choice([f"{high + 1} {high}", f"{low} {MOST + 1}"])
-            return f"{numbers.choice(RANGES)} {ends}"
-        case _:
-            return numbers.choice(bad_lines(key, serial, low))
+    if kind == "bad line":
+        return numbers.choice(bad_lines(key, serial, low))
+    if kind == "other part":
+        kind, number = numbers.choice(["delete", "update", "layout", "checkpoint"]), len(session.parts)
+        number += numbers.randrange(3)
+    elif kind == "update" and numbers.random() < 0.7:
+        key = min(max(key, part.low), part.high - 1)
+    elif kind == "bad range":
+        kind = numbers.choice(RANGES)
+        low, high = numbers.choice([(high + 1, high), (low, MOST + 1)])
+    return statement(kind, f"{number}.{serial}", key, payload, low, high, numbers.choice(POLICIES))
 
 
 def drawn(session: Session, many: int, draw: typing.Callable[[], str]) -> bytes:
@@ -141,15 +151,17 @@ def script(seed: int) -> tuple[list[str], bytes, list[int], Limits]:
     return words, given + b"quit\n", splits, limits
 
 
-def misfit(given: bytes, wrote: bytes, splits: typing.Iterable[int], limits: Limits) -> str | None:
-    """What is wrong with what a session wrote that was given this; None where it is right."""
-    return compare.compare(statements(given), wrote, Session(splits, limits)).wrong
+def check_session(
+    program: str, given: bytes, splits: typing.Iterable[int] = (), limits: Limits = Limits(), piece: int = 65536, **how
+) -> None:
+    """Holds what a session is answered that is given this, in pieces of so many bytes; it may have other words."""
+    words = how.get("words", ["script", *limits.words(), *map(str, splits)])
+    status, wrote, complained = fixtures.fed([program, *words], given, piece)
+    fixtures.expect("status and standard error", (0, b""), (status, complained))
+    compare.compare(statements(given), wrote, Session(splits, limits))
 
 
-def fault(program: str, seed: int) -> str | None:
-    """What is wrong with the program's answers to the script of a seed; None where they are right."""
-    words, given, splits, limits = script(seed)
-    status, wrote, complained = fixtures.ran([program, *words], given, SECONDS)
-    if status or complained:
-        return f"status {status}, standard error {complained!r}"
-    return misfit(given, wrote, splits, limits)
+def check(program: str, seed: int) -> None:
+    """Holds the program's answers to the script of a seed."""
+    words, *given = script(seed)
+    check_session(program, *given, words=words)

@@ -1,11 +1,9 @@
 """Runs the program on the acceptance cases: run.py PROGRAM [WORD ..]
 
-With words only the cases whose name, or whose file's name, has one of them; cases/README.txt says how a case is written.
+With words only the cases whose name, or whose file's name, has one of them; cases/README.txt says how one is written.
 Prints for each case that fails its file, the first line of it that differs, what was wanted there and what came, and
 last 'acceptance: N passed, M failed'.
 """
-
-from __future__ import annotations
 
 import contextlib
 import dataclasses
@@ -16,6 +14,7 @@ import re
 import subprocess
 import sys
 import tempfile
+import time
 import typing
 
 import fixtures
@@ -63,13 +62,10 @@ class Case:
     target: str = ""
     fits: tuple[int, int] | None = None
 
-    def option(self, name: str) -> str | None:
-        """What stands after a word of the command line."""
-        return dict(zip(self.words, self.words[1:])).get(name)
-
     def output(self) -> list[Wanted]:
         """The lines of output, those of a batch worker by worker."""
-        workers = int(self.option("--workers") or 0) if self.wanted and "batch" in self.words[:2] else 0
+        is_batch = self.wanted and "batch" in self.words[:2]
+        workers = int(dict(zip(self.words, self.words[1:])).get("--workers", 0)) if is_batch else 0
         heads = [Wanted(b"worker %d\n" % it, self.line, it) for it in range(workers)]
         said = [it for it in [*heads, *self.wanted] if it.worker is not None]
         said.sort(key=lambda it: it.worker % workers if workers else 0)
@@ -90,8 +86,8 @@ def unescaped(text: str) -> bytes:
             raise Misfit(f"no escape: {found[0].decode(errors='replace')!r}")
         return PLAIN[found[1]]
 
-    repeated = REPEATED.sub(lambda it: int(it[1]) * it[2], text.encode())
-    return ESCAPED.sub(byte, repeated) + (b"" if text.endswith("\\c") else b"\n")
+    times = lambda it: b"".join(it[2].replace(b"#", b"%d" % number) for number in range(int(it[1])))
+    return ESCAPED.sub(byte, REPEATED.sub(times, text.encode())) + (b"" if text.endswith("\\c") else b"\n")
 
 
 def inputs(section: str) -> list[bytes]:
@@ -112,7 +108,7 @@ def take_statement(to: Case, text: str, number: int) -> None:
         worker = int(first) if first.isdigit() else 0
     if worker is None:
         raise Misfit("no statement is above this line of a reply")
-    to.wanted.append(Wanted(unescaped(found[2] or ""), number, worker))
+    to.wanted += [Wanted(line, number, worker) for line in LINE.findall(unescaped(found[2] or ""))]
 
 
 def take(to: Case, mark: str, rest: str, number: int) -> None:
@@ -180,19 +176,49 @@ def all_cases(*words: str) -> list[Case]:
     return [it for it in found if not words or any(word in it.name or word in it.path.stem for word in words)]
 
 
+def said(client: fixtures.Client, statement: str) -> str:
+    """What a client is answered to a statement, or to something else that it does."""
+    word, _, text = statement.partition(" ")
+    if not word.startswith("."):
+        return "".join(f"{it}\n" for it in client.answer(statement))
+
+    def send() -> None:
+        # (one that was never served may be reset)
+        with contextlib.suppress(OSError):
+            client.send(text.replace("\\n", "\n"))
+            if word == ".ends":
+                client.sends_no_more()
+
+    wrote = ""
+    with contextlib.suppress(ConnectionError), fixtures.side_by_side(send):
+        wrote = client.lines.read() if word == ".ends" else ""
+    if word == ".resets":
+        client.reset()
+    if word in (".leaves", ".resets"):
+        client.__exit__()
+    return wrote
+
+
 def served(program: str, of: Case) -> fixtures.Ended:
     """What came of a server, whose clients are answered one statement after the other."""
-    lines = [it.decode().split(" ", 1) for it in of.given.splitlines()]
-    sessions = ["--sessions", str(len({number for number, _ in lines})), "--quiet"]
+    lines = [it.partition(" ")[::2] for it in of.given.decode().splitlines()]
+    ends = ["--sessions", str(len({number for number, _ in lines})), "--quiet"]
+    if "--until-eof" in of.words:
+        lines, ends = [*lines, ("eof", "")], []
     clients: dict[str, fixtures.Client] = {}
     wrote = ""
-    with fixtures.Server(program, *of.words[2:], *sessions) as server, contextlib.ExitStack() as stack:
-        for number, statement in lines:
-            if number not in clients:
-                clients[number] = stack.enter_context(fixtures.Client(server.port, SECONDS))
-            wrote += "".join(f"{it}\n" for it in clients[number].answer(statement))
+    with fixtures.Server(program, *of.words[2:], *ends) as server, contextlib.ExitStack() as stack:
+        for number, text in lines:
+            if number == "eof":
+                server.close()
+            elif number == "wait":
+                time.sleep(float(text))
+            else:
+                if number not in clients:
+                    clients[number] = stack.enter_context(fixtures.Client(server.port, seconds=SECONDS))
+                wrote += said(clients[number], text)
         status, totals, complained = server.ended()
-    return status, f"{wrote}{totals}".encode(), complained.encode()
+    return status, f"{wrote}{totals}".encode(), complained.replace(f":{server.port}", ":PORT").encode()
 
 
 def ran(program: str, of: Case) -> fixtures.Ended:

@@ -1,48 +1,41 @@
 """Checks of the checks: right answers pass, and one that is dropped, doubled, changed or has no cause is found."""
 
-from __future__ import annotations
-
 import contextlib
-import dataclasses
 import io
 import pathlib
 import random
 import re
-import sys
 import tempfile
 import typing
 import unittest
 import unittest.mock
 
-import compare
 import fixtures
-import memory
-import plain_csv
 import plain_session
 import random_script
 import run
 import soak
 import test_csv
 import test_devices
-import test_lines
-import test_server_limits
-from client_rows import Account, Own, check_folded, check_totals, come_to, most_bytes
+import test_memory
+import test_server
+from client_rows import Account, Counts, Own, come_to
+from compare import check_totals, compare
 from fixtures import Wrong, length_of
-from plain_session import Limits, Session, statements, text_of
+from plain_session import Limits, Session, bounds_of, exported, statements, text_of
 
 REFUSALS, FULL = "refused 4, refused 2, refused 1", "row 0.0, refused 6 7, refused 6 7"
-STAND_IN = fixtures.TOP / "acceptance" / "stand_in.py"
 TOTALS = "accepted 9 inserted 4 deleted 1 held 3\n"
-COUNTS = {"least": 8, "most": 9, "inserted": 4, "deleted": 1, "listed": 2}
+COUNTS = Counts(least=8, most=9, inserted=4, deleted=1)
+FOUND, FAULTS = (Wrong, ValueError, IndexError), ["drop", "double", "change", "short"]
 
 
-@dataclasses.dataclass
-class Kind:
+class Kind(typing.NamedTuple):
     """A kind of doctored.txt: its name, what bounds the partitions, and its lines, each with its mark."""
 
     name: str
     bounds: dict[str, int]
-    lines: list[tuple[str, str]] = dataclasses.field(default_factory=list)
+    lines: list[tuple[str, str]]
 
     @property
     def limits(self) -> Limits:
@@ -57,7 +50,7 @@ def kinds(section: str) -> list[Kind]:
         rest = re.sub(r"[A-Z]{3,}\d?", lambda it: words.get(it[0], it[0]), rest)
         if mark == "==":
             name, _, bounds = rest.rpartition(":")
-            found.append(Kind(name, {word: int(it) for word, it in re.findall(r"(\w+) (\d+)", bounds)}))
+            found.append(Kind(name, {word: int(it) for word, it in re.findall(r"(\w+) (\d+)", bounds)}, []))
         elif mark == "=":
             word, _, words[word] = line.removeprefix("= ").partition(" ")
         elif mark:
@@ -83,35 +76,36 @@ def answered(one: Own, asked: str, told: str) -> Own:
 class Replies(unittest.TestCase):
     """The kinds of replies of doctored.txt."""
 
-    def assert_wrong(self, function: typing.Callable, *given: object) -> None:
-        with self.assertRaises((Wrong, ValueError, IndexError), msg=given):
-            function(*given)
+    def hold(self, mark: str, check: typing.Callable, *given: object) -> typing.Any:
+        """What a check returns for what has the mark +; anything else it must find wrong."""
+        if mark == "+":
+            return check(*given)
+        return self.assertRaises(FOUND, check, *given)
 
     def assert_session(self, kind: Kind) -> None:
         (_, asked), *replies = kind.lines
-        splits = [kind.bounds["split"]] if "split" in kind.bounds else []
+        splits, short = [kind.bounds["split"]] if "split" in kind.bounds else [], kind.bounds.get("short", 0)
         for mark, lines in replies:
-            session, wrote = Session(splits, kind.limits), text_of(parted(lines))
-            seen = compare.compare(statements(text_of(parted(asked))), wrote, session, kind.bounds.get("short", 0))
-            self.assertEqual(seen.wrong is None, mark == "+", lines)
+            given = statements(text_of(parted(asked))), text_of(parted(lines)), Session(splits, kind.limits), short
+            with self.subTest(lines):
+                self.hold(mark, compare, *given)
 
     def assert_client(self, kind: Kind) -> None:
         (_, asked), *replies = kind.lines
         for mark, lines in replies:
-            one = Own([150], 100, 200, kind.limits)
-            check = answered if mark == "+" else lambda *given: self.assert_wrong(answered, *given)
-            check(one, asked, lines)
+            with self.subTest(lines):
+                self.hold(mark, answered, Own([150], 100, 200, kind.limits), asked, lines)
 
     def assert_end(self, kind: Kind) -> None:
         for mark, text in kind.lines:
-            if mark in "+-":
-                rows, _, counts = text.partition(" = ")
+            rows, _, counts = text.partition(" = ")
+            with self.subTest(text):
+                came = self.hold(mark, self.come_to, kind, rows) if mark in "+-" else None
                 if mark == "+":
-                    self.assertEqual(list(self.come_to(kind, rows).values()), list(map(int, counts.split())), text)
-                else:
-                    self.assert_wrong(self.come_to, kind, rows)
+                    names = ["least", "most", "inserted", "deleted", "listed"]
+                    self.assertEqual([came[it] for it in names], list(map(int, counts.split())))
 
-    def come_to(self, kind: Kind, rows: str) -> dict[str, int]:
+    def come_to(self, kind: Kind, rows: str) -> Counts:
         """What the clients of a kind of the section `ends` come to where these rows stand."""
         clients, account = [], Account([150])
         for mark, text in kind.lines:
@@ -131,22 +125,19 @@ class Replies(unittest.TestCase):
     def test_what_was_accepted(self) -> None:
         asked = "insert 110 5, insert 180 6, delete 0.0, select 100 200, update 1.0 120 9, count 120 110, insert 1"
         one = answered(Own([150], 100, 200), asked, "row 0.0, row 1.0, gone 110 5, rows 1, 1.0 180 6, " + REFUSALS)
-        self.assertEqual((one.accepted, one.inserted, one.deleted, one.listed), (5, 2, 1, 1))
+        self.assertEqual(one.counts(), Counts(least=5, most=5, inserted=2, deleted=1, listed=1))
         one = answered(Own([150], 100, 200, Limits(7)), "insert 110 5, count 100 200, count 100 150", FULL)
-        self.assertEqual((one.accepted, len(one.rows), one.untold, one.folded), (1, 1, {0: 1}, {}))
+        self.assertEqual((one.counts(), one.folded), (Counts(least=1, most=2, inserted=1), Counts()))
         answered(one, "checkpoint 0, checkpoint 1", "folded 7, folded 0")
-        self.assertEqual((one.accepted, one.folded), (1, {0: 7, 1: 0}))
-        check_folded(9, 9)
-        self.assert_wrong(check_folded, 9, 8)
+        self.assertEqual((one.counts(), one.folded), (Counts(least=1, most=2, inserted=1), {0: 7, 1: 0}))
 
     def test_totals(self) -> None:
         for accepted in (8, 9):
             self.assertEqual(check_totals(TOTALS.replace("9", str(accepted)), COUNTS), accepted)
-        self.assertEqual(most_bytes(1000, 100, 3), 330 * 1000 + 60 * 100 + 3 * 100_000)
         others = [("9", "10"), ("9", "7"), ("d 4", "d 5"), ("d 4", "d 3"), ("d 1", "d 0"), ("d 1", "d 2"), ("3", "4")]
         lines = [TOTALS.replace(*it) for it in [*others, ("3", "2"), (" held 3", ""), ("4", "x")]]
         for line in [*lines, "", TOTALS + TOTALS]:
-            self.assert_wrong(check_totals, line, COUNTS)
+            self.hold("-", check_totals, line, COUNTS)
 
 
 SECTIONS = {"sessions": Replies.assert_session, "clients": Replies.assert_client, "ends": Replies.assert_end}
@@ -162,17 +153,18 @@ class Reference(unittest.TestCase):
         scripts = [it for it in run.all_cases() if "script" in it.words and it.wanted and not it.status]
         self.assertGreater(len(scripts), 150)
         for it in scripts:
-            session, wrote = Session(*plain_session.bounds_of(it.words)), b"".join(line.text for line in it.wanted)
-            self.assertIsNone(compare.compare(statements(it.given), wrote, session).wrong, it.name)
+            with self.subTest(it.name):
+                wrote = b"".join(line.text for line in it.wanted)
+                compare(statements(it.given), wrote, Session(*bounds_of(it.words)))
 
     def test_csv(self) -> None:
         exports = [it for it in run.all_cases() if "csv" in it.words and not (it.source or it.target or it.texts)]
         exports = [it for it in exports if it.given or not it.complaints]
         self.assertGreater(len(exports), 20)
         for it in exports:
-            came = plain_csv.exported(it.given, *plain_session.bounds_of(it.words))
             wanted, complained = (b"".join(line.text for line in of) for of in (it.wanted, it.complaints))
-            self.assertEqual(came, (int(it.status.text if it.status else b"0"), wanted, complained), it.name)
+            right = int(it.status.text if it.status else b"0"), wanted, complained
+            self.assertEqual(exported(it.given, *bounds_of(it.words)), right, it.name)
 
     def test_payloads_are_read_alike_in_csv(self) -> None:
         (typed,) = run.all_cases("payloads-that-are-typed")
@@ -181,7 +173,7 @@ class Reference(unittest.TestCase):
             wrote = (1, b"", b"crackd: refused 19 1\n")
             if said != "refused 1":
                 wrote = (0, b"key,payload\n7,%d\n" % said[1][1], b"")
-            self.assertEqual(plain_csv.exported(b"7," + word), wrote, word)
+            self.assertEqual(exported(b"7," + word), wrote, word)
 
     def test_typed_payloads_are_those_that_are_drawn(self) -> None:
         numbers = random.Random(1)
@@ -199,12 +191,13 @@ class Reference(unittest.TestCase):
         self.assertEqual(statements(b"quit\nquit\n"), [("quit", [])])
 
 
-def altered(lines: list[bytes], *more: typing.Callable) -> typing.Iterator[tuple[int, list[bytes], bytes]]:
-    """A place, what is put there, and the lines with that: each line dropped, doubled or changed, or with more."""
+def altered(lines: list[bytes], *more: typing.Callable) -> typing.Iterator[bytes]:
+    """The text of these lines with each line in turn dropped, doubled, changed, or with more; or another number."""
     for at, line in enumerate(lines):
-        for put in [[], [line, line], [line[:-2] + b"x\n"], *(it(line) for it in more)]:
-            if put != [line]:
-                yield at, put, b"".join([*lines[:at], *put, *lines[at + 1 :]])
+        puts = [[], [line, line], [line[:-2] + b"x\n"], *(it(line) for it in more)]
+        for it in re.finditer(rb"\d+", line):
+            puts.append([line[: it.start()] + b"%d" % (int(it[0]) + 1) + line[it.end() :]])
+        yield from (b"".join([*lines[:at], *put, *lines[at + 1 :]]) for put in puts if put != [line])
 
 
 class Comparison(fixtures.Case):
@@ -216,133 +209,127 @@ class Comparison(fixtures.Case):
     )
     OTHERS = ["refused 6 19", "refused 9", "refused 10", "folded 0", "folded 77", "row 0.0", "none", "changed"]
 
-    def seen(self, given: bytes, wrote: bytes, short: int = 0, limits: Limits = Limits(), splits=()) -> compare.Seen:
-        return compare.compare(statements(given), wrote, Session(splits, limits), short)
-
     def lines(self, given: bytes, *words: object) -> list[bytes]:
         """The lines that the program writes."""
         return fixtures.ran([self.program, *(words or ["script"])], given)[1].splitlines(keepends=True)
 
-    def test_the_right_replies_pass_and_each_line_that_is_another_is_found(self) -> None:
-        lines = self.lines(self.GIVEN)
-        seen = self.seen(self.GIVEN, b"".join(lines))
-        self.assertEqual((seen.wrong, seen.short), (None, 0))
-        self.assertEqual((seen.accepted, seen.accepted_most, seen.inserted, seen.deleted), (6, 6, 2, 1))
-        pairs = [(b"-", b""), (b"-", b"--"), (b" ", b" +"), (b" ", b" -")]
-        signs = [lambda line, pair=pair: [line.replace(*pair)] for pair in pairs]
-        puts = [lambda line, put=put: [put, line] for put in (b"refused 1\n", b"\n")]
-        puts += [lambda line: [line[:-1]], lambda line: [b" " + line], lambda line: [b"refused 8\n"], *signs]
-        for at, put, wrote in altered(lines, *puts):
-            self.assertIsNotNone(self.seen(self.GIVEN, wrote).wrong, (at, put))
+    def assert_found(self, check: typing.Callable[[bytes], object], texts: typing.Iterable[bytes]) -> None:
+        """What a check finds wrong in each of these texts."""
+        for it in texts:
+            with self.subTest(it[-200:]):
+                self.assertRaises(FOUND, check, it)
 
-    def test_each_number_of_a_layout_counts(self) -> None:
-        lines = self.lines(self.GIVEN)
-        at = next(at for at, line in enumerate(lines) if line.startswith(b"layout"))
-        for line in (at, at + 1):
-            for found in re.finditer(rb"\d+", lines[line]):
-                put = b"%b%d%b" % (lines[line][: found.start()], int(found[0]) + 1, lines[line][found.end() :])
-                wrote = b"".join([*lines[:line], put, *lines[line + 1 :]])
-                self.assertIsNotNone(self.seen(self.GIVEN, wrote).wrong, put)
+    def test_the_right_replies_pass_and_each_line_and_number_that_is_another_is_found(self) -> None:
+        check, lines = lambda wrote: compare(statements(self.GIVEN), wrote), self.lines(self.GIVEN)
+        self.assertEqual(check(b"".join(lines)).counts, Counts(least=6, most=6, inserted=2, deleted=1))
+        pairs = [(b"-", b""), (b"-", b"--"), (b" ", b" +"), (b" ", b" -")]
+        puts = [lambda line, pair=pair: [line.replace(*pair)] for pair in pairs]
+        puts += [lambda line, put=put: [put, line] for put in (b"refused 1\n", b"\n")]
+        puts += [lambda line: [line[:-1]], lambda line: [b" " + line], lambda line: [b"refused 8\n"]]
+        self.assert_found(check, altered(lines, *puts))
 
     def test_each_reply_of_a_script_under_small_limits_that_is_another_is_found(self) -> None:
-        words, given, splits, limits = random_script.script(17)
+        words, given, *bounds = random_script.script(17)
         lines = [it.decode().rstrip("\n") for it in self.lines(given, *words)]
-        wrong = lambda lines: random_script.misfit(given, text_of(lines), splits, limits)
-        self.assertIsNone(wrong(lines))
+        check = lambda wrote: compare(statements(given), wrote, Session(*bounds))
+        check(text_of(lines))
         refusals = {it.split(" ")[1] for it in lines if it.startswith("refused")}
         self.assertGreaterEqual(refusals, {"1", "2", "4", "5", "6", "9", "10"})
         of_kinds = [line if line.startswith("refused") else line.split(" ")[0].split(".")[0] for line in lines]
         for at in sorted(of_kinds.index(it) for it in set(of_kinds)):
-            for other in (it for it in self.OTHERS if it != lines[at]):
-                self.assertIsNotNone(wrong([*lines[:at], other, *lines[at + 1 :]]), (at, other))
+            others = [it for it in self.OTHERS if it != lines[at]]
+            self.assert_found(check, (text_of([*lines[:at], other, *lines[at + 1 :]]) for other in others))
 
     def test_each_line_and_each_total_of_a_batch_counts(self) -> None:
-        texts = memory.worker_texts(1)
-        words = ["batch", "--workers", memory.WORKERS, *memory.SPLITS]
-        lines = self.lines(memory.batch_text(texts), *words)
-        wrong = lambda wrote: memory.fault_of_batch_output(texts, wrote, 0)
-        self.assertIsNone(wrong(b"".join(lines)))
-        for at, put, wrote in altered(lines):
-            self.assertIsNotNone(wrong(wrote), (at, put))
-        for at in [1, 3, 5, 7]:
-            totals = lines[-1].split()
-            totals[at] = b"%d" % (int(totals[at]) + 1)
-            self.assertIsNotNone(wrong(b"".join([*lines[:-1], b" ".join(totals) + b"\n"])), totals)
+        texts = test_memory.worker_texts(1)
+        words = ["batch", "--workers", test_memory.WORKERS, *test_memory.SPLITS]
+        lines = self.lines(test_memory.batch_text(texts), *words)
+        check = lambda wrote: test_memory.check_batch(texts, wrote, 0)
+        check(b"".join(lines))
+        self.assert_found(check, altered(lines))
 
     def test_a_layout_that_a_refused_checkpoint_changed_is_found(self) -> None:
-        given = b"insert 1 1\ncount 5 9\nlayout 0\ncheckpoint 0\nlayout 0\n"
-        none, pending, merged = (
-            text_of(
-                [
-                    f"layout 0 rows {rows} column {column} out 0 in {rows - column} cells {rows} free 0 pieces 3",
-                    *(f"piece {piece}" for piece in (f"0 5 {column}", "5 9 0", f"9 {plain_session.MOST} 0")),
-                ]
-            )
-            for rows, column in [(0, 0), (1, 0), (1, 1)]
-        )
-        whole = self.seen(given, b"row 0.0\ncount 0\n" + pending + b"folded 2\n" + pending)
-        self.assertIsNone(whole.wrong)
-        for row, layout, checkpoint, other, found in [
-            (b"row 0.0\n", pending, b"refused 8\n", pending, None),
-            (b"row 0.0\n", pending, b"refused 8\n", merged, 5),
-            (b"row 0.0\n", pending, b"folded 2\n", merged, 5),
-            # (a row that was refused isn't there)
-            (b"refused 8\n", none, b"folded 1\n", none, None),
-        ]:
-            seen = self.seen(given, row + b"count 0\n" + layout + checkpoint + other, 1)
-            self.assertEqual((seen.wrong, memory.other_layout(statements(given), seen, whole)), (None, found))
+        given = statements(b"insert 1 1\ncount 5 9\nlayout 0\ncheckpoint 0\nlayout 0\n")
+        text = "layout 0 rows {0} column {1} out 0 in {2} cells {0} free 0 pieces 3\npiece 0 5 {1}\npiece 5 9 0\n"
+        text += f"piece 9 {plain_session.MOST} 0\n"
+        none, pending, merged = (text.format(*it).encode() for it in [(0, 0, 0), (1, 0, 1), (1, 1, 0)])
+        whole = compare(given, b"row 0.0\ncount 0\n" + pending + b"folded 2\n" + pending)
+        check = lambda wrote: test_memory.check_layouts(given, compare(given, wrote, short=1), whole)
+        kept = b"row 0.0\ncount 0\n" + pending
+        check(kept + b"refused 8\n" + pending)
+        # (a row that was refused isn't there)
+        check(b"refused 8\ncount 0\n" + none + b"folded 1\n" + none)
+        self.assert_found(check, [kept + b"refused 8\n" + merged, kept + b"folded 2\n" + merged])
+
+
+def doctored(text: bytes, fault: str) -> bytes:
+    """A text with a fault: its last line but one is dropped, doubled or changed; or its last statement is refused with
+    8, though memory is there; or a byte is missing."""
+    *front, line, last = [b"", b"", *text.splitlines(keepends=True)]
+    put = {
+        "drop": [last],
+        "double": [line, line, last],
+        "change": [line[:-2] + b"x\n" if line else line, last],
+        "short": [line, b"refused 8\n"],
+        "ahead": [line, last[:-1]],
+    }
+    return b"".join(front + put.get(fault, [line, last])) if text else text
 
 
 class StandIns(fixtures.Case):
-    """The checks themselves, over the program and over the program with a fault."""
+    """The checks themselves, over what the program writes, and over the same with a fault."""
 
-    def setUp(self) -> None:
-        super().setUp()
-        room = tempfile.TemporaryDirectory()
-        self.addCleanup(room.cleanup)
-        self.room = pathlib.Path(room.name)
+    def with_fault(self, fault: str, check: typing.Callable, *given: object) -> None:
+        """Has a check run over children whose output, or the file that they write to, has a fault."""
 
-    def with_fault(self, fault: str) -> str:
-        path = self.room / fault
-        path.write_text(f'#!/bin/sh\nexec "{sys.executable}" "{STAND_IN}" "{self.program}" {fault} "$@"\n')
-        path.chmod(0o755)
-        return str(path)
+        def faulty(run: typing.Callable) -> typing.Callable:
+            def ended(*words: typing.Any, **how: typing.Any) -> fixtures.Ended:
+                status, wrote, complained = run(*words, **how)
+                if "stdout" in how:
+                    path = f"/proc/self/fd/{how['stdout'].fileno()}"
+                    pathlib.Path(path).write_bytes(doctored(pathlib.Path(path).read_bytes(), fault))
+                return status, wrote and doctored(wrote, fault), complained
 
-    def assert_finds(self, check: typing.Callable, *given: object) -> None:
-        self.assertIsNone(check(self.with_fault("none"), *given))
-        for fault in ["drop", "double", "change", "short"]:
-            self.assertIsNotNone(check(self.with_fault(fault), *given), fault)
+            return ended
+
+        patches = {name: faulty(getattr(fixtures, name)) for name in ("ran", "fed")}
+        with unittest.mock.patch.multiple(fixtures, **patches):
+            check(self.program, *given)
+
+    def assert_finds(self, check: typing.Callable, *given: object, faults: typing.Iterable[str] = FAULTS) -> None:
+        self.with_fault("none", check, *given)
+        for fault in faults:
+            with self.subTest(fault):
+                self.assertRaises(FOUND, self.with_fault, fault, check, *given)
 
     def test_lines(self) -> None:
-        given = test_lines.random_input(random.Random(1), 200)
-        self.assert_finds(lambda program: test_lines.fault_of_session(program, given, [100], piece=7))
+        given = random_script.random_text(random.Random(1), Session([100]), 200, 1000)
+        self.assert_finds(random_script.check_session, given, [100], Limits(), 7)
 
     def test_csv(self) -> None:
-        self.assert_finds(test_csv.fault_of_input, test_csv.SMALL, [100])
+        self.assert_finds(test_csv.check_input, test_csv.SMALL, [100])
 
     def test_devices(self) -> None:
         words, given, wanted = test_devices.SUBCOMMANDS[0]
-        self.assert_finds(test_devices.fault_of_file, words, given, wanted, len(wanted))
-        for size in [0, 5, len(wanted) - 1]:
-            for fault, is_right in [("none", True), ("ahead", size == 0)]:
-                found = test_devices.fault_of_file(self.with_fault(fault), words, given, wanted, size)
-                self.assertEqual(found is None, is_right)
+        self.assert_finds(test_devices.check_file, words, given, wanted, len(wanted))
+        for size in [5, len(wanted) - 1]:
+            self.assert_finds(test_devices.check_file, words, given, wanted, size, faults=["ahead"])
+        self.with_fault("ahead", test_devices.check_file, words, given, wanted, 0)
 
     @unittest.skipUnless(fixtures.refusing_library(), "no C compiler works here")
     def test_memory(self) -> None:
-        given = memory.text_of(memory.scripts()["rows are updated"].given, True)
-        check = lambda wrote, refused: compare.compare(statements(given), wrote, short=refused).wrong
-        # (no call that the stand-in makes has so high a number)
-        which = {"from": memory.FOR_EVER, "to": memory.FOR_EVER}
-        self.assert_finds(lambda program: memory.fault_of_run(program, ["script"], given, check, which)[0])
+        given = test_memory.with_layouts(test_memory.scripts()["rows are updated"].given)
+        check = lambda wrote, refused: compare(statements(given), wrote, short=refused)
+        # (no call that is made has so high a number)
+        which = {"from": test_memory.FOR_EVER, "to": test_memory.FOR_EVER}
+        self.assert_finds(test_memory.run_once, ["script"], given, check, which)
 
     @unittest.skipUnless(fixtures.refusing_library(), "no C compiler works here")
     def test_a_sweep_that_refuses_no_checkpoint_is_found(self) -> None:
-        it = memory.scripts()["checkpoints of a full history"]
-        ways = {**memory.WAYS, "alone": lambda _: {"from": memory.FOR_EVER, "to": memory.FOR_EVER}}
-        with unittest.mock.patch.object(memory, "WAYS", ways):
-            found = memory.sweep_script(self.program, it.words, memory.text_of(it.given, True), "alone")
-        self.assertEqual(found, "statement 9: this checkpoint was never refused")
+        it, far = test_memory.scripts()["checkpoints of a full history"], test_memory.FOR_EVER
+        with unittest.mock.patch.dict(test_memory.WAYS, alone=lambda _: {"from": far, "to": far}):
+            with self.assertRaisesRegex(Wrong, r"checkpoints that were never refused: wanted '\[\]', got '\[8"):
+                test_memory.sweep_script(self.program, it.words, test_memory.with_layouts(it.given), "alone")
 
 
 class Folds(unittest.TestCase):
@@ -351,33 +338,31 @@ class Folds(unittest.TestCase):
     def lines(self, *of_others: int) -> list[str]:
         """The right lines, where so many entries of each other partition go at once at the first checkpoints."""
         folds, found = iter([*of_others, *[0] * 1000]), []
-        for number in range(test_server_limits.OWN_LINES):
+        for number in range(test_server.OWN_LINES):
             found.append(f"row 0.{number}")
             if number % 50 == 49:
-                others = [f"folded {next(folds)}" for _ in range(test_server_limits.WORKERS - 1)]
+                others = [f"folded {next(folds)}" for _ in range(test_server.WORKERS - 1)]
                 found += ["folded 50", *others]
         return [*found, "count 2500"]
 
     def test_the_right_lines_pass_and_others_are_found(self) -> None:
-        test_server_limits.check_folds(self.lines())
-        test_server_limits.check_folds(self.lines(1001, 1, 1001))
+        test_server.check_folds(self.lines())
+        test_server.check_folds(self.lines(1001, 1, 1001))
         right, wrong = self.lines(7, 8, 9), [self.lines(1000, 0, 0, 2)]
         for at in [0, 49, 50, 54, 55, 103, len(right) - 1]:
             others = [["row 0.7"], ["folded 49"], ["refused 8"], ["count 99"], ["count 4001"]]
             wrong += [[*right[:at], *put, *right[at + 1 :]] for put in [[], [right[at]] * 2, *others]]
         for lines in wrong:
-            with self.assertRaises((Wrong, ValueError), msg=lines):
-                test_server_limits.check_folds(lines)
+            self.assertRaises(FOUND, test_server.check_folds, lines)
 
 
 class Soak(unittest.TestCase):
     def test_a_case_that_fails_is_reported_and_written(self) -> None:
-        kind = soak.Kind("odd", lambda _, seed: f"{seed} is odd" if seed % 2 else None)
+        kind = soak.Kind("odd", None)
         with tempfile.TemporaryDirectory() as room, contextlib.redirect_stdout(io.StringIO()) as printed:
             failures = pathlib.Path(room) / "failures"
             for seed in range(4):
-                kind.running += 1
-                soak.take_result(kind, seed, kind.fault("", seed), 0.5, failures)
+                kind.take_result(seed, f"{seed} is odd" if seed % 2 else None, 0.5, failures)
             written = {it.name: it.read_text() for it in failures.iterdir()}
         self.assertEqual(kind.told(), "soak: odd 2 passed, 2 failed, 2 seconds")
         self.assertEqual(written["odd-3.txt"], "python3 acceptance/soak.py --again odd 3\n\n3 is odd\n")
@@ -385,13 +370,10 @@ class Soak(unittest.TestCase):
         self.assertEqual(len(written), 2)
 
     def test_the_kind_that_had_the_least_time_is_next(self) -> None:
-        first, second, other = (soak.Kind(name, None, alone=name != "c") for name in "abc")
-        first.seconds, second.seconds, other.seconds = 3, 2, 5
-        self.assertIs(soak.next_kind([first, second, other]), second)
-        first.running = 1
-        self.assertIs(soak.next_kind([first, second, other]), other)
-        shared = soak.Kind("d", None, shares=4)
-        shared.seconds = 16
-        self.assertIs(soak.next_kind([first, other, shared]), shared)
-        other.failed = soak.MOST_FAILURES
-        self.assertIsNone(soak.next_kind([first, second, other]))
+        first, second, shared = soak.Kind("a", None), soak.Kind("b", None, once=True), soak.Kind("c", None, shares=4)
+        first.seconds, second.seconds, shared.seconds = 3, 2, 16
+        self.assertIs(soak.next_kind([first, second, shared]), second)
+        second.passed = 1
+        self.assertIs(soak.next_kind([first, second, shared]), first)
+        first.failed = soak.MOST_FAILURES
+        self.assertIs(soak.next_kind([first, second, shared]), shared)

@@ -1,6 +1,4 @@
-"""CSV of all kinds, cut anywhere: what is exported is what plain_csv.py exports."""
-
-from __future__ import annotations
+"""CSV of all kinds, cut anywhere: what is exported is what plain_session.py exports."""
 
 import random
 import typing
@@ -8,11 +6,9 @@ import typing
 import fixtures
 import random_script
 import run
-from plain_csv import HEADER, MARK, exported
-from plain_session import Limits
+from fixtures import expect
+from plain_session import HEADER, MARK, Limits, exported
 
-LONG_RECORD = 64 * 2**20
-MANY_FIELDS = MANY_ROWS = 100_000
 SMALL = b"key,payload\n150,6\n50,5\n"
 # fields past the limits, of keys and of payloads; and what is no field of either
 PAST = [[b"18446744073709551616", b"-1"], [b"9223372036854775808", b"-9223372036854775809"]]
@@ -24,15 +20,13 @@ def refused(record: int) -> fixtures.Ended:
     return 1, b"", b"crackd: refused 19 %d\n" % record
 
 
-def fault_of_input(
+def check_input(
     program: str, given: bytes, splits=(), limits: Limits = Limits(), piece: int = 65536, wanted: typing.Any = None
-) -> str | None:
-    """What is wrong with what comes of these bytes, given in pieces; or None."""
+) -> None:
+    """Holds what comes of these bytes, given in pieces."""
     words = ["csv", *limits.words(), *map(str, splits)]
-    wanted = exported(given, splits, limits) if wanted is None else wanted
-    got = fixtures.fed([program, *words], given, piece)
-    what = f"{given[:80]!r} (of {len(given)} bytes, in pieces of {piece}), splits {splits}, {limits}"
-    return None if got == wanted else f"{what}: wanted {wanted!r:.300}, got {got!r:.300}"
+    what = f"{given[:80]!r} (of {len(given)} bytes, in pieces of {piece}), {' '.join(words)}"
+    expect(what, wanted or exported(given, splits, limits), fixtures.fed([program, *words], given, piece))
 
 
 def random_field(numbers: random.Random, place: int) -> bytes:
@@ -58,33 +52,24 @@ def random_input(numbers: random.Random) -> bytes:
     return given
 
 
-def changed(numbers: random.Random, given: bytes) -> bytes:
-    """Bytes of which one was changed."""
-    at = numbers.randrange(len(given) + 1)
-    byte = numbers.choice(b'",\r\n 09-+\0') if numbers.random() < 0.7 else numbers.randrange(256)
-    return given[:at] + bytes([byte]) + given[at + 1 :]
-
-
-def fault(program: str, seed: int) -> str | None:
-    """What is wrong with what comes of the random records of a seed, whole, cut off, and changed in a byte; or None."""
+def check(program: str, seed: int) -> None:
+    """Holds what comes of the random records of a seed, whole, cut off, and changed in a byte."""
     numbers = random.Random(seed)
-    edges = random_script.EDGES[2:-1]
-    splits = [numbers.choice([numbers.randrange(1, 300), numbers.choice(edges)]) for _ in range(numbers.randrange(4))]
-    splits = sorted(set(splits))
+    splits = random_script.random_splits(numbers, numbers.choice([300, 2**64 - 1]), numbers.randrange(4))
     limits = numbers.choice([Limits()] * 5 + [Limits(100), Limits(cells=100), Limits(life=100)])
     given = random_input(numbers)
     cuts = [given[: numbers.randrange(len(given) + 1)] for _ in range(10)]
-    others = [changed(numbers, given) for _ in range(10)]
+    others = [random_script.changed(numbers, given, b'",\r\n 09-+\0') for _ in range(10)]
     piece = numbers.choice([1, 3, 64, 4096, 65536])
-    found = (fault_of_input(program, it, splits, limits, piece) for it in [given, *cuts, *others])
-    return next(filter(None, found), None)
+    for it in [given, *cuts, *others]:
+        check_input(program, it, splits, limits, piece)
 
 
 class Csv(fixtures.Case):
     """CSV of all kinds."""
 
     def assert_exported(self, given: bytes, *more: typing.Any, **how: typing.Any) -> None:
-        self.assertIsNone(fault_of_input(self.program, given, *more, **how))
+        check_input(self.program, given, *more, **how)
 
     def test_cut_anywhere(self) -> None:
         """A small input is cut after each byte: by the specification's own table, and as it is read here."""
@@ -93,7 +78,7 @@ class Csv(fixtures.Case):
         rows = [b"150,6\n", b"50,5\n"]
         for size, (record, count) in enumerate(ends):
             right = refused(record) if record else (0, HEADER + b"".join(rows[:count]), b"")
-            self.assertEqual(exported(SMALL[:size]), right, "plain_csv.py reads CSV otherwise than by the table")
+            self.assertEqual(exported(SMALL[:size]), right, "plain_session.py reads CSV otherwise than by the table")
             self.assert_exported(SMALL[:size], wanted=right, piece=size % 5 + 1)
         for size in range(len(SMALL) + 1):
             self.assert_exported(SMALL[:size], [100])
@@ -109,38 +94,5 @@ class Csv(fixtures.Case):
         for piece in [1, 2, 3, 4]:
             self.assert_exported(MARK + b"key,payload\n1,2\n", piece=piece)
 
-    def test_records_of_64_megabytes(self) -> None:
-        """A record of 64 MB is refused, also one whose quote never closes; 64 MB of ends of lines are no record."""
-        for front, filling, wanted in [
-            (b"", b"1", refused(1)),
-            (b"1,", b"0", refused(1)),
-            (HEADER + b'1,"', b"2", refused(2)),
-            (HEADER + b'1,"', b"\n", refused(2)),
-            (HEADER, b"\n", (0, HEADER, b"")),
-            (HEADER, b"\r", (0, HEADER, b"")),
-            (HEADER + b"1,2\n", b"\0", refused(3)),
-        ]:
-            self.assert_exported(front + filling * (LONG_RECORD - len(front)), wanted=wanted)
 
-    def test_very_many_fields(self) -> None:
-        """A record of 100,000 fields is refused with its number, first or not."""
-        fields = b",".join([b"1"] * MANY_FIELDS)
-        given = [(1, fields), (2, HEADER + fields + b"\n"), (3, HEADER + b"1,2\n" + fields + b"\n3,4\n")]
-        for number, it in [*given, (1, b"," * MANY_FIELDS), (1, b'"",' * MANY_FIELDS)]:
-            self.assert_exported(it, wanted=refused(number))
-
-    def test_more_rows_than_histories_have_entries(self) -> None:
-        """A load that fills each history a hundred times is whole where checkpoints that are due are made, only."""
-        width = MANY_ROWS // 4
-        rows = [(number * 7919 % MANY_ROWS, -number) for number in range(MANY_ROWS)]
-        given, *parts = (
-            b"".join(b"%d,%d\n" % row for row in rows if low <= row[0] < high)
-            for low, high in [(0, MANY_ROWS), *((width * it, width * it + width) for it in range(4))]
-        )
-        splits, small = [width, 2 * width, 3 * width], Limits(MANY_ROWS // 400)
-        due = small._replace(is_automatic=True)
-        self.assert_exported(given, splits, due, wanted=(0, HEADER + b"".join(parts), b""))
-        self.assert_exported(given, splits, small, wanted=(1, b"", b"crackd: refused 6 %d\n" % small.history))
-
-
-fixtures.add_seeds(Csv, range(1, 21), fault)
+fixtures.add_seeds(Csv, range(1, 21), check)

@@ -1,17 +1,18 @@
-"""Runs the commands of docs/GUIDE.md and README.md, a check a section, and compares what comes with what stands there.
+"""Runs the commands of README, the guide, docs/C.md and the pages of this folder, a check a section, and compares what
+comes with what stands there.
 
-Of a page these fenced blocks are run, those of a section in one shell, in a folder that has `events.csv`:
+Of a page these fenced blocks are run, those of a section in one shell, in a folder that has `events.csv`, and `lib`:
 
     console   what follows a `$ ` is given to the shell; the lines up to the next `$ ` are what it must write
     pycon     a session of Python, as doctest reads it
     python    a program, which must end well, followed by a block `text` if it writes something
+    c         a program, which stands in rows.c then
 
-In what must be written `...` stands for any text. `crackd` and the package are found, and the port 4000 is another one,
-which is free. A word `needs=NAME` after the kind of a block names what it can't be run without: a program of the path,
-a module of Python, or `library`, which is what `make lib` builds. A block of which something isn't there is skipped.
+In what must be written `...` stands for any text. `crackd` and the package are found, and the port 4000 of a server is
+another one, which is free. A word `needs=NAME` after the kind of a block names what it can't be run without: a program
+of the path, a module of Python, or `library`, which is what `make lib` builds. A block of which something isn't there
+is skipped. The library is the one that isn't proved, if only that is there.
 """
-
-from __future__ import annotations
 
 import contextlib
 import functools
@@ -29,44 +30,39 @@ import fixtures
 import package
 from fixtures import TOP
 
-PAGES = [TOP / "README.md", TOP / "docs" / "GUIDE.md"]
+PAGES = ["README.md", "docs/GUIDE.md", "docs/C.md"]
+PAGES += [f"acceptance/{name}.txt" for name in ("examples", "library", "devices", "bounds")]
 SECONDS, PORT = 120, "4000"
-FENCE = re.compile(r"^```(\w*)(.*)\n((?:.*\n)*?)```$", re.MULTILINE)
+FENCE = re.compile(r"^```(\w+)(.*)\n((?:.*\n)*?)```$(?:\n+```text\n((?:.*\n)*?)```$)?", re.MULTILINE)
 COMMAND = re.compile(r"^\$ (.*\n(?:> .*\n)*)((?:(?!\$ ).*\n)*)", re.MULTILINE)
 END = "-- end of a command --"
+# what runs a program of a block, which the shell has put into a file
+PROGRAMS = {"python": "python3 block", "pycon": "python3 -m doctest -o ELLIPSIS block", "c": "mv block rows.c"}
 
 
 class Block(typing.NamedTuple):
-    """A fenced block: where it begins, its kind, what it needs, and its commands, each with what it must write."""
+    """A fenced block: where it begins, what it needs, and commands of the shell, each with what it must write."""
 
     place: str
-    kind: str
     needs: list[str]
     commands: list[tuple[str, str]]
 
 
-def block(place: str, kind: str, needs: list[str], text: str, output: str) -> Block:
-    """A block of this text, which must write this, if it is a program. A line after `> ` goes on with a command."""
-    commands = [(text, output)]
-    if kind == "console":
-        commands = [(command.replace("\n> ", "\n").rstrip("\n"), wrote) for command, wrote in COMMAND.findall(text)]
-    return Block(place, kind, needs, commands)
-
-
 def sections(page: pathlib.Path) -> dict[str, list[Block]]:
-    """The blocks that are run, by the headings of their sections."""
+    """The blocks that are run, by the headings of their sections. A line after `> ` goes on with a command."""
     found: dict[str, list[Block]] = {}
-    heading, line = "", 1
-    for part in re.split(r"^(?=## )", page.read_text(encoding="utf-8"), flags=re.MULTILINE):
-        heading = part.split("\n")[0].removeprefix("## ") if part.startswith("## ") else ""
-        fences = list(FENCE.finditer(part))
-        for fence, after in zip(fences, [*fences[1:], None]):
-            output = after[3] if after and after[1] == "text" else ""
-            if fence[1] in ("console", "pycon", "python"):
-                place = f"{page.name}:{line + part[: fence.start()].count(chr(10)) + 1}"
-                one = block(place, fence[1], re.findall(r"needs=(\S+)", fence[2]), fence[3], output)
-                found.setdefault(heading, []).append(one)
-        line += part.count("\n")
+    whole = page.read_text(encoding="utf-8")
+    for fence in FENCE.finditer(whole):
+        kind, needs, text, output = fence.groups("")
+        before = whole[: fence.start()]
+        commands = [(it.replace("\n> ", "\n").rstrip("\n"), wrote) for it, wrote in COMMAND.findall(text)]
+        if kind in PROGRAMS:
+            command = f"cat > block << 'END OF BLOCK'\n{text}END OF BLOCK\n{PROGRAMS[kind]}"
+            commands = [(f'{command} || echo "(ended with status $?)"', output)]
+        if kind in ("console", *PROGRAMS):
+            heading = re.findall(r"^## (.*)$|\A", before, re.MULTILINE)[-1]
+            place = f"{page.name}:{before.count(chr(10)) + 1}"
+            found.setdefault(heading, []).append(Block(place, re.findall(r"needs=(\S+)", needs), commands))
     return found
 
 
@@ -83,22 +79,18 @@ def fits(wanted: str, came: str) -> bool:
     return re.fullmatch(".*".join(map(re.escape, wanted.split("..."))), came, re.DOTALL) is not None
 
 
-def command_of(kind: str, text: str, path: pathlib.Path) -> str:
-    """The command of the shell that runs a block, which is in a file if it isn't one itself."""
-    if kind == "console":
-        return text
-    path.write_text(text, encoding="utf-8")
-    words = "-m doctest -o ELLIPSIS" if kind == "pycon" else ""
-    return f'python3 {words} {path.name} || echo "(ended with status $?)"'
-
-
 def environment_for(program: str, folder: str) -> dict[str, str]:
-    """An environment in which `crackd` is the program, and the package is found, by files in a folder."""
-    (pathlib.Path(folder) / "crackd").symlink_to(program)
+    """An environment in which `crackd` is the program, and package and library are found, by files in a folder."""
+    links = {"crackd": program, "crackd.h": TOP / "include" / "crackd.h"}
+    for made in sorted((TOP / "lib").glob("libcrackd*.so")):
+        # (the proved one is the last of them)
+        links |= {"libcrackd.so": made, made.name: made}
+    for name, target in links.items():
+        (pathlib.Path(folder) / name).symlink_to(target)
     python = pathlib.Path(folder) / "python3"
     python.write_text(f'#!/bin/sh\nexec {package.interpreter()} "$@"\n', encoding="ascii")
     python.chmod(0o755)
-    found = {it: str(TOP / "lib") for it in ("CPATH", "LIBRARY_PATH", "LD_LIBRARY_PATH")}
+    found = {it: folder for it in ("CPATH", "LIBRARY_PATH", "LD_LIBRARY_PATH")} | {"TOP": str(TOP)}
     found |= {"PATH": os.pathsep.join([folder, os.environ.get("PATH", "")]), "CRACKD": str(program)}
     return {**os.environ, **found, "PYTHONPATH": str(package.PACKAGE), "LC_ALL": "C.UTF-8"}
 
@@ -123,22 +115,22 @@ def wrote_in_shell(commands: list[str], folder: str, environment: dict[str, str]
 
 def run(blocks: list[Block], program: str) -> tuple[int, list[str], list[str]]:
     """Runs the blocks of a section: how many commands passed, what is wrong with the others, and what was skipped."""
-    port, skipped, faults = str(fixtures.free_port()), [], []
+    has_port = any(f"--port {PORT}" in command for it in blocks for command, _ in it.commands)
+    port, asked, skipped = str(fixtures.free_port()) if has_port else PORT, [], []
+    for it in blocks:
+        missing = [needed for needed in it.needs if not is_there(needed)]
+        skipped += [f"{it.place} skipped, since {missing[0]} isn't there"] if missing else []
+        asked += [] if missing else [(it.place, *(text.replace(PORT, port) for text in both)) for both in it.commands]
     with tempfile.TemporaryDirectory() as folder, tempfile.TemporaryDirectory() as bin:
         shutil.copy(TOP / "examples" / "events.csv", folder)
         (pathlib.Path(folder) / "examples").symlink_to(TOP / "examples")
-        asked = []
-        for it in blocks:
-            missing = [needed for needed in it.needs if not is_there(needed)]
-            skipped += [f"{it.place} skipped, since {missing[0]} isn't there"] if missing else []
-            for command, wanted in it.commands if not missing else []:
-                path = pathlib.Path(folder) / f"block_{it.place.split(':')[1]}{'.txt' if it.kind == 'pycon' else '.py'}"
-                texts = [text.replace(PORT, port) if it.kind == "console" else text for text in (command, wanted)]
-                asked.append((f"{it.place}: {command}", command_of(it.kind, texts[0], path), texts[1]))
+        (pathlib.Path(folder) / "lib").symlink_to(bin)
         wrote = wrote_in_shell([command for _, command, _ in asked], folder, environment_for(program, bin))
-    for (what, _, wanted), came in zip(asked, wrote):
-        if not fits(wanted, came):
-            faults.append(f"{what}\n    wanted {wanted!r}\n    came   {came!r}")
+    faults = [
+        f"{place}: {command}\n    wanted {wanted!r}\n    came   {came!r}"
+        for (place, command, wanted), came in zip(asked, wrote)
+        if not fits(wanted, came)
+    ]
     return len(asked) - len(faults), faults, skipped
 
 
@@ -158,7 +150,7 @@ class Checker(unittest.TestCase):
 
     def test_each_command_is_run_once_and_what_lacks_something_is_skipped(self) -> None:
         (skipped,) = self.assert_counts(5, 0)
-        self.assertEqual(skipped, "PAGE.md:35 skipped, since no-such-program isn't there")
+        self.assertEqual(skipped, "PAGE.md:34 skipped, since no-such-program isn't there")
 
     def test_a_command_that_writes_something_else_or_fails_fails(self) -> None:
         self.assert_counts(4, 1, "\none\n", "\ntwo\n")
@@ -182,6 +174,6 @@ class Commands(fixtures.Case):
         self.assertEqual(faults, [])
 
 
-for page in PAGES:
+for page in map(TOP.joinpath, PAGES):
     for heading, blocks in sections(page).items():
         fixtures.add(Commands, f"{page.stem} {heading}".lower(), Commands.assert_holds, blocks)

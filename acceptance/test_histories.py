@@ -1,55 +1,282 @@
-"""Histories of workers on threads; and that histories.py passes the texts of histories.txt, and finds what is wrong."""
+"""Histories of workers on threads: what `crack_histories` says that they were answered is replayed.
 
-from __future__ import annotations
+Its workers ask a table of three partitions, each on a thread of its own, and it prints what each was answered, its
+receipts, and the histories. What must come: there is one order of all entries that each history and each worker keeps;
+in that order the lists of plain_session.py give each reply; each worker's receipts are of the replies that it was
+given; refusals come for their causes; and the totals are those of the histories. So whatever the schedule was, one
+thread could have answered the same. Each seed is tried under each policy, with checkpoints amid the work; by the seed
+histories get full, cells run out, or lives end. A run's line says how often an entry follows one of another worker:
+that is up to the schedule, and nothing is claimed of it.
 
+A partition that was folded is printed with its base, `partition P folded N inserted I deleted D rows R` and R lines
+`P.S K V`, and then with what it kept since. The entries that went are those of the receipts at the places before: each
+has exactly one, they are answered and ordered as all others, they come to the base's rows and counts, and they are as
+many as all checkpoints of the partition reported. The texts of histories.txt pass, or are found to be wrong.
+"""
+
+import collections
+import dataclasses
+import pathlib
 import re
 import typing
 import unittest
 
 import fixtures
-import histories
-from plain_session import Limits
+from fixtures import Wrong, built, expect, ran
+from plain_session import MOST_ENTRIES, POLICIES, Limits, Session, read_line
 
-WORKERS = 2
+SPLITS = [2**63, 2**64 - 1000]
+PARTS = range(len(SPLITS) + 1)
+WORKERS = 4
+# a section, which may have a base; and a statement of one, after numbers, with the lines of its reply
+SECTION = re.compile(
+    r"^(worker|receipts|partition) (\d+)(?: folded (\d+) inserted (\d+) deleted (\d+) rows (\d+))?\n", re.MULTILINE
+)
+ENTRY = re.compile(r"^((?:\d+ )+)([a-z]+ .*)\n(.*(?:\n\d+\.\d+ .*)*)\n", re.MULTILINE)
+# the head of a text of histories.txt, or of what is changed in it: a name, how much was asked, and limits
 HEAD = re.compile(r"(.*?)(?:: (\d+))?(?:[:,] (\w+ \d+.*))?\n")
+STATEMENTS, STATEMENTS_OF_A_SOAK = 1000, 10000
+SEEDS = range(1, 11)
+# the program's gate refuses one of so many commands of a partition
+REFUSED_BY_THE_GATE = 50
 
 
-def limits_of(bounds: str) -> Limits:
-    return Limits(**{word: int(number) for word, number in re.findall(r"(\w+) (\d+)", bounds)})
+class Asked(typing.NamedTuple):
+    """What was asked, as a statement, and the lines of the answer."""
+
+    statement: str
+    lines: list[str]
+
+    @property
+    def is_refused(self) -> bool:
+        return self.lines[0].startswith("refused")
+
+    @property
+    def is_checkpoint(self) -> bool:
+        return self.statement.startswith("checkpoint ")
+
+    @property
+    def key(self) -> int | None:
+        """The key that it brings, if it brings one."""
+        kind, *words = self.statement.split(" ")
+        return int(words[-2]) if kind in ("insert", "update") else None
 
 
-def altered(text: str, changes: str) -> str:
-    """A text with changes, each two lines: what stands there, and what is put there."""
-    for old, new in re.findall(r"^- (.*)\n\+ ?(.*)$", changes, re.MULTILINE):
-        old, new = old.replace("\\n", "\n"), new.replace("\\n", "\n")
-        assert old in text, old
-        text = text.replace(old, new)
-    return text
+class Receipt(typing.NamedTuple):
+    part: int
+    position: int
+    worker: int
+    asked: Asked
 
 
-class Texts(unittest.TestCase):
-    """The texts of histories.txt."""
+class Base(typing.NamedTuple):
+    """What a checkpoint left: how many entries went, inserted and deleted a row, and the lines of the rows."""
 
-    def assert_passes(self, text: str, asked: int, limits: Limits) -> None:
-        histories.check(histories.Printed(text), WORKERS, asked, limits)
-
-    def assert_found(self, *given: typing.Any) -> None:
-        with self.assertRaises(histories.Wrong):
-            self.assert_passes(*given)
+    folded: int = 0
+    inserted: int = 0
+    deleted: int = 0
+    rows: list[str] = []
 
 
-def add_texts() -> None:
-    """Adds a check for each text of histories.txt."""
-    whole = (fixtures.TOP / "acceptance" / "histories.txt").read_text(encoding="utf-8")
-    for section in whole.split("\n---- ")[1:]:
-        right, *wrong = section.split("\n== ")
-        name, asked, bounds = HEAD.match(right).groups()
-        text, given = right.partition("\n")[2].strip() + "\n", (int(asked), limits_of(bounds))
-        fixtures.add(Texts, name, Texts.assert_passes, text, *given)
-        for it in wrong:
-            what, _, other = HEAD.match(f"{it}\n").groups()
-            given = (int(asked), limits_of(other or bounds))
-            fixtures.add(Texts, f"{name}, {what}", Texts.assert_found, altered(text, it), *given)
+class Printed:
+    """What a run printed: answers and receipts of each worker, a history for each partition, and the totals."""
+
+    def __init__(self, text: str) -> None:
+        self.answers, self.receipts, self.histories, self.bases, self.totals = {}, {}, {}, {}, ""
+        sections = {"worker": self.answers, "receipts": self.receipts, "partition": self.histories}
+        before, *parts = SECTION.split(text)
+        expect("before the first section", "", before)
+        for name, number, *counts, body in zip(*(parts[it::7] for it in range(7))):
+            number, rows = int(number), int(counts.pop() or 0)
+            expect(f"{name} {number}", None, sections[name].get(number))
+            if name == "partition":
+                lines = body.splitlines()
+                self.bases[number] = Base(*(int(it or 0) for it in counts), lines[:rows])
+                body = "".join(f"{it}\n" for it in lines[rows:])
+            sections[name][number] = [self.entry(*it) for it in ENTRY.findall(body)]
+            self.totals = ENTRY.sub("", body)
+            if name != "partition" or number != PARTS[-1]:
+                expect(f"{name} {number}: what is no entry", "", self.totals)
+
+    def entry(self, numbers: str, statement: str, lines: str) -> Receipt | tuple[int, Asked]:
+        """What was asked, after the numbers before it, and answered."""
+        before, asked = [int(it) for it in numbers.split()], Asked(statement, lines.splitlines())
+        return Receipt(*before, asked) if len(before) == 3 else (*before, asked)
+
+
+def check_receipts(printed: Printed, statements: int) -> None:
+    """A worker has a receipt for each reply that it was given, in their order, and for nothing else."""
+    for worker, answers in printed.answers.items():
+        expect(f"how often worker {worker} asked", statements, len(answers))
+        replies = [(part, asked) for part, asked in answers if not (asked.is_refused or asked.is_checkpoint)]
+        receipts = printed.receipts[worker]
+        for number, (reply, receipt) in enumerate(zip(replies, receipts)):
+            of_receipt = receipt.worker, (receipt.part, receipt.asked)
+            expect(f"worker {worker}, receipt {number}", (worker, reply), of_receipt)
+        expect(f"receipts of worker {worker}", len(replies), len(receipts))
+
+
+def whole_history(printed: Printed, part: int) -> list[tuple[int, Asked]]:
+    """All that a partition answered: the entries that went, as receipts have them, and those that it kept."""
+    folded = printed.bases[part].folded
+    went = [it for receipts in printed.receipts.values() for it in receipts if it.part == part]
+    went = sorted((it for it in went if it.position < folded), key=lambda it: it.position)
+    expect(f"partition {part}: places that were folded", list(range(folded)), [it.position for it in went])
+    return [(it.worker, it.asked) for it in went] + printed.histories[part]
+
+
+def check_bases(printed: Printed, histories: dict[int, list]) -> None:
+    """Each base is what the entries that went come to, and checkpoints reported as many entries as went."""
+    counted = collections.Counter()
+    for part, asked in (it for answers in printed.answers.values() for it in answers):
+        if asked.is_checkpoint and not asked.is_refused:
+            counted[part] += int(asked.lines[0].removeprefix("folded "))
+    for part, base in printed.bases.items():
+        went = [asked for _, asked in histories[part][: base.folded]]
+        rows = Session(SPLITS).parts[part]
+        for asked in went:
+            rows.answer(*read_line(asked.statement.encode()))
+        kinds = collections.Counter(asked.lines[0].split(" ")[0] for asked in went)
+        lines = [f"{part}.{serial} {key} {payload}" for serial, (key, payload) in sorted(rows.rows.items())]
+        wanted = counted[part], kinds["row"], kinds["gone"], lines, rows.next
+        expect(f"partition {part}: its base", wanted, (*base, base.inserted))
+
+
+def in_one_order(printed: Printed, histories: dict[int, list]) -> list[Receipt]:
+    """The receipts in an order that each worker's receipts and each history keep, where each is of its entry."""
+    ahead = {worker: collections.deque(receipts) for worker, receipts in printed.receipts.items()}
+    entries = [[Receipt(part, place, *it) for place, it in enumerate(of)] for part, of in histories.items()]
+    left = [collections.deque(it) for it in entries]
+    order, length = [], -1
+    while length < len(order):
+        length = len(order)
+        for of in left:
+            while of and ahead[of[0].worker] and ahead[of[0].worker][0] == of[0]:
+                order.append(ahead[of[0].worker].popleft())
+                of.popleft()
+    for of in [*left, *ahead.values()]:
+        if of:
+            raise Wrong(f"no order has {of[0]}; next are {[it[0] for it in ahead.values() if it]}")
+    return order
+
+
+def check_replies(order: list[Receipt]) -> list:
+    """Lists of rows answer all that was kept, in this order, as it was answered. The partitions at the end."""
+    parts = Session(SPLITS).parts
+    for number, (part, position, worker, asked) in enumerate(order):
+        place = f"partition {part}, entry {position}, by worker {worker}, {number} of all: {asked.statement!r}"
+        said = read_line(asked.statement.encode())
+        is_own = not isinstance(said, str) and (said[0] not in ("delete", "update") or said[1][0] == part)
+        if not is_own or (asked.key is not None and not parts[part].has(asked.key)):
+            raise Wrong(f"{place} is no command of this partition")
+        expect(place, parts[part].answer(*said), asked.lines)
+    return parts
+
+
+@dataclasses.dataclass
+class Lived:
+    """What a partition came to: commands that it accepted, kept and was asked, and how many its gate refused."""
+
+    part: int
+    limits: Limits
+    accepted: int = 0
+    kept: int = 0
+    was_folded: bool = False
+    asked: int = 0
+    gave_up: int = 0
+
+    def check_checkpoint(self, asked: Asked) -> None:
+        """A checkpoint reports no more entries than a history may have, or there is no such partition."""
+        folded = asked.lines[0].removeprefix("folded ")
+        is_right = folded.isdecimal() and int(folded) <= self.limits.history
+        is_right = is_right if self.part in PARTS else asked.lines == ["refused 5"]
+        if not is_right or asked.statement != f"checkpoint {self.part}":
+            raise Wrong(f"partition {self.part}: {asked.statement!r} was answered {asked.lines!r}")
+
+    def check(self, asked: Asked, was: set[str]) -> None:
+        """A refusal comes for its cause. `was` has what the worker was told before, which stays so but for a fold."""
+        is_there = self.part in PARTS
+        is_outside = is_there and asked.key is not None and not Session(SPLITS).parts[self.part].has(asked.key)
+        is_full = self.kept == self.limits.history or (self.was_folded and self.accepted >= self.limits.history)
+        is_open, full = not is_outside and "refused 10" not in was, f"refused 6 {self.limits.history}"
+        right = {
+            "refused 4": is_outside,
+            "refused 5": not is_there,
+            full: is_open and is_full,
+            "refused 7": is_there,
+            "refused 9": asked.key is not None and is_open and self.accepted >= self.limits.cells,
+            "refused 10": is_there and not is_outside and self.accepted == self.limits.life,
+        }
+        is_right = is_there and is_open and (full not in was or self.was_folded)
+        if not (right.get(asked.lines[0], False) if asked.is_refused else is_right):
+            raise Wrong(f"partition {self.part}: {asked} with {self}, after {was}")
+        was.add(asked.lines[0])
+        self.asked += 1
+        self.gave_up += asked.lines[0] == "refused 7"
+
+
+def check_refusals(printed: Printed, histories: dict[int, list], limits: Limits) -> None:
+    """Refusals come for their causes, limits hold, and the gate was asked once for each command."""
+    lived = {part: Lived(part, limits) for part, _ in (it for found in printed.answers.values() for it in found)}
+    for part in PARTS:
+        folded = printed.bases[part].folded > 0
+        lived[part] = Lived(part, limits, len(histories[part]), len(printed.histories[part]), folded)
+    for answers in printed.answers.values():
+        was = collections.defaultdict(set)
+        for part, asked in answers:
+            if asked.is_checkpoint:
+                lived[part].check_checkpoint(asked)
+            else:
+                lived[part].check(asked, was[part])
+    for it in (lived[part] for part in PARTS):
+        if it.kept > limits.history or it.accepted > limits.life or it.gave_up != it.asked // REFUSED_BY_THE_GATE:
+            raise Wrong(f"a limit was passed, or the gate was asked otherwise: {it}")
+
+
+def check(printed: Printed, workers: int, statements: int, limits: Limits) -> tuple[int, int]:
+    """Whether all of it is right. How many entries there are, and how many of them follow one of another worker."""
+    expect("partitions with histories", list(PARTS), list(printed.histories))
+    expect("workers", list(range(workers)), list(printed.answers))
+    expect("workers with receipts", list(range(workers)), list(printed.receipts))
+    check_receipts(printed, statements)
+    whole = {part: whole_history(printed, part) for part in PARTS}
+    order = in_one_order(printed, whole)
+    rows = [len(it.rows) for it in check_replies(order)]
+    check_bases(printed, whole)
+    check_refusals(printed, whole, limits)
+    if max(rows) > limits.cells:
+        raise Wrong(f"partitions have {rows} rows, in at most {limits.cells} cells")
+    kinds = collections.Counter(it.asked.lines[0].split(" ")[0] for it in order)
+    totals = f"accepted {len(order)} inserted {kinds['row']} deleted {kinds['gone']} held {sum(rows)}"
+    expect("totals", f"{totals}\n", printed.totals)
+    follows = sum(one[0] != two[0] for history in whole.values() for one, two in zip(history, history[1:]))
+    return len(order), follows
+
+
+def words_of(seed: int, statements: int, policy: str, workers: int = WORKERS) -> list[str]:
+    """The words of a run. By the seed histories get full, or cells may run out, or lives end before all was asked."""
+    each = statements * workers // len(PARTS)
+    all_limits = [Limits(each // 2 + 1), Limits(MOST_ENTRIES, each // 16 + 1)]
+    limits = [*all_limits, Limits(each // 8 + 1, life=each * 3 // 4 + 1)][seed % 3]
+    return [str(it) for it in (seed, workers, statements, policy, *limits[:3])]
+
+
+def check_seed(program: str, seed: int, statements: int = STATEMENTS) -> None:
+    """Tries the runs of a seed, one under each policy."""
+    for policy in POLICIES:
+        words = words_of(seed, statements, policy)
+        try:
+            status, wrote, complained = ran([program, *words], "")
+            expect("status and standard error", (0, ""), (status, complained))
+            entries, follows = check(Printed(wrote), WORKERS, statements, Limits(*map(int, words[4:])))
+        except Exception as error:
+            raise Wrong(f"crack_histories {' '.join(words)}: {error}") from error
+        print(f"histories: seed {seed}, {policy}: {entries} entries, of which {follows} follow one of another worker")
+
+
+def soak(crackd: str, seed: int) -> None:
+    """The same of the program that was built beside `crackd`, of ten times as many statements."""
+    check_seed(built("crack_histories", pathlib.Path(crackd).resolve().parents[3]), seed, STATEMENTS_OF_A_SOAK)
 
 
 class Histories(fixtures.Case):
@@ -58,5 +285,34 @@ class Histories(fixtures.Case):
     needs = "crack_histories"
 
 
+class Texts(unittest.TestCase):
+    """The texts of histories.txt, which are of two workers."""
+
+    def assert_passes(self, text: str, changes: str, asked: str, bounds: str) -> None:
+        """A text passes with changes, each two lines: what stands there, and what is put there."""
+        for old, new in re.findall(r"^- (.*)\n\+ ?(.*)$", changes, re.MULTILINE):
+            old, new = old.replace("\\n", "\n"), new.replace("\\n", "\n")
+            assert old in text, old
+            text = text.replace(old, new)
+        limits = Limits(**{word: int(number) for word, number in re.findall(r"(\w+) (\d+)", bounds)})
+        check(Printed(text), 2, int(asked), limits)
+
+    def assert_found(self, *given: str) -> None:
+        self.assertRaises(Wrong, self.assert_passes, *given)
+
+
+def add_texts() -> None:
+    """Adds a check for each text of histories.txt, and for each that is altered so that it is wrong."""
+    whole = (fixtures.TOP / "acceptance" / "histories.txt").read_text(encoding="utf-8")
+    for section in whole.split("\n---- ")[1:]:
+        right, *wrong = section.split("\n== ")
+        name, asked, bounds = HEAD.match(right).groups()
+        text = right.partition("\n")[2].strip() + "\n"
+        fixtures.add(Texts, name, Texts.assert_passes, text, "", asked, bounds)
+        for it in wrong:
+            what, _, other = HEAD.match(f"{it}\n").groups()
+            fixtures.add(Texts, f"{name}, {what}", Texts.assert_found, text, it, asked, other or bounds)
+
+
 add_texts()
-fixtures.add_seeds(Histories, histories.SEEDS, histories.check_seed)
+fixtures.add_seeds(Histories, SEEDS, check_seed)

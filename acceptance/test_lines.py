@@ -2,20 +2,19 @@
 
 A line is made of the grammar's words, numbers at their limits, spaces, carriage returns and bytes 0 to 255, or is a
 statement in which a byte or a word was changed, put in, or taken out. A session is written in pieces, whose size is the
-seed's, so that the program's reads end anywhere. Besides, statements are cut after each byte, and a line has 64 MB.
+seed's, so that the program's reads end anywhere. Besides, statements are cut after each byte.
 """
 
-from __future__ import annotations
-
 import random
+import re
+import sys
 
 import fixtures
 import random_script
 import run
-from plain_session import FIELDS, POLICIES, RANGES, Limits, read_line, statements
+from plain_session import FIELDS, POLICIES, Limits, Session, read_line, replies, statements
 
 SESSION_LINES = 5000
-LONG_LINE = 64 * 2**20
 NUMBERS = [0, 1, 2, 9, 10, 99, 100, 101, *random_script.EDGES, 2**64 + 1, 10**19, 10**20 - 1, 10**20]
 ODD_NUMBERS = (
     b"|-1|+1|1.0|0x1|1e3|1_0|\xb2|00000000000000000001|000000000000000000001|-|-0|--1|- 1|+-1|1-|-1.0|-1_0|-\xb2|"
@@ -55,28 +54,18 @@ def random_row(numbers: random.Random) -> bytes:
 def random_words(numbers: random.Random) -> list[bytes]:
     """The words of a statement, or of what is nearly one."""
     number = lambda: random_number(numbers)
-    payload = lambda: numbers.choice([b"", b"-"]) + number()
-    kind = numbers.choice(WORDS) if numbers.random() < 0.95 else numbers.choice(ODD_WORDS)
-    match kind.decode("latin-1"):
-        case "insert":
-            words = [number(), payload()]
-        case it if it in RANGES:
-            words = [number(), number()]
-        case "delete":
-            words = [random_row(numbers)]
-        case "update":
-            words = [random_row(numbers), number(), payload()]
-        case "layout" | "checkpoint":
-            words = [b"%d" % numbers.randrange(5) if numbers.random() < 0.7 else number()]
-        case "policy":
-            words = [numbers.choice(WORDS[-3:])]
-        case _:
-            words = []
+    kind = numbers.choice(WORDS if numbers.random() < 0.95 else ODD_WORDS)
+    row, payload = random_row(numbers), numbers.choice([b"", b"-"]) + number()
+    if kind in (b"layout", b"checkpoint"):
+        row = b"%d" % numbers.randrange(5) if numbers.random() < 0.7 else number()
+    drawn = [row, number(), payload, number(), number(), numbers.choice(WORDS[-4:])]
+    line = random_script.statement(*(it.decode("latin-1") for it in [kind, *drawn]))
+    words = line.encode("latin-1").split(b" ")
     if numbers.random() < 0.05:
-        words.insert(numbers.randrange(len(words) + 1), numbers.choice([*WORDS, *ODD_WORDS, number()]))
-    if words and numbers.random() < 0.05:
-        words.pop(numbers.randrange(len(words)))
-    return [kind, *words]
+        words.insert(numbers.randrange(1, len(words) + 1), numbers.choice([*WORDS, *ODD_WORDS, number()]))
+    if len(words) > 1 and numbers.random() < 0.05:
+        words.pop(numbers.randrange(1, len(words)))
+    return words
 
 
 def random_statement(numbers: random.Random) -> bytes:
@@ -86,13 +75,6 @@ def random_statement(numbers: random.Random) -> bytes:
         gap = numbers.choice([*GAPS, b" " * numbers.randrange(200)])
         line += word + (b" " if numbers.random() < 0.9 else gap)
     return line if numbers.random() < 0.2 else line.rstrip(b" ")
-
-
-def changed(numbers: random.Random, line: bytes) -> bytes:
-    """A line in which one byte was changed, put in or taken out."""
-    at = numbers.randrange(len(line) + 1)
-    byte = b"%c" % (numbers.randrange(256) if numbers.random() < 0.5 else numbers.choice(b" \r.09\0\n-+"))
-    return line[:at] + numbers.choice([byte, b""]) + line[at + numbers.randrange(2) :]
 
 
 def padded(numbers: random.Random, line: bytes) -> bytes:
@@ -108,7 +90,7 @@ def random_line(numbers: random.Random) -> bytes:
     if drawn < 0.6:
         return random_statement(numbers)
     if drawn < 0.85:
-        return changed(numbers, random_statement(numbers))
+        return random_script.changed(numbers, random_statement(numbers), b" \r.09\0\n-+")
     if drawn < 0.9:
         return padded(numbers, random_statement(numbers))
     return numbers.randbytes(numbers.randrange(300)) if drawn < 0.95 else numbers.choice(SPACES)
@@ -124,28 +106,21 @@ def random_input(numbers: random.Random, many: int) -> bytes:
     return b"".join(given) + numbers.choice(ENDS)
 
 
-def fault_of_session(program: str, given: bytes, splits=(), limits=Limits(), piece: int = 65536) -> str | None:
-    """What is wrong with what a session is answered, given in pieces of so many bytes; or None."""
-    status, wrote, complained = fixtures.fed([program, "script", *limits.words(), *map(str, splits)], given, piece)
-    if status or complained:
-        return f"status {status}, standard error {complained!r}"
-    return random_script.misfit(given, wrote, splits, limits)
-
-
-def fault(program: str, seed: int) -> str | None:
-    """What is wrong with what the random lines of a seed are answered, or None."""
+def check(program: str, seed: int) -> None:
+    """Holds what the random lines of a seed are answered."""
     numbers = random.Random(seed)
     splits = sorted(numbers.sample([1, 10, 99, 100, 101, *random_script.EDGES[2:-1]], numbers.randrange(4)))
     limits = numbers.choice([Limits(), Limits(200), Limits(100, 50, 1000)])
     given = random_input(numbers, SESSION_LINES)
-    return fault_of_session(program, given, splits, limits, PIECES[seed % len(PIECES)])
+    random_script.check_session(program, given, splits, limits, PIECES[seed % len(PIECES)])
 
 
 class Lines(fixtures.Case):
     """Lines of all kinds."""
 
-    def assert_answered(self, given: bytes, what: object = None, piece: int = 65536) -> None:
-        self.assertIsNone(fault_of_session(self.program, given, piece=piece), what or given)
+    def assert_answered(self, given: bytes, piece: int = 65536) -> None:
+        with self.subTest(given[:80]):
+            random_script.check_session(self.program, given, piece=piece)
 
     def test_each_line_on_a_fresh_table(self) -> None:
         """Each line at the limits of words is the whole input, before a question for all rows, and without one."""
@@ -165,25 +140,29 @@ class Lines(fixtures.Case):
                 self.assert_answered(b"insert 7 70\n" + cut + end)
         rest = [it[size:] for it in whole for size in range(len(it) + 1)]
         kept = [it for it in [*cuts, *rest] if read_line(it) != ("quit", [])]
-        self.assert_answered(b"".join(it + end for it in kept for end in [b"\n", b"\r\n"]), "all cuts", piece=1)
+        self.assert_answered(b"".join(it + end for it in kept for end in [b"\n", b"\r\n"]), piece=1)
 
     def test_each_byte_anywhere(self) -> None:
         """Each of the 256 bytes is put before, in and after a statement, and around a sign."""
         places = b"|sum 0 5, sum 0|5, sum 0 |5, sum 0 5|, insert 1 |5, insert 1 |-5, insert 1 -|5".split(b", ")
         given = [it.replace(b"|", bytes([byte])) for byte in range(256) for it in places]
-        self.assert_answered(b"".join(it + b"\n" for it in given), "all bytes", piece=7)
-
-    def test_a_line_of_64_megabytes(self) -> None:
-        """A line of 64 MB is refused once, whatever stands in it, and statements before and after it are answered."""
-        for front, filling in [(b"", b"x"), (b"count 0 5", b" "), (b"insert 1 ", b"0"), (b"", b"\r"), (b"", b"\0")]:
-            line = front + filling * (LONG_LINE - len(front))
-            for end in [b"", b"\n", b"\ncount 0 5"]:
-                self.assert_answered(b"count 0 5\n" + line + end, (front + filling, end))
+        self.assert_answered(b"".join(it + b"\n" for it in given), piece=7)
 
 
 class RandomScripts(fixtures.Case):
-    """A script of each seed of random_script.py."""
+    """A script of each seed of random_script.py, and one that goes on for ever."""
+
+    def test_for_ever(self) -> None:
+        """A script whose histories get full again and again is answered as if they had no limit."""
+        given = random_script.random_text(random.Random(1), Session([100]), 500, 200)
+        given = b"".join(re.findall(rb"(?m)^(?!layout|checkpoint).*\n", given))
+        answers, wanted = list(map(Session([100], Limits(20)).answer, statements(given))), replies(given, [100])
+        self.assertIn(["refused 6 20"], answers)
+        self.assertNotIn(b"refused 6", wanted)
+        command = [sys.executable, fixtures.TOP / "examples" / "for_ever.py", self.program, "20", "100"]
+        for more, last in [(b"", b""), (b"quit\ninsert 1 1\n", b"bye\n")]:
+            fixtures.expect("for_ever.py", (0, wanted + last, b""), fixtures.ran(command, given + more))
 
 
-fixtures.add_seeds(Lines, range(1, 21), fault)
-fixtures.add_seeds(RandomScripts, random_script.SEEDS, random_script.fault)
+fixtures.add_seeds(Lines, range(1, 21), check)
+fixtures.add_seeds(RandomScripts, random_script.SEEDS, random_script.check)

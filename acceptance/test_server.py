@@ -1,30 +1,35 @@
-"""Servers with many clients, servers that end when their input ends or a client is silent, and large batches.
+"""Servers with many clients, servers that end when their input ends or a client is silent, and checkpoints and small
+limits where many ask one partition.
 
-What must come is read off docs/SPECIFICATION.md. What clients are answered one after the other stands in
-cases/clients.cases.
+A checkpoint of one client empties a partition's history for all; what all checkpoints report comes to what was
+accepted, since each entry is folded once; limits hold for all clients together; and the totals are as without. What
+must come is read off docs/SPECIFICATION.md. What clients are answered one after the other stands in
+cases/clients.cases and cases/ends.cases, and what batches are at their bounds in bounds.txt.
 """
-
-from __future__ import annotations
 
 import contextlib
 import os
 import resource
-import socket
+import threading
 import time
 import typing
 
 import fixtures
-from fixtures import MOST_WORKERS, SECONDS, Client, Server, Wrong, expect, ran, serving, side_by_side
+from compare import FOLDED, numbers_of
+from fixtures import FAULTS, SECONDS, Client, Server, Wrong, expect, ran, serving, side_by_side
 from plain_session import MOST
 
-PIPELINED, LOADED = 200_000, 30_000
-LISTED_ROWS, LISTINGS = 20_000, 10
-# threads need more than this: each has a stack of its own
-FEW_BYTES = 64 * 2**20
+LOADED = 30_000
+# where many ask one partition
+CLIENTS, LIMIT, LIFE, CELLS = 8, 50, 1000, 100
+ROWS, EACH = 300, 5
+LINES_OF_A_WORKER, OWN_LINES, WORKERS = 40, 1000, 4
+OWN_SPLITS = ["1000", "2000", "3000"]
 ALL = f"count 0 {MOST}"
 CUT_OFF = "crackd: worker 0: session cut off: "
 CUT_OFF_READ = f"{CUT_OFF}refused 17: reading from the client failed or waited too long"
 CUT_OFF_WRITE = f"{CUT_OFF}refused 18: writing to the client failed or waited too long"
+IDLE = ["--idle", "1"]
 
 
 def inserts(many: int, low: int = 0) -> str:
@@ -37,54 +42,13 @@ def numbered(many: int, part: int = 0) -> str:
     return "".join(f"row {part}.{number}\n" for number in range(many))
 
 
-def batch(program: str, workers: int, text: str, *words: object, limit=None) -> fixtures.Ended:
+def batch(program: str, workers: int, text: str, *words: object) -> fixtures.Ended:
     """The status of a batch, and what it writes, also to standard error."""
-    return ran([program, "batch", "--workers", workers, *words], text, preexec_fn=limit)
-
-
-def few_bytes() -> None:
-    resource.setrlimit(resource.RLIMIT_AS, (FEW_BYTES, FEW_BYTES))
+    return ran([program, "batch", "--workers", workers, *words], text)
 
 
 class Servers(fixtures.Case):
-    """Servers with many clients, and large batches."""
-
-    def expect_unserved(self, refusal: str, port: int, first: str = "", workers: int = 1, limit=None) -> None:
-        """A server that is refused this, after a first line if it has one."""
-        words = ["serve", "--port", port, "--workers", workers, "--sessions", "1", "--quiet"]
-        came = ran([self.program, *words], "", preexec_fn=limit)
-        expect("a server that is refused", (1, first, f"crackd: {refusal}\n"), came)
-
-    def test_one_breaks_off(self) -> None:
-        """Clients that break off, say nothing, or leave replies harm nobody: rows and sessions are there."""
-        with serving(self.program, (3, 2, 0, 2), 1, 4) as port:
-            with Client(port) as it:
-                it.ask("insert 1 10", "row 0.0")
-                it.send("insert 2")
-                it.sends_no_more()
-                expect("half a line", ["refused 1"], it.reply())
-            with Client(port):
-                pass
-            with Client(port) as it:
-                # (none of these lines is kept, however many of them are read)
-                it.send("nonsense\n" * 1000)
-                it.reset()
-            with Client(port) as it:
-                it.talk(f"insert 3 30 | row 0.1\n{ALL} | count 2")
-                it.end()
-
-    def test_one_is_silent(self) -> None:
-        """A client that sends nothing holds its own worker alone."""
-        with serving(self.program, (21, 10, 0, 10), 2, 12) as port, Client(port) as silent:
-            for number in range(10):
-                with Client(port) as it:
-                    it.talk(f"insert {number} 0 | row 0.{number}\n{ALL} | count {number + 1}")
-                    it.end()
-            with Client(port) as it:
-                it.send("\n")
-                it.end()
-            silent.ask(ALL, "count 10")
-            silent.end()
+    """Servers with many clients."""
 
     def test_one_reads_no_reply(self) -> None:
         """A client that sends until nothing more is taken, and reads no reply, holds its own worker alone."""
@@ -95,41 +59,10 @@ class Servers(fixtures.Case):
                     # (none of these lines is kept, however many of them are read)
                     stuck.send("nonsense\n" * 10000)
             with Client(port) as it:
-                it.talk(f"insert 1 10 | row 0.0\n{ALL} | count 1")
+                it.ask("insert 1 10", "row 0.0")
+                it.ask(ALL, "count 1")
                 it.end()
             stuck.__exit__()
-
-    def test_one_pipelines(self) -> None:
-        """A client that sends many statements before it has read a reply gets each reply in order."""
-        with serving(self.program, (PIPELINED, PIPELINED, 0, PIPELINED), 1, 1) as port, Client(port) as it:
-            with side_by_side(lambda: it.send(inserts(PIPELINED) + "quit\n")):
-                got = it.lines.read()
-            expect("replies", numbered(PIPELINED) + "bye\n", got)
-
-    def test_a_large_batch(self) -> None:
-        """A worker's output of megabytes comes whole, between those of one that quits early and one without lines."""
-        keys, listing = range(LISTED_ROWS), f"1 select 0 {LISTED_ROWS}\n" * LISTINGS
-        text = "0 quit\n" + "".join(f"1 insert {key} 7\n0 insert {key} 8\n" for key in keys) + listing
-        rows = f"rows {LISTED_ROWS}\n" + "".join(f"0.{key} {key} 7\n" for key in keys)
-        wanted = f"worker 0\nbye\nworker 1\n{numbered(LISTED_ROWS)}{rows * LISTINGS}worker 2\n"
-        wanted += f"accepted {LISTED_ROWS + LISTINGS} inserted {LISTED_ROWS} deleted 0 held {LISTED_ROWS}\n"
-        expect("batch", (0, wanted, ""), batch(self.program, 3, text))
-
-    def test_an_input_past_its_bound(self) -> None:
-        """An input of one byte more than a batch may have is refused, before a line of it is judged."""
-        text = ("x" * 1023 + "\n") * 65536
-        expect("one byte more", (1, "", "crackd: refused 17\n"), batch(self.program, 1, text + "x"))
-        expect("the most bytes", (1, "", "crackd: refused 1\n"), batch(self.program, 1, text))
-
-    def test_a_thread_that_cannot_be_started(self) -> None:
-        """Where there is no memory for the threads' stacks, a batch and a server are refused 8, and end."""
-        came = batch(self.program, MOST_WORKERS, "0 count 0 1\n", limit=few_bytes)
-        expect("batch", (1, "", "crackd: refused 8\n"), came)
-        alone = "worker 0\ncount 0\naccepted 1 inserted 0 deleted 0 held 0\n"
-        came = batch(self.program, 1, "0 count 0 1\n", limit=few_bytes)
-        expect("a batch of one worker", (0, alone, ""), came)
-        port = fixtures.free_port()
-        self.expect_unserved("refused 8", port, f"listening {port}\n", MOST_WORKERS, few_bytes)
 
     def test_descriptors_that_run_out(self) -> None:
         """A worker whose accepts fail for want of a descriptor goes on, and serves again once there is one."""
@@ -151,13 +84,6 @@ class Servers(fixtures.Case):
                     it.end()
                 held.end()
 
-    def test_a_port_that_is_taken(self) -> None:
-        """A port that another program listens on is refused 17."""
-        with socket.socket() as taken:
-            taken.bind(("127.0.0.1", 0))
-            taken.listen()
-            self.expect_unserved("refused 17", taken.getsockname()[1])
-
 
 def is_served(port: int) -> bool:
     """Whether a connection is answered: it asks for what changes no total. Else it is refused or closed."""
@@ -170,22 +96,10 @@ def is_served(port: int) -> bool:
 
 
 class Ends(fixtures.Case):
-    """Servers with --until-eof, --idle and --quiet."""
+    """Servers with --until-eof and --idle."""
 
     def ending(self, workers: int, *words: str) -> Server:
         return Server(self.program, workers, "--until-eof", *words)
-
-    def test_workers_that_wait_end(self) -> None:
-        """Workers that wait for a connection end with the input, also where nobody ever came."""
-        with self.ending(64) as it:
-            it.close()
-            it.wait((0, 0, 0, 0), *it.notes(0))
-        with self.ending(3) as it:
-            with Client(it.port) as one:
-                one.ask("insert 5 50", "row 0.0")
-                one.end()
-            it.close()
-            it.wait((1, 1, 0, 1), *it.notes(1))
 
     def test_an_open_session_goes_on(self) -> None:
         """A session that is open when the input ends is served to its end, and no further one is."""
@@ -195,7 +109,8 @@ class Ends(fixtures.Case):
                 it.close()
                 # (a client that comes before the server has noticed the end is still served)
                 others = sum(1 for _ in iter(lambda: is_served(it.port), False))
-                one.talk("insert 6 60 | row 0.1\nsum 0 10 | sum 110")
+                one.ask("insert 6 60", "row 0.1")
+                one.ask("sum 0 10", "sum 110")
                 one.end()
             it.wait((3, 2, 0, 2), *it.notes(1 + others))
 
@@ -209,30 +124,14 @@ class Ends(fixtures.Case):
             expect("replies", numbered(LOADED) + "bye\n", "row 0.0\n" + replies)
             it.wait((LOADED, LOADED, 0, LOADED), *it.notes(1))
 
-    def test_every_worker_is_busy(self) -> None:
-        """Where no worker waits, the server ends once their sessions have, and a client in the queue isn't served."""
-        with self.ending(2) as it, Client(it.port) as one, Client(it.port) as two:
-            one.ask("insert 1 1", "row 0.0")
-            two.ask("insert 2 2", "row 0.1")
-            with Client(it.port) as third:
-                third.send("insert 3 3\n")
-                it.close()
-                time.sleep(0.2)
-                one.end()
-                two.end()
-                it.wait((2, 2, 0, 2), *it.notes(2))
-                with contextlib.suppress(ConnectionError):
-                    expect("the client in the queue", "", third.lines.read(1))
-
     def test_a_silent_client_is_let_go(self) -> None:
         """With --idle a client that says nothing is let go, and its worker serves the next one."""
-        with self.ending(1, "--idle", "1") as it:
+        with self.ending(1, *IDLE) as it:
             with Client(it.port) as silent, Client(it.port) as next_one:
                 silent.ask("insert 1 1", "row 0.0")
                 begun = time.monotonic()
                 silent.is_at_end()
-                if not 0.5 < time.monotonic() - begun < SECONDS / 2:
-                    raise Wrong(f"let go after {time.monotonic() - begun} seconds")
+                expect("let go in time", True, 0.5 < time.monotonic() - begun < SECONDS / 2)
                 next_one.ask("count 0 5", "count 1")
                 next_one.end()
             it.close()
@@ -240,7 +139,7 @@ class Ends(fixtures.Case):
 
     def test_a_client_that_takes_nothing_is_let_go(self) -> None:
         """With --idle a client that reads no reply is let go, once no more of them fits."""
-        with self.ending(1, "--idle", "1") as it:
+        with self.ending(1, *IDLE) as it:
             with Client(it.port, room=4096) as deaf:
                 deaf.send(inserts(2_000))
                 with contextlib.suppress(OSError):
@@ -253,44 +152,197 @@ class Ends(fixtures.Case):
             expect("status and standard error", (0, it.notes(2, CUT_OFF_WRITE)), (status, complained.splitlines()))
             self.assertRegex(wrote, r"\Aaccepted \d+ inserted 2001 deleted 0 held 2001\n\Z")
 
-    def test_a_client_that_talks_stays(self) -> None:
-        """With --idle a client that says something in time stays, however long its session is."""
-        with self.ending(1, "--idle", "1") as it:
-            with Client(it.port) as slow:
-                for n in range(5):
-                    slow.ask(f"insert {n} {n}", f"row 0.{n}")
-                    time.sleep(0.4)
-                slow.end()
-            it.close()
-            it.wait((5, 5, 0, 5), *it.notes(1))
 
-    def fill(self, limit: int, count: int, *words: str, wanted: typing.Iterable[str] = ()) -> None:
-        """Has one client insert so many rows above 100, and holds what a server of this limit complains."""
-        with self.ending(1, "--auto-checkpoint", "--limit", str(limit), *words, "100") as it:
-            with Client(it.port) as one, side_by_side(lambda: one.send(inserts(count, 100) + "quit\n")):
-                expect("rows", numbered(count, 1) + "bye\n", one.lines.read())
-            it.close()
-            it.wait((count, count, 0, count), *([] if words else it.notes(1)), *wanted)
+class Counting(Client):
+    """A client that counts commands that were accepted, and entries that its checkpoints folded."""
 
-    def test_a_line_for_checkpoints(self) -> None:
-        """A checkpoint that is due has a line; those of short histories share one for a thousand entries."""
-        line = "crackd: checkpoint of partition 1: {} entries"
-        lines = "crackd: {} checkpoints, the last of partition 1: {} entries"
-        for limit, count, wanted in [
-            (1500, 1500, []),
-            (1500, 4500, [line.format(1500)] * 2),
-            (1000, 2001, [line.format(1000)] * 2),
-            (4, 1009, [line.format(4), lines.format(250, 4)]),
-            (1, 1002, [line.format(1), lines.format(1000, 1)]),
-        ]:
-            self.fill(limit, count, wanted=wanted)
+    accepted = folded = 0
 
-    def test_a_quiet_server_says_nothing(self) -> None:
-        """With --quiet standard error stays empty, also where a session is cut off, and where a checkpoint is due."""
-        self.fill(2, 9, "--quiet")
-        with self.ending(1, "--quiet", "--idle", "1") as it:
-            with Client(it.port) as silent:
-                silent.ask("insert 1 1", "row 0.0")
-                silent.is_at_end()
-            it.close()
-            it.wait((1, 1, 0, 1))
+    def line(self, statement: str) -> str:
+        """The one line of the reply to a statement."""
+        (line,) = self.answer(statement)
+        return line
+
+    def fold(self, part: int) -> None:
+        """Asks for a checkpoint. It reports at most as many entries as a history may have."""
+        line = self.line(f"checkpoint {part}")
+        folded = numbers_of(line, FOLDED)
+        if not folded or folded[0] > LIMIT:
+            raise Wrong(f"checkpoint {part}: {line!r}")
+        self.folded += folded[0]
+
+    def insist(self, statement: str, part: int) -> str:
+        """The reply to a statement, which is asked again after a checkpoint for as long as the history is full."""
+        while (line := self.line(statement)) == f"refused 6 {LIMIT}":
+            self.fold(part)
+        self.accepted += not line.startswith("refused")
+        return line
+
+
+Work = typing.Callable[[Counting, int], None]
+
+
+def at_once(port: int, work: Work) -> list[Counting]:
+    """Runs all clients at once, each with a connection of its own and its number, and gives them back."""
+
+    def run(number: int) -> Counting:
+        with Counting(port) as client:
+            try:
+                work(client, number)
+                client.end()
+            except (*FAULTS, threading.BrokenBarrierError) as error:
+                raise Wrong(f"client {number}: {error or type(error).__name__}") from error
+            return client
+
+    return fixtures.all_at_once(run, range(CLIENTS))
+
+
+def check_folded(port: int, clients: list[Counting], parts: int, accepted: int) -> None:
+    """Folds what is left. Each entry was folded once, and each client was answered what was accepted."""
+    with Counting(port) as last:
+        for part in range(parts):
+            last.fold(part)
+        last.end()
+    expect("commands that were answered", accepted, sum(it.accepted for it in clients))
+    expect("entries that checkpoints folded", accepted, sum(it.folded for it in [*clients, last]))
+
+
+def check_folds(lines: list[str]) -> None:
+    """Holds what the worker was answered that folds all: of another partition no more goes than was asked of it."""
+    folds = [int(line.removeprefix("folded ")) for line in lines if line.startswith("folded ")]
+    others = [line for line in lines if not line.startswith("folded ")]
+    expect("rows of worker 0", [f"row 0.{number}" for number in range(OWN_LINES)], others[:-1])
+    expect("a count of all", True, OWN_LINES <= int(others[-1].removeprefix("count ")) <= WORKERS * OWN_LINES)
+    expect("checkpoints of worker 0", OWN_LINES // 50 * WORKERS, len(folds))
+    expect("entries of partition 0", [50] * (OWN_LINES // 50), folds[::WORKERS])
+    for part in range(1, WORKERS):
+        if sum(folds[part::WORKERS]) > OWN_LINES + 1:
+            raise Wrong(f"partition {part}: {sum(folds[part::WORKERS])} entries were folded of {OWN_LINES + 1} at most")
+
+
+def keep_rows(number: int, parts: int, ask: typing.Callable[[str, int], str]) -> None:
+    """Rows of a client of this number come and go amid those of others in its partition."""
+    part, low = number % parts, number % parts * 10_000 + number * 1000
+    rows = []
+    for key in range(low, low + ROWS):
+        line = ask(f"insert {key} {number}", part)
+        rows.append(line.removeprefix("row "))
+        counted = ask(f"count {low} {low + ROWS}", part)
+        expect("a count of own rows", f"count {len(rows) - (len(rows) - 1) // 10}", counted)
+        if len(rows) % 10 == 0:
+            expect("an own row", f"gone {key} {number}", ask(f"delete {rows[-1]}", part))
+    expect("a sum of own rows", f"sum {number * (ROWS - ROWS // 10)}", ask(f"sum {low} {low + ROWS}", part))
+
+
+class SmallLimits(fixtures.Case):
+    """Checkpoints and small limits where many ask one partition."""
+
+    def assert_kept(self, words: list[str], ask: typing.Callable, check: typing.Callable) -> None:
+        """Clients that share two partitions are answered all that they ask, and keep their rows."""
+        accepted, inserted = CLIENTS * (2 * ROWS + ROWS // 10 + 1), CLIENTS * ROWS
+        totals = accepted, inserted, inserted // 10, inserted - inserted // 10
+        words = ["--limit", str(LIMIT), *words, "10000"]
+        with serving(self.program, totals, CLIENTS, CLIENTS + 1, *words) as port:
+            work = lambda client, number: keep_rows(number, 2, lambda *given: ask(client, *given))
+            check(port, at_once(port, work), accepted)
+
+    def test_many_at_a_small_limit(self) -> None:
+        """Where histories are full again and again, and the clients ask for checkpoints."""
+        self.assert_kept([], Counting.insist, lambda port, clients, accepted: check_folded(port, clients, 2, accepted))
+
+    def test_checkpoints_that_are_due(self) -> None:
+        """Where none asks for a checkpoint: since the last one there are those beyond whole histories."""
+
+        def check(port: int, _: object, accepted: int) -> None:
+            with Client(port) as last:
+                for part in range(2):
+                    last.ask(f"checkpoint {part}", f"folded {(accepted // 2 - 1) % LIMIT + 1}")
+                last.end()
+
+        self.assert_kept(["--auto-checkpoint"], lambda client, statement, _: client.line(statement), check)
+
+    def test_a_life_ends_for_all(self) -> None:
+        """A partition answers as many commands as its life is long, to all together, however often it is folded."""
+
+        def work(client: Counting, number: int) -> None:
+            while (line := client.insist(f"count {number} {number + 1}", 0)) == "count 0":
+                if client.accepted % 7 == 0:
+                    client.fold(0)
+            expect("a life that is over", "refused 10", line)
+            for _ in range(3):
+                client.fold(0)
+                client.ask(f"insert {number} 1", "refused 10")
+            head = "layout 1 rows 0 column 0 out 0 in 0 cells 0 free 0 pieces 1"
+            client.ask("layout 1", head, f"piece 10000 {MOST} 0")
+
+        words = ["--limit", str(LIMIT), "--life", str(LIFE), "10000"]
+        with serving(self.program, (LIFE, 0, 0, 0), CLIENTS, CLIENTS + 1, *words) as port:
+            check_folded(port, at_once(port, work), 2, LIFE)
+
+    def test_cells_run_out_for_all(self) -> None:
+        """A partition has as many cells as there may be, for all; a row that goes before a query leaves its cell."""
+        meeting = threading.Barrier(CLIENTS, timeout=SECONDS)
+
+        def work(client: Counting, number: int) -> None:
+            rows, insert = [], lambda: client.insist(f"insert {number} 1", 0)
+            while (line := insert()).startswith("row "):
+                rows.append(line.removeprefix("row "))
+            expect("cells that ran out", "refused 9", line)
+            meeting.wait()
+            gone = rows[:EACH]
+            for row in gone:
+                expect("an own row", f"gone {number} 1", client.insist(f"delete {row}", 0))
+            meeting.wait()
+            for _ in gone:
+                expect("a cell that is free", "row ", insert()[:4])
+            meeting.wait()
+            expect("cells that ran out again", "refused 9", insert())
+            client.fold(0)
+            expect("cells after a checkpoint", "refused 9", insert())
+            freed.append(len(gone))
+
+        freed, totals, words = [], [], ["--limit", str(LIMIT), "--cells", str(CELLS)]
+        with serving(self.program, totals, CLIENTS, CLIENTS + 1, *words) as port:
+            clients = at_once(port, work)
+            check_folded(port, clients, 1, CELLS + 2 * sum(freed))
+            totals += [CELLS + 2 * sum(freed), CELLS + sum(freed), sum(freed), CELLS]
+
+    def test_a_batch_that_folds(self) -> None:
+        """Each worker folds its own partition before its history is full, so all is answered, with the same totals."""
+        text, wanted, limit = "", "", LINES_OF_A_WORKER * 5 // 4
+        for worker in range(WORKERS):
+            wanted += f"worker {worker}\n"
+            for number in range(OWN_LINES):
+                key = worker * 1000 + number
+                text += f"{worker} insert {key} 1\n"
+                wanted += f"row {worker}.{number}\n"
+                if number % 4 == 0:
+                    text += f"{worker} delete {worker}.{number}\n"
+                    wanted += f"gone {key} 1\n"
+                if number % LINES_OF_A_WORKER == LINES_OF_A_WORKER - 1:
+                    text += f"{worker} checkpoint {worker}\n"
+                    wanted += f"folded {limit}\n"
+        inserted = WORKERS * OWN_LINES
+        wanted += f"accepted {inserted * 5 // 4} inserted {inserted} deleted {inserted // 4} held {inserted * 3 // 4}\n"
+        expect("checkpoints of all workers", inserted // LINES_OF_A_WORKER, text.count("checkpoint"))
+        expect("batch", (0, wanted, ""), batch(self.program, WORKERS, text, "--limit", limit, *OWN_SPLITS))
+
+    def test_a_batch_that_one_worker_folds(self) -> None:
+        """One worker folds the partitions of all amid its work and theirs: no entry is folded twice."""
+        text, wanted = "", ""
+        for number in range(OWN_LINES):
+            text += "".join(f"{worker} insert {worker * 1000 + number} 1\n" for worker in range(WORKERS))
+            if number % 50 == 49:
+                text += "".join(f"0 checkpoint {part}\n" for part in range(WORKERS))
+        text += f"0 count 0 {MOST}\n"
+        for worker in range(1, WORKERS):
+            text += f"{worker} sum {worker * 1000} {worker * 1000 + 1000}\n"
+            wanted += f"worker {worker}\n{numbered(OWN_LINES, worker)}sum {OWN_LINES}\n"
+        inserted = WORKERS * OWN_LINES
+        # (the count asks each partition)
+        wanted += f"accepted {inserted + 2 * WORKERS - 1} inserted {inserted} deleted 0 held {inserted}\n"
+        status, wrote, complained = batch(self.program, WORKERS, text, *OWN_SPLITS)
+        expect("status and standard error", (0, ""), (status, complained))
+        at = wrote.index("worker 1\n")
+        expect("what the others were answered, and the totals", wanted, wrote[at:])
+        check_folds(wrote[:at].splitlines()[1:])

@@ -12,13 +12,13 @@ from programs import (
     PEERS,
     answers,
     echoed,
+    fixtures,
     has_valgrind,
     instructions,
     middles,
     over_tcp,
     processor_seconds,
     resident,
-    served_memory,
     session_seconds,
 )
 
@@ -177,7 +177,7 @@ def measure_memory(table, _runs):
 
 def measure_served(table, _runs):
     early, late = sizes.SERVED
-    before, after = served_memory.after(CRACKD, sizes.SERVED_LIMIT, early, late - early)
+    before, after = fixtures.served_bytes(CRACKD, sizes.SERVED_LIMIT, early, late - early)
     table.numbers(f"bytes of a server after {late} commands, beside after {early}", after, before, 1.05)
 
 

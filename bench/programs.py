@@ -15,7 +15,6 @@ import time
 TOP = pathlib.Path(__file__).resolve().parent.parent
 sys.path.append(str(TOP / "acceptance"))
 import fixtures  # which starts servers, and holds their totals against what they must be
-import served_memory  # whose clients count at full speed
 
 OUT = TOP / "bench" / "out"
 PEERS = OUT / "peers"

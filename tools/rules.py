@@ -1,8 +1,8 @@
 #!/usr/bin/env python3
 """Lists the rules of docs/SPECIFICATION.md that no case shows: rules.py
 
-A word after a § marks the rule that it follows, and stands in the name of a case of acceptance/cases, or of a test of acceptance/ or of the crates of
-tests, there with underscores. Each item of a list and each row of a table of rules has to have one. The status is 1 where a rule lacks its mark, or a mark its
+A word after a § marks the rule that it follows, and stands in the name of a case of acceptance/cases, of a section of a page of acceptance/, or of a
+test of acceptance/ or of the crates of tests, there with underscores. Each item of a list and each row of a table of rules has to have one. The status is 1 where a rule lacks its mark, or a mark its
 case.
 """
 
@@ -13,8 +13,9 @@ import sys
 TOP = pathlib.Path(__file__).resolve().parent.parent
 PAGE = "docs/SPECIFICATION.md"
 MARK = re.compile(r"§([\w-]+)")
-CASE = re.compile(r"^== (\S+)", re.MULTILINE)
-TEST = re.compile(r"^\s*(?:#\[test\]\s*fn |def test_)(\w+)", re.MULTILINE)
+TEST = r"^\s*(?:#\[test\]\s*fn |def test_)(\w+)"
+# where names are, by the kind of a file
+NAMES = {".cases": r"^== (\S+)", ".txt": r"^## (.+)", ".py": TEST, ".rt": TEST}
 # the first cells of the tables whose rows are rules
 TABLES = ("No.", "Statement", "Exit", "Step")
 ITEM = re.compile(r"(?:- |\d+\. )")
@@ -23,9 +24,10 @@ ITEM = re.compile(r"(?:- |\d+\. )")
 def names(top=TOP):
     """The names of all cases and tests, in words between hyphens."""
     found = set()
-    for path in [*top.glob("acceptance/cases/*.cases"), *top.glob("acceptance/test_*.py"), *top.glob("crates/*_tests/src/**/*.rt")]:
-        pattern = CASE if path.suffix == ".cases" else TEST
-        found |= {it.replace("_", "-") for it in pattern.findall(path.read_text(encoding="utf-8"))}
+    for pattern in ("acceptance/cases/*.cases", "acceptance/*.txt", "acceptance/test_*.py", "crates/*_tests/src/**/*.rt"):
+        for path in top.glob(pattern):
+            given = re.findall(NAMES[path.suffix], path.read_text(encoding="utf-8"), re.MULTILINE)
+            found |= {re.sub("[ _]", "-", it) for it in given}
     return found
 
 

@@ -20,7 +20,8 @@ TESTS = re.compile(r"^\s*(?:pub(?:\([a-z]+\))? )?(?:fn|def) (\w+)", re.MULTILINE
 def homes(top=crates.TOP):
     """The file of each test, by its name, and of each file of tests, by its own."""
     found = {}
-    for path in [*sorted(top.glob("acceptance/*.py")), *sorted(top.glob("crates/*_tests/src/**/*.rt"))]:
+    patterns = ["acceptance/*.py", "acceptance/*.txt", "acceptance/cases/*.cases", "crates/*_tests/src/**/*.rt"]
+    for path in (path for it in patterns for path in sorted(top.glob(it))):
         found.setdefault(path.name, path)
         found.setdefault(path.name.removeprefix("test_"), path)
         for name in TESTS.findall(path.read_text(encoding="utf-8")):
