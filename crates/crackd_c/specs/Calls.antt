@@ -1,11 +1,8 @@
 -- What calls from C mean.
-use Rattle.std.specs.Prelude.{◌≡◌, ◌⊎◌, ◌≢◌, ◌<◌, ◌≤◌, ℕ, ◌==◌, Bool, true, All, List, [], ◌∷◌, map, length, Option, None, Some, MatchOption, Result, MatchResult, slice_get, slice_index_or, if◌then◌else◌}
+use Rattle.std.specs.Prelude.{◌≡◌, ◌⊎◌, ◌<◌, ◌≤◌, ℕ, ◌==◌, Bool, true, false, All, List, [], ◌∷◌, map, length, Option, None, Some, IsSome, MatchOption, Result, MatchResult, slice_get, slice_index_or, if◌then◌else◌}
 use Rattle.crack_row.specs.Refusals.{code_of}
 use Rattle.crack_row.specs.declared.TheConstants.{GREATEST_KEY}
 use Rattle.crack_row.specs.declared.Bound.{Bound}
-use Rattle.crack_row.specs.declared.Key.{Key}
-use Rattle.crack_row.specs.declared.Payload.{Payload}
-use Rattle.crack_row.specs.declared.Row.{Row}
 use Rattle.crack_row.specs.declared.RowNo.{RowNo}
 use Rattle.crack_row.specs.declared.command.Policy.{Policy}
 use Rattle.crack_row.specs.declared.command.Policy.TheVariants.{Complete, Gradual, Ripple, Auto}
@@ -17,8 +14,8 @@ use Rattle.crack_row.specs.declared.refusal.Refusal.TheVariants.{OutOfMemory}
 use Rattle.crack_plain.specs.Past.{no_past}
 use Rattle.crack_plain.specs.Plain.{PlainView}
 use Rattle.crack_part.specs.Parts.{Part}
-use Rattle.crack_core.specs.Asking.{lasting, Deletes, Updates}
-use Rattle.crack_core.specs.Bulk.{Call, Went, comes_to, flag}
+use Rattle.crack_core.specs.Asking.{lasting}
+use Rattle.crack_core.specs.Bulk.{Call, Went}
 use Rattle.crack_core.specs.Opening.{opening_fault, MayFault}
 use Rattle.crack_core.specs.Routes.{keys_of_part}
 use Rattle.crack_core.specs.Steps.{tables_of, tables_folded, IsLayoutOutcome, IsFoldOutcome}
@@ -26,6 +23,7 @@ use Rattle.crack_core.specs.declared.bulk.Progress.{Progress}
 use Rattle.crackd_c.specs.Handles.{CoreState}
 use Rattle.crackd_c.specs.declared.handle.Handle.{Handle}
 use Rattle.crackd_c.specs.declared.picture.Totals.{Totals}
+use Rattle.crackd_c.specs.declared.status.TheConstants.{CLOSED, LENGTHS_DIFFER, NO_SUCH_POLICY}
 
 -- the policy of a number
 abbrev pub policy_at : ℕ → Option Policy
@@ -57,6 +55,10 @@ abbrev pub AreEqual : ℕ → List ℕ → Type 0
 AreEqual count [] = Unit {0}
 AreEqual count (n ∷ others) = (n ≡ count) × AreEqual count others
 
+-- the number of a row
+abbrev pub row_number : ℕ → ℕ → RowNo
+row_number part serial = record { part = part; serial = record { 0 = serial } }
+
 -- splits as bounds
 abbrev pub bounds_at : List ℕ → List Bound
 bounds_at splits = map (λ (split : ℕ). record { 0 = split }) splits
@@ -69,26 +71,35 @@ rows_of core = lasting (tables_of core.parts)
 abbrev pub StaysOpen : Handle → Handle → Type 0
 StaysOpen old new = (new.is_open ≡ true) × (new.core.splits ≡ old.core.splits) × (new.core.limits ≡ old.core.limits)
 
--- a call on a table, which stays open, comes out by what is asked of its rows: its status is 0, and this is the answer; or it is the number of a
--- refusal, and nothing else is written
-abbrev pub ComesOut : {X : Type 0} → (Result X Refusal → List PlainView → List PlainView → Type 0) → Handle → Handle → ℕ → X → Type 0 → Type 0
-ComesOut asked old new status answer unwritten = StaysOpen old new × ((refusal : Option Refusal) × (status ≡ status_of refusal) × asked (comes_to answer refusal) (rows_of old.core) (rows_of new.core) × (refusal ≢ None → unwritten))
+-- a call isn't made: it returns why, and nothing is written
+abbrev pub Declines : Handle → Handle → ℕ → Type 0 → ℕ → Type 0
+Declines old new status unwritten why = (status ≡ why) × (new ≡ old) × unwritten
 
--- a row is taken out: 1 is written, and what the row was; or 0, where it wasn't there
-abbrev pub TakesOut : Handle → Handle → RowNo → ℕ → (Option Row → Type 0) → Type 0 → Type 0
-TakesOut old new row status written unwritten = StaysOpen old new × ((refusal : Option Refusal) × (went : Option Row) × (status ≡ status_of refusal) × Deletes old.core.limits old.core.splits row (comes_to went refusal) (rows_of old.core) (rows_of new.core) × MatchOption refusal (written went) (λ e. unwritten))
+-- a call on a table: it isn't made where the handle holds none
+abbrev pub OnTable : Handle → Handle → ℕ → Type 0 → (Type 0 → Type 0) → Type 0
+OnTable old new status unwritten made = (old.is_open ≡ false → Declines old new status unwritten CLOSED) × (old.is_open ≡ true → made unwritten)
 
--- a row gets another key and payload: 1 is written, or 0, where it isn't there
-abbrev pub ChangesRow : Handle → Handle → RowNo → Key → Payload → ℕ → ℕ → Type 0 → Type 0
-ChangesRow old new row key payload status found unwritten = StaysOpen old new × ((refusal : Option Refusal) × (is : Bool) × (status ≡ status_of refusal) × Updates old.core.limits old.core.splits row key payload (comes_to is refusal) (rows_of old.core) (rows_of new.core) × MatchOption refusal (found ≡ flag is) (λ e. unwritten))
+-- a call with lists, on a table: it isn't made where these aren't as long as another
+abbrev pub OnLists : ℕ → List ℕ → Handle → Handle → ℕ → Type 0 → (Type 0 → Type 0) → Type 0
+OnLists count lengths old new status unwritten made =
+    OnTable old new status unwritten (λ unwritten. ((AreEqual count lengths → ⊥) → Declines old new status unwritten LENGTHS_DIFFER) × (AreEqual count lengths → made unwritten))
+
+-- a call by the policy of a number: it isn't made where there is none
+abbrev pub ByPolicy : ℕ → Handle → Handle → ℕ → (Type 0 → Type 0) → Type 0 → Type 0
+ByPolicy number old new status made unwritten = (policy_at number ≡ None → Declines old new status unwritten NO_SUCH_POLICY) × (IsSome (policy_at number) → made unwritten)
+
+-- a call on a table, which stays open, comes out by what is asked of its rows: its status is 0, and this is written; or it is the number of a
+-- refusal, and nothing is
+abbrev pub ComesOut : {X : Type 0} → (Result X Refusal → List PlainView → List PlainView → Type 0) → Handle → Handle → ℕ → (X → Type 0) → Type 0 → Type 0
+ComesOut {X} asked old new status written unwritten = StaysOpen old new × ((outcome : Result X Refusal) × asked outcome (rows_of old.core) (rows_of new.core) × MatchResult outcome (λ x. (status ≡ 0) × written x) (λ e. (status ≡ code_of e) × unwritten))
 
 -- a list of so many calls on a table went so: its status is 0, or the number of the refusal at which it stopped, and so many were done
 abbrev pub GoesOn : Call → ℕ → Handle → Handle → ℕ → ℕ → Type 0
 GoesOn call count old new status done = StaysOpen old new × ((progress : Progress) × (status ≡ status_of progress.refusal) × (done ≡ progress.done) × Went call count (rows_of old.core) progress (rows_of new.core))
 
--- a partition's layout is written, or why there is none
-abbrev pub Shows : CoreState → ℕ → ℕ → Totals → List ℕ → List ℕ → Type 0 → Type 0
-Shows core part status totals lows sizes unwritten = (outcome : Result Layout Refusal) × IsLayoutOutcome (keys_of_part core.splits part) (slice_get (tables_of core.parts) part) outcome × MatchResult outcome (λ layout. (status ≡ 0) × (totals ≡ totals_in layout) × PiecesIn layout.pieces lows sizes) (λ e. (status ≡ code_of e) × unwritten)
+-- a partition's layout is written, or why there is none, and the table is as it was
+abbrev pub Shows : Handle → Handle → ℕ → ℕ → Totals → List ℕ → List ℕ → Type 0 → Type 0
+Shows old new part status totals lows sizes unwritten = (new.is_open ≡ true) × (new.core ≡ old.core) × ((outcome : Result Layout Refusal) × IsLayoutOutcome (keys_of_part old.core.splits part) (slice_get (tables_of old.core.parts) part) outcome × MatchResult outcome (λ layout. (status ≡ 0) × (totals ≡ totals_in layout) × PiecesIn layout.pieces lows sizes) (λ e. (status ≡ code_of e) × unwritten))
 
 -- the history of a partition is checkpointed, and how many entries went is written
 abbrev pub FoldsOne : Handle → Handle → ℕ → ℕ → ℕ → Type 0 → Type 0

@@ -1,14 +1,13 @@
 //! The partitions of one thread, for C: one call at a time at a handle.
 #![tactic(auto)]
 
-ghost use Rattle.std.specs.Prelude.{◌≡◌, true, false, None, IsSome, MatchOption, length, [], ◌∷◌};
-ghost use Rattle.crack_core.specs.Asking.{Inserts};
-ghost use Rattle.crack_core.specs.Bulk.{CountsKeys, SumsKeys, joined, InsertsAt, DeletesAt, UpdatesAt, CountsAt};
-ghost use Rattle.crack_core.specs.Bulk.{SumsAt};
-ghost use Rattle.crack_core.specs.Listing.{SelectsKeys};
+ghost use Rattle.std.specs.Prelude.{◌≡◌, true, false, MatchOption, length, [], ◌∷◌};
+ghost use Rattle.crack_core.specs.Asking.{Inserts, Deletes, Updates, Counts, Sums};
+ghost use Rattle.crack_core.specs.Bulk.{OverKeys, joined, flag, InsertsAt, DeletesAt, UpdatesAt, CountsAt, SumsAt};
+ghost use Rattle.crack_core.specs.Listing.{Selects};
 ghost use Rattle.crack_core.specs.Steps.{accepted_by};
-ghost use Rattle.crackd_c.specs.Calls.{policy_at, AreEqual, ComesOut, TakesOut, ChangesRow, GoesOn, Shows, FoldsOne};
-ghost use Rattle.crackd_c.specs.Calls.{OpensHandle};
+ghost use Rattle.crackd_c.specs.Calls.{OnTable, OnLists, ByPolicy, ComesOut, GoesOn, Shows, FoldsOne, OpensHandle};
+ghost use Rattle.crackd_c.specs.Calls.{row_number};
 
 pub mod handle;
 pub mod opening;
@@ -78,13 +77,9 @@ pub extern "C" fn crackd_insert(
     part: &mut u32,
     serial: &mut u64,
 ) -> u32
-    ensures closed { handle.old.is_open ≡ false → (result ≡ CLOSED) × (handle.new ≡ handle.old) ×
-        (part.new ≡ part.old) × (serial.new ≡ serial.old) }
-    ensures inserts { handle.old.is_open ≡ true → ComesOut (Inserts handle.old.core.limits handle.old.core.splits
-        (record { 0 = key }) (record { 0 = payload })) handle.old handle.new result (record {
-          part = part.new;
-          serial = record { 0 = serial.new };
-        }) ((part.new ≡ part.old) × (serial.new ≡ serial.old)) }
+    ensures inserts { OnTable handle.old handle.new result ((part.new ≡ part.old) × (serial.new ≡ serial.old)) (ComesOut
+        (Inserts handle.old.core.limits handle.old.core.splits (record { 0 = key }) (record { 0 = payload })) handle.old
+        handle.new result (λ row. (part.new ≡ row.part) × (serial.new ≡ row.serial.0))) }
 {
     if !handle.is_open() {
         return CLOSED;
@@ -112,14 +107,10 @@ pub extern "C" fn crackd_delete(
     key: &mut u64,
     payload: &mut i64,
 ) -> u32
-    ensures closed { handle.old.is_open ≡ false → (result ≡ CLOSED) × (handle.new ≡ handle.old) ×
-        (gone.new ≡ gone.old) × (key.new ≡ key.old) × (payload.new ≡ payload.old) }
-    ensures deletes { handle.old.is_open ≡ true → TakesOut handle.old handle.new (record {
-      part = part;
-      serial = record { 0 = serial };
-    }) result (λ went. MatchOption went ((gone.new ≡ 0) × (key.new ≡ key.old) ×
-        (payload.new ≡ payload.old)) (λ row. (gone.new ≡ 1) × (key.new ≡ row.key.0) × (payload.new ≡ row.payload.0)))
-        ((gone.new ≡ gone.old) × (key.new ≡ key.old) × (payload.new ≡ payload.old)) }
+    ensures deletes { OnTable handle.old handle.new result ((gone.new ≡ gone.old) × (key.new ≡ key.old) ×
+        (payload.new ≡ payload.old)) (ComesOut (Deletes handle.old.core.limits handle.old.core.splits (row_number part
+        serial)) handle.old handle.new result (λ went. MatchOption went ((gone.new ≡ 0) × (key.new ≡ key.old) ×
+        (payload.new ≡ payload.old)) (λ row. (gone.new ≡ 1) × (key.new ≡ row.key.0) × (payload.new ≡ row.payload.0)))) }
 {
     if !handle.is_open() {
         return CLOSED;
@@ -153,13 +144,9 @@ pub extern "C" fn crackd_update(
     payload: i64,
     found: &mut u8,
 ) -> u32
-    ensures closed { handle.old.is_open ≡ false → (result ≡ CLOSED) × (handle.new ≡ handle.old) ×
-        (found.new ≡ found.old) }
-    ensures updates { handle.old.is_open ≡ true → ChangesRow handle.old handle.new (record {
-      part = part;
-      serial = record { 0 = serial };
-    }) (record { 0 = key }) (record { 0 = payload }) result found.new
-        (found.new ≡ found.old) }
+    ensures updates { OnTable handle.old handle.new result (found.new ≡ found.old) (ComesOut (Updates
+        handle.old.core.limits handle.old.core.splits (row_number part serial) (record { 0 = key })
+        (record { 0 = payload })) handle.old handle.new result (λ is. found.new ≡ flag is)) }
 {
     if !handle.is_open() {
         return CLOSED;
@@ -189,12 +176,9 @@ pub extern "C" fn crackd_count(
     last: u64,
     count: &mut u64,
 ) -> u32
-    ensures closed { handle.old.is_open ≡ false → (result ≡ CLOSED) × (handle.new ≡ handle.old) ×
-        (count.new ≡ count.old) }
-    ensures stranger { handle.old.is_open ≡ true → policy_at policy ≡ None → (result ≡ NO_SUCH_POLICY) ×
-        (handle.new ≡ handle.old) × (count.new ≡ count.old) }
-    ensures counts { handle.old.is_open ≡ true → IsSome (policy_at policy) → ComesOut (CountsKeys handle.old.core.limits
-        handle.old.core.splits first last) handle.old handle.new result count.new (count.new ≡ count.old) }
+    ensures counts { OnTable handle.old handle.new result (count.new ≡ count.old) (ByPolicy policy handle.old handle.new
+        result (ComesOut (OverKeys (Counts handle.old.core.limits handle.old.core.splits) first last) handle.old
+        handle.new result (λ rows. count.new ≡ rows))) }
 {
     if !handle.is_open() {
         return CLOSED;
@@ -222,13 +206,9 @@ pub extern "C" fn crackd_sum(
     low: &mut u64,
     high: &mut i64,
 ) -> u32
-    ensures closed { handle.old.is_open ≡ false → (result ≡ CLOSED) × (handle.new ≡ handle.old) × (low.new ≡ low.old) ×
-        (high.new ≡ high.old) }
-    ensures stranger { handle.old.is_open ≡ true → policy_at policy ≡ None → (result ≡ NO_SUCH_POLICY) ×
-        (handle.new ≡ handle.old) × (low.new ≡ low.old) × (high.new ≡ high.old) }
-    ensures sums { handle.old.is_open ≡ true → IsSome (policy_at policy) → ComesOut (SumsKeys handle.old.core.limits
-        handle.old.core.splits first last) handle.old handle.new result (joined low.new high.new) ((low.new ≡ low.old) ×
-        (high.new ≡ high.old)) }
+    ensures sums { OnTable handle.old handle.new result ((low.new ≡ low.old) × (high.new ≡ high.old)) (ByPolicy policy
+        handle.old handle.new result (ComesOut (OverKeys (Sums handle.old.core.limits handle.old.core.splits) first
+        last) handle.old handle.new result (λ sum. joined low.new high.new ≡ sum))) }
 {
     if !handle.is_open() {
         return CLOSED;
@@ -261,22 +241,11 @@ pub extern "C" fn crackd_select(
     payloads: &mut [i64],
     found: &mut u64,
 ) -> u32
-    ensures closed { handle.old.is_open ≡ false → (result ≡ CLOSED) × (handle.new ≡ handle.old) ×
-        (parts.new ≡ parts.old) × (serials.new ≡ serials.old) × (keys.new ≡ keys.old) × (payloads.new ≡ payloads.old) ×
-        (found.new ≡ found.old) }
-    ensures lengths { handle.old.is_open ≡ true → (AreEqual (length parts.old) (length serials.old ∷ length keys.old ∷
-        length payloads.old ∷ []) → ⊥) → (result ≡ LENGTHS_DIFFER) × (handle.new ≡ handle.old) ×
-        (parts.new ≡ parts.old) × (serials.new ≡ serials.old) × (keys.new ≡ keys.old) × (payloads.new ≡ payloads.old) ×
-        (found.new ≡ found.old) }
-    ensures stranger { handle.old.is_open ≡ true → AreEqual (length parts.old) (length serials.old ∷ length keys.old ∷
-        length payloads.old ∷ []) → policy_at policy ≡ None → (result ≡ NO_SUCH_POLICY) × (handle.new ≡ handle.old) ×
-        (parts.new ≡ parts.old) × (serials.new ≡ serials.old) × (keys.new ≡ keys.old) × (payloads.new ≡ payloads.old) ×
-        (found.new ≡ found.old) }
-    ensures selects { handle.old.is_open ≡ true → AreEqual (length parts.old) (length serials.old ∷ length keys.old ∷
-        length payloads.old ∷ []) → IsSome (policy_at policy) → ComesOut (SelectsKeys handle.old.core.limits
-        handle.old.core.splits parts.new serials.new keys.new payloads.new first last) handle.old handle.new result
-        found.new ((parts.new ≡ parts.old) × (serials.new ≡ serials.old) × (keys.new ≡ keys.old) ×
-        (payloads.new ≡ payloads.old) × (found.new ≡ found.old)) }
+    ensures selects { OnLists (length parts.old) (length serials.old ∷ length keys.old ∷ length payloads.old ∷ [])
+        handle.old handle.new result ((parts.new ≡ parts.old) × (serials.new ≡ serials.old) × (keys.new ≡ keys.old) ×
+        (payloads.new ≡ payloads.old) × (found.new ≡ found.old)) (ByPolicy policy handle.old handle.new result (ComesOut
+        (OverKeys (Selects handle.old.core.limits handle.old.core.splits parts.new serials.new keys.new payloads.new)
+        first last) handle.old handle.new result (λ rows. found.new ≡ rows))) }
 {
     if !handle.is_open() {
         return CLOSED;
@@ -310,14 +279,9 @@ pub extern "C" fn crackd_layout(
     lows: &mut [u64],
     sizes: &mut [u64],
 ) -> u32
-    ensures closed { handle.old.is_open ≡ false → (result ≡ CLOSED) × (handle.new ≡ handle.old) ×
-        (totals.new ≡ totals.old) × (lows.new ≡ lows.old) × (sizes.new ≡ sizes.old) }
-    ensures kept { handle.old.is_open ≡ true → (handle.new.is_open ≡ true) × (handle.new.core ≡ handle.old.core) }
-    ensures lengths { handle.old.is_open ≡ true → ((length sizes.old ≡ length lows.old) → ⊥) →
-        (result ≡ LENGTHS_DIFFER) × (handle.new ≡ handle.old) × (totals.new ≡ totals.old) × (lows.new ≡ lows.old) ×
-        (sizes.new ≡ sizes.old) }
-    ensures shows { handle.old.is_open ≡ true → length sizes.old ≡ length lows.old → Shows handle.old.core part result
-        totals.new lows.new sizes.new ((totals.new ≡ totals.old) × (lows.new ≡ lows.old) × (sizes.new ≡ sizes.old)) }
+    ensures shows { OnLists (length lows.old) (length sizes.old ∷ []) handle.old handle.new result
+        ((totals.new ≡ totals.old) × (lows.new ≡ lows.old) × (sizes.new ≡ sizes.old)) (Shows handle.old handle.new part
+        result totals.new lows.new sizes.new) }
 {
     if !handle.is_open() {
         return CLOSED;
@@ -338,10 +302,8 @@ pub extern "C" fn crackd_layout(
 /// Folds the history of a partition, and writes how many entries went.
 #[unsafe(no_mangle)]
 pub extern "C" fn crackd_checkpoint(handle: &mut Handle, part: u32, folded: &mut u64) -> u32
-    ensures closed { handle.old.is_open ≡ false → (result ≡ CLOSED) × (handle.new ≡ handle.old) ×
-        (folded.new ≡ folded.old) }
-    ensures folds { handle.old.is_open ≡ true → FoldsOne handle.old handle.new part result folded.new
-        (folded.new ≡ folded.old) }
+    ensures folds { OnTable handle.old handle.new result (folded.new ≡ folded.old) (FoldsOne handle.old handle.new part
+        result folded.new) }
 {
     if !handle.is_open() {
         return CLOSED;
@@ -358,10 +320,9 @@ pub extern "C" fn crackd_checkpoint(handle: &mut Handle, part: u32, folded: &mut
 /// Writes how many commands the partitions have answered since they were opened.
 #[unsafe(no_mangle)]
 pub extern "C" fn crackd_accepted(handle: &mut Handle, accepted: &mut u64) -> u32
-    ensures closed { handle.old.is_open ≡ false → (result ≡ CLOSED) × (handle.new ≡ handle.old) ×
-        (accepted.new ≡ accepted.old) }
-    ensures kept { handle.old.is_open ≡ true → (handle.new.is_open ≡ true) × (handle.new.core ≡ handle.old.core) }
-    ensures accepted { handle.old.is_open ≡ true → (result ≡ 0) × (accepted.new ≡ accepted_by handle.old.core.parts) }
+    ensures accepted { OnTable handle.old handle.new result (accepted.new ≡ accepted.old) (λ unwritten.
+        (handle.new.is_open ≡ true) × (handle.new.core ≡ handle.old.core) × (result ≡ 0) × (accepted.new ≡ accepted_by
+        handle.old.core.parts)) }
 {
     if !handle.is_open() {
         return CLOSED;
@@ -380,14 +341,10 @@ pub extern "C" fn crackd_insert_many(
     serials: &mut [u64],
     done: &mut u64,
 ) -> u32
-    ensures closed { handle.old.is_open ≡ false → (result ≡ CLOSED) × (handle.new ≡ handle.old) ×
-        (parts.new ≡ parts.old) × (serials.new ≡ serials.old) × (done.new ≡ done.old) }
-    ensures lengths { handle.old.is_open ≡ true → (AreEqual (length keys.now) (length payloads.now ∷ length parts.old ∷
-        length serials.old ∷ []) → ⊥) → (result ≡ LENGTHS_DIFFER) × (handle.new ≡ handle.old) ×
-        (parts.new ≡ parts.old) × (serials.new ≡ serials.old) × (done.new ≡ done.old) }
-    ensures inserts { handle.old.is_open ≡ true → AreEqual (length keys.now) (length payloads.now ∷ length parts.old ∷
-        length serials.old ∷ []) → GoesOn (InsertsAt handle.old.core.limits handle.old.core.splits keys.now payloads.now
-        parts.new serials.new) (length keys.now) handle.old handle.new result done.new }
+    ensures inserts { OnLists (length keys.now) (length payloads.now ∷ length parts.old ∷ length serials.old ∷ [])
+        handle.old handle.new result ((parts.new ≡ parts.old) × (serials.new ≡ serials.old) × (done.new ≡ done.old))
+        (λ unwritten. GoesOn (InsertsAt handle.old.core.limits handle.old.core.splits keys.now payloads.now parts.new
+        serials.new) (length keys.now) handle.old handle.new result done.new) }
 {
     if !handle.is_open() {
         return CLOSED;
@@ -409,14 +366,10 @@ pub extern "C" fn crackd_delete_many(
     gone: &mut [u8],
     done: &mut u64,
 ) -> u32
-    ensures closed { handle.old.is_open ≡ false → (result ≡ CLOSED) × (handle.new ≡ handle.old) ×
-        (gone.new ≡ gone.old) × (done.new ≡ done.old) }
-    ensures lengths { handle.old.is_open ≡ true → (AreEqual (length parts.now) (length serials.now ∷ length gone.old ∷
-        []) → ⊥) → (result ≡ LENGTHS_DIFFER) × (handle.new ≡ handle.old) × (gone.new ≡ gone.old) ×
-        (done.new ≡ done.old) }
-    ensures deletes { handle.old.is_open ≡ true → AreEqual (length parts.now) (length serials.now ∷ length gone.old ∷
-        []) → GoesOn (DeletesAt handle.old.core.limits handle.old.core.splits parts.now serials.now gone.new)
-        (length parts.now) handle.old handle.new result done.new }
+    ensures deletes { OnLists (length parts.now) (length serials.now ∷ length gone.old ∷ []) handle.old handle.new
+        result ((gone.new ≡ gone.old) × (done.new ≡ done.old)) (λ unwritten. GoesOn (DeletesAt handle.old.core.limits
+        handle.old.core.splits parts.now serials.now gone.new) (length parts.now) handle.old handle.new
+        result done.new) }
 {
     if !handle.is_open() {
         return CLOSED;
@@ -440,15 +393,10 @@ pub extern "C" fn crackd_update_many(
     found: &mut [u8],
     done: &mut u64,
 ) -> u32
-    ensures closed { handle.old.is_open ≡ false → (result ≡ CLOSED) × (handle.new ≡ handle.old) ×
-        (found.new ≡ found.old) × (done.new ≡ done.old) }
-    ensures lengths { handle.old.is_open ≡ true → (AreEqual (length parts.now) (length serials.now ∷ length keys.now ∷
-        length payloads.now ∷ length found.old ∷ []) → ⊥) → (result ≡ LENGTHS_DIFFER) × (handle.new ≡ handle.old) ×
-        (found.new ≡ found.old) × (done.new ≡ done.old) }
-    ensures updates { handle.old.is_open ≡ true → AreEqual (length parts.now) (length serials.now ∷ length keys.now ∷
-        length payloads.now ∷ length found.old ∷ []) → GoesOn (UpdatesAt handle.old.core.limits handle.old.core.splits
-        parts.now serials.now keys.now payloads.now found.new) (length parts.now) handle.old handle.new
-        result done.new }
+    ensures updates { OnLists (length parts.now) (length serials.now ∷ length keys.now ∷ length payloads.now ∷ length
+        found.old ∷ []) handle.old handle.new result ((found.new ≡ found.old) × (done.new ≡ done.old)) (λ unwritten.
+        GoesOn (UpdatesAt handle.old.core.limits handle.old.core.splits parts.now serials.now keys.now payloads.now
+        found.new) (length parts.now) handle.old handle.new result done.new) }
 {
     if !handle.is_open() {
         return CLOSED;
@@ -476,17 +424,10 @@ pub extern "C" fn crackd_count_many(
     counts: &mut [u64],
     done: &mut u64,
 ) -> u32
-    ensures closed { handle.old.is_open ≡ false → (result ≡ CLOSED) × (handle.new ≡ handle.old) ×
-        (counts.new ≡ counts.old) × (done.new ≡ done.old) }
-    ensures lengths { handle.old.is_open ≡ true → (AreEqual (length firsts.now) (length lasts.now ∷ length counts.old ∷
-        []) → ⊥) → (result ≡ LENGTHS_DIFFER) × (handle.new ≡ handle.old) × (counts.new ≡ counts.old) ×
-        (done.new ≡ done.old) }
-    ensures stranger { handle.old.is_open ≡ true → AreEqual (length firsts.now) (length lasts.now ∷ length counts.old ∷
-        []) → policy_at policy ≡ None → (result ≡ NO_SUCH_POLICY) × (handle.new ≡ handle.old) ×
-        (counts.new ≡ counts.old) × (done.new ≡ done.old) }
-    ensures counts { handle.old.is_open ≡ true → AreEqual (length firsts.now) (length lasts.now ∷ length counts.old ∷
-        []) → IsSome (policy_at policy) → GoesOn (CountsAt handle.old.core.limits handle.old.core.splits firsts.now
-        lasts.now counts.new) (length firsts.now) handle.old handle.new result done.new }
+    ensures counts { OnLists (length firsts.now) (length lasts.now ∷ length counts.old ∷ []) handle.old handle.new
+        result ((counts.new ≡ counts.old) × (done.new ≡ done.old)) (ByPolicy policy handle.old handle.new result
+        (λ unwritten. GoesOn (CountsAt handle.old.core.limits handle.old.core.splits firsts.now lasts.now counts.new)
+        (length firsts.now) handle.old handle.new result done.new)) }
 {
     if !handle.is_open() {
         return CLOSED;
@@ -514,18 +455,10 @@ pub extern "C" fn crackd_sum_many(
     highs: &mut [i64],
     done: &mut u64,
 ) -> u32
-    ensures closed { handle.old.is_open ≡ false → (result ≡ CLOSED) × (handle.new ≡ handle.old) ×
-        (lows.new ≡ lows.old) × (highs.new ≡ highs.old) × (done.new ≡ done.old) }
-    ensures lengths { handle.old.is_open ≡ true → (AreEqual (length firsts.now) (length lasts.now ∷ length lows.old ∷
-        length highs.old ∷ []) → ⊥) → (result ≡ LENGTHS_DIFFER) × (handle.new ≡ handle.old) × (lows.new ≡ lows.old) ×
-        (highs.new ≡ highs.old) × (done.new ≡ done.old) }
-    ensures stranger { handle.old.is_open ≡ true → AreEqual (length firsts.now) (length lasts.now ∷ length lows.old ∷
-        length highs.old ∷ []) → policy_at policy ≡ None → (result ≡ NO_SUCH_POLICY) × (handle.new ≡ handle.old) ×
-        (lows.new ≡ lows.old) × (highs.new ≡ highs.old) × (done.new ≡ done.old) }
-    ensures sums { handle.old.is_open ≡ true → AreEqual (length firsts.now) (length lasts.now ∷ length lows.old ∷
-        length highs.old ∷ []) → IsSome (policy_at policy) → GoesOn (SumsAt handle.old.core.limits
-        handle.old.core.splits firsts.now lasts.now lows.new highs.new) (length firsts.now) handle.old handle.new
-        result done.new }
+    ensures sums { OnLists (length firsts.now) (length lasts.now ∷ length lows.old ∷ length highs.old ∷ []) handle.old
+        handle.new result ((lows.new ≡ lows.old) × (highs.new ≡ highs.old) × (done.new ≡ done.old)) (ByPolicy policy
+        handle.old handle.new result (λ unwritten. GoesOn (SumsAt handle.old.core.limits handle.old.core.splits
+        firsts.now lasts.now lows.new highs.new) (length firsts.now) handle.old handle.new result done.new)) }
 {
     if !handle.is_open() {
         return CLOSED;

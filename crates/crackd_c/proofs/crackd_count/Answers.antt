@@ -1,6 +1,6 @@
 use Rattle.std.proofs.Common.{rules}
-use Rattle.std.specs.Prelude.{Some}
+use Rattle.std.specs.Prelude.{Err}
 use Rattle.crackd_c.proofs.crackd_count.Goals as goal
 
-pub returns-in-Err-clause-counts : goal.returns-in-Err-clause-counts
-returns-in-Err-clause-counts c is_open is_policy = (search rules, (Some c.in-Err.refusal, search rules, search rules, search rules))
+pub returns-in-Err : goal.returns-in-Err
+returns-in-Err c = record { counts = (search rules, λ is_open. (search rules, λ is_policy. (search rules, (Err c.in-Err.refusal, search rules, search rules)))) }

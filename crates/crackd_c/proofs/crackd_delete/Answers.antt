@@ -1,6 +1,6 @@
 use Rattle.std.proofs.Common.{rules}
-use Rattle.std.specs.Prelude.{None, Some}
+use Rattle.std.specs.Prelude.{Err}
 use Rattle.crackd_c.proofs.crackd_delete.Goals as goal
 
-pub returns-in-Err-clause-deletes : goal.returns-in-Err-clause-deletes
-returns-in-Err-clause-deletes c is_open = (search rules, (Some c.in-Err.refusal, None, search rules, search rules, search rules))
+pub returns-in-Err : goal.returns-in-Err
+returns-in-Err c = record { deletes = (search rules, λ is_open. (search rules, (Err c.in-Err.refusal, search rules, search rules))) }

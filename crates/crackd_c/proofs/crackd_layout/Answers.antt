@@ -2,5 +2,5 @@ use Rattle.std.proofs.Common.{rules}
 use Rattle.std.specs.Prelude.{Err}
 use Rattle.crackd_c.proofs.crackd_layout.Goals as goal
 
-pub returns-in-Err-clause-shows : goal.returns-in-Err-clause-shows
-returns-in-Err-clause-shows c is_open are_equal = (Err c.in-Err.refusal, search rules, search rules)
+pub returns-in-Err : goal.returns-in-Err
+returns-in-Err c = record { shows = (search rules, λ is_open. (search rules, λ are_equal. (search rules, search rules, (Err c.in-Err.refusal, search rules, search rules)))) }

@@ -1,6 +1,6 @@
 use Rattle.std.proofs.Common.{rules}
-use Rattle.std.specs.Prelude.{Some}
+use Rattle.std.specs.Prelude.{Err}
 use Rattle.crackd_c.proofs.crackd_select.Goals as goal
 
-pub returns-in-Err-clause-selects : goal.returns-in-Err-clause-selects
-returns-in-Err-clause-selects c is_open are_equal is_policy = (search rules, (Some c.in-Err.refusal, search rules, search rules, search rules))
+pub returns-in-Err : goal.returns-in-Err
+returns-in-Err c = record { selects = (search rules, λ is_open. (search rules, λ are_equal. (search rules, λ is_policy. (search rules, (Err c.in-Err.refusal, search rules, search rules))))) }
