@@ -1,14 +1,11 @@
 """Runs cases of hostile use with new seeds, side by side, until the time is over: soak.py SECONDS [--top FOLDER]
 [--seed N] [--only KIND ..] [--failures FOLDER]; or one case again: soak.py --again KIND SEED
 
-The kinds are histories of threads, clients of a server, a server's hour, small limits that clients share, lines, CSV,
-devices, memory that is refused, and random scripts. Those that want the machine to themselves run one at a time, and
-beside them as many others as there are further processors, of which histories have the most of the time; one run of
-clients is that of 3,000 sessions and 64 workers, and one hour has 3.6 million commands. Each case has a seed of its
-own; a soak's first one is drawn anew, and printed. A case that fails is written to FOLDER, or to soak-failures/: what
-is wrong, and the command that repeats it, as far as the schedule of threads allows. --top names another checkout whose
-programs are tried. Cases that were begun are ended once the time is over. Prints counts by kind, and last 'N passed, M
-failed'.
+Kinds that want the machine to themselves run one at a time, and beside them as many others as there are further
+processors, of which histories have the most of the time. Each case has a seed of its own; a soak's first one is drawn
+anew, and printed. What is wrong with a case that fails is written to FOLDER, or to soak-failures/, with the command
+that repeats it, as far as the schedule of threads allows. --top names another checkout whose programs are tried. Cases
+that were begun are ended once the time is over. Prints counts by kind, and last 'N passed, M failed'.
 """
 
 import argparse

@@ -1,20 +1,17 @@
 """A server among clients of all kinds, most of them bad ones; its hour; and its memory.
 
 Some connect and close, reset the connection, send half a line, one byte a second, random bytes, 64 MB without a line
-feed or 200,000 statements at once, say nothing, or have large lists written to them and read none. In between are
-honest ones. Each has keys of its own: every reply that is read is held against a list of the client's own rows, and
-when all have gone the rows that stand, the totals and the memory that the server took are held against what all of them
-were answered (client_rows.py). Honest ones ask for checkpoints amid their work, but in one case, and where a history is
-full; of three seeds two have small limits. The server has to end by itself once its sessions are served. A seed gives
-the same clients again; in which order a server comes to them it doesn't say. Each kind is a function of a `Guest`, and
-what a guest sends and reads stands in its `own` afterwards.
+feed or 200,000 statements at once, say nothing, or have large lists written to them and read none. Each has keys of its
+own; what it sends and reads stands in its `own`, and client_rows.py holds that, the rows that stand when all have gone,
+and the totals. Honest ones ask for checkpoints amid their work, but in one case, and where a history is full; of three
+seeds two have small limits. The server has to end by itself once its sessions are served. A seed gives the same clients
+again; in which order a server comes to them it doesn't say.
 
-An hour is scaled down: short histories, checkpoints that are due, hostile clients, and an end amid a load. First come
-clients of all kinds but those that leave many rows; nobody has to ask for a checkpoint, and 6 is no reply. Then steady
-ones connect, whose rows come, change and go while few stand at a time; once each has been answered the server's input
-ends. They go on until they have asked as much as they want, and are answered all of it. A session that was there from
-the beginning takes the last look. What standard error says of checkpoints that were due is held against what was
-accepted: each folded as many entries as a history may have, and each entry was folded once.
+An hour is scaled down. First come clients of all kinds but those that leave many rows; nobody has to ask for a
+checkpoint, and 6 is no reply. Then steady ones connect, whose rows come, change and go while few stand at a time; once
+each has been answered the server's input ends. They go on until they have asked as much as they want, and are answered
+all of it. A session that was there from the beginning takes the last look. By standard error each checkpoint that was
+due folded as many entries as a history may have, and each entry was folded once.
 """
 
 import concurrent.futures

@@ -68,9 +68,6 @@ def check(program: str, seed: int) -> None:
 class Csv(fixtures.Case):
     """CSV of all kinds."""
 
-    def assert_exported(self, given: bytes, *more: typing.Any, **how: typing.Any) -> None:
-        check_input(self.program, given, *more, **how)
-
     def test_cut_anywhere(self) -> None:
         """A small input is cut after each byte: by the specification's own table, and as it is read here."""
         # (by the length, the number of the record that is refused, or 0, and how many rows are exported)
@@ -79,20 +76,20 @@ class Csv(fixtures.Case):
         for size, (record, count) in enumerate(ends):
             right = refused(record) if record else (0, HEADER + b"".join(rows[:count]), b"")
             self.assertEqual(exported(SMALL[:size]), right, "plain_session.py reads CSV otherwise than by the table")
-            self.assert_exported(SMALL[:size], wanted=right, piece=size % 5 + 1)
+            check_input(self.program, SMALL[:size], wanted=right, piece=size % 5 + 1)
         for size in range(len(SMALL) + 1):
-            self.assert_exported(SMALL[:size], [100])
+            check_input(self.program, SMALL[:size], [100])
 
     def test_quotes_and_ends_of_all_kinds(self) -> None:
         """Quotes, ends of lines, byte order marks and signs where they may stand and where not, cut after each byte."""
         for it in run.inputs("csv"):
             for size in range(1, len(it) + 1):
-                self.assert_exported(it[:size])
+                check_input(self.program, it[:size])
 
     def test_a_byte_order_mark_in_pieces(self) -> None:
         """A byte order mark is dropped however it is read."""
         for piece in [1, 2, 3, 4]:
-            self.assert_exported(MARK + b"key,payload\n1,2\n", piece=piece)
+            check_input(self.program, MARK + b"key,payload\n1,2\n", piece=piece)
 
 
 fixtures.add_seeds(Csv, range(1, 21), check)

@@ -5,18 +5,16 @@ replies alone; where writing failed, as much as the device took. The program the
 that the system sends it.
 """
 
-import os
 import random
 import resource
 import signal
 import subprocess
 import tempfile
-import typing
 
 import fixtures
 import plain_session
 import random_script
-from fixtures import SECONDS, Terminal, expect, ran
+from fixtures import SECONDS, Terminal, expect
 from plain_session import Session
 
 READ_FAULT, WRITE_FAULT = b"crackd: refused 17\n", b"crackd: refused 18\n"

@@ -48,7 +48,7 @@ class Shell(fixtures.Terminal):
 
 @contextlib.contextmanager
 def talking(*words: str, files={}, shown: str = SERVED, **names: str) -> typing.Iterator[tuple[Shell, pathlib.Path]]:
-    """The shell with these words and names, which shows this first, and the folder that it runs in, with these files."""
+    """The shell with these words and names, which shows this first, and its folder, which has these files."""
     with tempfile.TemporaryDirectory() as room:
         for name, text in files.items():
             (pathlib.Path(room) / name).write_text(text)
