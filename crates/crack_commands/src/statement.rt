@@ -1,5 +1,5 @@
 //! The statement language.
-ghost use Rattle.std.specs.Prelude.{◌≡◌, ◌∷◌, codes, Some, IfSome};
+ghost use Rattle.std.specs.Prelude.{◌≡◌, Some};
 ghost use Rattle.crack_commands.specs.Grammar.{statement_of, words, named, two_numbers, over, policy_named};
 ghost use Rattle.crack_commands.specs.Inside.{insert_of, delete_of, update_of, update_from, range_from, layout_of};
 ghost use Rattle.crack_commands.specs.Inside.{checkpoint_of, policy_of, quit_of};
@@ -48,20 +48,8 @@ pub enum Statement {
 pub fn parse_statement(line: &[u8]) -> Result<Statement, Refusal>
     ensures { result ≡ statement_of line.now }
 {
-    if let Some(rest) = behind_insert(line) {
-        return parse_insert(rest);
-    }
     let (name, rest) = next_word(line);
     parse_named(name, rest)
-}
-
-/// What follows the name of an insert and a space. Most lines are inserts,
-/// and begin so: the end of their first word isn't looked for.
-#[inline(always)]
-fn behind_insert(line: &[u8]) -> Option<&[u8]>
-    ensures { IfSome result (λ rest. words line.now ≡ codes "insert" ∷ words rest.now) }
-{
-    line.strip_prefix(b"insert ".as_slice())
 }
 
 /// The statement of a name and of what follows it.
