@@ -1,6 +1,6 @@
 -- What contracts see of the pending rows.
-use Rattle.std.specs.Prelude.{◌≡◌, ◌≢◌, ℕ, ◌<◌, ◌≤◌, List, length, Option, Some, None, slice_index, slice_index_or}
-use Rattle.crack_row.specs.Ranges.{Range, IsIn}
+use Rattle.std.specs.Prelude.{◌≡◌, ◌≢◌, ℕ, ◌<◌, ◌≤◌, not, List, filter, length, Option, Some, None, slice_index, slice_index_or}
+use Rattle.crack_row.specs.Ranges.{Range, IsIn, is_in}
 use Rattle.crack_row.specs.declared.Row.{Row}
 use Rattle.crack_arena.specs.Arena.{Cell, Handle, place_in, no_handle}
 use Rattle.crack_arena.specs.Rows.{key_at, RemembersKeys}
@@ -43,3 +43,11 @@ pub record IsFirstIn (range : Range) (keys : List ℕ) (from place : ℕ) : Type
 abbrev pub Finds : Range → List ℕ → ℕ → Option ℕ → Type 0
 Finds range keys from (Some place) = IsFirstIn range keys from place
 Finds range keys from None = NoneIn range keys from (length keys)
+
+-- those of the handles whose rows have their key in the range, in their order
+abbrev pub rows_inside : List (Cell Row) → Range → List Handle → List Handle
+rows_inside cells range handles = filter (λ h. is_in range (key_at cells h)) handles
+
+-- the others, in their order
+abbrev pub rows_outside : List (Cell Row) → Range → List Handle → List Handle
+rows_outside cells range handles = filter (λ h. not (is_in range (key_at cells h))) handles

@@ -11,5 +11,6 @@ mod noting;
 mod pass;
 mod rows;
 mod spots;
+mod taking;
 
 pub use list::{PendingIn, PendingList, PendingOut};

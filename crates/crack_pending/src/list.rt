@@ -1,12 +1,13 @@
 //! The lists of pending rows.
 ghost use Rattle.std.specs.Prelude.{◌≡◌, ◌+◌, ◌-◌, ◌<◌, ◌≤◌, ◌^◌, ◌↔◌, ◌∷◌, [], ◌++◌, ℕ, length, All, IsTrue};
-ghost use Rattle.std.specs.Prelude.{MatchOption, IfErr, OnOk, OnErr, List, slice_set};
+ghost use Rattle.std.specs.Prelude.{MatchOption, IfErr, OnOk, OnErr, List, slice_set, drop, vec_len, vec_capacity};
 ghost use Rattle.std.specs.List.{remove};
 ghost use Rattle.crack_row.specs.declared.Row.{Row};
 ghost use Rattle.crack_arena.specs.Rows.{keys_at, unknown, RemembersKeys};
 ghost use Rattle.crack_arena.specs.Arena.{Cell, StandsAt, IsFirstAt, IsAbsent, times, slots, place_in};
 ghost use Rattle.crack_pending.specs.Keeps.{Has, AreMarked};
 ghost use Rattle.crack_pending.specs.Pending.{Finds, StillRemembersKeys, RemembersOneMore, RemembersAnew};
+ghost use Rattle.crack_pending.specs.Pending.{rows_inside, rows_outside};
 
 use crate::bits::BitSet;
 use crate::spots::{SpotList, StoredKey, UNKNOWN};
@@ -210,6 +211,26 @@ impl<Kind> PendingList<Kind> {
         handle
     }
 
+    /// Takes all rows of a range out, in the order of arrival, and puts their handles after the others of a list that
+    /// has room for them. It takes no memory but for codes; what room there was stays. One pass over the codes or keys,
+    /// and O(1) for each row that it takes: no row's place is counted.
+    pub fn take_in(&mut self, range: KeyRange, arena: &Arena<Row>, taken: &mut Vec<Handle<Row>>)
+        requires keys { RemembersKeys arena.now.cells self.old.handles self.old.keys }
+        requires room { vec_len taken.old + length (rows_inside arena.now.cells range self.old.handles) ≤
+            vec_capacity taken.old }
+        ensures taken { taken.new.items ≡ taken.old.items ++ rows_inside arena.now.cells range self.old.handles }
+        ensures left { self.new.handles ≡ rows_outside arena.now.cells range self.old.handles }
+        ensures keys { RemembersKeys arena.now.cells self.new.handles self.new.keys }
+        ensures room { self.old.room ≤ self.new.room }
+        ensures covered { self.new.covered ≡ self.old.covered }
+    {
+        let from = taken.len();
+        self.list.facts();
+        self.list.code_keys();
+        self.list.take_in(range, arena, taken);
+        strike_from(&mut self.marks, taken, from);
+    }
+
     /// Closes all holes up, so that `at` is O(1) at each place. O(rows and holes); O(1) where there is no hole.
     pub fn close_up(&mut self)
         ensures same { self.new ≡ record self.old { room = self.new.room } }
@@ -336,5 +357,17 @@ fn strike_all(marks: &mut BitSet, list: &SpotList)
 {
     'rows: for place in 0..list.len() {
         marks.strike(list.at(place).slot());
+    }
+}
+
+/// Takes the cells of some handles out of the set: of those from a place of the list on. O(1) for each.
+fn strike_from(marks: &mut BitSet, handles: &[Handle<Row>], from: usize)
+    requires { (slot : ℕ) → 0 < times slot (slots (drop from handles.now)) → Has marks.old slot }
+    ensures struck { (slot : ℕ) → Has marks.new slot ↔ (Has marks.old slot ×
+        (times slot (slots (drop from handles.now)) ≡ 0)) }
+    ensures long { length marks.new ≡ length marks.old }
+{
+    'handles: for place in from..handles.len() {
+        marks.strike(handles[place].slot());
     }
 }

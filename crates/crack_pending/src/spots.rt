@@ -5,6 +5,7 @@ ghost use Rattle.std.specs.List.{remove};
 ghost use Rattle.crack_arena.specs.Rows.{keys_at, unknown, RemembersKeys};
 ghost use Rattle.crack_arena.specs.Arena.{StandsAt, IsFirstAt, IsAbsent, times, slots, place_in, no_handle};
 ghost use Rattle.crack_pending.specs.Pending.{Finds, StillRemembersKeys, RemembersOneMore, RemembersAnew};
+ghost use Rattle.crack_pending.specs.Pending.{rows_inside, rows_outside};
 ghost use Rattle.crack_pending.specs.Keeps.{place_at, HasRow, Has};
 
 use crate::bits::BitSet;
@@ -13,6 +14,7 @@ use crate::codes::Codes;
 use crate::noting::{spot_noted, spot_sought};
 use crate::pass::{first_hit, next_hit};
 use crate::rows::{rows_between, spot_before, spot_of};
+use crate::taking::take_hits;
 use crack_arena::{Arena, Handle};
 use crack_row::{GREATEST_KEY, KeyNumber, KeyRange, Refusal, Row};
 use std::alloc::Global;
@@ -315,6 +317,39 @@ impl SpotList {
         self.close_up_if_sparse();
     }
 
+    /// Takes the rows of a range out, in the order of arrival, and puts their handles after the others of a list.
+    pub(crate) fn take_in(
+        &mut self,
+        range: KeyRange,
+        arena: &Arena<Row>,
+        taken: &mut Vec<Handle<Row>>,
+    )
+        requires keys { RemembersKeys arena.now.cells self.old.handles self.old.keys }
+        requires room { vec_len taken.old + length (rows_inside arena.now.cells range self.old.handles) ≤
+            vec_capacity taken.old }
+        ensures taken { taken.new.items ≡ taken.old.items ++ rows_inside arena.now.cells range self.old.handles }
+        ensures left { self.new.handles ≡ rows_outside arena.now.cells range self.old.handles }
+        ensures keys { RemembersKeys arena.now.cells self.new.handles self.new.keys }
+        ensures room { self.old.room ≤ self.new.room }
+        ensures covered { self.new.covered ≡ self.old.covered }
+    {
+        let left = take_hits(
+            &self.handles,
+            &self.keys,
+            &mut self.stands,
+            &mut self.codes,
+            self.unknowns,
+            range,
+            arena,
+            taken,
+        );
+        self.rows -= left.taken;
+        self.unknowns = left.unknowns;
+        self.hint_place = 0;
+        self.hint_spot = 0;
+        self.close_up_if_sparse();
+    }
+
     /// Closes holes up once there are as many as rows.
     fn close_up_if_sparse(&mut self)
         ensures same { self.new ≡ record self.old { room = self.new.room } }
@@ -548,7 +583,7 @@ fn place_of_spot(stands: &[bool], rows: usize, spot: usize) -> usize
 }
 
 /// Of how many rows the key isn't known once the row at the spot has gone. Where all are known, no key is looked at.
-fn unknowns_without(keys: &[StoredKey], unknowns: usize, spot: usize) -> usize
+pub(crate) fn unknowns_without(keys: &[StoredKey], unknowns: usize, spot: usize) -> usize
     requires within { spot < length keys.now }
     requires counted { slice_index keys.now spot ≡ unknown → 0 < unknowns }
     ensures { result + times unknown (slice_index keys.now spot ∷ []) ≡ unknowns }

@@ -1,13 +1,11 @@
 //! All pending insertions of a range carried in bulk: their rows are put after the column's last one, and sifted
 //! through its pieces from the highest down.
-ghost use Rattle.std.specs.Prelude.{◌≡◌, ◌≤◌, ◌^◌, ◌++◌, [], None, Some, length, All, IsTrue, IsFalse};
+ghost use Rattle.std.specs.Prelude.{◌≡◌, ◌≤◌, ◌^◌, [], None, Some, length, vec_capacity, IsTrue, IsFalse};
 ghost use Rattle.crack_arena.specs.Rows.{RemembersKeys, keys_at};
 ghost use Rattle.crack_bulk.specs.Carried.{carried_in_bulk, inside_of};
-ghost use Rattle.crack_column.specs.Column.{Remembers};
-ghost use Rattle.crack_column.specs.Sifts.{AreRead};
 ghost use Rattle.crack_pending.specs.Pending.{Finds};
 ghost use Rattle.crack_state.specs.Merge.{outside_of};
-ghost use Rattle.crack_state.specs.State.{Reads, live_rows};
+ghost use Rattle.crack_state.specs.State.{live_rows};
 ghost use Rattle.crack_state.specs.Steps.{SameButRoom};
 ghost use Rattle.crack_store.specs.Inside.{lists_of};
 ghost use Rattle.crack_store.specs.Keeps.{KeepsIntact};
@@ -15,9 +13,9 @@ ghost use Rattle.crack_store.specs.Sieves.{AreClear, IsClear};
 
 use crate::Store;
 use crate::inside::Inside;
-use crate::points::row_at;
+use crate::taking::take_rows;
 use crack_arena::{Arena, Handle, key_of};
-use crack_column::{CrackerColumn, Remembered};
+use crack_column::CrackerColumn;
 use crack_index::{Mark, Piece, Raiser};
 use crack_pending::PendingIn;
 use crack_row::{KeyRange, Row};
@@ -55,7 +53,8 @@ impl Store {
             return false;
         }
         if is_counted_late(&self.inside) {
-            return carry_uncounted(&mut self.inside, range, first);
+            let most = self.inside.pending_in.len();
+            return carry_at_most(&mut self.inside, range, first, most);
         }
         let count = count_in(
             &mut self.inside.pending_in,
@@ -66,11 +65,7 @@ impl Store {
         if is_few(&self.inside, count) || !is_clear(&self.inside, count) {
             return false;
         }
-        if self.inside.column.reserve(count).is_err() {
-            return false;
-        }
-        carry_rows(&mut self.inside, range, first);
-        true
+        carry_at_most(&mut self.inside, range, first, count)
     }
 }
 
@@ -91,12 +86,15 @@ fn is_counted_late(inside: &Inside) -> bool
     inside.pending_out.is_empty() && MANY_PENDING < inside.pending_in.len()
 }
 
-/// Carries the pending insertions of a range, of which `first` is the first, where no row is doomed, with room for all
-/// pending insertions; whether it found memory for them. All is else as it was.
-fn carry_uncounted(inside: &mut Inside, range: KeyRange, first: usize) -> bool
+/// Carries the pending insertions of a range, at most so many, of which `first` is the first, where no doomed row is in
+/// the way; whether it found memory for so many. All is else as it was.
+fn carry_at_most(inside: &mut Inside, range: KeyRange, first: usize, most: usize) -> bool
     requires intact { KeepsIntact inside.old [] }
-    requires none { inside.old.pending_out.handles ≡ [] }
+    requires clear { AreClear (length (inside_of inside.old.arena.cells range inside.old.pending_in.handles))
+        (lists_of inside.old) }
     requires first { Finds range (keys_at inside.old.arena.cells inside.old.pending_in.handles) 0 (Some first) }
+    requires most { length (inside_of inside.old.arena.cells range inside.old.pending_in.handles) ≤ most }
+    requires few { most ≤ length inside.old.pending_in.handles }
     ensures carried { IsTrue result → SameButRoom (carried_in_bulk None range (lists_of inside.old))
         (lists_of inside.new) }
     ensures left { IsTrue result → inside.new.pending_in.handles ≡ outside_of inside.old.arena.cells range
@@ -105,11 +103,14 @@ fn carry_uncounted(inside: &mut Inside, range: KeyRange, first: usize) -> bool
     ensures same { IsFalse result → SameButRoom (lists_of inside.old) (lists_of inside.new) }
     ensures intact { KeepsIntact inside.new [] }
 {
-    let most = inside.pending_in.len();
+    let alloc = *inside.serials.allocator();
+    let Ok(taken) = Vec::with_capacity(alloc, most) else {
+        return false;
+    };
     if let Err(_) = inside.column.reserve(most) {
         return false;
     }
-    carry_rows(inside, range, first);
+    carry_rows(inside, range, first, taken);
     true
 }
 
@@ -171,14 +172,17 @@ fn is_in_way(inside: &Inside, handle: Handle<Row>, count: usize) -> bool
 }
 
 /// Carries the pending insertions of a range, the first of which is `first`, where no doomed row is in the way and
-/// there is room for them.
-fn carry_rows(inside: &mut Inside, range: KeyRange, first: usize)
+/// there is room for them, and for their handles in a list.
+fn carry_rows(inside: &mut Inside, range: KeyRange, first: usize, taken: Vec<Handle<Row>>)
     requires intact { KeepsIntact inside.old [] }
     requires clear { AreClear (length (inside_of inside.old.arena.cells range inside.old.pending_in.handles))
         (lists_of inside.old) }
     requires first { Finds range (keys_at inside.old.arena.cells inside.old.pending_in.handles) 0 (Some first) }
     requires room { length (inside_of inside.old.arena.cells range inside.old.pending_in.handles) ≤
         inside.old.column.room }
+    requires empty { taken.items ≡ [] }
+    requires list { length (inside_of inside.old.arena.cells range inside.old.pending_in.handles) ≤
+        vec_capacity taken }
     ensures carried { SameButRoom (carried_in_bulk None range (lists_of inside.old)) (lists_of inside.new) }
     ensures left { inside.new.pending_in.handles ≡ outside_of inside.old.arena.cells range
         inside.old.pending_in.handles }
@@ -190,7 +194,7 @@ fn carry_rows(inside: &mut Inside, range: KeyRange, first: usize)
         &mut inside.pending_in,
         &mut inside.column,
         range,
-        first,
+        taken,
         &inside.arena,
     );
     inside.pending_in.shrink_if_empty(inside.in_room);
@@ -207,37 +211,6 @@ fn carry_rows(inside: &mut Inside, range: KeyRange, first: usize)
     inside.column = column;
     inside.tally.moved = moved;
     inside.tally.put_in = inside.tally.put_in.saturating_add(count as u64);
-}
-
-/// Takes the rows of a range out of a list, the first of which is `first`, and puts them after the column's last one,
-/// in their order, each with what is to be remembered of it.
-fn take_rows(
-    rows: &mut PendingIn,
-    column: &mut CrackerColumn,
-    range: KeyRange,
-    first: usize,
-    arena: &Arena<Row>,
-)
-    requires room { length (inside_of arena.now.cells range rows.old.handles) ≤ column.old.room }
-    requires reads { All (Reads arena.now.cells) rows.old.handles }
-    requires keys { RemembersKeys arena.now.cells rows.old.handles rows.old.keys }
-    requires first { Finds range (keys_at arena.now.cells rows.old.handles) 0 (Some first) }
-    requires remembered { Remembers arena.now.cells column.old.handles column.old.remembered }
-    ensures handles { column.new.handles ≡ column.old.handles ++ inside_of arena.now.cells range rows.old.handles }
-    ensures remembered { Remembers arena.now.cells column.new.handles column.new.remembered }
-    ensures read { AreRead arena.now.cells (length column.old.handles) (length column.new.handles) column.new }
-    ensures left { rows.new.handles ≡ outside_of arena.now.cells range rows.old.handles }
-    ensures keys { RemembersKeys arena.now.cells rows.new.handles rows.new.keys }
-    ensures room { rows.old.room ≤ rows.new.room }
-    ensures covered { rows.new.covered ≡ rows.old.covered }
-{
-    let mut from = first;
-    'rows: while let Some(place) = rows.seek_in(range, from, arena) {
-        let handle = rows.take(place);
-        let row = row_at(arena, handle);
-        column.append_remembered(handle, Remembered::of(row));
-        from = place;
-    }
 }
 
 /// A column on a walk over its bounds from the highest down: the rows from the place `from` up to and without `to` came

@@ -1,8 +1,6 @@
-use Rattle.std.proofs.Common.{[], arith, refl}
-use Rattle.crack_state.specs.Steps.{SameButRoom}
+use Rattle.std.proofs.Common.{[], arith}
 use Rattle.crack_state.proofs.LayoutLaws.{cells-intact}
 use Rattle.crack_store.specs.Inside.{lists_of}
-use Rattle.crack_store.proofs.SiftLemmas.{carried-room}
 use Rattle.crack_store.proofs.TakeLemmas.{inside-few}
 use Rattle.crack_store.proofs.store.Store.carry_in_bulk.Goals as goal
 
@@ -17,16 +15,12 @@ is_clear-requires-clause-few c =
     let intact = c.self.invariant.intact in
     omega (arith, cells-intact (lists_of p) [] intact, intact.few_cells, c.count_in-count.ensures.counts, inside-few p.arena.cells c.args.range p.pending_in.handles)
 
-pub reserve-requires : goal.reserve-requires
-reserve-requires c =
+pub carry_at_most-requires-clause-most : goal.carry_at_most-requires-clause-most
+carry_at_most-requires-clause-most c =
     let p = c.self.inside.inside in
-    let intact = c.self.invariant.intact in
-    omega (arith, cells-intact (lists_of p) [] intact, intact.few_cells, c.count_in-count.ensures.counts, inside-few p.arena.cells c.args.range p.pending_in.handles)
+    omega (arith, inside-few p.arena.cells c.args.range p.pending_in.handles, c.len-most.ensures)
 
-pub returns-clause-carried : goal.returns-clause-carried
-returns-clause-carried c = λ _.
+pub carry_at_most-requires-2-clause-few : goal.carry_at_most-requires-2-clause-few
+carry_at_most-requires-2-clause-few c =
     let p = c.self.inside.inside in
-    let is_clear = rw c.count_in-count.ensures.counts at (c.is_clear.ensures c.if-not-is_clear.false) in
-    let made : SameButRoom (lists_of p) (lists_of (record p { column = c.reserve.new.self })) = record { same = rw c.reserve.ensures.same refl } in
-    let done = rw c.count_in-count.ensures.same at c.carry_rows.ensures.carried in
-    rw (← c.self.view_is) (carried-room c.args.range (lists_of p) c.self.invariant.intact (lists_of (record p { column = c.reserve.new.self })) _ is_clear made done)
+    rw c.count_in-count.ensures.same (omega (arith, inside-few p.arena.cells c.args.range p.pending_in.handles, c.count_in-count.ensures.counts))

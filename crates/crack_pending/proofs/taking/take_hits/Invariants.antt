@@ -1,0 +1,29 @@
+use Rattle.std.proofs.Common.{◌≡◌, ◌+◌, ◌-◌, ◌≤◌, ◌++◌, ℕ, length, vec_len, vec_capacity}
+use Rattle.crack_arena.specs.Arena.{times}
+use Rattle.crack_arena.specs.Rows.{unknown, RemembersKeys}
+use Rattle.crack_pending.specs.Codes.{AreCoded}
+use Rattle.crack_pending.specs.Inside.{IsMissed}
+use Rattle.crack_pending.specs.Keeps.{place_at, HasRow}
+use Rattle.crack_pending.specs.Pending.{rows_inside, rows_outside}
+use Rattle.crack_pending.specs.Spots.{kept}
+use Rattle.crack_pending.proofs.taking.take_hits.Given as goal
+
+-- those of the range that were passed are taken, and the others stand as they did
+abbrev pub invariant-hits : goal.invariant-hits
+invariant-hits l = record {
+  within : l.start ≤ length l.handles;
+  missed : IsMissed l.range l.arena.cells l.handles l.stands.items 0 l.start;
+  taken : l.taken.items ++ rows_inside l.arena.cells l.range (kept l.stands.items l.handles) ≡ l.initial.taken.items ++ rows_inside l.arena.cells l.range (kept l.initial.stands.items l.handles);
+  outside : rows_outside l.arena.cells l.range (kept l.stands.items l.handles) ≡ rows_outside l.arena.cells l.range (kept l.initial.stands.items l.handles);
+  known : RemembersKeys l.arena.cells (kept l.stands.items l.handles) (kept l.stands.items l.keys);
+  unknowns : l.left.unknowns ≡ times unknown (kept l.stands.items l.keys);
+  coded : AreCoded l.keys l.stands.items l.codes;
+  stood : (spot : ℕ) → HasRow l.stands.items spot → HasRow l.initial.stands.items spot;
+  long : length l.stands.items ≡ length l.initial.stands.items;
+  capacity : vec_capacity l.stands ≡ vec_capacity l.initial.stands;
+  counted : place_at l.stands.items (length l.stands.items) + l.left.taken ≡ place_at l.initial.stands.items (length l.initial.stands.items);
+  room : vec_len l.taken + length (rows_inside l.arena.cells l.range (kept l.stands.items l.handles)) ≤ vec_capacity l.taken;
+}
+
+abbrev pub decreases-hits : goal.decreases-hits
+decreases-hits l = length l.handles - l.start
