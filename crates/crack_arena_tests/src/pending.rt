@@ -379,6 +379,66 @@ fn take_range(
     Ok(())
 }
 
+/// Takes the rows of a range all at once, and their keys out of the list of keys.
+fn take_range_at_once(
+    rt: &impl Abort,
+    alloc: Global,
+    arena: &Arena<Row>,
+    pending: &mut PendingIn,
+    keys: &mut Vec<KeyNumber>,
+    low: KeyNumber,
+    high: BoundNumber,
+) -> Result<(), Fail>
+    requires { RemembersKeys arena.now.cells pending.old.handles pending.old.keys }
+    ensures { RemembersKeys arena.now.cells pending.new.handles pending.new.keys }
+{
+    let range = KeyRange::between(Key::from_number(low).bound(), Bound::from_number(high))?;
+    let mut taken = Vec::with_capacity(alloc, pending.len())?;
+    pending.take_in(range, arena, &mut taken);
+    assert_taken(rt, arena, pending, &taken, keys, low, high);
+    Ok(())
+}
+
+/// Asserts that these are the rows of a range, and takes their keys out of the list of keys.
+fn assert_taken(
+    rt: &impl Abort,
+    arena: &Arena<Row>,
+    pending: &PendingIn,
+    taken: &[Handle<Row>],
+    keys: &mut Vec<KeyNumber>,
+    low: KeyNumber,
+    high: BoundNumber,
+) {
+    'rows: for i in 0..taken.len() {
+        let key = key_of(arena, taken[i]).number();
+        let place = first_from(keys, low, high, 0);
+        assert!(rt; place.is_some_and(|place| keys.get(place) == Some(&key)));
+        assert!(rt; !pending.contains(taken[i].slot()));
+        remove_key(keys, key);
+    }
+    assert_eq!(rt; first_from(keys, low, high, 0), None);
+}
+
+/// Takes the rows of some ranges, each at once, after a few rows went one by one.
+fn take_ranges_at_once(
+    rt: &impl Abort,
+    alloc: Global,
+    arena: &Arena<Row>,
+    pending: &mut PendingIn,
+    keys: &mut Vec<KeyNumber>,
+) -> Result<(), Fail>
+    requires { RemembersKeys arena.now.cells pending.old.handles pending.old.keys }
+    ensures { RemembersKeys arena.now.cells pending.new.handles pending.new.keys }
+{
+    'rounds: for round in 0..10u64 {
+        let low = round * 67 % 180;
+        take(rt, arena, pending, round as usize, keys);
+        take_range_at_once(rt, alloc, arena, pending, keys, low, low as u128 + 15)?;
+        assert_keys(rt, arena, pending, keys);
+    }
+    Ok(())
+}
+
 /// Takes the rows of some ranges, of which some have keys in common.
 fn take_ranges(
     rt: &impl Abort,
@@ -418,6 +478,31 @@ fn rows_of_ranges_are_taken_in_order(rt: HostRuntime) -> Result<(), Fail> {
     let mut arena = Arena::new(rt.alloc());
     let mut pending = PendingIn::new(rt.alloc());
     let told = push_and_take_ranges(&rt, rt.alloc(), &mut arena, &mut pending);
+    drop(pending);
+    drop(arena);
+    told
+}
+
+fn push_and_take_ranges_at_once(
+    rt: &impl Abort,
+    alloc: Global,
+    arena: &mut Arena<Row>,
+    pending: &mut PendingIn,
+) -> Result<(), Fail>
+    requires { (cells : List (Cell Row)) → RemembersKeys cells pending.old.handles pending.old.keys }
+{
+    let mut keys = scattered(alloc)?;
+    let handles = put_all(rt, alloc, arena, &keys)?;
+    push_keyed_all(rt, arena, pending, &handles)?;
+    take_ranges_at_once(rt, alloc, arena, pending, &mut keys)
+}
+
+/// Of two hundred rows those of a range are taken at once, in the order of their arrival; the others stand as they did.
+#[test]
+fn rows_of_ranges_are_taken_at_once(rt: HostRuntime) -> Result<(), Fail> {
+    let mut arena = Arena::new(rt.alloc());
+    let mut pending = PendingIn::new(rt.alloc());
+    let told = push_and_take_ranges_at_once(&rt, rt.alloc(), &mut arena, &mut pending);
     drop(pending);
     drop(arena);
     told

@@ -1,5 +1,6 @@
 -- Laws of codes: what they say of keys, and how each step keeps them.
-use Rattle.std.proofs.Common.{◌≡◌, ◌≢◌, ℕ, zero, suc, ◌+◌, ◌-◌, ◌/◌, ◌^◌, ◌<◌, ◌≤◌, Bool, true, false, List, [], ◌∷◌, ◌++◌, length, get_or, set, take, drop, refl, sym, ap, ◌∙◌, inl, inr, arith, length-set, length-append}
+use Rattle.std.proofs.Common.{◌≡◌, ◌≢◌, ℕ, zero, suc, ◌+◌, ◌-◌, ◌/◌, ◌^◌, ◌<◌, ◌≤◌, Bool, true, false, Option, None, Some, List, [], ◌∷◌, ◌++◌, length, get_or, set, take, drop, refl, sym, ap, ◌∙◌, inl, inr, arith, length-set, length-append}
+use Rattle.std.specs.Prelude.{MatchOption}
 use Rattle.std.proofs.lemmas.Bool.{cases_eq, cases_lt, true≢false}
 use Rattle.std.proofs.lemmas.Nat.{le-div}
 use Rattle.std.proofs.Math.Nat.{mul-div-le, mul_comm}
@@ -206,3 +207,8 @@ hit_after range cells handles stands from middle to spot l missed hit = record {
   holds = hit.holds;
   before = missed_both range cells handles stands from middle spot missed hit.before;
 }
+
+-- what is found from a spot on is what is found from an earlier one on, where nothing is between
+pub found_after : (range : Range) (cells : List (Cell Row)) (handles : List Handle) (stands : List Bool) (from middle to : ℕ) (found : Option ℕ) → from ≤ middle → IsMissed range cells handles stands from middle → MatchOption found (IsMissed range cells handles stands middle to) (λ spot. IsHit range cells handles stands middle to spot) → MatchOption found (IsMissed range cells handles stands from to) (λ spot. IsHit range cells handles stands from to spot)
+found_after range cells handles stands from middle to None l missed rest = missed_both range cells handles stands from middle to missed rest
+found_after range cells handles stands from middle to (Some spot) l missed hit = hit_after range cells handles stands from middle to spot l missed hit

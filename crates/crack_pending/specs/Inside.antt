@@ -1,10 +1,10 @@
 -- What private clauses alone cite.
-use Rattle.std.specs.Prelude.{◌≡◌, ◌≢◌, ℕ, ◌+◌, ◌<◌, ◌≤◌, Bool, List, length, ◌⊎◌, slice_index, slice_index_or}
+use Rattle.std.specs.Prelude.{◌≡◌, ◌≢◌, ℕ, ◌<◌, ◌≤◌, Bool, List, ◌⊎◌, slice_index, slice_index_or}
 use Rattle.crack_row.specs.Ranges.{Range, IsIn}
 use Rattle.crack_row.specs.declared.Row.{Row}
 use Rattle.crack_arena.specs.Arena.{Cell, Handle, no_handle}
 use Rattle.crack_arena.specs.Rows.{key_at, unknown}
-use Rattle.crack_pending.specs.Keeps.{HasRow, LeadsTo, place_at}
+use Rattle.crack_pending.specs.Keeps.{HasRow, LeadsTo}
 
 -- a key that lies between the two
 abbrev pub Lies : ℕ → ℕ → ℕ → Type 0
@@ -31,11 +31,6 @@ pub record IsHit (range : Range) (cells : List (Cell Row)) (handles : List Handl
   pub stands_there : HasRow stands spot
   pub holds : IsIn range (key_at cells (slice_index_or handles spot no_handle))
   pub before : IsMissed range cells handles stands from spot
-
--- the spot is the first from one on whose row has its key in the range, and so many rows stand up to it
-pub record IsCountedHit (range : Range) (cells : List (Cell Row)) (handles : List Handle) (stands : List Bool) (from : ℕ) (found : ℕ × ℕ) : Type 0 where
-  pub hit : IsHit range cells handles stands from (length handles) found.0
-  pub rows : place_at stands found.0 ≡ place_at stands from + found.1
 
 -- the row at the spot has the handle of this slot
 pub record IsSpotWith (handles : List Handle) (stands : List Bool) (slot spot : ℕ) : Type 0 where

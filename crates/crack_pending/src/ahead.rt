@@ -1,12 +1,10 @@
 //! Rows that a pass over codes found ahead of the one that was asked for, so that the next is at hand.
-ghost use Rattle.std.specs.Prelude.{◌≡◌, ◌+◌, ◌-◌, ◌<◌, ◌≤◌, ℕ, length, List, [], nat_lt, slice_index, slice_set};
+ghost use Rattle.std.specs.Prelude.{◌≡◌, ◌+◌, ◌-◌, ◌<◌, ◌≤◌, ℕ, length, List, [], slice_index};
 ghost use Rattle.std.specs.Prelude.{vec_len, vec_capacity};
-ghost use Rattle.crack_pending.specs.Keeps.{place_at};
 ghost use Rattle.crack_pending.specs.Inside.{Lies};
-ghost use Rattle.crack_pending.specs.Ahead.{AreAhead, IsAhead, IsGathered, IsNext, candidate_at, marks_of};
+ghost use Rattle.crack_pending.specs.Ahead.{AreAhead, IsAhead, IsNext};
 
 use crate::code_pass::any_lies;
-use crate::codes::HOLE;
 use crack_arena::{Arena, Handle};
 use crack_row::Row;
 use std::alloc::Global;
@@ -17,23 +15,15 @@ const BLOCK: usize = 32;
 /// For how many candidates there is place.
 const MOST_AHEAD: usize = 1024;
 
-/// A spot whose code lies between the two that are sought.
-#[derive(Clone, Copy)]
-pub(crate) struct Candidate {
-    pub(crate) spot: usize,
-    /// From here up to the spot stand as many rows as are counted.
-    pub(crate) since: usize,
-    pub(crate) rows: usize,
-}
-
-/// The candidates from one spot up to another; those of the list before `next` were passed.
+/// The candidates from one spot up to another: the spots whose codes lie between the two that are sought. Those of the
+/// list before `next` were passed; a row that goes leaves its spot there.
 #[derive(Drop)]
 pub(crate) struct Ahead {
     first: u16,
     last: u16,
     from: usize,
     to: usize,
-    candidates: Vec<Candidate>,
+    candidates: Vec<usize>,
     next: usize,
     /// Whether the cells of the candidates were read, and how many of them have a row. Nobody asks for the number: it
     /// is that they are read at once, so that whoever takes the rows doesn't wait for the memory of one cell after the
@@ -84,28 +74,9 @@ impl Ahead {
         self.candidates.shrink_to(0);
     }
 
-    /// Says that the row at the spot goes: the next candidate is passed if it is that one; a hole before it makes all
-    /// to be found anew.
-    pub(crate) fn leave_hole(&mut self, spot: usize)
-        ensures { (codes : List ℕ) → IsAhead codes self.old → IsAhead (slice_set codes spot 65535) self.new }
-    {
-        if self.candidates.len() <= self.next {
-            return;
-        }
-        let near = self.candidates[self.next];
-        if spot < near.since {
-            return;
-        }
-        if spot == near.spot {
-            self.next += 1;
-            return;
-        }
-        self.forget();
-    }
-
     /// The first candidate from a spot on; where there is none up to a spot, that one. Where it finds no memory it
     /// looks no further.
-    pub(crate) fn seek(&mut self, codes: &[u16], first: u16, last: u16, start: usize) -> Candidate
+    pub(crate) fn seek(&mut self, codes: &[u16], first: u16, last: u16, start: usize) -> usize
         requires order { first ≤ last }
         requires low { last < 65535 }
         requires within { start ≤ length codes.now }
@@ -195,29 +166,25 @@ impl Ahead {
     }
 
     /// The next candidate; where there is none, the spot up to which there is none.
-    fn near(&self) -> Candidate
+    fn near(&self) -> usize
         ensures { (codes : List ℕ) → IsAhead codes self.now → IsNext codes self.now.first self.now.last
             self.now.from result }
     {
         if self.next < self.candidates.len() {
             return self.candidates[self.next];
         }
-        Candidate {
-            spot: self.to,
-            since: self.to,
-            rows: 0,
-        }
+        self.to
     }
 }
 
 /// The first place of the list, from one on, whose candidate isn't before a spot.
-fn first_behind(candidates: &[Candidate], next: usize, start: usize) -> usize
+fn first_behind(candidates: &[usize], next: usize, start: usize) -> usize
     ensures after { next ≤ result }
-    ensures passed { (k : ℕ) → next ≤ k → k < result → (candidate_at candidates.now k).spot < start }
-    ensures reached { result < length candidates.now → start ≤ (candidate_at candidates.now result).spot }
+    ensures passed { (k : ℕ) → next ≤ k → k < result → slice_index candidates.now k < start }
+    ensures reached { result < length candidates.now → start ≤ slice_index candidates.now result }
 {
     let mut place = next;
-    'passed: while place < candidates.len() && candidates[place].spot < start {
+    'passed: while place < candidates.len() && candidates[place] < start {
         place += 1;
     }
     place
@@ -225,10 +192,10 @@ fn first_behind(candidates: &[Candidate], next: usize, start: usize) -> usize
 
 /// How many of the candidates' cells have a row.
 #[inline(never)]
-fn live_cells(candidates: &[Candidate], handles: &[Handle<Row>], arena: &Arena<Row>) -> usize {
+fn live_cells(candidates: &[usize], handles: &[Handle<Row>], arena: &Arena<Row>) -> usize {
     let mut live = 0;
     'candidates: for place in 0..candidates.len() {
-        let spot = candidates[place].spot;
+        let spot = candidates[place];
         if spot < handles.len() && arena.get(handles[spot]).is_some() {
             live += 1;
         }
@@ -236,75 +203,35 @@ fn live_cells(candidates: &[Candidate], handles: &[Handle<Row>], arena: &Arena<R
     live
 }
 
-/// Whether the code is that of a row.
-fn is_row(code: u16) -> bool
-    ensures { result ≡ nat_lt code 65535 }
-{
-    code < HOLE
-}
-
-/// How many rows a block of codes is of.
-fn rows_in_codes(codes: &[u16]) -> u16
-    requires { length codes.now ≡ 32 }
-    ensures { result ≡ place_at (marks_of codes.now) 32 }
-{
-    let mut rows = 0u16;
-    'codes: for i in 0..BLOCK {
-        rows += is_row(codes[i]) as u16;
-    }
-    rows
-}
-
-/// Puts the candidates from one spot up to another behind the others, where so many rows stand since the last. Returns
-/// the same of what comes next: since when, and how many rows.
+/// Puts the candidates from one spot up to another behind the others.
 fn gather_between(
-    candidates: &mut Vec<Candidate>,
+    candidates: &mut Vec<usize>,
     codes: &[u16],
     first: u16,
     last: u16,
     from: usize,
     to: usize,
-    since: usize,
-    rows: usize,
-) -> (usize, usize)
+)
     requires order { first ≤ last }
     requires span { from ≤ to }
     requires within { to ≤ length codes.now }
-    requires few { rows ≤ from }
     requires room { vec_len candidates.old + (to - from) ≤ vec_capacity candidates.old }
-    ensures gathered { (begin : ℕ) → IsGathered codes.now first last begin from candidates.old.items since rows
-        → IsGathered codes.now first last begin to candidates.new.items result.0 result.1 }
+    ensures gathered { (begin : ℕ) → AreAhead codes.now first last begin from candidates.old.items 0
+        → AreAhead codes.now first last begin to candidates.new.items 0 }
     ensures length { vec_len candidates.new ≤ vec_len candidates.old + (to - from) }
     ensures capacity { vec_capacity candidates.new ≡ vec_capacity candidates.old }
 {
     let width = last - first;
-    let (mut after, mut more) = (since, rows);
     'spots: for spot in from..to {
-        let code = codes[spot];
-        if code.wrapping_sub(first) <= width {
-            candidates.push_reserved(Candidate {
-                spot,
-                since: after,
-                rows: more,
-            });
-            after = spot + 1;
-            more = 0;
-        } else {
-            more += is_row(code) as usize;
+        if codes[spot].wrapping_sub(first) <= width {
+            candidates.push_reserved(spot);
         }
     }
-    (after, more)
 }
 
 /// Puts the candidates from a spot on into the list, as many as it has room for, and returns up to where they are
 /// found.
-fn gather(
-    candidates: &mut Vec<Candidate>,
-    codes: &[u16],
-    first: u16,
-    last: u16,
-    from: usize,
-) -> usize
+fn gather(candidates: &mut Vec<usize>, codes: &[u16], first: u16, last: u16, from: usize) -> usize
     requires order { first ≤ last }
     requires low { last < 65535 }
     requires within { from ≤ length codes.now }
@@ -312,23 +239,10 @@ fn gather(
     requires room { 1024 ≤ vec_capacity candidates.old }
     ensures { AreAhead codes.now first last from result candidates.new.items 0 }
 {
-    let (mut since, mut rows) = (from, 0);
     let mut spot = from;
     'far: while BLOCK <= codes.len() - spot && candidates.len() <= MOST_AHEAD - BLOCK {
-        let block = &codes[spot..spot + BLOCK];
-        if any_lies(block, first, last) {
-            (since, rows) = gather_between(
-                candidates,
-                codes,
-                first,
-                last,
-                spot,
-                spot + BLOCK,
-                since,
-                rows,
-            );
-        } else {
-            rows += rows_in_codes(block) as usize;
+        if any_lies(&codes[spot..spot + BLOCK], first, last) {
+            gather_between(candidates, codes, first, last, spot, spot + BLOCK);
         }
         spot += BLOCK;
     }
@@ -336,6 +250,6 @@ fn gather(
         return spot;
     }
     let end = codes.len();
-    let _ = gather_between(candidates, codes, first, last, spot, end, since, rows);
+    gather_between(candidates, codes, first, last, spot, end);
     end
 }

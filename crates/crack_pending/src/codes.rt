@@ -3,7 +3,7 @@ ghost use Rattle.std.specs.Prelude.{◌≡◌, ◌+◌, ◌<◌, ◌≤◌, [], 
 ghost use Rattle.crack_pending.specs.Ahead.{IsNext};
 ghost use Rattle.crack_pending.specs.Codes.{AreCoded, code_of};
 
-use crate::ahead::{Ahead, Candidate};
+use crate::ahead::Ahead;
 use crate::spots::{StoredKey, UNKNOWN};
 use crack_arena::{Arena, Handle};
 use crack_row::Row;
@@ -113,7 +113,6 @@ impl Codes {
     {
         if spot < self.codes.len() {
             self.codes[spot] = HOLE;
-            self.ahead.leave_hole(spot);
         }
     }
 
@@ -133,7 +132,7 @@ impl Codes {
     /// The first spot, from one on, whose code lies between two; where there is none up to a spot, that one. It passes
     /// over the codes once for all that are sought one after the other, and looks ahead; where it finds no memory for
     /// that, it looks no further.
-    pub(crate) fn seek(&mut self, first: u16, last: u16, start: usize) -> Candidate
+    pub(crate) fn seek(&mut self, first: u16, last: u16, start: usize) -> usize
         requires order { first ≤ last }
         requires low { last < 65535 }
         requires within { start ≤ length self.old.codes }

@@ -3,13 +3,10 @@ ghost use Rattle.std.specs.Prelude.{◌≡◌, ◌≢◌, ◌+◌, ◌<◌, ◌�
 ghost use Rattle.std.specs.Bool.{OnFalse};
 ghost use Rattle.crack_arena.specs.Rows.{key_at, unknown};
 ghost use Rattle.crack_pending.specs.Codes.{AreCoded};
-ghost use Rattle.crack_pending.specs.Inside.{Lies, AreKnown, IsMissed, IsHit, IsCountedHit, KnowKeys};
-ghost use Rattle.crack_pending.specs.Keeps.{place_at};
+ghost use Rattle.crack_pending.specs.Inside.{Lies, AreKnown, IsMissed, IsHit, KnowKeys};
 
-use crate::ahead::Candidate;
 use crate::code_pass::{Window, hit_in_codes, is_hit};
 use crate::codes::Codes;
-use crate::rows::rows_between;
 use crate::spots::{StoredKey, UNKNOWN};
 use crack_arena::{Arena, Handle, key_of};
 use crack_row::{Key, KeyRange, Row};
@@ -205,8 +202,8 @@ pub(crate) fn first_hit(
     }
 }
 
-/// As `first_hit`, and how many rows stand from `from` up to the hit. Where all keys are known it looks ahead in the
-/// codes, so that hits that are sought one after the other cost one pass.
+/// As `first_hit`. Where all keys are known it looks ahead in the codes, so that hits that are sought one after the
+/// other cost one pass.
 pub(crate) fn next_hit(
     handles: &[Handle<Row>],
     keys: &[StoredKey],
@@ -216,7 +213,7 @@ pub(crate) fn next_hit(
     range: KeyRange,
     arena: &Arena<Row>,
     some_unknown: bool,
-) -> Option<(usize, usize)>
+) -> Option<usize>
     requires keys { length keys.now ≡ length handles.now }
     requires stands { length stands.now ≡ length handles.now }
     requires within { from ≤ length handles.now }
@@ -225,19 +222,18 @@ pub(crate) fn next_hit(
     requires all_known { IsFalse some_unknown → AreKnown keys.now stands.now }
     ensures hit { MatchOption result
         (IsMissed range arena.now.cells handles.now stands.now from (length handles.now))
-        (IsCountedHit range arena.now.cells handles.now stands.now from) }
+        (λ spot. IsHit range arena.now.cells handles.now stands.now from (length handles.now) spot) }
     ensures same { codes.new ≡ codes.old }
 {
     let Some((first, last)) = range.first_and_last() else {
         return None;
     };
     if some_unknown || codes.len() <= from {
-        return hit_behind(
+        return first_hit(
             handles,
             keys,
             stands,
             codes,
-            from,
             from,
             range,
             arena,
@@ -251,77 +247,17 @@ pub(crate) fn next_hit(
     };
     let window = Window::of(wanted, codes, range);
     let near = codes.seek(window.first, window.last, from);
-    codes.warm(handles, arena);
-    if near.spot < codes.len()
-        && is_hit(
-            handles, keys, stands, codes, near.spot, range, window, arena,
-        )
-    {
-        return Some((near.spot, rows_up_to(stands, from, near)));
+    if near < codes.len() && is_hit(handles, keys, stands, codes, near, range, window, arena) {
+        return Some(near);
     }
-    hit_behind(
+    first_hit(
         handles,
         keys,
         stands,
         codes,
-        from,
-        near.spot,
+        near,
         range,
         arena,
         some_unknown,
     )
-}
-
-/// The first hit from the spot `start` on, and how many rows stand from the spot `from` up to it, where none is a hit
-/// from there up to `start`.
-fn hit_behind(
-    handles: &[Handle<Row>],
-    keys: &[StoredKey],
-    stands: &[bool],
-    codes: &Codes,
-    from: usize,
-    start: usize,
-    range: KeyRange,
-    arena: &Arena<Row>,
-    some_unknown: bool,
-) -> Option<(usize, usize)>
-    requires keys { length keys.now ≡ length handles.now }
-    requires stands { length stands.now ≡ length handles.now }
-    requires order { from ≤ start }
-    requires within { start ≤ length handles.now }
-    requires coded { AreCoded keys.now stands.now codes.now }
-    requires known { KnowKeys arena.now.cells handles.now keys.now stands.now }
-    requires all_known { IsFalse some_unknown → AreKnown keys.now stands.now }
-    requires missed { IsMissed range arena.now.cells handles.now stands.now from start }
-    ensures { MatchOption result
-        (IsMissed range arena.now.cells handles.now stands.now from (length handles.now))
-        (IsCountedHit range arena.now.cells handles.now stands.now from) }
-{
-    match first_hit(
-        handles,
-        keys,
-        stands,
-        codes,
-        start,
-        range,
-        arena,
-        some_unknown,
-    ) {
-        Some(spot) => Some((spot, rows_between(stands, from, spot))),
-        None => None,
-    }
-}
-
-/// How many rows stand from the spot `from` up to that of the candidate.
-fn rows_up_to(stands: &[bool], from: usize, near: Candidate) -> usize
-    requires order { from ≤ near.spot }
-    requires within { near.spot ≤ length stands.now }
-    requires counted { place_at stands.now near.spot ≡ place_at stands.now near.since + near.rows }
-    ensures { place_at stands.now near.spot ≡ place_at stands.now from + result }
-{
-    if near.since == from {
-        near.rows
-    } else {
-        rows_between(stands, from, near.spot)
-    }
 }

@@ -513,10 +513,11 @@ impl SpotList {
             arena,
             some_unknown,
         ) {
-            Some((spot, rows)) => {
-                self.hint_place = from + rows;
+            Some(spot) => {
+                self.codes.warm(&self.handles, arena);
+                self.hint_place = from + rows_between(&self.stands, start, spot);
                 self.hint_spot = spot;
-                Some(from + rows)
+                Some(self.hint_place)
             }
             None => None,
         }

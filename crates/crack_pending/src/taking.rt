@@ -59,7 +59,7 @@ pub(crate) fn take_hits(
 {
     let mut left = Left { taken: 0, unknowns };
     let mut start = 0;
-    'hits: while let Some((spot, _)) = next_hit(
+    'hits: while let Some(spot) = next_hit(
         handles,
         keys,
         stands,

@@ -1,11 +1,11 @@
 use Rattle.std.proofs.Common.{ℕ, ◌-◌, ◌<◌, ◌≤◌, length}
-use Rattle.crack_pending.specs.Ahead.{candidate_at}
+use Rattle.std.specs.Prelude.{slice_index}
 use Rattle.crack_pending.proofs.ahead.first_behind.Given as goal
 
 abbrev pub invariant-passed : goal.invariant-passed
 invariant-passed l = record {
   after : l.next ≤ l.place;
-  passed : (k : ℕ) → l.next ≤ k → k < l.place → (candidate_at l.candidates k).spot < l.start;
+  passed : (k : ℕ) → l.next ≤ k → k < l.place → slice_index l.candidates k < l.start;
 }
 
 abbrev pub decreases-passed : goal.decreases-passed

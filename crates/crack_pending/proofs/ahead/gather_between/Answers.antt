@@ -1,24 +1,21 @@
-use Rattle.std.proofs.Common.{◌≡◌, ◌<◌, length, get_or, arith}
-use Rattle.std.specs.Prelude.{nat_lt}
-use Rattle.crack_pending.proofs.Looks.{gathered_hit, gathered_miss, byte_small}
+use Rattle.std.proofs.Common.{◌≡◌, ◌<◌, length, arith}
+use Rattle.crack_pending.proofs.Looks.{gathered_hit, gathered_miss}
 use Rattle.crack_pending.proofs.ahead.gather_between.Goals as goal
-use Rattle.crack_pending.proofs.ahead.gather_between.Goals.{then-code-first, else-code-first}
+use Rattle.crack_pending.proofs.ahead.gather_between.Goals.{then-codes-spot, else-codes-spot}
 
 pub spots-preserved : goal.spots-preserved
 spots-preserved c =
     let codes = c.args.codes.now in
     let l = c.spots in
     let within : l.spot < length codes = omega (arith, c.spots-test.true, c.requires.within) in
-    elim c.if-code-first.branch [
-      | then-code-first w ↦ rw (w.candidates-is, w.after-is, w.more-is, w.push_reserved.ensures.items) (record {
-        gathered = λ begin g. gathered_hit codes c.args.first c.args.last begin l.spot l.candidates.items l.after l.more (l.invariant.gathered begin g) within;
-        few = omega arith;
+    elim c.if-codes-spot.branch [
+      | then-codes-spot w ↦ rw (w.candidates-is, w.push_reserved.ensures.items) (record {
+        gathered = λ begin g. gathered_hit codes c.args.first c.args.last begin l.spot l.candidates.items (l.invariant.gathered begin g) within;
         long = omega (arith, l.invariant.long, w.push_reserved.ensures.len, l.auto.spot);
         capacity = omega (arith, w.push_reserved.ensures.capacity, l.invariant.capacity);
       })
-      | else-code-first w ↦ rw (w.candidates-is, w.after-is, w.more-is, w.is_row.ensures) (record {
-        gathered = λ begin g. gathered_miss codes c.args.first c.args.last begin l.spot l.candidates.items l.after l.more (l.invariant.gathered begin g) within (λ lies. absurd (omega (arith, lies.0, lies.1, c.requires.order, c.ranges.last.fits, w.if-code-first.false)));
-        few = omega (arith, l.invariant.few, byte_small (nat_lt (get_or codes l.spot 0) 65535));
+      | else-codes-spot w ↦ rw (w.candidates-is) (record {
+        gathered = λ begin g. gathered_miss codes c.args.first c.args.last begin l.spot l.candidates.items (l.invariant.gathered begin g) within (λ lies. absurd (omega (arith, lies.0, lies.1, c.requires.order, c.ranges.last.fits, w.if-codes-spot.false)));
         long = omega (arith, l.invariant.long);
         capacity = l.invariant.capacity;
       })

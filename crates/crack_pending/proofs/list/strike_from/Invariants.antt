@@ -1,4 +1,4 @@
-use Rattle.std.proofs.Common.{◌≡◌, ℕ, ◌<◌, ◌-◌, ◌↔◌, take, drop, length}
+use Rattle.std.proofs.Common.{◌≡◌, ℕ, ◌-◌, ◌↔◌, take, drop, length}
 use Rattle.crack_arena.specs.Arena.{times, slots}
 use Rattle.crack_pending.specs.Keeps.{Has}
 use Rattle.crack_pending.proofs.list.strike_from.Given as goal

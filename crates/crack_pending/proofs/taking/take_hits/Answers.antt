@@ -1,13 +1,13 @@
-use Rattle.std.proofs.Common.{◌≡◌, ◌<◌, ◌++◌, ◌∷◌, [], Bool, true, false, List, length, get_or, set, refl, sym, ap, ◌∙◌, arith, length-set, ltb-false}
+use Rattle.std.proofs.Common.{◌≡◌, ◌++◌, ◌∷◌, [], Bool, true, false, length, get_or, set, refl, sym, ap, ◌∙◌, arith, length-set, ltb-false}
 use Rattle.std.proofs.lemmas.List.{append-nil, append_assoc, get_or_default}
 use Rattle.crack_row.specs.Ranges.{is_in}
 use Rattle.crack_arena.specs.Arena.{Handle, no_handle}
 use Rattle.crack_arena.specs.Rows.{key_at}
 use Rattle.crack_arena.proofs.Remembering.{RemembersKeys-remove}
-use Rattle.crack_pending.specs.Inside.{IsCountedHit, IsMissed}
+use Rattle.crack_pending.specs.Inside.{IsHit, IsMissed}
 use Rattle.crack_pending.specs.Pending.{rows_inside}
 use Rattle.crack_pending.specs.Spots.{kept}
-use Rattle.crack_pending.specs.Keeps.{place_at, HasRow}
+use Rattle.crack_pending.specs.Keeps.{place_at}
 use Rattle.crack_pending.proofs.Coded.{coded_hole, missed_both}
 use Rattle.crack_pending.proofs.Kept.{Stands-within, kept-hole, place_at-few, place_at-hole_before}
 use Rattle.crack_pending.proofs.Searches.{is_in-true, is_in-false}
@@ -50,7 +50,7 @@ next_hit-requires-clause-all_known c = λ none.
 
 -- the row at the spot that was found is the first of the range
 record IsTaken (c : After-index-handles-spot) : Type 0 where
-  hit : IsCountedHit c.args.range c.args.arena.now.cells c.args.handles.now c.hits.stands.items c.hits.start (c.in-Some.spot, c.in-Some.field-0-1)
+  hit : IsHit c.args.range c.args.arena.now.cells c.args.handles.now c.hits.stands.items c.hits.start (length c.args.handles.now) c.in-Some.spot
   beside : length c.hits.stands.items ≡ length c.args.handles.now
   keys_beside : length c.hits.stands.items ≡ length c.args.keys.now
   missed : IsMissed c.args.range c.args.arena.now.cells c.args.handles.now c.hits.stands.items 0 c.in-Some.spot
@@ -64,13 +64,13 @@ is_taken c =
     let stands = c.hits.stands.items in
     let spot = c.in-Some.spot in
     let i = c.hits.invariant in
-    let hit : IsCountedHit a.range cells hs stands c.hits.start (spot, c.in-Some.field-0-1) = rw (c.deref.ensures.value) at c.in-Some.ensures.hit in
+    let hit : IsHit a.range cells hs stands c.hits.start (length hs) spot = rw (c.deref.ensures.value) at c.in-Some.ensures.hit in
     let beside : length stands ≡ length hs = omega (arith, i.long, c.requires.stands) in
-    let missed : IsMissed a.range cells hs stands 0 spot = missed_both a.range cells hs stands 0 c.hits.start spot i.missed hit.hit.before in
+    let missed : IsMissed a.range cells hs stands 0 spot = missed_both a.range cells hs stands 0 c.hits.start spot i.missed hit.before in
     let test : Handle → Bool = λ h. is_in a.range (key_at cells h) in
-    let is : test (get_or hs spot no_handle) ≡ true = is_in-true a.range (key_at cells (get_or hs spot no_handle)) hit.hit.holds in
-    let first = inside-hole test stands hs spot no_handle beside hit.hit.stands_there is (λ k less there. is_in-false a.range (key_at cells (get_or hs k no_handle)) (missed k (omega arith) less there)) in
-    let same : get_or hs spot no_handle ≡ c.index-handles-spot.result = get_or_default hs spot no_handle c.index-handles-spot.result hit.hit.within ∙ sym c.index-handles-spot.is in
+    let is : test (get_or hs spot no_handle) ≡ true = is_in-true a.range (key_at cells (get_or hs spot no_handle)) hit.holds in
+    let first = inside-hole test stands hs spot no_handle beside hit.stands_there is (λ k less there. is_in-false a.range (key_at cells (get_or hs k no_handle)) (missed k (omega arith) less there)) in
+    let same : get_or hs spot no_handle ≡ c.index-handles-spot.result = get_or_default hs spot no_handle c.index-handles-spot.result hit.within ∙ sym c.index-handles-spot.is in
     record {
       hit = hit;
       beside = beside;
@@ -87,7 +87,7 @@ push_reserved-requires c =
 pub unknowns_without-requires-clause-counted : goal.unknowns_without-requires-clause-counted
 unknowns_without-requires-clause-counted c = λ is.
     let it = is_taken (goal.at.unknowns_without-requires-clause-counted c).After-index-handles-spot in
-    omega (arith, c.hits.invariant.unknowns, counted_some c.args.keys.now c.hits.stands.items it.keys_beside c.in-Some.spot it.hit.hit.stands_there is)
+    omega (arith, c.hits.invariant.unknowns, counted_some c.args.keys.now c.hits.stands.items it.keys_beside c.in-Some.spot it.hit.stands_there is)
 
 pub overflow_add-left : goal.overflow_add-left
 overflow_add-left c =
@@ -97,7 +97,7 @@ overflow_add-left c =
 pub hits-smaller : goal.hits-smaller
 hits-smaller c =
     let it = is_taken (goal.at.hits-smaller c).After-index-handles-spot in
-    omega (arith, it.hit.hit.after, it.hit.hit.within)
+    omega (arith, it.hit.after, it.hit.within)
 
 pub hits-preserved : goal.hits-preserved
 hits-preserved c =
@@ -109,18 +109,18 @@ hits-preserved c =
     let spot = c.in-Some.spot in
     let i = c.hits.invariant in
     let it = is_taken (goal.at.hits-preserved c).After-index-handles-spot in
-    let at = it.hit.hit.stands_there in
+    let at = it.hit.stands_there in
     let test : Handle → Bool = λ h. is_in a.range (key_at cells h) in
     let left = kept (set stands spot false) hs in
     let hole : left ≡ _ = kept-hole stands hs spot it.beside at in
     let key_hole = kept-hole stands keys spot it.keys_beside at in
     record {
-      within = omega (arith, it.hit.hit.within);
+      within = omega (arith, it.hit.within);
       missed = λ k after before there.
           let other = stood stands spot k at there in
           it.missed k after (omega (arith, before, other.0)) other.1;
       taken = rw (c.push_reserved.ensures.items) (append_assoc c.hits.taken.items (c.index-handles-spot.result ∷ []) (rows_inside cells a.range left) ∙ ap (λ xs. c.hits.taken.items ++ xs) (sym it.inside) ∙ i.taken);
-      outside = outside-hole test stands hs spot no_handle it.beside at (is_in-true a.range (key_at cells (get_or hs spot no_handle)) it.hit.hit.holds) ∙ i.outside;
+      outside = outside-hole test stands hs spot no_handle it.beside at (is_in-true a.range (key_at cells (get_or hs spot no_handle)) it.hit.holds) ∙ i.outside;
       known = rw (hole, key_hole) (RemembersKeys-remove cells (kept stands hs) (kept stands keys) (place_at stands spot) (place-within hs stands it.beside spot at) i.known);
       unknowns = omega (arith, c.unknowns_without.ensures, counted_hole keys stands it.keys_beside spot at, i.unknowns);
       coded = rw (c.leave_hole.ensures, c.next_hit.ensures.same) (coded_hole keys stands c.hits.codes i.coded spot at);

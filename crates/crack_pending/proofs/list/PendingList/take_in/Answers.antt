@@ -1,8 +1,8 @@
-use Rattle.std.proofs.Common.{◌≡◌, ◌<◌, ◌++◌, Bool, length, drop, ap, arith}
+use Rattle.std.proofs.Common.{◌≡◌, ◌<◌, ◌++◌, Bool, length, drop, arith}
 use Rattle.crack_row.specs.Ranges.{is_in}
 use Rattle.crack_arena.specs.Arena.{Handle, times, slots}
 use Rattle.crack_arena.specs.Rows.{key_at}
-use Rattle.crack_pending.specs.Pending.{Pending, rows_inside, rows_outside}
+use Rattle.crack_pending.specs.Pending.{rows_inside, rows_outside}
 use Rattle.crack_pending.proofs.Taken.{drop-after, times-parted}
 use Rattle.crack_pending.proofs.list.PendingList.take_in.Goals as goal
 use Rattle.crack_pending.proofs.list.PendingList.take_in.Goals.{After-deref}

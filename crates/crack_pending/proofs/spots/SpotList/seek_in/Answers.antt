@@ -31,22 +31,15 @@ overflow_add-self c =
     let a = c.self.invariant.0 in
     let place = rw (c.deref.ensures.value) at c.spot_before-start.ensures.place in
     let found = rw (c.deref-2.ensures.value, c.deref-4.ensures.value) at c.in-Some.ensures.hit in
-    omega (arith, place, found.rows, place_at-few c.self.inside.stands.items c.in-Some.spot, found.hit.within, a.few)
-
-pub overflow_add-result : goal.overflow_add-result
-overflow_add-result c =
-    let a = c.self.invariant.0 in
-    let place = rw (c.deref.ensures.value) at c.spot_before-start.ensures.place in
-    let found = rw (c.deref-2.ensures.value, c.deref-4.ensures.value) at c.in-Some.ensures.hit in
-    omega (arith, place, found.rows, place_at-few c.self.inside.stands.items c.in-Some.spot, found.hit.within, a.few)
+    omega (arith, place, rw (c.deref-in-Some-2.ensures.value) at c.rows_between.ensures, place_at-few c.self.inside.stands.items c.in-Some.spot, found.within, a.few)
 
 pub returns-in-Some-clause-finds : goal.returns-in-Some-clause-finds
 returns-in-Some-clause-finds c =
     let a = c.self.invariant.0 in
     let place = rw (c.deref.ensures.value) at c.spot_before-start.ensures.place in
     let found = rw (c.deref-2.ensures.value, c.deref-4.ensures.value) at c.in-Some.ensures.hit in
-    let first = finds-some c.args.range c.args.arena.now.cells c.self.inside.handles.items c.self.inside.stands.items a.stands_beside c.spot_before-start.result c.in-Some.spot found.hit in
-    rw (← c.self.view_is) (rw (found.rows, place) at first)
+    let first = finds-some c.args.range c.args.arena.now.cells c.self.inside.handles.items c.self.inside.stands.items a.stands_beside c.spot_before-start.result c.in-Some.spot found in
+    rw (← c.self.view_is) (rw (rw (c.deref-in-Some-2.ensures.value) at c.rows_between.ensures, place) at first)
 
 pub returns-in-None-clause-finds : goal.returns-in-None-clause-finds
 returns-in-None-clause-finds c =

@@ -1,6 +1,5 @@
-use Rattle.std.proofs.Common.{◌≡◌, ◌-◌, length, ap, ◌∙◌, arith}
+use Rattle.std.proofs.Common.{◌-◌, ap, ◌∙◌, arith}
 use Rattle.crack_pending.specs.Pending.{Pending}
-use Rattle.crack_pending.specs.Spots.{kept}
 use Rattle.crack_pending.proofs.Taken.{kept_taken}
 use Rattle.crack_pending.proofs.spots.SpotList.take_in.Goals as goal
 
