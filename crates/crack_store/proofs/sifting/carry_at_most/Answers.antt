@@ -1,4 +1,4 @@
-use Rattle.std.proofs.Common.{[], length, refl, arith}
+use Rattle.std.proofs.Common.{[], refl, arith}
 use Rattle.crack_state.specs.Steps.{SameButRoom}
 use Rattle.crack_state.proofs.LayoutLaws.{cells-intact}
 use Rattle.crack_store.specs.Inside.{lists_of}
