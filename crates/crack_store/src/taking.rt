@@ -13,8 +13,8 @@ use crack_column::{CrackerColumn, Remembered};
 use crack_pending::PendingIn;
 use crack_row::{KeyRange, Row};
 
-/// Takes the rows of a range out of a list, and puts them after the column's last one, in their order, each with what is
-/// to be remembered of it. `taken` is a list for their handles.
+/// Takes the rows of a range out of a list, and puts them after the column's last one, in their order, each with what
+/// is to be remembered of it. `taken` is a list for their handles.
 pub(crate) fn take_rows(
     rows: &mut PendingIn,
     column: &mut CrackerColumn,
