@@ -9,6 +9,7 @@ pub mod AllPulledLaws
 pub mod BeyondLaws
 pub mod BulkLaws
 pub mod CarryLaws
+pub mod CeilingLaws
 pub mod ClearLaws
 pub mod CountLaws
 pub mod CutLaws

@@ -191,7 +191,7 @@ module _ {X : Type 0} (key : X → ℕ) (stops : X → Bool) where
   length-turned [] = refl
   length-turned (y ∷ ys) = omega (arith, length_push ys y)
 
-  length-queued : (low : ℕ) (xs rows : List X) → length (queued key low xs rows) + count_below key low xs ≡ length rows + length xs
+  pub length-queued : (low : ℕ) (xs rows : List X) → length (queued key low xs rows) + count_below key low xs ≡ length rows + length xs
   length-queued low [] rows = omega arith
   length-queued low (x ∷ xs) rows = elim (cases_lt (key x) low) [
     | inl under ↦ omega (arith, ap length (queued-turn low x xs rows under), length-queued low xs (turned_once rows), length-turned rows, below_count low x xs under)
