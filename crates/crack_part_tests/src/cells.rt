@@ -4,7 +4,7 @@
 //! refused in turn.
 use crack_part::Partition;
 use crack_row::{
-    Command, GREATEST_LIMIT, Key, KeyNumber, KeyRange, Limits, Payload, PayloadNumber, Policy,
+    Command, GREATEST_LIMIT, Key, KeyNumber, KeyRange, Layout, Limits, Payload, PayloadNumber, Policy,
     Refusal, Reply, Serial, Upkeep,
 };
 use std::process::Abort;
@@ -29,28 +29,41 @@ fn ask(partition: &mut Partition, command: Command) -> Result<Reply, Refusal> {
     Ok(reply)
 }
 
-/// How many rows a partition has, how many of them wait beside the column, and how many doomed ones in it.
-fn counts(rt: &impl Abort, partition: &Partition) -> [u64; 3] {
-    let layout = match partition.layout() {
+/// What stands where. Where no memory is found at first, it is then.
+fn layout_of(rt: &impl Abort, partition: &Partition) -> Layout {
+    match partition.layout() {
         Ok(layout) => layout,
         Err(_) => partition.layout().expect(rt, "a layout"),
-    };
-    [layout.rows, layout.pending_in, layout.pending_out]
+    }
+}
+
+/// How many rows a partition has.
+fn rows_of(rt: &impl Abort, partition: &Partition) -> u64 {
+    layout_of(rt, partition).rows
+}
+
+/// Holds how many rows a partition has, how many of them wait beside the column, and how many doomed ones in it.
+fn assert_counts(rt: &impl Abort, partition: &Partition, rows: u64, waiting: u64, doomed: u64) {
+    let layout = layout_of(rt, partition);
+    assert_eq!(rt; layout.rows, rows);
+    assert_eq!(rt; layout.pending_in, waiting);
+    assert_eq!(rt; layout.pending_out, doomed);
 }
 
 /// Has a command answered. Where no memory is found at first, the history is as it was, and so are the rows, of which
 /// there are so many; then memory is found.
-fn answer(rt: &impl Abort, partition: &mut Partition, command: Command, rows: u64) -> Reply {
+fn answer(rt: &impl Abort, partition: &mut Partition, command: &Command, rows: u64) -> Reply {
     let kept = partition.history().len();
-    match ask(partition, command) {
-        Ok(reply) => reply,
+    let reply = match ask(partition, *command) {
+        Ok(reply) => Ok(reply),
         Err(refusal) => {
             assert_eq!(rt; refusal, Refusal::OutOfMemory);
             assert_eq!(rt; partition.history().len(), kept);
-            assert_eq!(rt; counts(rt, partition)[0], rows);
-            ask(partition, command).expect(rt, "an answer")
+            assert_eq!(rt; rows_of(rt, partition), rows);
+            ask(partition, *command)
         }
-    }
+    };
+    reply.expect(rt, "an answer")
 }
 
 /// Fills three cells with rows of the column, and dooms two of them.
@@ -64,20 +77,20 @@ fn doom_two(rt: &impl Abort, partition: &mut Partition) {
         (delete(2), 2),
     ];
     for (command, rows) in steps {
-        let reply = answer(rt, partition, command, rows);
+        let _reply = answer(rt, partition, &command, rows);
     }
 }
 
 /// Inserts rows until no cell is left: the first one has the doomed rows taken out.
 fn fill(rt: &impl Abort, partition: &mut Partition) {
-    let reply = answer(rt, partition, insert(4), 1);
+    let reply = answer(rt, partition, &insert(4), 1);
     assert!(rt; matches!(reply, Reply::Placed(Serial(3))));
-    assert_eq!(rt; counts(rt, partition), [2, 1, 0]);
-    let reply = answer(rt, partition, insert(5), 2);
+    assert_counts(rt, partition, 2, 1, 0);
+    let reply = answer(rt, partition, &insert(5), 2);
     assert!(rt; matches!(reply, Reply::Placed(Serial(4))));
     let refused = ask(partition, insert(6)).err();
     assert_eq!(rt; refused, Some(Refusal::NoCell));
-    let reply = answer(rt, partition, Command::Count(KeyRange::all()), 3);
+    let reply = answer(rt, partition, &Command::Count(KeyRange::all()), 3);
     assert!(rt; matches!(reply, Reply::Counted(3)));
 }
 
@@ -107,9 +120,8 @@ fn partition_frees_no_cell_unasked(rt: HostRuntime) -> Result<(), Refusal> {
     let mut partition = Partition::open_with(rt.alloc(), KeyRange::all(), limits)?;
     doom_two(&rt, &mut partition);
     let refused = ask(&mut partition, insert(4)).err();
-    let left = counts(&rt, &partition);
-    drop(partition);
     assert_eq!(rt; refused, Some(Refusal::NoCell));
-    assert_eq!(rt; left, [1, 0, 2]);
+    assert_counts(&rt, &partition, 1, 0, 2);
+    drop(partition);
     Ok(())
 }
