@@ -97,8 +97,7 @@ impl Model for Opened {
     ghost view = { λ o. record {
       book = o.seen.book;
       log = o.seen.log;
-      ids = map (λ (w : OwnerState).
-          w.id) o.owners.items;
+      ids = map (λ (w : OwnerState). w.id) o.owners.items;
     } };
 
     ghost invariant = { λ o. AreEmpty o.seen.log × All (IsNew o.seen.book) o.owners.items ×
