@@ -15,10 +15,13 @@ pub mod CountLaws
 pub mod CutLaws
 pub mod DownLaws
 pub mod DrawLaws
+pub mod EndLaws
 pub mod Draws
 pub mod FallLaws
 pub mod LeadLaws
 pub mod ManyLaws
+pub mod SweepLaws
+pub mod SweptLaws
 pub mod PieceLaws
 pub mod PlacedLaws
 pub mod PullLaws

@@ -2,3 +2,4 @@ pub mod Pieces
 pub mod Queues
 pub mod Carried
 pub mod Pulled
+pub mod Sweeps

@@ -1,0 +1,73 @@
+-- What private clauses alone cite.
+-- How rows that came in, and stand after the column's last, turn the pieces from the lowest up: each that turns a piece changes places with the row
+-- that it turns, and so goes on as that one.
+use Rattle.std.specs.Prelude.{ℕ, ◌+◌, Bool, true, not, ◌&&◌, cond, nat_lt, count_by, List, [], ◌∷◌, ◌++◌, length}
+use Rattle.crack_index.specs.declared.mark.Mark.{Mark}
+use Rattle.crack_bulk.specs.Pieces.{Pieces, last, below}
+
+-- what stands in the piece, and after the column's last row, and how many rows made way
+pub record Swept (X : Type 0) : Type 0 where
+  pub piece : List X
+  pub tail : List X
+  pub made : ℕ
+
+-- so many more made way
+abbrev pub with_more : {X : Type 0} → ℕ → Swept X → Swept X
+with_more count s = record s { made = count + s.made }
+
+-- the places after the column's last, of those that were gone by: those that turn no more, then the others; and how many rows made way
+pub record Round (X : Type 0) : Type 0 where
+  pub done : List X
+  pub queue : List X
+  pub made : ℕ
+
+-- whether a carry ends with a row in hand
+module _ {X : Type 0} (stops : X → Bool) where
+  -- a row that passes the test goes on from a piece: no carry has ended with it
+  abbrev pub goes_on : (X → Bool) → X → Bool
+  goes_on own t = own t && not (stops t)
+
+  -- where none of the piece's first rows is left, a row takes the place of the first that has gone on from it, which goes on again at the place of
+  -- that row
+  abbrev pub round : (X → Bool) → X → List X → List X → Round X
+  round own t done [] = record { done = done ++ t ∷ []; queue = []; made = 0 }
+  round own t done (q ∷ qs) =
+      cond (goes_on own q) (record { done = done ++ t ∷ []; queue = qs ++ q ∷ []; made = 1 }) (round own t (done ++ q ∷ []) qs)
+
+  -- rows go by a piece, one after the other: `under` says which of them turn it, and `own` which are of it or of a lower one
+  abbrev pub swept : (X → Bool) → (X → Bool) → List X → List X → List X → List X → List X → Swept X
+  swept under own [] front rows done queue = record { piece = front ++ rows; tail = done ++ queue; made = 0 }
+  swept under own (t ∷ ts) front [] done queue =
+      let r = round own t done queue in
+      cond (goes_on under t) (with_more r.made (swept under own ts front [] r.done r.queue)) (swept under own ts front [] done (queue ++ t ∷ []))
+  swept under own (t ∷ ts) front (y ∷ ys) done queue =
+      cond (goes_on under t) (with_more 1 (swept under own ts (front ++ t ∷ []) ys done (queue ++ y ∷ []))) (swept under own ts front (y ∷ ys) done (queue ++ t ∷ []))
+
+-- `key` of each row
+module _ {X : Type 0} (key : X → ℕ) (stops : X → Bool) where
+  -- a row is below a bound
+  abbrev pub is_lower : ℕ → X → Bool
+  is_lower low x = nat_lt (key x) low
+
+  -- each row is of the last piece or of a lower one
+  abbrev pub any_lower : X → Bool
+  any_lower x = true
+
+  -- they go by a piece that begins at this bound
+  abbrev pub swept_by : ℕ → (X → Bool) → List X → List X → Swept X
+  swept_by low own ts rows = swept stops (is_lower low) own ts [] rows [] []
+
+  -- and by all pieces, from the lowest up
+  abbrev pub swept_up : ℕ → List X → Pieces X → Swept X
+  swept_up low ts (last rows) = swept_by low any_lower ts rows
+  swept_up low ts (below rows bound pieces) =
+      let here = swept_by low (is_lower bound.0) ts rows in
+      let above = swept_up bound.0 here.tail pieces in
+      record { piece = here.piece ++ above.piece; tail = above.tail; made = here.made + above.made }
+
+  -- the marks of the bounds then, where the first piece begins at this place: each rises by as many as go on from the piece below it
+  abbrev pub swept_marks : ℕ → ℕ → List X → Pieces X → List Mark
+  swept_marks place low ts (last rows) = []
+  swept_marks place low ts (below rows bound pieces) =
+      let here = swept_by low (is_lower bound.0) ts rows in
+      record { bound = bound; position = place + length rows + count_by (goes_on stops (is_lower bound.0)) here.tail } ∷ swept_marks (place + length rows) bound.0 here.tail pieces
