@@ -9,10 +9,10 @@ use Rattle.std.proofs.Math.Seq.{take-set-lt}
 use Rattle.crack_arena.specs.Arena.{Handle, IsFirstAt, IsAbsent, no_handle, same_handle}
 use Rattle.crack_row.specs.declared.InnerBound.{InnerBound}
 use Rattle.crack_column.specs.declared.draining.Doomed.{Doomed}
-use Rattle.crack_column.specs.Column.{Column, StillRemembers}
+use Rattle.crack_column.specs.Column.{Column, StillRemembers, swapped}
 use Rattle.crack_column.specs.Sifts.{one_if_some}
 use Rattle.crack_column.specs.Drains.{turned_back, place_of, without, one_unless_last, drawn, is_under, count_below, doomed_key, doomed_handle, left_by}
-use Rattle.crack_column.specs.Inside.{swapped, DrainsOnce}
+use Rattle.crack_column.specs.Inside.{DrainsOnce}
 
 -- one place turned back
 

@@ -78,6 +78,10 @@ popped_aside c = record {
   aside = standing_at (length c.handles - 1) c ∷ c.aside;
 }
 
+-- what stands at two places changes places
+abbrev pub swapped : {X : Type 0} → X → ℕ → ℕ → List X → List X
+swapped d one other xs = slice_set (slice_set xs one (slice_index_or xs other d)) other (slice_index_or xs one d)
+
 -- what is remembered of each handle's row is right
 pub record Remembers (cells : List (Cell Row)) (handles : List Handle) (remembered : List Memory) : Type 0 where
   pub beside : length remembered ≡ length handles

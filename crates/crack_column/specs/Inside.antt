@@ -78,10 +78,6 @@ pub record SiftsTags (bound start from to : ℕ) (tags tags' : List Tag) (below 
   pub below_is : below ≡ length (below_bound remembered_key bound (between from to tags))
   pub moved_is : moved ≡ made_way remembered_key bound (between from to tags) (between start from tags)
 
--- what stands at two places changes places
-abbrev pub swapped : {X : Type 0} → X → ℕ → ℕ → List X → List X
-swapped d one other xs = slice_set (slice_set xs one (slice_index_or xs other d)) other (slice_index_or xs one d)
-
 -- the pull of one doomed row left this of the piece from `start` up to `end`, so many of whose rows it pulled
 pub record DrainsOnce (low : ℕ) (high : Option InnerBound) (d : Doomed) (start end : ℕ) (handles handles' : List Handle) (start' end' pulled : ℕ) : Type 0 where
   pub piece : between start' end' handles' ≡ drained_once doomed_key doomed_handle low (λ e. is_under high e.key) d (between start end handles)

@@ -354,6 +354,16 @@ impl CrackerColumn {
         self.tags.get(self.len).remembered()
     }
 
+    /// The key of the row at the place. O(1); its cell is read only where the row isn't known.
+    #[inline]
+    pub fn key_at(&self, place: usize, arena: &Arena<Row>) -> Key
+        requires within { place < length self.now.handles }
+        requires remembered { Remembers arena.now.cells self.now.handles self.now.remembered }
+        ensures { result.0 ≡ key_at arena.now.cells (slice_index_or self.now.handles place no_handle) }
+    {
+        self.tags.get(place).key(&self.generations, arena)
+    }
+
     /// The key of the row that stands aside. O(1); its cell is read only where the row isn't known.
     pub fn aside_key(&self, arena: &Arena<Row>) -> Key
         requires some { 0 < length self.now.aside }

@@ -1,9 +1,9 @@
 //! Pulls of doomed rows out of a piece, one after the other, as far as they reach it.
 ghost use Rattle.std.specs.Prelude.{◌≡◌, ◌-◌, ◌<◌, ◌≤◌, length, take, drop};
 ghost use Rattle.crack_arena.specs.Arena.{no_handle};
-ghost use Rattle.crack_column.specs.Column.{nothing, StillRemembers};
+ghost use Rattle.crack_column.specs.Column.{nothing, StillRemembers, swapped};
 ghost use Rattle.crack_column.specs.Drains.{is_under, count_below, Drains};
-ghost use Rattle.crack_column.specs.Inside.{swapped, DrainsOnce};
+ghost use Rattle.crack_column.specs.Inside.{DrainsOnce};
 
 use crate::CrackerColumn;
 use crack_arena::Handle;
@@ -102,7 +102,8 @@ impl CrackerColumn {
     }
 
     /// The rows at two places change places. O(1), and no generation is read.
-    fn swap(&mut self, one: usize, other: usize)
+    #[inline]
+    pub fn swap(&mut self, one: usize, other: usize)
         requires one { one < length self.old.handles }
         requires other { other < length self.old.handles }
         ensures after { self.new ≡ record self.old {

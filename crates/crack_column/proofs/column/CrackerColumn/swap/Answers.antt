@@ -2,7 +2,8 @@ use Rattle.std.proofs.Common.{◌≡◌, ◌<◌, length, set, get_or, refl, ap,
 use Rattle.crack_column.specs.declared.tag.Tag.{Tag}
 use Rattle.crack_column.specs.Labels.{TagVector}
 use Rattle.crack_column.specs.Tickets.{handles_in, remembered_in}
-use Rattle.crack_column.specs.Inside.{no_tag, swapped}
+use Rattle.crack_column.specs.Inside.{no_tag}
+use Rattle.crack_column.specs.Column.{swapped}
 use Rattle.crack_column.proofs.TicketLaws.{length-in}
 use Rattle.crack_column.proofs.SwapLaws.{length-now, AreDrawn-swap, handles-swap, remembered-swap, unread-swap, aside-swap, Remembers-swap}
 use Rattle.crack_column.proofs.column.CrackerColumn.swap.Goals as goal
