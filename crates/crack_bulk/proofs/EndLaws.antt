@@ -81,15 +81,19 @@ AreBuried-apart (h ∷ hs) cells out are =
     let gone : times h.slot (slots out') ≡ 0 = omega (arith, taken h.slot, are.doomed_once h.slot, times_head h.slot []) in
     let row = row_read cells h reads in
     let within = cell_within cells h row.0 row.1 in
-    let fewer : freed_of cells' ≡ freed_of cells + 1 = freed_of-emptied cells h within reads in
-    (reads, omega (arith, are.few, some, times-le-length h.slot (slots out), length-map out (λ (x : Handle). x.slot)), some, AreBuried-apart hs cells' out' (record {
-      reads = Reads-off h.slot cells cells' hs agree alone (All-tail (Reads cells) h hs are.reads);
-      once = λ n. omega (arith, are.once n, times-cons n h.slot (slots hs));
-      doomed = λ k d l.
-          let g = get_or hs k d in
-          let other : h.slot ≢ g.slot = λ same. omega (arith, alone, times_map_at h.slot (λ (x : Handle). x.slot) hs k d l (sym same)) in
-          omega (arith, taken g.slot, times_other g.slot h.slot other, All-tail (λ x. 0 < times x.slot (slots out)) h hs are.doomed k d l);
-      doomed_reads = Reads-off h.slot cells cells' out' agree gone (All-removed (Reads cells) out (place_in out h.slot) are.doomed_reads);
-      doomed_once = λ n. omega (arith, taken n, are.doomed_once n);
-      few = omega (arith, fewer, are.few, length-remove out (place_in out h.slot) stands.within);
-    }))
+    let fewer : freed_of cells' ≡ freed_of cells + 1 = freed_of-emptied cells h within reads in (
+      reads,
+      omega (arith, are.few, some, times-le-length h.slot (slots out), length-map out (λ (x : Handle). x.slot)),
+      some,
+      AreBuried-apart hs cells' out' (record {
+        reads = Reads-off h.slot cells cells' hs agree alone (All-tail (Reads cells) h hs are.reads);
+        once = λ n. omega (arith, are.once n, times-cons n h.slot (slots hs));
+        doomed = λ k d l.
+            let g = get_or hs k d in
+            let other : h.slot ≢ g.slot = λ same. omega (arith, alone, times_map_at h.slot (λ (x : Handle). x.slot) hs k d l (sym same)) in
+            omega (arith, taken g.slot, times_other g.slot h.slot other, All-tail (λ x. 0 < times x.slot (slots out)) h hs are.doomed k d l);
+        doomed_reads = Reads-off h.slot cells cells' out' agree gone (All-removed (Reads cells) out (place_in out h.slot) are.doomed_reads);
+        doomed_once = λ n. omega (arith, taken n, are.doomed_once n);
+        few = omega (arith, fewer, are.few, length-remove out (place_in out h.slot) stands.within);
+      }),
+    )

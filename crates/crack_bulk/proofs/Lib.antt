@@ -3,6 +3,7 @@ pub mod OneByOne
 pub mod Sifts
 pub mod Carried
 pub mod Placed
+pub mod SweptUp
 pub mod AgreeLaws
 pub mod AllLaws
 pub mod AllPulledLaws

@@ -1,14 +1,16 @@
 -- Rows that came in and turn the pieces from the lowest up, from after the column's last row, leave what all carries do.
-use Rattle.std.proofs.Common.{◌≡◌, ◌⊎◌, ℕ, suc, ◌+◌, Bool, true, false, not, ◌&&◌, cond, List, [], ◌∷◌, ◌++◌, map, length, refl, sym, ap, ◌∙◌, inl, inr, arith}
+use Rattle.std.proofs.Common.{◌≤◌, ◌≡◌, ◌⊎◌, ℕ, suc, ◌+◌, Bool, true, false, not, ◌&&◌, cond, List, [], ◌∷◌, ◌++◌, map, length, refl, sym, ap, ◌∙◌, inl, inr, arith}
 use Rattle.std.specs.List.{All, filter, sum_by}
 use Rattle.std.specs.Prelude.{count_by}
 use Rattle.std.proofs.lemmas.Bool.{cases_Bool, lt-ltb, le-ltb, ltb-true, true≢false}
-use Rattle.std.proofs.lemmas.List.{append-nil, append_assoc}
+use Rattle.std.proofs.lemmas.List.{append-nil, append_assoc, length-append, length_push}
 use Rattle.std.proofs.lemmas.List.Elements.{All-nil, All-cons, All-head, All-tail, All-push, All-append}
 use Rattle.std.proofs.lemmas.List.Sums.{sum_by-cons, sum_by_push, sum_by-append}
+use Rattle.crack_row.specs.declared.InnerBound.{InnerBound}
 use Rattle.crack_bulk.specs.Pieces.{Pieces, last, below, column_of, marks_of}
 use Rattle.crack_bulk.specs.Queues.{Event, comes, turns, stopped, is_below, any_row, after, onward, after_turn, left, passed, in_bulk, bulk_outcomes}
-use Rattle.crack_bulk.specs.Sweeps.{Swept, Round, goes_on, round, swept, is_lower, any_lower, swept_by, swept_up, swept_marks}
+use Rattle.crack_bulk.specs.Sweeps.{Swept, Round, goes_on, round, swept, is_lower, any_lower, swept_by}
+use Rattle.crack_bulk.proofs.SweptUp.{swept_up, swept_marks}
 use Rattle.crack_bulk.proofs.Divided.{AreDivided}
 use Rattle.crack_bulk.proofs.SiftLaws.{moved_of}
 use Rattle.crack_bulk.proofs.AllLaws.{All-left, All-right}
@@ -162,7 +164,7 @@ module _ {X : Type 0} (key : X → ℕ) (stops : X → Bool) where
         made = omega arith;
       }
 
-  by-step : (under own : X → Bool) (t : X) (ts front rows done queue : List X) → goes_on stops under t ≡ false → swept stops under own (t ∷ ts) front rows done queue ≡ swept stops under own ts front rows done (queue ++ t ∷ [])
+  pub by-step : (under own : X → Bool) (t : X) (ts front rows done queue : List X) → goes_on stops under t ≡ false → swept stops under own (t ∷ ts) front rows done queue ≡ swept stops under own ts front rows done (queue ++ t ∷ [])
   by-step under own t ts front [] done queue off = rw off refl
   by-step under own t ts front (y ∷ ys) done queue off = rw off refl
 
@@ -420,6 +422,86 @@ module _ {X : Type 0} (key : X → ℕ) (stops : X → Bool) where
         let here : Swept X = swept_by key stops low (is_lower key stops bound.0) ts rows in
         let above : Swept X = swept_up key stops bound.0 here.tail pieces in
         omega (arith, weigh (is_lower key stops low) (is_lower key stops bound.0) ts [] rows [] [], weigh_up bound.0 here.tail pieces, sum_by-append weight here.piece above.piece, sum_by-append weight rows (column_of pieces))
+
+  -- so many stand in the piece and after it as before
+  length-swept : (under own : X → Bool) (ts front rows done queue : List X) → (length (swept stops under own ts front rows done queue).piece ≡ length front + length rows) × (length (swept stops under own ts front rows done queue).tail ≡ length done + length queue + length ts)
+  length-swept under own [] front rows done queue = (length-append front rows, omega (arith, length-append done queue))
+  length-swept under own (t ∷ ts) front [] done queue = elim (cases_Bool (goes_on stops under t)) [
+    | inl on ↦
+        let r : Round X = round stops own t done queue in
+        let rest = length-swept under own ts front [] r.done r.queue in
+        rw on (rest.0, omega (arith, rest.1, length-round own t done queue))
+    | inr off ↦
+        let rest = length-swept under own ts front [] done (queue ++ t ∷ []) in
+        rw off (rest.0, omega (arith, rest.1, length_push queue t))
+  ]
+    where
+      length-round : (own : X → Bool) (t : X) (done queue : List X) → length (round stops own t done queue).done + length (round stops own t done queue).queue ≡ length done + length queue + 1
+      length-round own t done [] = omega (arith, length_push done t)
+      length-round own t done (q ∷ qs) = elim (cases_Bool (goes_on stops own q)) [
+        | inl on ↦ rw on (omega (arith, length_push done t, length_push qs q))
+        | inr off ↦ rw off (omega (arith, length-round own t (done ++ q ∷ []) qs, length_push done q))
+      ]
+  length-swept under own (t ∷ ts) front (y ∷ ys) done queue = elim (cases_Bool (goes_on stops under t)) [
+    | inl on ↦
+        let rest = length-swept under own ts (front ++ t ∷ []) ys done (queue ++ y ∷ []) in
+        rw on (omega (arith, rest.0, length_push front t), omega (arith, rest.1, length_push queue y))
+    | inr off ↦
+        let rest = length-swept under own ts front (y ∷ ys) done (queue ++ t ∷ []) in
+        rw off (rest.0, omega (arith, rest.1, length_push queue t))
+  ]
+
+  pub length-swept_by : (low : ℕ) (own : X → Bool) (ts rows : List X) → (length (swept_by key stops low own ts rows).piece ≡ length rows) × (length (swept_by key stops low own ts rows).tail ≡ length ts)
+  length-swept_by low own ts rows =
+      let all = length-swept (is_lower key stops low) own ts [] rows [] [] in
+      (omega (arith, all.0), omega (arith, all.1))
+
+  pub length-swept_up : (low : ℕ) (ts : List X) (pieces : Pieces X) → length (swept_up key stops low ts pieces).tail ≡ length ts
+  length-swept_up low ts (last rows) = (length-swept_by low (any_lower key stops) ts rows).1
+  length-swept_up low ts (below rows bound pieces) =
+      let here : Swept X = swept_by key stops low (is_lower key stops bound.0) ts rows in
+      length-swept_up bound.0 here.tail pieces ∙ (length-swept_by low (is_lower key stops bound.0) ts rows).1
+
+  -- of those that turn a piece as many go on as it has rows fewer
+  module _ (under own : X → Bool) (sub : (x : X) → under x ≡ true → own x ≡ true) where
+    abbrev going : X → ℕ
+    going x = cond {A = ℕ} (goes_on stops own x) 1 0
+
+    going-one : (t : X) → goes_on stops under t ≡ true → going t ≡ 1
+    going-one t on = rw (goes-on own t (sub t (goes-own under t on)) (goes-lasts under t on)) refl
+
+    few-turn : (ts front rows done queue : List X) → count_by (goes_on stops under) ts + (count_by (goes_on stops own) done + count_by (goes_on stops own) queue) ≤ length rows + count_by (goes_on stops own) (swept stops under own ts front rows done queue).tail
+    few-turn [] front rows done queue = omega (arith, sum_by-append going done queue)
+    few-turn (t ∷ ts) front [] done queue =
+        let all = sum_by-cons (λ y. cond {A = ℕ} (goes_on stops under y) 1 0) t ts in
+        elim (cases_Bool (goes_on stops under t)) [
+          | inl on ↦
+              let r : Round X = round stops own t done queue in
+              let one : count_by (goes_on stops under) (t ∷ ts) ≡ suc (count_by (goes_on stops under) ts) = all ∙ rw on (omega arith) in
+              let tail_is : (swept stops under own (t ∷ ts) front [] done queue).tail ≡ (swept stops under own ts front [] r.done r.queue).tail = rw on refl in
+              omega (arith, few-turn ts front [] r.done r.queue, weigh-round going own t done queue, one, going-one t on, ap (count_by (goes_on stops own)) tail_is)
+          | inr off ↦
+              let none : count_by (goes_on stops under) (t ∷ ts) ≡ count_by (goes_on stops under) ts = all ∙ rw off (omega arith) in
+              let tail_is : (swept stops under own (t ∷ ts) front [] done queue).tail ≡ (swept stops under own ts front [] done (queue ++ t ∷ [])).tail = rw off refl in
+              omega (arith, few-turn ts front [] done (queue ++ t ∷ []), sum_by_push going queue t, none, ap (count_by (goes_on stops own)) tail_is)
+        ]
+    few-turn (t ∷ ts) front (y ∷ ys) done queue =
+        let all = sum_by-cons (λ y. cond {A = ℕ} (goes_on stops under y) 1 0) t ts in
+        elim (cases_Bool (goes_on stops under t)) [
+          | inl on ↦
+              let one : count_by (goes_on stops under) (t ∷ ts) ≡ suc (count_by (goes_on stops under) ts) = all ∙ rw on (omega arith) in
+              let tail_is : (swept stops under own (t ∷ ts) front (y ∷ ys) done queue).tail ≡ (swept stops under own ts (front ++ t ∷ []) ys done (queue ++ y ∷ [])).tail = rw on refl in
+              omega (arith, few-turn ts (front ++ t ∷ []) ys done (queue ++ y ∷ []), sum_by_push going queue y, one, ap (count_by (goes_on stops own)) tail_is)
+          | inr off ↦
+              let none : count_by (goes_on stops under) (t ∷ ts) ≡ count_by (goes_on stops under) ts = all ∙ rw off (omega arith) in
+              let tail_is : (swept stops under own (t ∷ ts) front (y ∷ ys) done queue).tail ≡ (swept stops under own ts front (y ∷ ys) done (queue ++ t ∷ [])).tail = rw off refl in
+              omega (arith, few-turn ts front (y ∷ ys) done (queue ++ t ∷ []), sum_by_push going queue t, none, ap (count_by (goes_on stops own)) tail_is)
+        ]
+
+  pub few-turn_by : (low : ℕ) (bound : InnerBound) (ts rows : List X) → low ≤ bound.0 → count_by (goes_on stops (is_lower key stops low)) ts ≤ length rows + count_by (goes_on stops (is_lower key stops bound.0)) (swept_by key stops low (is_lower key stops bound.0) ts rows).tail
+  few-turn_by low bound ts rows order =
+      let all = few-turn (is_lower key stops low) (is_lower key stops bound.0) (λ x under. lt-ltb (key x) bound.0 (omega (arith, ltb-true (key x) low under, order))) ts [] rows [] [] in
+      omega (arith, all)
 
   -- and what holds of each row still does
   module _ (P : X → Type 0) where

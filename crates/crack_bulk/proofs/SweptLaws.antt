@@ -15,7 +15,8 @@ use Rattle.crack_bulk.specs.Pieces.{column_of, marks_of}
 use Rattle.crack_bulk.specs.Queues.{comes, any_row, in_bulk, bulk_outcomes}
 use Rattle.crack_bulk.specs.Carried.{pieces_of, is_doomed, ends_with, moved_by, inside_of, put_in_by, arrivals, carried_in_bulk}
 use Rattle.crack_bulk.specs.Pulled.{buried_all}
-use Rattle.crack_bulk.specs.Sweeps.{Swept, goes_on, swept_up, swept_marks}
+use Rattle.crack_bulk.specs.Sweeps.{Swept, goes_on}
+use Rattle.crack_bulk.proofs.SweptUp.{swept_up, swept_marks}
 use Rattle.crack_bulk.proofs.CutLaws.{IsCut-intact}
 use Rattle.crack_bulk.proofs.EndLaws.{ended_by-buried, AreApart, AreBuried-apart}
 use Rattle.crack_bulk.proofs.FallLaws.{AreBuried}

@@ -56,18 +56,3 @@ module _ {X : Type 0} (key : X → ℕ) (stops : X → Bool) where
   -- they go by a piece that begins at this bound
   abbrev pub swept_by : ℕ → (X → Bool) → List X → List X → Swept X
   swept_by low own ts rows = swept stops (is_lower low) own ts [] rows [] []
-
-  -- and by all pieces, from the lowest up
-  abbrev pub swept_up : ℕ → List X → Pieces X → Swept X
-  swept_up low ts (last rows) = swept_by low any_lower ts rows
-  swept_up low ts (below rows bound pieces) =
-      let here = swept_by low (is_lower bound.0) ts rows in
-      let above = swept_up bound.0 here.tail pieces in
-      record { piece = here.piece ++ above.piece; tail = above.tail; made = here.made + above.made }
-
-  -- the marks of the bounds then, where the first piece begins at this place: each rises by as many as go on from the piece below it
-  abbrev pub swept_marks : ℕ → ℕ → List X → Pieces X → List Mark
-  swept_marks place low ts (last rows) = []
-  swept_marks place low ts (below rows bound pieces) =
-      let here = swept_by low (is_lower bound.0) ts rows in
-      record { bound = bound; position = place + length rows + count_by (goes_on stops (is_lower bound.0)) here.tail } ∷ swept_marks (place + length rows) bound.0 here.tail pieces

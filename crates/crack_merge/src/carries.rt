@@ -16,8 +16,8 @@ use crack_store::{CarryEnd, Carrying, Store};
 /// others once. The ceiling lies at or above the range's high end, so no row that is evicted is one of these again.
 /// O(1) for each pending row that it passes, and O(log bounds) and the pieces on its way for each that it carries.
 /// Where no bound stands and the range has all keys, it is one loop, with room made once for all; where there is no
-/// ceiling and no doomed row is in the way, the rows are carried in bulk, which goes once through the pieces for all of
-/// them. Refused with 8 where it finds no memory; the rows that it had carried stay where they are.
+/// ceiling, the rows are carried in bulk, which goes once through the pieces for all of them. Refused with 8 where it
+/// finds no memory; the rows that it had carried stay where they are.
 pub fn carry_range(
     mut store: Store,
     range: KeyRange,

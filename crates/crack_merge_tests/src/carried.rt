@@ -225,3 +225,47 @@ fn sweep_carries_in_bulk(rt: HostRuntime) {
     drop(store);
     assert_eq!(rt; serials, [5, 2, 1, 3, 4, 0]);
 }
+
+/// Dooms a row of the column, at the second time where memory was refused once.
+fn doom_at_last(rt: &impl Abort, store: &mut Store, serial: u64)
+    requires low { store.old.keys.low ≡ 0 }
+    requires high { store.old.keys.high ≡ GREATEST_BOUND }
+{
+    let pending = store.is_pending(Serial(serial));
+    let freed = store.freed();
+    let doomed = store.pending_out();
+    assert!(rt; pending == Some(false));
+    assert!(rt; freed < 1000);
+    assert!(rt; doomed < 1000);
+    if store.doom(Serial(serial)).is_err() {
+        doom(rt, store, serial);
+    }
+}
+
+/// Three rows are carried into three pieces, and the second of them meets a doomed row.
+#[test]
+fn sweep_carries_past_a_doomed_row(rt: HostRuntime) {
+    let mut store = Store::new(rt.alloc(), KeyRange::all());
+    admit(&rt, &mut store, 0, 10);
+    admit(&rt, &mut store, 1, 20);
+    admit(&rt, &mut store, 2, 30);
+    let mut store = merge_at_last(&rt, store);
+    let range = KeyRange::new(15, 25).expect(&rt, "a range");
+    crack_at_last(&rt, &mut store, range);
+    assert_all_keys(&rt, &store);
+    doom_at_last(&rt, &mut store, 1);
+    admit(&rt, &mut store, 3, 17);
+    admit(&rt, &mut store, 4, 12);
+    admit(&rt, &mut store, 5, 90);
+    let mut store = merge_at_last(&rt, store);
+    assert_eq!(rt; store.tally().moved, 2);
+    assert_eq!(rt; store.tally().taken_out, 1);
+    let mut serials = [0u64; 5];
+    for i in 0..5 {
+        let (next, serial) = take_serial(&rt, store);
+        serials[i] = serial;
+        store = next;
+    }
+    drop(store);
+    assert_eq!(rt; serials, [5, 2, 3, 4, 0]);
+}

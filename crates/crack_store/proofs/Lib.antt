@@ -10,4 +10,6 @@ mod WayLemmas
 mod TakeLemmas
 mod DrainLemmas
 mod SiftLemmas
+mod SweepLemmas
+mod SweepWalks
 pub mod Crosses

@@ -137,7 +137,7 @@ fn drain_last(drain: &mut Drain)
 }
 
 /// Takes the last rows out of a column, down to so many. O(rows that are taken), and reads none.
-fn shorten(column: &mut CrackerColumn, len: usize)
+pub(crate) fn shorten(column: &mut CrackerColumn, len: usize)
     requires { len ≤ length column.old.handles }
     ensures { IsShortened len column.old column.new }
 {
@@ -149,7 +149,7 @@ fn shorten(column: &mut CrackerColumn, len: usize)
 }
 
 /// Strikes these rows from the pending deletions, and frees their cells, one after the other.
-fn bury_all(inside: &mut Inside, doomed: &[Doomed])
+pub(crate) fn bury_all(inside: &mut Inside, doomed: &[Doomed])
     requires { AreBuried (map doomed_handle doomed.now) inside.old.arena.cells inside.old.pending_out.handles }
     ensures buried { lists_of inside.new ≡ buried_all (map doomed_handle doomed.now) (lists_of inside.old) }
     ensures keys { KeepsKeys inside.old inside.new }

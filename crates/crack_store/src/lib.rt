@@ -22,6 +22,7 @@ pub mod serial_hash;
 pub mod sifting;
 mod steps;
 pub mod store;
+mod sweeping;
 mod taking;
 pub mod ways;
 

@@ -13,6 +13,7 @@ ghost use Rattle.crack_store.specs.Sieves.{AreClear, IsClear};
 
 use crate::Store;
 use crate::inside::Inside;
+use crate::sweeping::carry_by_sweeping;
 use crate::taking::take_rows;
 use crack_arena::{Arena, Handle, key_of};
 use crack_column::CrackerColumn;
@@ -32,16 +33,15 @@ const FEWEST_OVER_MANY: usize = 8;
 /// More pending insertions than these are many: those of a range are counted as they are taken.
 const MANY_PENDING: usize = 4096;
 
-/// The most doomed rows that are looked for: of more one is likely to be in the way.
+/// The most doomed rows that are looked for: of more, one is likely to be in the way.
 const MOST_DOOMED: usize = 64;
 
 impl Store {
     /// Carries all pending insertions of a range in bulk, of which `first` is the first, and leaves what the carry of
-    /// one after the other leaves; whether it did so. It doesn't for few rows, nor where a doomed row may be in the
-    /// way, nor where it finds no memory for all of them, nor for a first load of all keys: all is then as it was. Room
-    /// is made for all of them at once. Two passes over the pending insertions, where many pend and none is doomed one;
-    /// for each row that it carries O(pieces) without a wait for memory; O(bounds); for each of a few doomed rows
-    /// O(rows that it carries + log bounds).
+    /// one after the other leaves; whether it did so. It doesn't for few rows, nor where it finds no memory for all of
+    /// them, nor for a first load of all keys: all is then as it was. Room is made for all of them at once. Two passes
+    /// over the pending insertions, where many pend and none is doomed one; for each row that it carries O(pieces)
+    /// without a wait for memory; O(bounds); for each of a few doomed rows O(rows that it carries + log bounds).
     pub fn carry_in_bulk(&mut self, range: KeyRange, first: usize) -> bool
         requires { Finds range (keys_at self.old.cells self.old.pending_in) 0 (Some first) }
         ensures carried { IsTrue result → SameButRoom (carried_in_bulk None range self.old) self.new }
@@ -62,20 +62,23 @@ impl Store {
             first,
             &self.inside.arena,
         );
-        if is_few(&self.inside, count) || !is_clear(&self.inside, count) {
+        if is_few(&self.inside, count) {
             return false;
+        }
+        if !is_clear(&self.inside, count) {
+            return carry_by_sweeping(&mut self.inside, range, first, count);
         }
         carry_at_most(&mut self.inside, range, first, count)
     }
 }
 
-/// Whether a pass over the pending insertions of a range is worth it: not where many rows are doomed, nor where the
-/// range has all keys, and more rows are pending than the column has. O(1).
+/// Whether a pass over the pending insertions of a range is worth it: not where the range has all keys, and more rows
+/// are pending than the column has. O(1).
 fn is_worth_a_pass(inside: &Inside, range: KeyRange) -> bool {
     let keys = inside.keys;
     let is_whole = range.low() <= keys.low() && keys.high() <= range.high();
     let fits = inside.pending_in.len() <= inside.column.len();
-    inside.pending_out.len() <= MOST_DOOMED && (fits || !is_whole)
+    fits || !is_whole
 }
 
 /// Whether no row is doomed, and so many are pending that to count those of a range is dearer than a walk over all

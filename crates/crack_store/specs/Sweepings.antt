@@ -1,0 +1,70 @@
+-- What private clauses alone cite.
+-- What a walk over the bounds from the lowest up does to a column, after whose last row others stand that turn its pieces.
+use Rattle.std.specs.Prelude.{◌≡◌, ℕ, ◌+◌, ◌≤◌, Bool, false, ◌||◌, nat_lt, count_by, min, Option, Some, None, List, ◌++◌, length, take, drop}
+use Rattle.std.specs.List.{between}
+use Rattle.crack_arena.specs.Arena.{Cell, Handle, times, slots}
+use Rattle.crack_arena.specs.Rows.{key_at}
+use Rattle.crack_row.specs.declared.InnerBound.{InnerBound}
+use Rattle.crack_row.specs.declared.Row.{Row}
+use Rattle.crack_column.specs.Column.{Remembers}
+use Rattle.crack_index.specs.declared.mark.Mark.{Mark}
+use Rattle.crack_bulk.specs.Sweeps.{Swept, goes_on, is_lower, any_lower, swept_by}
+use Rattle.crack_state.specs.State.{greatest}
+use Rattle.crack_store.specs.declared.sweeping.Sweep.{Sweep}
+
+-- a carry ends with this row in hand: it is a pending deletion
+abbrev pub ends_in : List Handle → Handle → Bool
+ends_in out h = nat_lt 0 (times h.slot (slots out)) || false
+
+-- the rows of a piece and of those below, by the bound where it ends
+abbrev pub up_to : List (Cell Row) → List Handle → Option InnerBound → Handle → Bool
+up_to cells out None = any_lower (key_at cells) (ends_in out)
+up_to cells out (Some bound) = is_lower (key_at cells) (ends_in out) bound.0
+
+-- what is left of a piece that begins at this bound, and of the rows that turn it
+abbrev pub sweep_of : List (Cell Row) → List Handle → ℕ → Option InnerBound → List Handle → List Handle → Swept Handle
+sweep_of cells out low high ts rows = swept_by (key_at cells) (ends_in out) low (up_to cells out high) ts rows
+
+-- how many of them go on from it
+abbrev pub going_on : List (Cell Row) → List Handle → ℕ → List Handle → ℕ
+going_on cells out low ts = count_by (goes_on (ends_in out) (is_lower (key_at cells) (ends_in out) low)) ts
+
+-- the rows from `from` on went by the piece from `start` up to `end`, of whose rows so many made way; all else is as it was
+pub record Sweeps (cells : List (Cell Row)) (out : List Handle) (low : ℕ) (high : Option InnerBound) (start end from : ℕ) (handles handles' : List Handle) (made : ℕ) : Type 0 where
+  pub handles_are : handles' ≡ take start handles ++ ((sweep_of cells out low high (drop from handles) (between start end handles)).piece ++ (between end from handles ++ (sweep_of cells out low high (drop from handles) (between start end handles)).tail))
+  pub made_is : made ≡ (sweep_of cells out low high (drop from handles) (between start end handles)).made
+
+-- the next piece stands before the rows that came in, so many of which turn it
+pub record IsReady (v : Sweep) : Type 0 where
+  pub order : v.start ≤ v.from
+  pub within : v.from ≤ length v.column.handles
+  pub remembers : Remembers v.arena.now.cells v.column.handles v.column.remembered
+  pub counted : v.count ≡ going_on v.arena.now.cells v.pending_out.now.handles v.low (drop v.from v.column.handles)
+
+-- they went by the piece below a bound
+pub record Passes (v : Sweep) (m : Mark) (place : ℕ) (w : Sweep) : Type 0 where
+  pub made : ℕ
+  pub sweeps : Sweeps v.arena.now.cells v.pending_out.now.handles v.low (Some m.bound) v.start m.position v.from v.column.handles w.column.handles made
+  pub place_is : place ≡ m.position + w.count
+  pub low_is : w.low ≡ m.bound.0
+  pub start_is : w.start ≡ m.position
+  pub from_is : w.from ≡ v.from
+  pub out_is : w.pending_out ≡ v.pending_out
+  pub arena_is : w.arena ≡ v.arena
+  pub moved_is : w.moved ≡ min (v.moved + made) greatest
+  pub ready : IsReady w
+
+-- the bound stands before the rows that came in: then they went by the piece below it
+abbrev pub Turns : Sweep → Mark → ℕ → Sweep → Type 0
+Turns v m place w = v.start ≤ m.position → m.position ≤ v.from → Passes v m place w
+
+-- they went by the last piece
+pub record IsSweptTo (v w : Sweep) : Type 0 where
+  pub made : ℕ
+  pub sweeps : Sweeps v.arena.now.cells v.pending_out.now.handles v.low None v.start v.from v.from v.column.handles w.column.handles made
+  pub moved_is : w.moved ≡ min (v.moved + made) greatest
+  pub from_is : w.from ≡ v.from
+  pub out_is : w.pending_out ≡ v.pending_out
+  pub arena_is : w.arena ≡ v.arena
+  pub remembers : Remembers w.arena.now.cells w.column.handles w.column.remembered
+  pub long : length w.column.handles ≡ length v.column.handles

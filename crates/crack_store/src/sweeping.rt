@@ -1,0 +1,349 @@
+//! Carries in bulk that meet doomed rows: the rows that come in stand after the column's last one, and turn its pieces
+//! from the lowest up. Each that turns a piece changes places with the row that it turns.
+ghost use Rattle.std.specs.Prelude.{◌≡◌, ◌+◌, ◌-◌, ◌<◌, ◌≤◌, ◌++◌, ℕ, not, true, false, [], Some, None, map};
+ghost use Rattle.std.specs.Prelude.{length, take, drop, filter, vec_capacity, slice_index_or, IsTrue, IsFalse};
+ghost use Rattle.crack_arena.specs.Arena.{no_handle};
+ghost use Rattle.crack_arena.specs.Rows.{key_at, keys_at};
+ghost use Rattle.crack_bulk.specs.Carried.{carried_in_bulk, inside_of};
+ghost use Rattle.crack_bulk.specs.Sweeps.{goes_on, is_lower};
+ghost use Rattle.crack_column.specs.Column.{Remembers};
+ghost use Rattle.crack_column.specs.Drains.{doomed_handle};
+ghost use Rattle.crack_pending.specs.Pending.{Finds};
+ghost use Rattle.crack_state.specs.Merge.{outside_of};
+ghost use Rattle.crack_state.specs.State.{live_rows};
+ghost use Rattle.crack_state.specs.Steps.{SameButRoom};
+ghost use Rattle.crack_store.specs.Inside.{lists_of};
+ghost use Rattle.crack_store.specs.Keeps.{KeepsIntact};
+ghost use Rattle.crack_store.specs.Sweepings.{ends_in, up_to, going_on, IsReady, IsSweptTo, Sweeps};
+
+use crate::draining::{bury_all, shorten};
+use crate::inside::Inside;
+use crate::taking::take_rows;
+use crack_arena::{Arena, Handle};
+use crack_column::{CrackerColumn, Doomed};
+use crack_index::{Mark, Placer};
+use crack_pending::PendingOut;
+use crack_row::{InnerBound, KeyNumber, KeyRange, Row};
+
+/// Carries the pending insertions of a range, of which `first` is the first, wherever doomed rows stand; whether it
+/// found memory for so many, as are in the range. All is else as it was. For each of them O(pieces) without a wait for
+/// memory, and O(bounds).
+pub(crate) fn carry_by_sweeping(
+    inside: &mut Inside,
+    range: KeyRange,
+    first: usize,
+    count: usize,
+) -> bool
+    requires intact { KeepsIntact inside.old [] }
+    requires first { Finds range (keys_at inside.old.arena.cells inside.old.pending_in.handles) 0 (Some first) }
+    requires count { count ≡ length (inside_of inside.old.arena.cells range inside.old.pending_in.handles) }
+    ensures carried { IsTrue result → SameButRoom (carried_in_bulk None range (lists_of inside.old))
+        (lists_of inside.new) }
+    ensures left { IsTrue result → inside.new.pending_in.handles ≡ outside_of inside.old.arena.cells range
+        inside.old.pending_in.handles }
+    ensures live { live_rows (lists_of inside.new) ≡ live_rows (lists_of inside.old) }
+    ensures same { IsFalse result → SameButRoom (lists_of inside.old) (lists_of inside.new) }
+    ensures intact { KeepsIntact inside.new [] }
+{
+    let alloc = *inside.serials.allocator();
+    let Ok(taken) = Vec::with_capacity(alloc, count) else {
+        return false;
+    };
+    let Ok(doomed) = Vec::with_capacity(alloc, count) else {
+        return false;
+    };
+    if let Err(_) = inside.column.reserve(count) {
+        return false;
+    }
+    sweep_rows(inside, range, first, taken, doomed);
+    true
+}
+
+/// Carries the pending insertions of a range, the first of which is `first`, where there is room for them, and to list
+/// as many doomed rows.
+fn sweep_rows(
+    inside: &mut Inside,
+    range: KeyRange,
+    first: usize,
+    taken: Vec<Handle<Row>>,
+    mut doomed: Vec<Doomed>,
+)
+    requires intact { KeepsIntact inside.old [] }
+    requires first { Finds range (keys_at inside.old.arena.cells inside.old.pending_in.handles) 0 (Some first) }
+    requires room { length (inside_of inside.old.arena.cells range inside.old.pending_in.handles) ≤
+        inside.old.column.room }
+    requires empty { taken.items ≡ [] }
+    requires list { length (inside_of inside.old.arena.cells range inside.old.pending_in.handles) ≤
+        vec_capacity taken }
+    requires none { doomed.items ≡ [] }
+    requires doomed_room { length (inside_of inside.old.arena.cells range inside.old.pending_in.handles) ≤
+        vec_capacity doomed }
+    ensures carried { SameButRoom (carried_in_bulk None range (lists_of inside.old)) (lists_of inside.new) }
+    ensures left { inside.new.pending_in.handles ≡ outside_of inside.old.arena.cells range
+        inside.old.pending_in.handles }
+    ensures live { live_rows (lists_of inside.new) ≡ live_rows (lists_of inside.old) }
+    ensures intact { KeepsIntact inside.new [] }
+{
+    let from = inside.column.len();
+    take_rows(
+        &mut inside.pending_in,
+        &mut inside.column,
+        range,
+        taken,
+        &inside.arena,
+    );
+    inside.pending_in.shrink_if_empty(inside.in_room);
+    let count = inside.column.len() - from;
+    let mut sweep = Sweep {
+        column: inside.column.take(),
+        pending_out: &inside.pending_out,
+        arena: &inside.arena,
+        from,
+        low: 0,
+        start: 0,
+        count: 0,
+        moved: inside.tally.moved,
+    };
+    inside.index.place_each(&mut sweep);
+    sweep_last(&mut sweep);
+    let Sweep {
+        mut column,
+        moved,
+        ..
+    } = sweep;
+    take_doomed(
+        &mut column,
+        &inside.pending_out,
+        &inside.arena,
+        from,
+        &mut doomed,
+    );
+    inside.column = column;
+    inside.tally.moved = moved;
+    inside.tally.put_in = inside.tally.put_in.saturating_add(count as u64);
+    bury_all(inside, &doomed);
+}
+
+/// Lets the rows that came in go by the last piece.
+fn sweep_last(sweep: &mut Sweep)
+    requires { IsReady sweep.old }
+    ensures { IsSweptTo sweep.old sweep.new }
+{
+    let made = sweep_piece(
+        &mut sweep.column,
+        (sweep.low, None),
+        (sweep.start, sweep.from),
+        sweep.from,
+        sweep.pending_out,
+        sweep.arena,
+    );
+    sweep.moved = sweep.moved.saturating_add(made as u64);
+}
+
+/// Takes the doomed rows out of those from the place `from` on, and lists them in their order; the others stay, in
+/// theirs.
+fn take_doomed(
+    column: &mut CrackerColumn,
+    pending_out: &PendingOut,
+    arena: &Arena<Row>,
+    from: usize,
+    doomed: &mut Vec<Doomed>,
+)
+    requires within { from ≤ length column.old.handles }
+    requires remembers { Remembers arena.now.cells column.old.handles column.old.remembered }
+    requires none { doomed.old.items ≡ [] }
+    requires room { length column.old.handles - from ≤ vec_capacity doomed.old }
+    ensures handles { column.new.handles ≡ take from column.old.handles ++
+        filter (λ h. not (ends_in pending_out.now.handles h)) (drop from column.old.handles) }
+    ensures doomed { map doomed_handle doomed.new.items ≡ filter (ends_in pending_out.now.handles)
+        (drop from column.old.handles) }
+    ensures remembers { Remembers arena.now.cells column.new.handles column.new.remembered }
+{
+    let mut low = from;
+    'rows: for place in from..column.len() {
+        if pending_out.contains(column.slot_at(place)) {
+            let key = column.key_at(place, arena).number();
+            let handle = column.at(place);
+            doomed.push_reserved(Doomed { key, handle });
+        } else {
+            column.swap(low, place);
+            low += 1;
+        }
+    }
+    shorten(column, low);
+}
+
+/// A column on a walk over its bounds from the lowest up: the rows from the place `from` on came in, and turn the
+/// pieces. The piece that begins at the bound `low` and the place `start` is next, and `count` of them turn it.
+#[derive(Drop)]
+pub(crate) struct Sweep<'a> {
+    pub(crate) column: CrackerColumn,
+    pub(crate) pending_out: &'a PendingOut,
+    pub(crate) arena: &'a Arena<Row>,
+    pub(crate) from: usize,
+    pub(crate) low: KeyNumber,
+    pub(crate) start: usize,
+    pub(crate) count: usize,
+    /// How many rows made way, as the store counts them.
+    pub(crate) moved: u64,
+}
+
+impl<'a> Placer for Sweep<'a> {
+    ghost use Rattle.crack_store.specs.Sweepings.{IsReady, Turns};
+
+    ghost is_ready = { IsReady };
+
+    ghost places = { Turns };
+
+    /// Lets the rows that came in go by the piece below the bound, which rises by as many as go on from it.
+    fn place(&mut self, mark: Mark) -> usize {
+        let Mark { bound, position } = mark;
+        if position < self.start || self.from < position {
+            return position;
+        }
+        let made = sweep_piece(
+            &mut self.column,
+            (self.low, Some(bound)),
+            (self.start, position),
+            self.from,
+            self.pending_out,
+            self.arena,
+        );
+        self.moved = self.moved.saturating_add(made as u64);
+        self.low = bound.number();
+        self.start = position;
+        self.count = count_going(&self.column, self.from, bound, self.pending_out, self.arena);
+        position + self.count
+    }
+}
+
+/// Lets the rows from the place `from` on go by the piece between two bounds, the higher of which may be none, and
+/// between two places. How many of its rows made way.
+fn sweep_piece(
+    column: &mut CrackerColumn,
+    bounds: (KeyNumber, Option<InnerBound>),
+    places: (usize, usize),
+    from: usize,
+    pending_out: &PendingOut,
+    arena: &Arena<Row>,
+) -> usize
+    requires order { places.0 ≤ places.1 }
+    requires before { places.1 ≤ from }
+    requires within { from ≤ length column.old.handles }
+    requires remembers { Remembers arena.now.cells column.old.handles column.old.remembered }
+    ensures sweeps { Sweeps arena.now.cells pending_out.now.handles bounds.0 bounds.1 places.0 places.1 from
+        column.old.handles column.new.handles result }
+    ensures few { result ≤ length column.old.handles - from }
+    ensures remembers { Remembers arena.now.cells column.new.handles column.new.remembered }
+    ensures length { length column.new.handles ≡ length column.old.handles }
+{
+    let (low, high) = bounds;
+    let (mut front, end) = places;
+    let (mut used, mut made) = (from, 0);
+    'rows: for place in from..column.len() {
+        if turns(column, place, low, pending_out, arena) {
+            if front < end {
+                column.swap(front, place);
+                front += 1;
+                made += 1;
+            } else {
+                used = next_going(column, used, place, high, pending_out, arena);
+                column.swap(used, place);
+                made += (used < place) as usize;
+                used += 1;
+            }
+        }
+    }
+    made
+}
+
+/// The first place from `used` on up to `place` whose row goes on from a piece that ends at this bound.
+fn next_going(
+    column: &CrackerColumn,
+    used: usize,
+    place: usize,
+    high: Option<InnerBound>,
+    pending_out: &PendingOut,
+    arena: &Arena<Row>,
+) -> usize
+    requires order { used ≤ place }
+    requires within { place < length column.now.handles }
+    requires remembers { Remembers arena.now.cells column.now.handles column.now.remembered }
+    ensures low { used ≤ result }
+    ensures high { result ≤ place }
+    ensures before { (k : ℕ) → used ≤ k → k < result → goes_on (ends_in pending_out.now.handles)
+        (up_to arena.now.cells pending_out.now.handles high)
+        (slice_index_or column.now.handles k no_handle) ≡ false }
+    ensures here { result < place → goes_on (ends_in pending_out.now.handles)
+        (up_to arena.now.cells pending_out.now.handles high)
+        (slice_index_or column.now.handles result no_handle) ≡ true }
+{
+    let mut next = used;
+    'used: while next < place {
+        if leaves(column, next, high, pending_out, arena) {
+            return next;
+        }
+        next += 1;
+    }
+    next
+}
+
+/// How many of the rows from the place `from` on go on from the piece below a bound.
+fn count_going(
+    column: &CrackerColumn,
+    from: usize,
+    bound: InnerBound,
+    pending_out: &PendingOut,
+    arena: &Arena<Row>,
+) -> usize
+    requires within { from ≤ length column.now.handles }
+    requires remembers { Remembers arena.now.cells column.now.handles column.now.remembered }
+    ensures counts { result ≡ going_on arena.now.cells pending_out.now.handles bound.0 (drop from column.now.handles) }
+    ensures few { result ≤ length column.now.handles - from }
+    ensures small { from + result ≤ usize.MAX }
+{
+    let mut count = 0;
+    'rows: for place in from..column.len() {
+        count += turns(column, place, bound.number(), pending_out, arena) as usize;
+    }
+    count
+}
+
+/// Whether the row at the place goes on from a piece that ends at this bound.
+#[inline(always)]
+fn leaves(
+    column: &CrackerColumn,
+    place: usize,
+    high: Option<InnerBound>,
+    pending_out: &PendingOut,
+    arena: &Arena<Row>,
+) -> bool
+    requires within { place < length column.now.handles }
+    requires remembers { Remembers arena.now.cells column.now.handles column.now.remembered }
+    ensures { result ≡ goes_on (ends_in pending_out.now.handles)
+        (up_to arena.now.cells pending_out.now.handles high)
+        (slice_index_or column.now.handles place no_handle) }
+{
+    match high {
+        Some(bound) => turns(column, place, bound.number(), pending_out, arena),
+        None => !pending_out.contains(column.slot_at(place)),
+    }
+}
+
+/// Whether the row at the place turns a piece that begins at this bound: it is below it, and not doomed.
+#[inline(always)]
+fn turns(
+    column: &CrackerColumn,
+    place: usize,
+    low: KeyNumber,
+    pending_out: &PendingOut,
+    arena: &Arena<Row>,
+) -> bool
+    requires within { place < length column.now.handles }
+    requires remembers { Remembers arena.now.cells column.now.handles column.now.remembered }
+    ensures { result ≡ goes_on (ends_in pending_out.now.handles)
+        (is_lower (key_at arena.now.cells) (ends_in pending_out.now.handles) low)
+        (slice_index_or column.now.handles place no_handle) }
+{
+    column.key_at(place, arena).number() < low && !pending_out.contains(column.slot_at(place))
+}
