@@ -16,8 +16,8 @@ use crack_store::{CarryEnd, Carrying, Store};
 /// others once. The ceiling lies at or above the range's high end, so no row that is evicted is one of these again.
 /// O(1) for each pending row that it passes, and O(log bounds) and the pieces on its way for each that it carries.
 /// Where no bound stands and the range has all keys, it is one loop, with room made once for all; where there is no
-/// ceiling, the rows are carried in bulk, which goes once through the pieces for all of them. Refused with 8 where it
-/// finds no memory; the rows that it had carried stay where they are.
+/// ceiling, or no row is doomed, the rows are carried in bulk, which goes once through the pieces for all of them.
+/// Refused with 8 where it finds no memory; the rows that it had carried stay where they are.
 pub fn carry_range(
     mut store: Store,
     range: KeyRange,
@@ -61,35 +61,52 @@ fn first_to_carry(store: &mut Store, range: KeyRange, ceiling: Option<Bound>) ->
     let Some(first) = store.next_in(range, 0) else {
         return None;
     };
-    if carry_at_once(store, range, first, ceiling) {
+    if carry_all(store, range, first, ceiling) {
         return None;
     }
     Some(first)
 }
 
-/// Carries all pending insertions of a range at once, of which `first` is the first; whether it did so. Where no bound
-/// stands and the range has all keys, they are put after the column's last row, else they are carried in bulk, but not
-/// under a ceiling. Where it finds no memory for all of them, it carries none. O(pending insertions), and O(pieces) for
-/// each that is carried.
-pub(crate) fn carry_at_once(
-    store: &mut Store,
-    range: KeyRange,
-    first: usize,
-    ceiling: Option<Bound>,
-) -> bool
+/// Carries all pending insertions of a range at once under a ceiling or none, of which `first` is the first; whether it
+/// did so. O(pending insertions), and O(pieces) for each that is carried.
+fn carry_all(store: &mut Store, range: KeyRange, first: usize, ceiling: Option<Bound>) -> bool
     requires ceiling { IsCeiling (ceiling_of ceiling) range }
     requires first { Finds range (keys_at store.old.cells store.old.pending_in) 0 (Some first) }
     ensures all { IsTrue result → CarriesAll (ceiling_of ceiling) range store.old store.new }
+    ensures same { IsFalse result → SameButRoom store.old store.new }
+{
+    match ceiling {
+        Some(ceiling) => carry_under(store, range, first, ceiling),
+        None => carry_at_once(store, range, first),
+    }
+}
+
+/// Carries all pending insertions of a range at once, of which `first` is the first; whether it did so. Where no bound
+/// stands and the range has all keys, they are put after the column's last row, else they are carried in bulk. Where it
+/// finds no memory for all of them, it carries none. O(pending insertions), and O(pieces) for each that is carried.
+pub(crate) fn carry_at_once(store: &mut Store, range: KeyRange, first: usize) -> bool
+    requires { Finds range (keys_at store.old.cells store.old.pending_in) 0 (Some first) }
+    ensures all { IsTrue result → CarriesAll None range store.old store.new }
     ensures left { IsTrue result → store.new.pending_in ≡ outside_of store.old.cells range store.old.pending_in }
     ensures same { IsFalse result → SameButRoom store.old store.new }
 {
     if is_appendable(store, range) {
         return append_at_once(store);
     }
-    match ceiling {
-        Some(_) => false,
-        None => store.carry_in_bulk(range, first),
+    store.carry_in_bulk(range, first)
+}
+
+/// As `carry_at_once`, but under a ceiling: the rows that make way beyond it are evicted.
+fn carry_under(store: &mut Store, range: KeyRange, first: usize, ceiling: Bound) -> bool
+    requires ceiling { range.high ≤ ceiling.0 }
+    requires first { Finds range (keys_at store.old.cells store.old.pending_in) 0 (Some first) }
+    ensures all { IsTrue result → CarriesAll (Some ceiling.0) range store.old store.new }
+    ensures same { IsFalse result → SameButRoom store.old store.new }
+{
+    if is_appendable(store, range) {
+        return append_at_once(store);
     }
+    store.carry_under(range, first, ceiling)
 }
 
 /// Whether no bound stands and the range has all keys. O(1).

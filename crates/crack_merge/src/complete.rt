@@ -104,7 +104,7 @@ fn put_in_at_once(store: &mut Store) -> bool
         return true;
     }
     let keys = store.keys();
-    carry_at_once(store, keys, 0, None)
+    carry_at_once(store, keys, 0)
 }
 
 /// Takes out every pending deletion, in the order of arrival, each by the column's last row.

@@ -83,7 +83,7 @@ pub(crate) fn take_last(rt: &impl Abort, store: Store) -> (Store, [u64; 3]) {
 }
 
 /// Takes the first pending insertion out, and puts it after the others; what it was.
-fn take_first(rt: &impl Abort, store: Store) -> (Store, [u64; 3]) {
+pub(crate) fn take_first(rt: &impl Abort, store: Store) -> (Store, [u64; 3]) {
     let mut store = store;
     let len = store.pending_in();
     assert!(rt; len > 0);

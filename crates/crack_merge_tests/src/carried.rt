@@ -6,10 +6,10 @@
 ghost use Rattle.std.specs.Prelude.{◌≡◌, ◌<◌, ◌≤◌};
 ghost use Rattle.crack_state.specs.Merge.{IsCracked};
 
-use crate::bulk::{Contents, Numbers, contents_of, some_store, take_last};
-use crate::merge::{doom, insert};
+use crate::bulk::{Contents, Numbers, contents_of, some_store, take_first, take_last};
+use crate::merge::{crack_between, doom, insert};
 use crack_merge::{carry_range, merge_complete};
-use crack_row::{GREATEST_BOUND, Key, KeyNumber, KeyRange, Payload, Row, Serial};
+use crack_row::{Bound, GREATEST_BOUND, Key, KeyNumber, KeyRange, Payload, Row, Serial};
 use crack_store::{MergeReport, Store};
 use std::alloc::Global;
 use std::process::Abort;
@@ -66,29 +66,82 @@ fn insert_some(
     inserted
 }
 
-/// Carries the pending insertions of a range.
-fn carried(rt: &impl Abort, store: Store, range: KeyRange) -> Store {
-    match carry_range(store, range, None) {
-        Ok(carried) => carried,
-        Err(_) => panic!(rt; "no memory"),
+/// Dooms up to eight rows of the column, if some are to be doomed.
+fn doom_if(rt: &impl Abort, store: &mut Store, numbers: &mut Numbers, dooms: bool)
+    requires low { store.old.keys.low ≡ 0 }
+    requires high { store.old.keys.high ≡ GREATEST_BOUND }
+    ensures low { store.new.keys.low ≡ 0 }
+    ensures high { store.new.keys.high ≡ GREATEST_BOUND }
+{
+    if dooms {
+        doom_some(rt, store, numbers);
     }
 }
 
+/// Cracks at the ends of a range, if it is to be cracked.
+fn crack_if(rt: &impl Abort, store: &mut Store, range: KeyRange, cracks: bool)
+    ensures { store.new.keys ≡ store.old.keys }
+{
+    if cracks {
+        crack_between(rt, store, range);
+    }
+}
+
+/// Carries the pending insertions of a range under a ceiling or none; the store as far as they were carried, and
+/// whether all were.
+fn carried_or_stopped(
+    rt: &impl Abort,
+    store: Store,
+    range: KeyRange,
+    ceiling: Option<Bound>,
+) -> (Store, bool) {
+    let done = match ceiling {
+        Some(bound) => {
+            assert!(rt; range.high() <= bound);
+            carry_range(store, range, Some(bound))
+        }
+        None => carry_range(store, range, None),
+    };
+    match done {
+        Ok(carried) => (carried, true),
+        Err((stopped, _)) => (stopped, false),
+    }
+}
+
+/// Carries the pending insertions of a range under a ceiling or none.
+fn carried(rt: &impl Abort, store: Store, range: KeyRange, ceiling: Option<Bound>) -> Store {
+    let (carried, all) = carried_or_stopped(rt, store, range, ceiling);
+    assert!(rt; all);
+    carried
+}
+
 /// Carries the row of a key, if it is in the range.
-fn carried_one(rt: &impl Abort, store: Store, range: KeyRange, key: u64) -> Store {
+fn carried_one(
+    rt: &impl Abort,
+    store: Store,
+    range: KeyRange,
+    ceiling: Option<Bound>,
+    key: u64,
+) -> Store {
     if range.contains(Key::from_number(key)) {
         let one = KeyRange::new(key as u128, key as u128 + 1).expect(rt, "a range");
-        carried(rt, store, one)
+        carried(rt, store, one, ceiling)
     } else {
         store
     }
 }
 
 /// Carries the rows of these keys that are in the range, one after the other.
-fn carried_each(rt: &impl Abort, store: Store, range: KeyRange, keys: &[u64]) -> Store {
+fn carried_each(
+    rt: &impl Abort,
+    store: Store,
+    range: KeyRange,
+    ceiling: Option<Bound>,
+    keys: &[u64],
+) -> Store {
     let mut store = store;
     for i in 0..keys.len() {
-        store = carried_one(rt, store, range, keys[i]);
+        store = carried_one(rt, store, range, ceiling, keys[i]);
     }
     store
 }
@@ -120,24 +173,38 @@ fn admit_again(rt: &impl Abort, store: &mut Store, row: Row) {
     assert!(rt; store.admit(row).is_ok());
 }
 
-/// Carries pending insertions of random keys in a store of random rows, of which some are doomed: all at once, or one
-/// after the other. What the store contains once it has six rows more, which take free cells first, and what was
-/// counted.
-fn carried_by(rt: &impl Abort, alloc: Global, seed: u64, at_once: bool) -> (Contents, MergeReport) {
+/// How pending insertions are carried: all at once, or one after the other; under the ceiling at their range's end, or
+/// none.
+#[derive(Clone, Copy)]
+struct Carry {
+    at_once: bool,
+    under: bool,
+}
+
+/// Carries pending insertions of random keys in a store of random rows, of which some may be doomed. What the store
+/// contains once it has six rows more, which take free cells first, and what was counted.
+fn carried_by(rt: &impl Abort, alloc: Global, seed: u64, carry: Carry) -> (Contents, MergeReport) {
     let mut numbers = Numbers(seed);
     let keys = numbers.below(60) + 1;
     let mut store = some_store(rt, alloc, &mut numbers, keys);
-    doom_some(rt, &mut store, &mut numbers);
+    let dooms = !carry.under || numbers.below(2) == 0;
+    doom_if(rt, &mut store, &mut numbers, dooms);
     let low = numbers.below(keys);
     let more = numbers.below(keys);
     let part = KeyRange::new(low as u128, (low + more + 1) as u128).expect(rt, "a range");
     let whole = numbers.below(2) == 0;
-    let range = if whole { KeyRange::all() } else { part };
-    let inserted = insert_some(rt, alloc, &mut store, &mut numbers, keys);
-    let mut store = if at_once {
-        carried(rt, store, range)
+    let range = if whole && !carry.under {
+        KeyRange::all()
     } else {
-        carried_each(rt, store, range, inserted.as_slice())
+        part
+    };
+    let ceiling = if carry.under { Some(part.high()) } else { None };
+    crack_if(rt, &mut store, part, carry.under);
+    let inserted = insert_some(rt, alloc, &mut store, &mut numbers, keys);
+    let mut store = if carry.at_once {
+        carried(rt, store, range, ceiling)
+    } else {
+        carried_each(rt, store, range, ceiling, inserted.as_slice())
     };
     drop(inserted);
     let tally = store.tally();
@@ -147,14 +214,38 @@ fn carried_by(rt: &impl Abort, alloc: Global, seed: u64, at_once: bool) -> (Cont
     (contents_of(rt, alloc, store), tally)
 }
 
-#[test]
-fn carries_past_doomed_rows_leave_what_one_after_the_other_leaves(rt: HostRuntime) {
-    for seed in 0..2000u64 {
-        let (contents, counted) = carried_by(&rt, rt.alloc(), seed, true);
-        let (expected, tally) = carried_by(&rt, rt.alloc(), seed, false);
+/// Asserts for each seed that the carries of all rows at once and of one after the other leave the same; how many rows
+/// were evicted.
+fn assert_alike(rt: &impl Abort, alloc: Global, seeds: u64, under: bool) -> u64 {
+    let mut evicted = 0u64;
+    for seed in 0..seeds {
+        let at_once = Carry {
+            at_once: true,
+            under,
+        };
+        let each = Carry {
+            at_once: false,
+            under,
+        };
+        let (contents, counted) = carried_by(rt, alloc, seed, at_once);
+        let (expected, tally) = carried_by(rt, alloc, seed, each);
         assert_eq!(rt; counted, tally, "{}", seed);
         assert_eq!(rt; contents, expected, "{}", seed);
+        evicted = evicted.saturating_add(counted.evicted);
     }
+    evicted
+}
+
+#[test]
+fn carries_past_doomed_rows_leave_what_one_after_the_other_leaves(rt: HostRuntime) {
+    let evicted = assert_alike(&rt, rt.alloc(), 2000, false);
+    assert_eq!(rt; evicted, 0);
+}
+
+#[test]
+fn carries_under_a_ceiling_leave_what_one_after_the_other_leaves(rt: HostRuntime) {
+    let evicted = assert_alike(&rt, rt.alloc(), 2000, true);
+    assert!(rt; evicted > 100);
 }
 
 /// Cracks at the ends of a range, at the second time where memory was refused once.
@@ -268,4 +359,53 @@ fn sweep_carries_past_a_doomed_row(rt: HostRuntime) {
     }
     drop(store);
     assert_eq!(rt; serials, [5, 2, 3, 4, 0]);
+}
+
+/// The serial of the first pending insertion, which goes after the others.
+fn pending_serial(rt: &impl Abort, store: Store) -> (Store, u64) {
+    let mut store = store;
+    if store.make_room().is_err() {
+        let again = store.make_room();
+        assert!(rt; again.is_ok());
+    }
+    let (store, row) = take_first(rt, store);
+    (store, row[0])
+}
+
+/// Three rows are carried into a piece under a ceiling, beyond which two rows stand.
+#[test]
+fn sweep_carries_under_a_ceiling(rt: HostRuntime) {
+    let mut store = Store::new(rt.alloc(), KeyRange::all());
+    admit(&rt, &mut store, 0, 10);
+    admit(&rt, &mut store, 1, 20);
+    admit(&rt, &mut store, 2, 30);
+    admit(&rt, &mut store, 3, 40);
+    let mut store = merge_at_last(&rt, store);
+    let range = KeyRange::new(15, 25).expect(&rt, "a range");
+    crack_at_last(&rt, &mut store, range);
+    admit(&rt, &mut store, 4, 17);
+    admit(&rt, &mut store, 5, 18);
+    admit(&rt, &mut store, 6, 16);
+    let (stopped, all) = carried_or_stopped(&rt, store, range, Some(range.high()));
+    let mut store = if all {
+        stopped
+    } else {
+        carried(&rt, stopped, range, Some(range.high()))
+    };
+    assert_eq!(rt; store.tally().moved, 2);
+    assert_eq!(rt; store.tally().evicted, 2);
+    assert_eq!(rt; store.pending_in(), 2);
+    for serial in 2..4u64 {
+        let (next, pending) = pending_serial(&rt, store);
+        assert_eq!(rt; pending, serial);
+        store = next;
+    }
+    let mut serials = [0u64; 5];
+    for i in 0..5 {
+        let (next, serial) = take_serial(&rt, store);
+        serials[i] = serial;
+        store = next;
+    }
+    drop(store);
+    assert_eq!(rt; serials, [6, 5, 4, 1, 0]);
 }

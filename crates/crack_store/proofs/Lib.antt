@@ -12,4 +12,7 @@ mod DrainLemmas
 mod SiftLemmas
 mod SweepLemmas
 mod SweepWalks
+mod ExchangeLemmas
+mod EvictLemmas
+mod UnderLemmas
 pub mod Crosses

@@ -91,10 +91,10 @@ module _ (cells : List (Cell Row)) where
     pub counted : v.moved ≤ greatest
 
   -- the rows that came in, and those of the pieces below
-  abbrev came : Sieve → List Handle
+  abbrev pub came : Sieve → List Handle
   came v = between v.from v.to v.column.handles
 
-  abbrev stood : Sieve → List Handle
+  abbrev pub stood : Sieve → List Handle
   stood v = take v.from v.column.handles
 
   -- and after it
@@ -177,7 +177,7 @@ module _ (cells : List (Cell Row)) where
         gap = omega (arith, p.from_is, p.to_is);
       }
 
-  through : (most last : ℕ) (ms ms' : List Mark) (v w : Sieve) → most ≡ v.to - v.from → IsBefore ms v → Raises Rises most ms v ms' w last → IsAfter ms ms' v w
+  pub through : (most last : ℕ) (ms ms' : List Mark) (v w : Sieve) → most ≡ v.to - v.from → IsBefore ms v → Raises Rises most ms v ms' w last → IsAfter ms ms' v w
   through most last ms ms' v w count before (Raises.done n x) =
       let least : min (x.moved + 0) greatest ≡ x.moved = min-eq_left (omega (arith, before.counted)) ∙ omega arith in
       record {

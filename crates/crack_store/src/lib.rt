@@ -10,6 +10,7 @@ mod ascent;
 pub mod carrying;
 mod cracking;
 pub mod draining;
+pub mod evicting;
 mod inside;
 pub mod live;
 mod notes;

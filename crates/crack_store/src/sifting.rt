@@ -118,7 +118,12 @@ fn carry_at_most(inside: &mut Inside, range: KeyRange, first: usize, most: usize
 }
 
 /// How many rows of a list have their key in the range, of which `first` is the first.
-fn count_in(rows: &mut PendingIn, range: KeyRange, first: usize, arena: &Arena<Row>) -> usize
+pub(crate) fn count_in(
+    rows: &mut PendingIn,
+    range: KeyRange,
+    first: usize,
+    arena: &Arena<Row>,
+) -> usize
     requires few { length rows.old.handles ≤ 2 ^ 32 }
     requires keys { RemembersKeys arena.now.cells rows.old.handles rows.old.keys }
     requires first { Finds range (keys_at arena.now.cells rows.old.handles) 0 (Some first) }
@@ -220,11 +225,11 @@ fn carry_rows(inside: &mut Inside, range: KeyRange, first: usize, taken: Vec<Han
 /// in, and are of pieces below the bounds that were passed.
 #[derive(Drop)]
 pub(crate) struct Sieve {
-    column: CrackerColumn,
-    from: usize,
-    to: usize,
+    pub(crate) column: CrackerColumn,
+    pub(crate) from: usize,
+    pub(crate) to: usize,
     /// How many rows made way, as the store counts them.
-    moved: u64,
+    pub(crate) moved: u64,
 }
 
 impl Raiser for Sieve {

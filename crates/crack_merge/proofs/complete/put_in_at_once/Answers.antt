@@ -7,8 +7,8 @@ use Rattle.crack_merge.proofs.complete.put_in_at_once.Goals as goal
 pub returns-then-pending_in-eq0-clause-puts : goal.returns-then-pending_in-eq0-clause-puts
 returns-then-pending_in-eq0-clause-puts c = λ _. PutsIn-room Complete c.args.store.now c.args.store.now (record { same = refl })
 
-pub carry_at_once-requires-clause-first : goal.carry_at_once-requires-clause-first
-carry_at_once-requires-clause-first c =
+pub carry_at_once-requires : goal.carry_at_once-requires
+carry_at_once-requires c =
     let some : 0 < length c.args.store.now.pending_in = omega (arith, c.if-pending_in-eq0.false) in
     rw c.keys-keys.ensures (first_found c.args.store.now.keys c.args.store.now (omega arith) (omega arith) c.facts.ensures some)
 

@@ -1,0 +1,77 @@
+-- What private clauses alone cite.
+-- What the walks over the bounds under a ceiling do, and what rows that come in at its place do to those that stand there.
+use Rattle.std.specs.Prelude.{◌≡◌, ℕ, ◌+◌, ◌-◌, ◌<◌, ◌≤◌, cond, nat_lt, max, min, map, List, ◌∷◌, ◌++◌, length, take, drop, reverse}
+use Rattle.std.specs.List.{All}
+use Rattle.crack_row.specs.Ranges.{Range, IsIn}
+use Rattle.crack_row.specs.declared.Row.{Row}
+use Rattle.crack_arena.specs.Arena.{Cell, Handle, times, slots}
+use Rattle.crack_arena.specs.Rows.{key_at, RemembersKeys}
+use Rattle.crack_bulk.specs.Carried.{inside_of}
+use Rattle.crack_column.specs.Column.{Column, Remembers, memory_at}
+use Rattle.crack_column.specs.Sifts.{AreRead}
+use Rattle.crack_index.specs.declared.mark.Mark.{Mark}
+use Rattle.crack_index.specs.Raises.{Raises}
+use Rattle.crack_pending.specs.Pending.{Pending}
+use Rattle.crack_state.specs.Merge.{outside_of}
+use Rattle.crack_store.specs.declared.sifting.Sieve.{Sieve}
+use Rattle.crack_store.specs.declared.evicting.CeilingSieve.{CeilingSieve}
+use Rattle.crack_store.specs.declared.evicting.CeilingStop.{CeilingStop}
+use Rattle.crack_store.specs.Sieves.{Rises}
+
+-- a bound from the ceiling on rises by as many as rows come in; at one below it rows are sifted
+pub record RisesUnder (v : CeilingSieve) (m : Mark) (rise : ℕ) (w : CeilingSieve) : Type 0 where
+  pub over : v.ceiling ≤ m.bound.0 → (rise ≡ v.count) × (w ≡ v)
+  pub under : m.bound.0 < v.ceiling → Rises v.sieve m rise w.sieve
+  pub ceiling_is : w.ceiling ≡ v.ceiling
+  pub count_is : w.count ≡ v.count
+
+-- where a bound stands after it rose: one below the ceiling where it is, another where it was, but not before a place
+abbrev pub stop_of : CeilingStop → Mark → ℕ
+stop_of v m = cond (nat_lt m.bound.0 v.ceiling) m.position (max (m.position - v.count) v.least)
+
+abbrev pub StandsUnder : CeilingStop → Mark → ℕ → CeilingStop → Type 0
+StandsUnder v m place w = (place ≡ stop_of v m) × (w ≡ v)
+
+-- the bound stands at this place or after it
+abbrev pub not_before : ℕ → Mark → Mark
+not_before place m = record m { position = max m.position place }
+
+-- rows were sifted through the pieces below a bound, and those from it on stand after them
+pub record IsSiftedBelow (edge : Mark) (count : ℕ) (marks : List Mark) (v : Sieve) (marks' : List Mark) (w : Sieve) : Type 0 where
+  pub low : List Mark
+  pub low' : List Mark
+  pub high : List Mark
+  pub last : ℕ
+  pub before : marks ≡ low ++ edge ∷ high
+  pub after : marks' ≡ low' ++ map (not_before (edge.position + count)) (edge ∷ high)
+  pub raises : Raises Rises count (reverse low) v (reverse low') w last
+
+-- no cell has two handles in these lists, and each of the first list's cells is covered
+pub record AreApart (covered : ℕ) (xs ys : List Handle) : Type 0 where
+  pub once : (slot : ℕ) → times slot (slots xs) + times slot (slots ys) ≤ 1
+  pub inside : All (λ h. h.slot < covered) xs
+
+-- none of the rows is in the range
+abbrev pub AreOutside : List (Cell Row) → Range → List Handle → Type 0
+AreOutside cells r hs = All (λ h. ¬ IsIn r (key_at cells h)) hs
+
+-- a handle was put at a place, and what stood there, if anything did, after the last of a list
+pub record IsPut (cells : List (Cell Row)) (place : ℕ) (h : Handle) (c : Column) (p : Pending) (c' : Column) (p' : Pending) : Type 0 where
+  pub handles_are : c'.handles ≡ take place c.handles ++ h ∷ drop (place + 1) c.handles
+  pub remembered_are : c'.remembered ≡ take place c.remembered ++ memory_at cells h ∷ drop (place + 1) c.remembered
+  pub pending_are : p'.handles ≡ p.handles ++ take 1 (drop place c.handles)
+  pub remembers : Remembers cells c'.handles c'.remembered
+  pub keys : RemembersKeys cells p'.handles p'.keys
+  pub column_room : c'.room + (length c'.handles - length c.handles) ≡ c.room
+  pub in_room : p'.room + length (take 1 (drop place c.handles)) ≡ p.room
+  pub covered : p'.covered ≡ p.covered
+
+-- the rows of a range were put from a place on, and as many of those that stood there as had to make way, after the last of the list
+pub record IsExchanged (cells : List (Cell Row)) (r : Range) (from : ℕ) (c : Column) (p : Pending) (c' : Column) (p' : Pending) : Type 0 where
+  pub handles_are : c'.handles ≡ take from c.handles ++ (inside_of cells r p.handles ++ drop (length (inside_of cells r p.handles)) (drop from c.handles))
+  pub pending_are : p'.handles ≡ outside_of cells r p.handles ++ take (length (inside_of cells r p.handles)) (drop from c.handles)
+  pub read : AreRead cells from (from + length (inside_of cells r p.handles)) c'
+  pub remembers : Remembers cells c'.handles c'.remembered
+  pub keys : RemembersKeys cells p'.handles p'.keys
+  pub in_room : p.room ≤ p'.room + min (length (inside_of cells r p.handles)) (length c.handles - from)
+  pub covered : p'.covered ≡ p.covered

@@ -1,0 +1,299 @@
+//! All pending insertions of a range carried in bulk under a ceiling: their rows take the places of the first rows
+//! beyond it, which are evicted, and are sifted through the pieces below it from the highest down.
+ghost use Rattle.std.specs.Prelude.{◌≡◌, ◌+◌, ◌-◌, ◌<◌, ◌≤◌, ◌^◌, [], Some, length, min, drop};
+ghost use Rattle.std.specs.Prelude.{All, Contains, IsTrue, IsFalse, IfSome};
+ghost use Rattle.crack_arena.specs.Rows.{RemembersKeys, keys_at};
+ghost use Rattle.crack_bulk.specs.Carried.{carried_in_bulk, inside_of};
+ghost use Rattle.crack_column.specs.Column.{Remembers};
+ghost use Rattle.crack_index.specs.Marks.{Rising};
+ghost use Rattle.crack_pending.specs.Pending.{Finds};
+ghost use Rattle.crack_state.specs.State.{Reads, live_rows};
+ghost use Rattle.crack_state.specs.Steps.{SameButRoom};
+ghost use Rattle.crack_store.specs.Evictions.{AreApart, AreOutside, IsExchanged, IsPut, IsSiftedBelow};
+ghost use Rattle.crack_store.specs.Inside.{lists_of};
+ghost use Rattle.crack_store.specs.Keeps.{KeepsIntact};
+ghost use Rattle.crack_store.specs.Sieves.{IsReady};
+
+use crate::Store;
+use crate::inside::Inside;
+use crate::points::row_at;
+use crate::sifting::{Sieve, count_in};
+use crack_arena::{Arena, Handle};
+use crack_column::{CrackerColumn, Remembered};
+use crack_index::{CrackerIndex, Mark, Placer, Raiser};
+use crack_pending::PendingIn;
+use crack_row::{Bound, KeyNumber, KeyRange, Row};
+
+/// The fewest rows that are carried in bulk.
+const FEWEST: usize = 2;
+
+/// So many bounds are walked over in the time in which one row is carried by itself.
+const BOUNDS_A_ROW: usize = 8;
+
+/// More pending insertions than these are many: those of a range are counted as they are taken, if few bounds stand.
+const MANY_PENDING: usize = 4096;
+
+/// So many pending insertions are passed in the time in which one bound is walked over.
+const ROWS_A_BOUND: usize = 256;
+
+impl Store {
+    /// Carries all pending insertions of a range in bulk under a ceiling, of which `first` is the first, and leaves
+    /// what the carry of one after the other leaves; whether it did so. It doesn't for few rows, nor where a row is
+    /// doomed or no bound stands at the ceiling, nor where it finds no memory for all of them and for the rows that
+    /// they evict: all is then as it was. Room is made for all of them at once. Two passes over the pending insertions,
+    /// one where many pend and few bounds stand; for each row that it carries O(pieces below the ceiling) without a
+    /// wait for memory; two walks over the bounds.
+    pub fn carry_under(&mut self, range: KeyRange, first: usize, ceiling: Bound) -> bool
+        requires high { range.high ≤ ceiling.0 }
+        requires first { Finds range (keys_at self.old.cells self.old.pending_in) 0 (Some first) }
+        ensures carried { IsTrue result → SameButRoom (carried_in_bulk (Some ceiling.0) range self.old) self.new }
+        ensures live { live_rows self.new ≡ live_rows self.old }
+        ensures same { IsFalse result → SameButRoom self.old self.new }
+    {
+        if !self.inside.pending_out.is_empty() {
+            return false;
+        }
+        let Some(edge) = mark_of(&self.inside, ceiling) else {
+            return false;
+        };
+        let most = most_in(&mut self.inside, range, first);
+        if is_few(&self.inside, most) {
+            return false;
+        }
+        let evicted = most.min(self.inside.column.len() - edge.position);
+        if self.inside.column.reserve(most - evicted).is_err() {
+            return false;
+        }
+        if self.inside.pending_in.reserve(evicted).is_err() {
+            return false;
+        }
+        carry_rows(&mut self.inside, range, first, edge);
+        true
+    }
+}
+
+/// The bound at the ceiling, with its place; none where no bound stands there. O(log bounds).
+fn mark_of(inside: &Inside, ceiling: Bound) -> Option<Mark>
+    ensures there { IfSome result (λ m. Contains inside.now.index.marks m) }
+    ensures same { IfSome result (λ m. m.bound.0 ≡ ceiling.0) }
+{
+    let key = ceiling.least_key()?;
+    let mark = inside.index.bound_below(key)?;
+    if mark.bound.number() != key.number() {
+        return None;
+    }
+    Some(mark)
+}
+
+/// Whether so many are pending that to count those of a range is dearer than a walk over all bounds. O(1).
+fn is_counted_late(inside: &Inside) -> bool {
+    let pending = inside.pending_in.len();
+    MANY_PENDING < pending && inside.index.len() <= pending / ROWS_A_BOUND
+}
+
+/// How many pending insertions of a range there are, of which `first` is the first; where they are counted late, how
+/// many there are of all keys.
+fn most_in(inside: &mut Inside, range: KeyRange, first: usize) -> usize
+    requires intact { KeepsIntact inside.old [] }
+    requires first { Finds range (keys_at inside.old.arena.cells inside.old.pending_in.handles) 0 (Some first) }
+    ensures most { length (inside_of inside.old.arena.cells range inside.old.pending_in.handles) ≤ result }
+    ensures few { result ≤ length inside.old.pending_in.handles }
+    ensures same { inside.new ≡ inside.old }
+{
+    if is_counted_late(inside) {
+        return inside.pending_in.len();
+    }
+    count_in(&mut inside.pending_in, range, first, &inside.arena)
+}
+
+/// Whether so many rows are too few for walks over all bounds. O(1).
+fn is_few(inside: &Inside, count: usize) -> bool {
+    count < FEWEST || count < inside.index.len() / BOUNDS_A_ROW
+}
+
+/// Carries the pending insertions of a range under the ceiling at a bound, the first of which is `first`, where no row
+/// is doomed and there is room for them and for those that they evict.
+fn carry_rows(inside: &mut Inside, range: KeyRange, first: usize, edge: Mark)
+    requires intact { KeepsIntact inside.old [] }
+    requires none { inside.old.pending_out.handles ≡ [] }
+    requires there { Contains inside.old.index.marks edge }
+    requires high { range.high ≤ edge.bound.0 }
+    requires first { Finds range (keys_at inside.old.arena.cells inside.old.pending_in.handles) 0 (Some first) }
+    requires column_room { length (inside_of inside.old.arena.cells range inside.old.pending_in.handles) -
+        (length inside.old.column.handles - edge.position) ≤ inside.old.column.room }
+    requires in_room { min (length (inside_of inside.old.arena.cells range inside.old.pending_in.handles))
+        (length inside.old.column.handles - edge.position) ≤ inside.old.pending_in.room }
+    ensures carried { SameButRoom (carried_in_bulk (Some edge.bound.0) range (lists_of inside.old))
+        (lists_of inside.new) }
+    ensures live { live_rows (lists_of inside.new) ≡ live_rows (lists_of inside.old) }
+    ensures intact { KeepsIntact inside.new [] }
+{
+    let from = edge.position;
+    let beyond = inside.column.len() - from;
+    let count = exchange_rows(
+        &mut inside.pending_in,
+        &mut inside.column,
+        range,
+        first,
+        from,
+        &inside.arena,
+    );
+    let evicted = count.min(beyond);
+    inside.in_room = inside.in_room.saturating_sub(evicted);
+    inside.pending_in.shrink_if_empty(inside.in_room);
+    let sieve = Sieve {
+        column: inside.column.take(),
+        from,
+        to: from + count,
+        moved: inside.tally.moved,
+    };
+    let Sieve { column, moved, .. } = sift_below(&mut inside.index, sieve, edge, count);
+    inside.column = column;
+    inside.tally.moved = moved.saturating_add(evicted as u64);
+    inside.tally.evicted = inside.tally.evicted.saturating_add(evicted as u64);
+    inside.tally.put_in = inside.tally.put_in.saturating_add(count as u64);
+}
+
+/// Takes the rows of a range out of a list, the first of which is `first`, and puts them into the column from the place
+/// `from` on, in their order, each with what is to be remembered of it. Each row that stood there makes way for one of
+/// them, and goes after the last of the list. How many came in.
+fn exchange_rows(
+    rows: &mut PendingIn,
+    column: &mut CrackerColumn,
+    range: KeyRange,
+    first: usize,
+    from: usize,
+    arena: &Arena<Row>,
+) -> usize
+    requires within { from ≤ length column.old.handles }
+    requires few { length column.old.handles + length rows.old.handles ≤ 2 ^ 32 }
+    requires column_room { length (inside_of arena.now.cells range rows.old.handles) - (length column.old.handles -
+        from) ≤ column.old.room }
+    requires in_room { min (length (inside_of arena.now.cells range rows.old.handles)) (length column.old.handles -
+        from) ≤ rows.old.room }
+    requires reads { All (Reads arena.now.cells) rows.old.handles }
+    requires keys { RemembersKeys arena.now.cells rows.old.handles rows.old.keys }
+    requires first { Finds range (keys_at arena.now.cells rows.old.handles) 0 (Some first) }
+    requires remembered { Remembers arena.now.cells column.old.handles column.old.remembered }
+    requires apart { AreApart rows.old.covered (drop from column.old.handles) rows.old.handles }
+    requires outside { AreOutside arena.now.cells range (drop from column.old.handles) }
+    ensures exchanged { IsExchanged arena.now.cells range from column.old rows.old column.new rows.new }
+    ensures count { result ≡ length (inside_of arena.now.cells range rows.old.handles) }
+{
+    let (mut at, mut to) = (first, from);
+    'rows: while let Some(place) = rows.seek_in(range, at, arena) {
+        let handle = rows.take(place);
+        put_at(rows, column, to, handle, arena);
+        at = place;
+        to += 1;
+    }
+    to - from
+}
+
+/// Puts a handle at a place of the column, with what is to be remembered of its row. A row that stood there goes after
+/// the last of the list; where none did, the handle is the column's last. O(1).
+fn put_at(
+    rows: &mut PendingIn,
+    column: &mut CrackerColumn,
+    place: usize,
+    handle: Handle<Row>,
+    arena: &Arena<Row>,
+)
+    requires within { place ≤ length column.old.handles }
+    requires column_room { place ≡ length column.old.handles → 0 < column.old.room }
+    requires in_room { place < length column.old.handles → 0 < rows.old.room }
+    requires reads { Reads arena.now.cells handle }
+    requires remembered { Remembers arena.now.cells column.old.handles column.old.remembered }
+    requires keys { RemembersKeys arena.now.cells rows.old.handles rows.old.keys }
+    requires apart { AreApart rows.old.covered (drop place column.old.handles) rows.old.handles }
+    ensures { IsPut arena.now.cells place handle column.old rows.old column.new rows.new }
+{
+    let known = Remembered::of(row_at(arena, handle));
+    if place < column.len() {
+        let (evicted, memory) = column.swap_in_remembered(place, handle, known);
+        rows.push_keyed(evicted, memory.key_of(evicted, arena));
+    } else {
+        column.append_remembered(handle, known);
+    }
+}
+
+/// Sifts the rows of a sieve, so many, which stand from the place of a bound on, through the pieces below it. Each
+/// bound below it moves up by as many as are below that, and those from it on stand after the rows, if they didn't
+/// before. O(bounds).
+fn sift_below(index: &mut CrackerIndex, sieve: Sieve, edge: Mark, count: usize) -> Sieve
+    requires ready { IsReady sieve }
+    requires some { 0 < count }
+    requires rising { Rising index.old.marks }
+    requires there { Contains index.old.marks edge }
+    requires small { All (λ m. m.position + count ≤ usize.MAX) index.old.marks }
+    ensures sifts { IsSiftedBelow edge count index.old.marks sieve index.new.marks result }
+    ensures room { index.new.room ≡ index.old.room }
+    ensures rising { Rising index.new.marks }
+{
+    let ceiling = edge.bound.number();
+    let mut under = CeilingSieve {
+        sieve,
+        ceiling,
+        count,
+    };
+    index.raise_each(count, &mut under);
+    let mut stop = CeilingStop {
+        ceiling,
+        count,
+        least: edge.position + count,
+    };
+    index.place_each(&mut stop);
+    under.sieve
+}
+
+/// A sieve on a walk over the bounds from the highest down, for those below a ceiling; the others rise by as many as
+/// rows come in.
+#[derive(Drop)]
+pub(crate) struct CeilingSieve {
+    sieve: Sieve,
+    ceiling: KeyNumber,
+    count: usize,
+}
+
+impl Raiser for CeilingSieve {
+    ghost use Rattle.crack_store.specs.Sieves.{IsReady};
+    ghost use Rattle.crack_store.specs.Evictions.{RisesUnder};
+
+    ghost is_ready = { λ v. IsReady v.sieve };
+
+    ghost rises = { RisesUnder };
+
+    /// Sifts the rows through the piece above a bound that is below the ceiling.
+    fn rise(&mut self, mark: Mark) -> usize {
+        if self.ceiling <= mark.bound.number() {
+            return self.count;
+        }
+        self.sieve.rise(mark)
+    }
+}
+
+/// On a walk over the bounds from the lowest up, where the bounds from a ceiling on stand, which rose by as many as
+/// rows came in: where they stood before, but not before a place.
+#[derive(Drop)]
+pub(crate) struct CeilingStop {
+    ceiling: KeyNumber,
+    count: usize,
+    least: usize,
+}
+
+impl Placer for CeilingStop {
+    ghost use Rattle.std.specs.Prelude.{⊤};
+    ghost use Rattle.crack_store.specs.Evictions.{StandsUnder};
+
+    ghost is_ready = { λ _. ⊤ };
+
+    ghost places = { StandsUnder };
+
+    /// Lets a bound below the ceiling stand where it stands.
+    fn place(&mut self, mark: Mark) -> usize {
+        if mark.bound.number() < self.ceiling {
+            return mark.position;
+        }
+        mark.position.saturating_sub(self.count).max(self.least)
+    }
+}
