@@ -189,7 +189,7 @@ module _ {T : Type 0} where
       let less : suc n + spare - 1 ≡ n + spare = omega arith in
       rw (get_or-map cell_of stored k x empty_cell head.slot.within, ← found, shorter, less, kept, map-set cell_of stored k s) refl
 
-  -- a handle that reads a value names a full slot of its generation
+  -- a handle that reads a value names a full slot at its generation
   pub record IsFullAt (stored : List (Stored T)) (h : Handle) : Type 0 where
     pub within : h.slot < length stored
     pub full : is_vacant (get_or stored h.slot empty_stored) ≡ false

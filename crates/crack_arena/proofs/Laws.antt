@@ -28,7 +28,7 @@ module _ {T : Type 0} where
           let past : get_or cells h.slot empty_cell ≡ empty_cell = get_or_past cells h.slot empty_cell l in
           absurd (nothing (eqb 0 h.generation) (rw past at reads))
 
-  -- the same where only that it reads is known
+  -- the same if only that it reads is known
   pub IsReading-is_some : (cells : List (Cell T)) (h : Handle) → is_some (read cells h) ≡ true → (v : T) × IsReading cells h v
   IsReading-is_some cells h reads = by_value (read cells h) refl reads
     where
@@ -41,7 +41,7 @@ module _ {T : Type 0} where
   read_spent cells h spent =
       rw (ne_eqb (cell_at cells h.slot).generation h.generation (λ e. absurd (omega (arith, e, spent.older)))) refl
 
-  -- a handle is spent still where a cell was written at no lower generation
+  -- a handle is still spent after a cell was written at no lower generation
   pub IsSpent-set : (cells : List (Cell T)) (n : ℕ) (c : Cell T) (h : Handle) → (cell_at cells n).generation ≤ c.generation → IsSpent cells h → IsSpent (set cells n c) h
   IsSpent-set cells n c h risen spent = record {
     within = omega (arith, spent.within, length-set cells n c);

@@ -1,4 +1,4 @@
--- What cells in pages are as one list.
+-- Cells in pages are one list.
 use Rattle.std.proofs.Common.{◌≡◌, ℕ, zero, suc, ◌+◌, ◌-◌, ◌*◌, ◌/◌, ◌%◌, ◌<◌, ◌≤◌, List, [], ◌∷◌, ◌++◌, length, get_or, set, take, drop, Bool, true, false, Result, Ok, Err, is_ok, refl, sym, ap, ◌∙◌, inl, inr, arith, length-set}
 use Rattle.std.specs.Prelude.{min, replicate, if◌then◌else◌, OnOk, OnErr}
 use Rattle.std.proofs.lemmas.List.{length-append, length-replicate, append_assoc, append-nil, get_or_append_left, get_or-append_right, set-append_left, set-append_right, nil_from_length, length_push, drop-append-le, take-append-le, replicate_more, same_from_push}
@@ -23,7 +23,7 @@ record First (n : ℕ) : Type 0 where
 first : (n : ℕ) → n < 256 → First n
 first n near = record { page = omega arith; place = omega arith }
 
--- what holds where the result is Ok, and where it is an error
+-- what holds if the result is Ok, and if it is an error
 pub on_ok : {X E P : Type 0} (r : Result X E) → (is_ok r ≡ true → P) → OnOk r P
 on_ok (Ok x) holds = holds refl
 on_ok (Err e) holds = tt
@@ -48,7 +48,7 @@ module _ {C : Type 0} where
   length_page (p ∷ ps) len zero d paged within = omega (arith, paged.0)
   length_page (p ∷ ps) len (suc k) d paged within = omega (arith, length_page ps (len - 256) k d paged.1 (omega (arith, within)))
 
-  -- the cell of a number stands at its place of its page
+  -- the cell of a number is at its place of its page
   pub get_or-joined : (pages : List (List C)) (len n : ℕ) (e : List C) (d : C) → IsPaged pages len → n < len → get_or (joined pages) n d ≡ get_or (get_or pages (n / 256) e) (n % 256) d
   get_or-joined [] len n e d paged within = absurd (omega (arith, paged))
   get_or-joined (p ∷ ps) len n e d paged within = elim (cases_lt n 256) [
@@ -169,12 +169,12 @@ module _ {C : Type 0} where
       let sound = IsPaged-push pages len page c paged room in
       rw (← found) at sound
 
-  -- after the first `kept` pages stand pages without cells alone
+  -- after the first `kept` pages there are only pages without cells
   pub record AreSpare (pages : List (List C)) (kept : ℕ) : Type 0 where
     pub within : kept ≤ length pages
     pub empty : drop kept pages ≡ replicate (length pages - kept) []
 
-  -- the last of them is given back
+  -- the last of them is freed
   pub record Given (pages rest : List (List C)) (page : List C) (kept : ℕ) : Type 0 where
     pub empty : page ≡ []
     pub spare : AreSpare rest kept

@@ -1,4 +1,4 @@
--- Laws of the place where a handle of a slot stands.
+-- Laws of the place where a handle of a slot is.
 use Rattle.std.proofs.Common.{◌≡◌, ℕ, suc, ◌<◌, ◌≤◌, ◌≢◌, List, [], ◌∷◌, length, get_or, sym, ◌∙◌, inl, inr, arith}
 use Rattle.std.specs.Prelude.{◌==◌}
 use Rattle.std.proofs.lemmas.List.Sums.{passes_at_first, position_or_len_is}
@@ -16,7 +16,7 @@ place_in-within (h ∷ hs) slot some = elim (cases_eq h.slot slot) [
       rw (ne_eqb h.slot slot ne) (omega (arith, rest))
 ]
 
--- what stands there is of that slot
+-- what is there is of that slot
 pub place_in-slot : (hs : List Handle) (slot : ℕ) (d : Handle) → place_in hs slot < length hs → (get_or hs (place_in hs slot) d).slot ≡ slot
 place_in-slot hs slot d within =
     eqb-true (get_or hs (place_in hs slot) d).slot slot (passes_at_first (λ (x : Handle). x.slot == slot) hs d within)
@@ -29,7 +29,7 @@ pub place_in-is : (hs : List Handle) (slot place : ℕ) (d : Handle) → place <
 place_in-is hs slot place d within at before =
     position_or_len_is (λ (h : Handle). h.slot == slot) hs place d (omega (arith, within)) (λ k less. ne_eqb (get_or hs k d).slot slot (before k less)) (λ _. eq-eqb (get_or hs place d).slot slot at)
 
--- handles of different cells: no slot stands there twice
+-- handles of different cells: no slot is there twice
 pub times_apart_once : (hs : List Handle) (slot : ℕ) → ((j k : ℕ) → j < length hs → k < length hs → (get_or hs j no_handle).slot ≡ (get_or hs k no_handle).slot → j ≡ k) → times slot (slots hs) ≤ 1
 times_apart_once [] slot apart = omega (arith, times-nil slot)
 times_apart_once (h ∷ hs) slot apart = elim (cases_eq h.slot slot) [

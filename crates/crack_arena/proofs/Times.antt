@@ -1,4 +1,4 @@
--- Laws of how often a number stands in a list.
+-- Laws of how often a number is in a list.
 use Rattle.std.proofs.Common.{◌≡◌, ◌≢◌, ℕ, ◌+◌, ◌<◌, ◌≤◌, List, [], ◌∷◌, ◌++◌, map, length, get_or, set, cond, Bool, sum_by, refl, ap, ◌∙◌, subst, arith}
 use Rattle.std.specs.Prelude.{◌==◌, remove, IsPermutation}
 use Rattle.std.proofs.lemmas.List.{map-append}
@@ -43,7 +43,7 @@ times_apart k m ks none = (
   omega (arith, times-cons k m ks),
 )
 
--- no number stands in a list more often than the list is long
+-- no number is in a list more often than the list is long
 pub times-le-length : (n : ℕ) (xs : List ℕ) → times n xs ≤ length xs
 unfolding times
 times-le-length n xs = count_by-le-length (λ x. x == n) xs
@@ -54,7 +54,7 @@ unfolding times
 times-IsPermutation n xs ys same = sum_by-IsPermutation (λ x. cond (x == n) 1 0) xs ys same
 
 module _ {X : Type 0} where
-  -- how often a number stands among those that `f` reads off a list, as the slots of handles
+  -- how often a number is among those that `f` reads from a list, as the slots of handles
   pub times-map : (n : ℕ) (f : X → ℕ) (xs : List X) → times n (map f xs) ≡ sum_by (λ x. cond (f x == n) 1 0) xs
   times-map n f [] = times-nil n
   times-map n f (x ∷ xs) = omega (arith, times-cons n (f x) (map f xs), times-map n f xs, sum_by-cons (λ x. cond (f x == n) 1 0) x xs)
@@ -70,7 +70,7 @@ module _ {X : Type 0} where
   times-map-IsPermutation n f xs ys same =
       omega (arith, times-map n f xs, times-map n f ys, sum_by-IsPermutation (λ x. cond (f x == n) 1 0) xs ys same)
 
-  -- what stands at a place is read off it
+  -- what is at a place is read from it
   pub times_map_at : (n : ℕ) (f : X → ℕ) (xs : List X) (i : ℕ) (d : X) → i < length xs → f (get_or xs i d) ≡ n → 0 < times n (map f xs)
   times_map_at n f xs i d h at =
       omega (arith, times-map-remove n f xs i d h, times_one n (f (get_or xs i d)), ap (λ (b : Bool). cond {A = ℕ} b 1 0) (eq-eqb (f (get_or xs i d)) n at))

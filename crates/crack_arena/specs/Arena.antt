@@ -4,7 +4,7 @@ use Rattle.std.specs.Prelude.{◌≡◌, ℕ, ◌+◌, ◌-◌, ◌<◌, ◌≤�
 use Rattle.std.specs.List.{position_or_len}
 use Rattle.std.specs.Coded.{Coded, code_by, coded×, coded_ℕ, coded_list, coded_option}
 
--- the cell's number, and the generation of the cell that the handle was made at
+-- the cell's number, and the cell's generation when the handle was made
 pub record Handle : Type 0 where
   pub slot : ℕ
   pub generation : ℕ
@@ -57,11 +57,11 @@ pub record IsSpent {T : Type 0} (cells : List (Cell T)) (h : Handle) : Type 0 wh
   pub within : h.slot < length cells
   pub older : h.generation < (cell_at cells h.slot).generation
 
--- handles that are spent in the first cells are spent in the second
+-- handles that are spent in the first cells are also spent in the second
 abbrev pub KeepsSpent : {T : Type 0} → List (Cell T) → List (Cell T) → Type 0
 KeepsSpent old new = (h : Handle) → IsSpent old h → IsSpent new h
 
--- how often the number stands in the list
+-- how often the number is in the list
 unfoldable pub times : ℕ → List ℕ → ℕ
 times n xs = sum_by (λ x. cond (x == n) 1 0) xs
 
@@ -69,25 +69,25 @@ times n xs = sum_by (λ x. cond (x == n) 1 0) xs
 abbrev pub slots : List Handle → List ℕ
 slots handles = map (λ (h : Handle). h.slot) handles
 
--- the place of the first handle of this slot, or the list's length
+-- the place of the first handle with this slot, or the list's length
 abbrev pub place_in : List Handle → ℕ → ℕ
 place_in handles slot = position_or_len (λ (h : Handle). h.slot == slot) handles
 
--- what is read where there is no handle
+-- what is read if there is no handle
 abbrev pub no_handle : Handle
 no_handle = record { slot = 0; generation = 0 }
 
--- the handle stands at the place
+-- the handle is at the place
 pub record StandsAt (handles : List Handle) (place : ℕ) (handle : Handle) : Type 0 where
   pub within : place < length handles
   pub is : handle ≡ slice_index_or handles place handle
 
--- the handle stands at the place, and at none before it
+-- the handle is at the place, and at none before it
 pub record IsFirstAt (handles : List Handle) (handle : Handle) (place : ℕ) : Type 0 where
   pub here : StandsAt handles place handle
   pub before : (k : ℕ) → k < place → ¬ StandsAt handles k handle
 
--- the handle stands nowhere
+-- the handle is in no place
 abbrev pub IsAbsent : List Handle → Handle → Type 0
 IsAbsent handles handle = (place : ℕ) → ¬ StandsAt handles place handle
 
@@ -95,7 +95,7 @@ IsAbsent handles handle = (place : ℕ) → ¬ StandsAt handles place handle
 abbrev pub freed : {T : Type 0} → Arena T → ℕ
 freed a = sum_by (λ c. c.generation) a.cells
 
--- 1 where the number is that of a cell without a value, else 0
+-- 1 if the number is that of a cell without a value, else 0
 abbrev pub vacancy_at : {T : Type 0} → List (Cell T) → ℕ → ℕ
 vacancy_at cells n = cond (nat_lt n (length cells)) (cond (is_none (cell_at cells n).value) 1 0) 0
 
@@ -105,7 +105,7 @@ pub record IsWhole {T : Type 0} (a : Arena T) : Type 0 where
   pub free_counted : length a.free ≡ count_by (λ c. is_none c.value) a.cells
   pub cells_bounded : length a.cells ≤ MOST_CELLS
 
--- a put has a cell to use: a free one, or one more
+-- a put has a cell to use: a free one, or a new one
 abbrev pub CanPut : {T : Type 0} → Arena T → Type 0
 CanPut a = length a.cells < MOST_CELLS + length a.free
 
@@ -114,20 +114,20 @@ abbrev pub handle_for : {T : Type 0} → List (Cell T) → List ℕ → Handle
 handle_for cells [] = record { slot = length cells; generation = 0 }
 handle_for cells (n ∷ ns) = record { slot = n; generation = (cell_at cells n).generation }
 
--- the cells once a value was put
+-- the cells after a value was put
 abbrev pub cells_with : {T : Type 0} → T → List (Cell T) → List ℕ → List (Cell T)
 cells_with v cells [] = cells ++ record { generation = 0; value = Some v } ∷ []
 cells_with v cells (n ∷ ns) = slice_set cells n (record { generation = (cell_at cells n).generation; value = Some v })
 
--- the arena once a value was put
+-- the arena after a value was put
 abbrev pub put_in : {T : Type 0} → T → Arena T → Arena T
 put_in v a = record { cells = cells_with v a.cells a.free; free = drop 1 a.free; room = a.room - 1 }
 
--- the arena once the handle's cell was given another value
+-- the arena after the handle's cell was given another value
 abbrev pub set_at : {T : Type 0} → T → Handle → Arena T → Arena T
 set_at v h a = record a { cells = slice_set a.cells h.slot (record { generation = h.generation; value = Some v }) }
 
--- the arena once the handle's cell was freed
+-- the arena after the handle's cell was freed
 abbrev pub freed_at : {T : Type 0} → Handle → Arena T → Arena T
 freed_at h a = record {
   cells = slice_set a.cells h.slot (record { generation = h.generation + 1; value = None });
@@ -142,14 +142,14 @@ pub data Call (T : Type 0) : Type 0 where
   Free : Handle → Call T
   Reserve : ℕ → Call T
 
--- the arena after a call, room aside; a call that is refused, or whose handle reads nothing, leaves it
+-- the arena after a call, except its room; a call that is refused, or whose handle reads nothing, leaves it unchanged
 abbrev pub after_call : {T : Type 0} → Call T → Arena T → Arena T
 after_call (Put v) a = put_in v a
 after_call (Set h v) a = cond (is_some (read a.cells h)) (set_at v h a) a
 after_call (Free h) a = cond (is_some (read a.cells h)) (freed_at h a) a
 after_call (Reserve n) a = a
 
--- the arena after one call and then the next, refused ones left out
+-- the arena after one call and then the next, without refused ones
 abbrev pub after_calls : {T : Type 0} → List (Call T) → Arena T → Arena T
 after_calls [] a = a
 after_calls (c ∷ cs) a = after_calls cs (after_call c a)

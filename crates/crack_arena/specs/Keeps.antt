@@ -27,7 +27,7 @@ module _ {T : Type 0} where
   abbrev pub vacant_at : List (Stored T) → ℕ → ℕ
   vacant_at stored n = cond (nat_lt n (length stored)) (vacancy (slice_index_or stored n empty_stored)) 0
 
-  -- the links from the head lead once through each vacant cell; `free` and `freed` are counted
+  -- the links from the head visit each vacant cell once; `free` and `freed` are counted
   pub record IsLinked (stored : List (Stored T)) (head : Option ℕ) (free freed : ℕ) : Type 0 where
     pub linked : IsChain stored head (chain stored head free)
     pub once : (n : ℕ) → times n (chain stored head free) ≡ vacant_at stored n

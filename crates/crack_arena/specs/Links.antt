@@ -24,11 +24,11 @@ module _ {T : Type 0} where
   abbrev pub empty_stored : Stored T
   empty_stored = record { generation = 0; content = Free None }
 
-  -- the link that the cell with this number has
+  -- the link of the cell with this number
   abbrev pub link_at : List (Stored T) → ℕ → Option ℕ
   link_at stored n = content_link (slice_index_or stored n empty_stored).content
 
-  -- the numbers that the links lead to, `count` of them at most
+  -- the numbers that the links lead to, at most `count` of them
   abbrev pub chain : List (Stored T) → Option ℕ → ℕ → List ℕ
   chain stored link zero = []
   chain stored None (suc count) = []

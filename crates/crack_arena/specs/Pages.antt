@@ -1,4 +1,4 @@
--- What contracts see of cells that stand in pages.
+-- What contracts see of cells in pages.
 use Rattle.std.specs.Prelude.{List, [], ◌∷◌, ◌++◌}
 
 module _ {C : Type 0} where

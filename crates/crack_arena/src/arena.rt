@@ -13,7 +13,7 @@ use crack_row::Refusal;
 use std::alloc::Global;
 use std::marker::Model;
 
-/// A value that wasn't put, for want of memory.
+/// A value that wasn't put, for lack of memory.
 #[derive(Drop, Debug)]
 pub struct PutRefused<T> {
     pub value: T,
@@ -75,7 +75,7 @@ impl<T> Arena<T> {
         }
     }
 
-    /// How many cells there are, free ones too.
+    /// How many cells there are, including free ones.
     pub fn cells(&self) -> usize
         ensures { result ≡ length self.now.cells }
     {
@@ -96,14 +96,14 @@ impl<T> Arena<T> {
         self.freed
     }
 
-    /// States what is true of every arena, and does nothing.
+    /// States the invariants of every arena, and does nothing.
     pub fn facts(&self)
         ensures { IsWhole self.now }
     {
         let _ = &self.cells;
     }
 
-    /// States of a spent handle that no list of calls revives it, and does nothing.
+    /// States that no list of calls makes a spent handle valid again, and does nothing.
     pub fn stays_spent(&self, handle: Handle<T>)
         requires { IsSpent self.now.cells handle }
         ensures { (calls : List (Call T)) → read (after_calls calls self.now).cells handle ≡ None }
@@ -129,7 +129,7 @@ impl<T> Arena<T> {
         }
     }
 
-    /// The cells from this number on that stand side by side, up to 256 of them: those of a page. None from `cells()`
+    /// The adjacent cells from this number on, up to 256 of them: those of a page. None from `cells()`
     /// on. O(1).
     pub fn stretch_from(&self, slot: u32) -> Stretch<'_, T>
         ensures cells { result ≡ take (length result) (drop slot self.now.cells) }
@@ -138,7 +138,7 @@ impl<T> Arena<T> {
         Stretch::of(self.cells.side_by_side(slot as usize))
     }
 
-    /// Makes room, so that as many puts that follow take no memory.
+    /// Makes room for as many puts, which then need no memory.
     pub fn reserve(&mut self, additional: usize) -> Result<(), Refusal>
         ensures same { self.new ≡ record self.old { room = self.new.room } }
         ensures room { OnOk result (additional ≤ self.new.room) }
@@ -153,8 +153,8 @@ impl<T> Arena<T> {
         Ok(())
     }
 
-    /// Keeps the value in the first free cell, or else in a new one. O(1), but for a growth.
-    /// Takes no memory where room is left.
+    /// Puts the value into the first free cell, or else into a new one. O(1), except for growth.
+    /// Takes no memory if there is room.
     #[inline(always)]
     pub fn put(&mut self, value: T) -> Result<Handle<T>, PutRefused<T>>
         requires { CanPut self.old }
@@ -172,7 +172,7 @@ impl<T> Arena<T> {
         Ok(self.put_reserved(value))
     }
 
-    /// Makes room for one put. O(1), but for a growth.
+    /// Makes room for one put. O(1), except for growth.
     #[inline(always)]
     fn reserve_one(&mut self) -> Result<(), Refusal>
         ensures same { self.new ≡ record self.old { room = self.new.room } }
@@ -187,7 +187,7 @@ impl<T> Arena<T> {
         Ok(())
     }
 
-    /// Keeps the value in the first free cell, or else in a new one, for which there is room. O(1), takes no memory.
+    /// Puts the value into the first free cell, or else into a new one, for which there is room. O(1), takes no memory.
     #[inline(always)]
     pub fn put_reserved(&mut self, value: T) -> Handle<T>
         requires room { 0 < self.old.room }
@@ -219,8 +219,8 @@ impl<T> Arena<T> {
         Handle::new(slot, generation)
     }
 
-    /// Puts the value in place of the one that the handle reads, which comes back.
-    /// Where it reads nothing the new one comes back. O(1), takes no memory.
+    /// Replaces the value that the handle reads, and returns the old one.
+    /// If the handle reads nothing, the new value is returned. O(1), takes no memory.
     pub fn set(&mut self, handle: Handle<T>, value: T) -> Result<T, T>
         ensures value { MatchResult result (λ old. read self.old.cells handle ≡ Some old) (λ back. back ≡ value) }
         ensures spent { OnErr result (read self.old.cells handle ≡ None) }
@@ -243,8 +243,8 @@ impl<T> Arena<T> {
         }
     }
 
-    /// Takes the value out and makes the cell the first free one; the handle reads nothing ever after.
-    /// None where it reads nothing now. O(1), takes no memory.
+    /// Takes the value out and makes the cell the first free one; the handle never reads anything again.
+    /// None if it reads nothing now. O(1), takes no memory.
     pub fn free(&mut self, handle: Handle<T>) -> Option<T>
         requires { freed self.old < 18446744073709551615 }
         ensures value { result ≡ read self.old.cells handle }
@@ -273,7 +273,7 @@ impl<T> Arena<T> {
         }
     }
 
-    /// Whether the cell of this number has a value, and this generation.
+    /// Whether the cell with this number has a value, and this generation.
     fn reads(&self, slot: usize, generation: u64) -> bool
         ensures { result ≡ is_some (read self.now.cells (record { slot = slot; generation = generation })) }
     {

@@ -1,4 +1,4 @@
-//! A list of cells in pages. A page is taken whole, and its cells never move: a growth takes more pages and room in
+//! A list of cells in pages. A page is allocated whole, and its cells never move: growth takes more pages and room in
 //! the list of pages, and copies no cell.
 ghost use Rattle.crack_arena.specs.declared.TheConstants.{MOST_CELLS};
 ghost use Rattle.std.specs.Prelude.{◌≡◌, ◌+◌, ◌-◌, ◌*◌, ◌<◌, ◌≤◌, [], ◌∷◌, ◌++◌, length, is_ok, if◌then◌else◌};
@@ -10,7 +10,7 @@ use crate::page::{CELLS, Page};
 use std::alloc::{AllocError, Global};
 use std::marker::Model;
 
-/// A full list of pages grows by so many times its length, so that what it copies as it grows stays small.
+/// A full list of pages grows by this many times its length, so that what it copies as it grows stays small.
 const GROWTH: usize = 3;
 
 /// Cells by number, from 0, and for how many more there is room. Number n is cell n mod 256 of page n / 256.
@@ -56,7 +56,7 @@ impl<C> CellList<C> {
         self.len
     }
 
-    /// The cell of this number, if there is one. O(1).
+    /// The cell with this number, if there is one. O(1).
     #[inline(always)]
     pub(crate) fn get(&self, number: usize) -> Option<&C>
         ensures { IsItemAt self.now.items number result }
@@ -68,7 +68,7 @@ impl<C> CellList<C> {
         }
     }
 
-    /// The cells from this number on that stand side by side: those of its page. None of them where there are none.
+    /// The adjacent cells from this number on: those of its page. None if there are none.
     pub(crate) fn side_by_side(&self, number: usize) -> &[C]
         ensures cells { result.now ≡ take (length result.now) (drop number self.now.items) }
         ensures some { number < length self.now.items → 0 < length result.now }
@@ -79,7 +79,7 @@ impl<C> CellList<C> {
         self.pages[number / CELLS].cells_from(number % CELLS)
     }
 
-    /// The cell of this number. O(1).
+    /// The cell with this number. O(1).
     #[inline(always)]
     pub(crate) fn at(&self, number: usize) -> &C
         requires { number < length self.now.items }
@@ -88,7 +88,7 @@ impl<C> CellList<C> {
         self.pages[number / CELLS].at(number % CELLS)
     }
 
-    /// Puts a cell in place of the one of this number, which comes back. O(1).
+    /// Replaces the cell with this number, and returns the old one. O(1).
     #[inline(always)]
     pub(crate) fn replace(&mut self, number: usize, cell: C) -> C
         requires { number < length self.old.items }
@@ -99,7 +99,7 @@ impl<C> CellList<C> {
         page.replace(number % CELLS, cell)
     }
 
-    /// Makes room, so that as many more cells can be appended. O(1), but for a growth.
+    /// Makes room for as many more cells. O(1), except for growth.
     #[inline(always)]
     pub(crate) fn reserve(&mut self, additional: usize) -> Result<(), AllocError>
         ensures items { self.new.items ≡ self.old.items }
@@ -130,7 +130,7 @@ impl<C> CellList<C> {
     }
 }
 
-/// How many pages have room for so many cells after those that are used.
+/// How many pages have room for this many cells after those that are used.
 fn pages_for(used: usize, additional: usize) -> usize
     requires { used < 256 }
     ensures enough { used + additional ≤ 256 * result }
@@ -139,8 +139,8 @@ fn pages_for(used: usize, additional: usize) -> usize
     additional / CELLS + (additional % CELLS + used + (CELLS - 1)) / CELLS
 }
 
-/// Takes as many pages more. Where one of them is refused, or room in the list of pages, those that were taken are
-/// given back.
+/// Allocates as many more pages. If one of them, or room in the list of pages, is refused, those already allocated are
+/// freed.
 #[cold]
 #[inline(never)]
 fn take_pages<C>(pages: &mut Vec<Page<C>>, more: usize) -> Result<(), AllocError>
@@ -153,7 +153,7 @@ fn take_pages<C>(pages: &mut Vec<Page<C>>, more: usize) -> Result<(), AllocError
     push_pages(pages, more)
 }
 
-/// The same where there is room in the list of pages.
+/// The same if there is room in the list of pages.
 fn push_pages<C>(pages: &mut Vec<Page<C>>, more: usize) -> Result<(), AllocError>
     requires { vec_len pages.old + more ≤ vec_capacity pages.old }
     ensures { pages.new.items ≡ (if is_ok result then pages.old.items ++ replicate more [] else pages.old.items) }
@@ -172,7 +172,7 @@ fn push_pages<C>(pages: &mut Vec<Page<C>>, more: usize) -> Result<(), AllocError
     Ok(())
 }
 
-/// Gives the pages back that stand after the first so many. They have no cells.
+/// Frees the pages after the first ones, this many. They have no cells.
 fn give_back<C>(pages: &mut Vec<Page<C>>, kept: usize)
     requires within { kept ≤ length pages.old.items }
     requires empty { drop kept pages.old.items ≡ replicate (length pages.old.items - kept) [] }

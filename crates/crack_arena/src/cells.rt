@@ -1,6 +1,6 @@
-//! Cells, each with what it has and how often it was freed.
+//! Cells, each with its content and how often it was freed.
 
-/// How often the cell was freed, and what it has.
+/// How often the cell was freed, and its content.
 #[derive(Drop)]
 pub(crate) struct Cell<T> {
     pub(crate) generation: u64,

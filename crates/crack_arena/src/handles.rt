@@ -67,7 +67,7 @@ impl<T> fmt::Debug for Handle<T> {
 }
 
 impl<T> Handle<T> {
-    /// The handle of these numbers, for one who keeps them apart. An arena need not have made it.
+    /// The handle with these numbers, for code that stores them separately. An arena need not have made it.
     pub fn new(slot: u32, generation: u64) -> Handle<T>
         ensures { result ≡ record { slot = slot; generation = generation } }
     {

@@ -1,6 +1,6 @@
 //! Cells that keep values, and handles that read a cell until it is freed.
 //!
-//! A freed cell is used again at its next generation, so a handle that was made before reads nothing from then on.
+//! A freed cell is used again at its next generation, so an older handle reads nothing from then on.
 //! This is known as a generational arena. The free cells are linked, each to the one that was freed before it.
 #![tactic(auto)]
 

@@ -8,7 +8,7 @@ use std::mem;
 /// How many cells a page has room for.
 pub(crate) const CELLS: usize = 256;
 
-/// Cells by place, from 0, in one block of memory with room for `CELLS`. It is taken whole, and the cells never move.
+/// Cells by place, from 0, in one block of memory with room for `CELLS`. It is allocated whole, and cells never move.
 #[derive(Drop)]
 pub(crate) struct Page<C> {
     cells: Vec<C>,
@@ -28,7 +28,7 @@ impl<C> Model for Page<C> {
 }
 
 impl<C> Page<C> {
-    /// A page without cells. Takes its block of memory.
+    /// A page without cells. Allocates its block of memory.
     pub(crate) fn take(alloc: Global) -> Result<Page<C>, AllocError>
         ensures { IfOk result (λ page. page ≡ []) }
     {
@@ -52,7 +52,7 @@ impl<C> Page<C> {
         &self.cells[place..]
     }
 
-    /// Puts a cell in place of the one that stands at this place, which comes back. O(1).
+    /// Replaces the cell at this place, and returns the old one. O(1).
     pub(crate) fn replace(&mut self, place: usize, cell: C) -> C
         requires { place < length self.old }
         ensures value { result ≡ slice_index_or self.old place result }
@@ -69,7 +69,7 @@ impl<C> Page<C> {
         self.cells.push_reserved(cell);
     }
 
-    /// Gives the memory of a page without cells back.
+    /// Frees the memory of a page without cells.
     pub(crate) fn give_back(self)
         requires { self ≡ [] }
     {

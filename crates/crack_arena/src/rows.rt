@@ -6,7 +6,7 @@ ghost use Rattle.crack_arena.specs.Rows.{amount_at, key_at, payload_at};
 use crate::{Arena, Handle};
 use crack_row::{Key, Payload, Row};
 
-/// The key of the row that the handle reads, 0 where it reads none. O(1).
+/// The key of the row that the handle reads, 0 if it reads none. O(1).
 pub fn key_of(arena: &Arena<Row>, handle: Handle<Row>) -> Key
     ensures { result.0 ≡ key_at arena.now.cells handle }
 {
@@ -16,7 +16,7 @@ pub fn key_of(arena: &Arena<Row>, handle: Handle<Row>) -> Key
     }
 }
 
-/// The payload of the row that the handle reads, 0 where it reads none. O(1).
+/// The payload of the row that the handle reads, 0 if it reads none. O(1).
 pub fn payload_of(arena: &Arena<Row>, handle: Handle<Row>) -> Payload
     ensures { result ≡ payload_at arena.now.cells handle }
 {
@@ -26,7 +26,7 @@ pub fn payload_of(arena: &Arena<Row>, handle: Handle<Row>) -> Payload
     }
 }
 
-/// What the payload of the row that the handle reads adds to a sum, nothing where it reads none. O(1).
+/// What the payload of the row that the handle reads adds to a sum, nothing if it reads none. O(1).
 pub fn amount_of(arena: &Arena<Row>, handle: Handle<Row>) -> i128
     ensures value { result ≡ amount_at arena.now.cells handle }
     ensures least { neg_ℤ (pos farthest_amount) ≤ℤ result }

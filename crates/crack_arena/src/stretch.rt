@@ -1,4 +1,4 @@
-//! Cells that stand side by side.
+//! Cells that are adjacent.
 ghost use Rattle.std.specs.Prelude.{◌≡◌, length, option_copied};
 ghost use Rattle.crack_arena.specs.Arena.{cell_at};
 ghost use Rattle.crack_arena.specs.Links.{cells_of};
@@ -6,7 +6,7 @@ ghost use Rattle.crack_arena.specs.Links.{cells_of};
 use crate::cells::{Cell, Content};
 use std::marker::Model;
 
-/// Cells of an arena that follow one another and stand side by side, to be read one after the other. Contracts see a
+/// Adjacent cells of an arena, to be read one after the other. Contracts see a
 /// list of cells.
 #[derive(Drop)]
 pub struct Stretch<'a, T> {
