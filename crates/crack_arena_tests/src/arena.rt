@@ -177,7 +177,7 @@ fn cells_of_a_second_page(rt: HostRuntime) {
     drop(arena);
 }
 
-/// The values of cells that stand side by side, from the one of this number on: this many cells.
+/// The values of adjacent cells, from the one with this number on: this many cells.
 fn assert_stretch(rt: &impl Abort, arena: &Arena<char>, slot: u32, len: u32) {
     let stretch = arena.stretch_from(slot);
     assert_eq!(rt; stretch.len(), len as usize);
@@ -228,7 +228,7 @@ fn more_is_refused_than_there_is_memory(rt: HostRuntime) {
     drop(arena);
 }
 
-/// Makes room, at the second time where memory was refused once; then the arena is as it was.
+/// Makes room, on the second attempt if memory was refused once; then the arena is as it was.
 fn reserve(rt: &impl Abort, arena: &mut Arena<char>, additional: usize) {
     let cells = arena.cells();
     let free_cells = arena.free_cells();
@@ -253,7 +253,7 @@ fn put_reserved(rt: &impl Abort, arena: &mut Arena<char>) {
     assert_cells(rt, arena, 899, 0, 1);
 }
 
-/// Holds whichever one call for memory is refused: puts for which there is room make none.
+/// Holds whichever one allocation is refused: puts for which there is room make none.
 #[test]
 fn sweep_reserve(rt: HostRuntime) {
     let mut arena = Arena::new(rt.alloc());

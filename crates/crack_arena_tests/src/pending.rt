@@ -1,4 +1,4 @@
-//! Pending rows stand in the order of their arrival, whatever holes others left; beside them stands a plain list.
+//! Pending rows are in order of arrival, whatever holes others left; they are compared with a plain list.
 ghost use Rattle.std.specs.Prelude.{List};
 ghost use Rattle.crack_row.specs.declared.Row.{Row};
 ghost use Rattle.crack_arena.specs.Arena.{Cell};
@@ -163,7 +163,7 @@ fn take<Kind>(
     handle
 }
 
-/// Strikes the handle, if it is there, and its key from the list of keys.
+/// Strikes the handle, if it is in the list, and its key from the list of keys.
 fn strike<Kind>(
     rt: &impl Abort,
     arena: &Arena<Row>,
@@ -303,7 +303,7 @@ fn strike_all(
     Ok(())
 }
 
-/// The keys below 199, each once, in no order.
+/// The keys below 199, each once, in no particular order.
 fn scattered(alloc: Global) -> Result<Vec<KeyNumber>, Fail> {
     let mut keys = Vec::new(alloc);
     for key in 0..199 {
@@ -326,7 +326,7 @@ fn push_and_strike_all(
     strike_all(rt, arena, pending, &handles, &mut keys)
 }
 
-/// Of two hundred rows all are struck, in no order; rows are taken and come again between, and holes are closed up.
+/// Two hundred rows are struck, in no particular order; rows are taken and come again between, and holes are closed up.
 #[test]
 fn rows_are_struck_in_any_order(rt: HostRuntime) -> Result<(), Fail> {
     let mut arena = Arena::new(rt.alloc());
@@ -471,7 +471,7 @@ fn push_and_take_ranges(
     take_ranges(rt, arena, pending, &mut keys)
 }
 
-/// Of two hundred rows those of one range after the other are taken in the order of their arrival, as a pass finds them
+/// Of two hundred rows those of one range after the other are taken in order of arrival, as a pass finds them
 /// ahead.
 #[test]
 fn rows_of_ranges_are_taken_in_order(rt: HostRuntime) -> Result<(), Fail> {

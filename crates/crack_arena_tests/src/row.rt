@@ -1,4 +1,4 @@
-//! Copies of replies, the size of an entry, lists of pieces, common parts of ranges, and a writer that takes nothing.
+//! Copies of replies, the size of an entry, lists of pieces, intersections of ranges, and a writer that takes nothing.
 
 use crack_row::{
     Bound, Entry, GREATEST_BOUND, GREATEST_KEY, GREATEST_PAYLOAD, Key, KeyNumber, KeyRange,
@@ -9,7 +9,7 @@ use std::io;
 use std::io::Write;
 use std::test::Fail;
 
-/// A writer that takes none of its bytes.
+/// A writer that accepts none of its bytes.
 #[derive(Drop)]
 struct Full;
 
@@ -94,7 +94,7 @@ fn pieces_go_in_and_out(rt: HostRuntime) -> Result<(), Fail> {
     Ok(())
 }
 
-/// Two ranges that meet have nothing in common: the empty range at the other's low end.
+/// Two ranges that meet have no intersection: the empty range at the other's low end.
 #[test]
 fn ranges_that_meet(rt: HostRuntime) -> Result<(), Fail> {
     let common = KeyRange::new(0, 50)?.clip(KeyRange::new(50, 60)?);
@@ -104,7 +104,7 @@ fn ranges_that_meet(rt: HostRuntime) -> Result<(), Fail> {
     Ok(())
 }
 
-/// The range of the greatest key alone ends at the greatest bound, which no range passes.
+/// The range of only the greatest key ends at the greatest bound, which no range exceeds.
 #[test]
 fn the_range_of_the_greatest_key(rt: HostRuntime) -> Result<(), Fail> {
     let greatest = KeyRange::new(18446744073709551615, 18446744073709551616)?;
