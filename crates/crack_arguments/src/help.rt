@@ -1,17 +1,17 @@
-//! What a help says after the options: an example, the statements or the form of a record, and the refusals. No line
+//! The text of a help after the options: an example, the statements or the form of a record, and the refusals. No line
 //! has more than 80 columns.
 
 use crack_row::{GREATEST_KEY, GREATEST_PAYLOAD, LEAST_PAYLOAD};
 
-/// The texts of `csv` and of the splits say what the greatest key is.
+/// The texts of `csv` and of the splits give the greatest key.
 const _: () = prove!(GREATEST_KEY == 18446744073709551615);
 
-/// The text of `csv` says what the least payload and the greatest are.
+/// The text of `csv` gives the least payload and the greatest.
 const _: () = prove!(
     LEAST_PAYLOAD == -9223372036854775808 && GREATEST_PAYLOAD == 9223372036854775807
 );
 
-/// The refusals by their numbers, after what a help says before them.
+/// The refusals by their numbers, after the text of a help before them.
 macro_rules! with_refusals {
     ($($before:expr),+) => {
         concat!(

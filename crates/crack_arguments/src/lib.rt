@@ -1,4 +1,4 @@
-//! The command line of `crackd`: words in, a request out.
+//! The command line of `crackd`: turns words into a request.
 #![tactic(auto)]
 
 mod help;
@@ -12,43 +12,43 @@ use thiserror::Error;
 /// The version of the program, as `--version` prints it.
 pub const VERSION: &str = "0.1.0";
 
-/// The option that has errors explained, wherever it stands in a command line.
+/// The option that explains errors, wherever it is in a command line.
 const WORDS: &str = "--words";
 
 /// What a command line asks for.
 #[derive(Drop)]
 pub enum Request {
-    /// The help or the version that was asked for, as it is to be printed.
+    /// The help or the version that was asked for, to be printed.
     Help(String),
-    /// To serve standard input to standard output, over a table of one's own.
+    /// Serve standard input to standard output, over a table of its own.
     Script(Opening),
-    /// To have workers serve the lines of standard input.
+    /// Let workers serve the lines of standard input.
     Batch(Staffed),
-    /// To have workers serve sessions over TCP.
+    /// Let workers serve sessions over TCP.
     Serve(Service),
-    /// To load CSV from standard input, and to export it to standard output.
+    /// Load CSV from standard input, and export it to standard output.
     Csv(Opening),
 }
 
-/// What a table is opened with. Its numbers are tested at the opening, which refuses them by their number.
+/// How a table is opened. Its numbers are tested at the opening, which refuses them by their number.
 #[derive(Drop)]
 pub struct Opening {
-    /// Where the keys are parted: any numbers of 64 bits, in the order of the command line.
+    /// Where the keys are split: any numbers of 64 bits, in the order of the command line.
     pub splits: Vec<Bound>,
-    /// What bounds a partition: the greatest of each kind where the command line doesn't say, with upkeep on request.
+    /// What bounds a partition: the greatest of each kind unless the command line says otherwise; upkeep is on request.
     pub limits: Limits,
-    /// How pending rows are merged: `Policy::Ripple` where the command line doesn't say.
+    /// How pending rows are merged: `Policy::Ripple` unless the command line says otherwise.
     pub policy: Policy,
 }
 
-/// What a table is opened with that has workers. Their number is tested at the opening as well.
+/// How a table with workers is opened. Their number is also tested at the opening.
 #[derive(Drop)]
 pub struct Staffed {
     pub opening: Opening,
     pub workers: u64,
 }
 
-/// What a server is started with.
+/// How a server is started.
 #[derive(Drop)]
 pub struct Service {
     pub table: Staffed,
@@ -56,28 +56,28 @@ pub struct Service {
     pub port: u16,
     /// How many connections it serves; without it, it serves until its input ends.
     pub sessions: Option<u64>,
-    /// How long one read or write of a connection may wait, in seconds, at least 1; without it, for ever.
+    /// How long one read or write of a connection may wait, in seconds, at least 1; without it, forever.
     pub idle: Option<u32>,
-    /// Whether nothing is written to standard error but a refusal.
+    /// Whether only refusals are written to standard error.
     pub is_quiet: bool,
-    /// Whether its workers keep a receipt of each reply, which are held against the histories at the end.
+    /// Whether its workers keep a receipt of each reply, which are compared with the histories at the end.
     pub is_audited: bool,
 }
 
-/// The names that a policy goes by.
+/// The names of the policies.
 static POLICIES: [&str; 4] = ["complete", "gradual", "ripple", "auto"];
 
-/// Why a command line makes no request. Its text is what standard error gets.
+/// Why a command line isn't a request. Its text is written to standard error.
 #[derive(Drop, Debug, Error)]
 pub enum ArgumentsError {
-    /// An unknown word or option, an option that is missing or stands twice, a value that is no number of 64 bits, or
+    /// An unknown word or option, an option that is missing or given twice, a value that isn't a number of 64 bits, or
     /// an unknown policy.
     #[error("bad arguments")]
     Bad,
     /// The same, with the parser's own text.
     #[error("bad arguments\n{0}")]
     Explained(String),
-    /// There was no memory to read it.
+    /// No memory was found to read it.
     #[error("{0}")]
     Refused(Refusal),
 }
@@ -200,7 +200,7 @@ fn words_option<'a>(alloc: Global) -> Arg<'a> {
         .help("Explains an error in words, on standard error")
 }
 
-/// A subcommand with the options and the splits of every opening.
+/// A subcommand with the options and the splits that all openings have.
 fn opening_command<'a>(
     alloc: Global,
     name: &'a str,
@@ -262,7 +262,7 @@ fn csv_command<'a>(alloc: Global) -> Result<Command<'a>, AllocError> {
     )
 }
 
-/// The form of every command line.
+/// The common form of command lines.
 fn command_line<'a>(alloc: Global) -> Result<Command<'a>, AllocError> {
     Command::new(alloc, "crackd")
         .about("An in-memory table that its queries put into order")
@@ -301,7 +301,7 @@ fn splits_of(alloc: Global, matches: &ArgMatches<'_>) -> Result<Vec<Bound>, Argu
     Ok(splits)
 }
 
-/// The limits: those that are named, and the greatest of the others.
+/// The limits: those that are given, and the greatest of the others.
 fn limits_of(matches: &ArgMatches<'_>) -> Limits {
     let greatest = Limits::of_history(GREATEST_LIMIT);
     Limits {
@@ -329,12 +329,12 @@ fn opening_of(alloc: Global, matches: &ArgMatches<'_>) -> Result<Opening, Argume
     })
 }
 
-/// The number of an option that has to be there.
+/// The number of a required option.
 fn number_of(matches: &ArgMatches<'_>, name: &str) -> Result<u64, ArgumentsError> {
     matches.get_one::<u64>(name).ok_or(ArgumentsError::Bad)
 }
 
-/// The port, where it is one: 1 to 65535.
+/// The port, if it is 1 to 65535.
 fn port_of(matches: &ArgMatches<'_>) -> Result<u16, ArgumentsError> {
     match u16::try_from(number_of(matches, "port")?) {
         Ok(port) if port > 0 => Ok(port),
@@ -349,7 +349,7 @@ fn staffed_of(alloc: Global, matches: &ArgMatches<'_>) -> Result<Staffed, Argume
     })
 }
 
-/// How many sessions a server has, or that it serves until its input ends: one of the two is said.
+/// How many sessions a server has, or that it serves until its input ends: one of the two is given.
 fn sessions_of(matches: &ArgMatches<'_>) -> Result<Option<u64>, ArgumentsError> {
     let sessions = matches.get_one::<u64>("sessions");
     if sessions.is_some() == matches.get_flag("until-eof") {
@@ -409,12 +409,12 @@ fn request_of(alloc: Global, matches: &ArgMatches<'_>) -> Result<Request, Argume
     }
 }
 
-/// Whether a command line asks for errors in words.
+/// Whether a command line asks for explained errors.
 pub fn asks_for_words(words: &[String]) -> bool {
     words.iter().any(|word| word.as_str() == WORDS)
 }
 
-/// What the parser says where it gives no matches: the help or the version that was asked for, or why there is no
+/// The parser's text if it returns no matches: the help or the version that was asked for, or why there is no
 /// request.
 fn unmatched(
     alloc: Global,
