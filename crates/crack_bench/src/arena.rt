@@ -57,7 +57,7 @@ fn free(filled: &mut Filled, at: usize) -> Option<Row>
     filled.arena.free(filled.handles.swap_remove(at))
 }
 
-/// One step: a put, a get or a free, a third each, but for a put where there is no handle.
+/// One step: a put, a get or a free, a third each, but for a put if there is no handle.
 fn step(filled: &mut Filled, number: u64, numbers: &mut Numbers) -> Result<Option<Row>, Refusal> {
     let which = numbers.below(3);
     let len = filled.handles.len();
@@ -89,7 +89,7 @@ pub fn steps(filled: &mut Filled, count: u64, numbers: &mut Numbers) -> Result<u
     Ok(sum)
 }
 
-/// Puts a row of this serial, without room that was made before.
+/// Puts a row with this serial, without room that was made before.
 #[inline(always)]
 pub fn put_row(arena: &mut Arena<Row>, serial: u32) -> Result<(), Refusal> {
     if arena.cells() >= 4294967295 {

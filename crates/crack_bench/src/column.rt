@@ -1,4 +1,4 @@
-//! Cracks of a column whose handles stand in random order.
+//! Cracks of a column whose handles are in random order.
 ghost use Rattle.std.specs.Prelude.{◌≡◌, length, IfOk};
 ghost use Rattle.crack_column.specs.Column.{Remembers};
 
@@ -45,7 +45,7 @@ pub fn column_of(
     Ok(column)
 }
 
-/// Cracks the whole column at the bound of this number. The place between.
+/// Cracks the whole column at the bound with this number. The place between.
 pub fn crack(column: &mut CrackerColumn, number: u32, arena: &Arena<Row>) -> usize
     requires { Remembers arena.now.cells column.old.handles column.old.remembered }
     ensures { Remembers arena.now.cells column.new.handles column.new.remembered }

@@ -8,12 +8,12 @@ use crack_row::{GREATEST_KEY, InnerBound, Key, KeyNumber, Refusal};
 /// The numbers of an index's bounds begin here each time.
 pub const SEED: u64 = 11;
 
-/// The key of this number.
+/// The key with this number.
 fn key_at(number: u32) -> Key {
     Key::from_number(KeyNumber::from(number))
 }
 
-/// The bound of this number; the least between two keys, where the number is 0.
+/// The bound with this number; the least between two keys, where the number is 0.
 pub fn bound_at(number: u32) -> InnerBound {
     match key_at(number).bound().inner() {
         Some(bound) => bound,
@@ -21,7 +21,7 @@ pub fn bound_at(number: u32) -> InnerBound {
     }
 }
 
-/// Adds the bound at the place of its own number, where it isn't there.
+/// Adds the bound at the place of its own number, if it isn't there.
 fn add(index: &mut CrackerIndex, number: u32) -> Result<(), Refusal>
     requires { All (λ m. m.position < usize.MAX) index.old.marks }
     ensures { All (λ m. m.position < usize.MAX) index.new.marks }
@@ -40,7 +40,7 @@ fn add(index: &mut CrackerIndex, number: u32) -> Result<(), Refusal>
     Ok(())
 }
 
-/// Adds so many bounds.
+/// Adds this many bounds.
 pub fn fill(index: &mut CrackerIndex, bounds: u32) -> Result<(), Refusal>
     requires { All (λ m. m.position < usize.MAX) index.old.marks }
     ensures { All (λ m. m.position < usize.MAX) index.new.marks }
@@ -52,7 +52,7 @@ pub fn fill(index: &mut CrackerIndex, bounds: u32) -> Result<(), Refusal>
     Ok(())
 }
 
-/// Looks each of so many bounds up. A checksum of their places.
+/// Looks each of this many bounds up. A checksum of their places.
 pub fn look_up(index: &CrackerIndex, bounds: u32) -> u64 {
     let mut numbers = Numbers::new(SEED);
     let mut sum = 0;
@@ -64,7 +64,7 @@ pub fn look_up(index: &CrackerIndex, bounds: u32) -> u64 {
     sum
 }
 
-/// Looks for the next bound after each of so many keys. A checksum of their places.
+/// Looks for the next bound after each of this many keys. A checksum of their places.
 pub fn look_above(index: &CrackerIndex, keys: u32) -> u64 {
     let mut numbers = Numbers::new(SEED + 1);
     let mut sum = 0;

@@ -23,7 +23,7 @@ pub struct Measured {
 }
 
 impl Measured {
-    /// Asks the partition, and gives the number that it replies; 0 where it replies none.
+    /// Asks the partition, and gives the number that it replies; 0 if it replies none.
     fn ask(&mut self, command: Command) -> Result<u64, Refusal> {
         let (reply, _) = self.partition.apply(0, command, self.policy)?;
         Ok(match reply {
@@ -196,7 +196,7 @@ pub fn serials(alloc: Global, rows: u32) -> Result<Vec<u64>, AllocError> {
     (0..rows as u64).collect(alloc)
 }
 
-/// The range of this width that begins at the bound of this number.
+/// The range of this width that begins at the bound with this number.
 fn range_from(low: BoundNumber, width: BoundNumber) -> Result<KeyRange, Refusal> {
     let high = low.saturating_add(width);
     KeyRange::between(Bound::from_number(low), Bound::from_number(high))
