@@ -16,7 +16,7 @@ pub trait Asks {
     fn ask(&mut self, part: u32, command: Command) -> Result<Reply, Refusal>;
 }
 
-/// Partitions that stand side by side.
+/// Partitions that are adjacent.
 #[derive(Clone, Copy, Drop)]
 pub struct Parts {
     pub first: u32,
@@ -85,7 +85,7 @@ impl Mix {
         Ok(number_of(&reply))
     }
 
-    /// Deletes one of the rows. Its place; none where there is no row.
+    /// Deletes one of the rows. Its place; none if there is no row.
     fn delete<A: Asks>(&mut self, asked: &mut A) -> Result<Option<usize>, Refusal> {
         let number = self.next() as usize;
         if self.rows.is_empty() {
@@ -144,7 +144,7 @@ pub fn count_all<A: Asks>(asked: &mut A, parts: u32) -> Result<u64, Refusal> {
     Ok(total)
 }
 
-/// The number that a reply has; 0 where it has none.
+/// The number that a reply has; 0 if it has none.
 fn number_of(reply: &Reply) -> u64 {
     match reply {
         Reply::Placed(serial) => serial.0,

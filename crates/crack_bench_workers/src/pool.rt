@@ -57,7 +57,7 @@ impl Plan {
 
 /// A worker at its table.
 pub trait Works: Asks {
-    /// Folds the history of a partition.
+    /// Makes a checkpoint of a partition.
     fn fold(&mut self, part: u32) -> Result<(), Refusal>;
 }
 
@@ -126,7 +126,7 @@ impl<A: Works + Drop> Pool<A> {
         }
     }
 
-    /// Folds the history of each partition, by the first worker.
+    /// Makes a checkpoint of each partition, by the first worker.
     pub fn fold(&mut self) -> Result<(), Refusal> {
         let Some(hand) = self.hands.first_mut() else {
             return Ok(());
@@ -155,7 +155,7 @@ impl<A: Works + Drop> Pool<A> {
 }
 
 impl<A: Works + Send + Drop> Pool<A> {
-    /// As many steps of each worker, on threads of their own. No worker is left where it finds no memory.
+    /// As many steps of each worker, on threads of their own. No worker is left if it finds no memory.
     pub fn work<R: Threads + Wait + Sync>(
         &mut self,
         rt: &R,
