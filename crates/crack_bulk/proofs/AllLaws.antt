@@ -113,7 +113,7 @@ keys_same r cells cells' hs same =
 abbrev pub LeadsOn : Option ℕ → Range → (ℕ → State → Type 0) → Type 0
 LeadsOn ceiling r On = (from place : ℕ) (t u v : State) → On from t → IsIntact t [] → Finds r (keys_at t.cells t.pending_in) from (Some place) → SameButRoom t u → Leads ceiling (lifted place u) v → On place v
 
--- where all are carried, the search finds none from the last place on
+-- if all are carried, the search finds none from the last place on
 pub record IsThrough (r : Range) (On : ℕ → State → Type 0) (t : State) : Type 0 where
   pub from : ℕ
   pub on : On from t
@@ -167,7 +167,7 @@ module _ (ceiling : Option ℕ) (r : Range) (high : IsUnder ceiling r) (On : ℕ
             ap (with_room a b) (bulk_from-first ceiling place t a b es left_of stays.0 coming) ∙ ap (λ x. with_room a b (bulk_from ceiling (comes x ∷ es) left_of t)) one;
       }
 
-  -- those still to be looked at stand after those that were passed by and before those that were evicted
+  -- those still to be looked at are after those that were passed by and before those that were evicted
   carries_on : (todo : List Handle) (t : State) (from : ℕ) (passed back : List Handle) → IsIntact t [] → t.pending_in ≡ passed ++ (todo ++ back) → from ≤ length passed → NoneFrom r (key_at t.cells) from passed → All (IsOutside r (key_at t.cells)) back → On from t → (inside_of t.cells r todo ≡ [] → with_room a b t ≡ t) → IsThrough r On (with_room a b (bulk_from ceiling (map comes (inside_of t.cells r todo)) (passed ++ (outside_of t.cells r todo ++ back)) t))
   carries_on [] t from passed back intact pending order none outside before roomy =
       let same : with_room a b (bulk_from ceiling [] (passed ++ back) t) ≡ t = rw (← pending) (ap (with_room a b) (bulk_from-none ceiling t intact) ∙ roomy refl) in
@@ -192,7 +192,7 @@ module _ (ceiling : Option ℕ) (r : Range) (high : IsUnder ceiling r) (On : ℕ
         rw not_in (rw (assoc (outside_of t.cells r todo ++ back)) at all)
   ]
 
--- where a filter keeps none, none passes
+-- if a filter keeps none, none passes
 none_passes : {X : Type 0} (p : X → Bool) (xs : List X) → filter p xs ≡ [] → All (λ x. p x ≡ false) xs
 none_passes p [] empty = All-nil (λ x. p x ≡ false)
 none_passes p (x ∷ xs) empty = elim (cases_Bool (p x)) [
@@ -200,7 +200,7 @@ none_passes p (x ∷ xs) empty = elim (cases_Bool (p x)) [
   | inr fails ↦ All-cons (λ y. p y ≡ false) x xs fails (none_passes p xs (rw fails at empty))
 ]
 
--- what each carry leads on, all carries in bulk do, where there is one
+-- what each carry leads on, all carries in bulk do, if there is one
 pub in_bulk-through : (ceiling : Option ℕ) (r : Range) (On : ℕ → State → Type 0) (s u : State) (first : ℕ) → IsUnder ceiling r → LeadsOn ceiling r On → On 0 s → IsIntact s [] → Finds r (keys_at s.cells s.pending_in) 0 (Some first) → SameButRoom (carried_in_bulk ceiling r s) u → IsThrough r On u
 in_bulk-through ceiling r On s u first high onward begins intact found room =
     let key = key_at s.cells in

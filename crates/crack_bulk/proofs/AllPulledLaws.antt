@@ -101,7 +101,7 @@ pulled_from-none s intact =
 abbrev pub DrawsOn : Range → (ℕ → State → Type 0) → Type 0
 DrawsOn r On = (from place : ℕ) (t v : State) → On from t → IsIntact t [] → Finds r (keys_at t.cells t.pending_out) from (Some place) → Draws (get_or t.pending_out place no_handle) (lifted_last t) v → On place v
 
--- where all are pulled, the search finds none from the last place on, and those outside the range are left
+-- if all are pulled, the search finds none from the last place on, and those outside the range are left
 pub record ArePulled (r : Range) (On : ℕ → State → Type 0) (left : List Handle) (t : State) : Type 0 where
   pub from : ℕ
   pub on : On from t
@@ -142,7 +142,7 @@ module _ (r : Range) (On : ℕ → State → Type 0) (onward : DrawsOn r On) whe
             key_at-off h.slot t.cells (pulled_from (h ∷ []) t).cells g (AgreeOff-set t.cells h.slot (record { generation = h.generation + 1; value = None })) (apart_from_times (passed ++ todo) h.slot others k e l);
       }
 
-  -- those still to be looked at stand after those that were passed by
+  -- those still to be looked at are after those that were passed by
   pulls_on : (todo : List Handle) (t : State) (from : ℕ) (passed : List Handle) → IsIntact t [] → t.pending_out ≡ passed ++ todo → from ≤ length passed → NoneFrom r (key_at t.cells) from passed → On from t → ArePulled r On (passed ++ outside_of t.cells r todo) (pulled_from (inside_of t.cells r todo) t)
   pulls_on [] t from passed intact pending order none before =
       rw (pulled_from-none t intact) (record {

@@ -1,4 +1,4 @@
--- Beyond a ceiling each row ends a carry: so many as carries come so far are gone, the first of them, and bounds at their places stand where the next one is.
+-- Beyond a ceiling each row ends a carry: so many as carries come so far are gone, the first of them, and bounds at their places are where the next one is.
 use Rattle.std.proofs.Common.{◌≡◌, ℕ, ◌+◌, ◌-◌, ◌<◌, ◌≤◌, Bool, true, max, suc, zero, List, [], ◌∷◌, ◌++◌, map, drop, length, refl, sym, ap, ◌∙◌, inl, inr, arith}
 use Rattle.std.specs.List.{All}
 use Rattle.std.proofs.lemmas.Bool.{cases_lt}
@@ -10,7 +10,7 @@ use Rattle.crack_bulk.specs.Queues.{Event, comes, turns, stopped, is_below, any_
 use Rattle.crack_bulk.proofs.AgreeLaws.{Each}
 use Rattle.crack_bulk.proofs.TurnLaws.{arriving}
 
--- the bound stands at this place or after it
+-- the bound is at this place or after it
 abbrev pub at_least : ℕ → Mark → Mark
 at_least place m = record m { position = max m.position place }
 
@@ -81,7 +81,7 @@ module _ {X : Type 0} (key : X → ℕ) (stops : X → Bool) where
       let rest = column_of-beyond (passed key stops own es rows) pieces one.none all.1 in
       rw (one.left_is, rest, one.on_are) (sym (drop-append (arriving es) rows (column_of pieces)))
 
-  -- where all stand after a place
+  -- where all are after a place
   at_least-higher : (place at : ℕ) (pieces : Pieces X) → map (at_least (max at place)) (marks_of at pieces) ≡ map (at_least place) (marks_of at pieces)
   at_least-higher place at (last rows) = refl
   at_least-higher place at (below rows bound pieces) =

@@ -1,4 +1,4 @@
--- What a carry leaves of a store whose column stands in pieces.
+-- What a carry leaves of a store whose column is in pieces.
 use Rattle.std.proofs.Common.{◌≡◌, ℕ, ◌+◌, ◌-◌, ◌<◌, ◌≤◌, Bool, true, false, cond, min, suc, List, [], ◌∷◌, ◌++◌, map, length, Option, Some, None, refl, sym, ap, ◌∙◌, inl, inr, arith}
 use Rattle.std.specs.List.{All}
 use Rattle.std.proofs.Math.Nat.{min-eq_left, min-eq_right}
@@ -35,7 +35,7 @@ landed s column marks (stopped moved hand) =
     let c = carried_with s column marks moved hand in
     cond (is_doomed s hand) (buried c) (returned c)
 
--- a counter raised by so many, and by one more
+-- a counter raised by this many, and by one more
 more-min : (n k : ℕ) → more (min (n + k) greatest) ≡ min (n + suc k) greatest
 more-min n k = elim (cases_lt (n + k) greatest) [
   | inl l ↦
@@ -96,7 +96,7 @@ module _ (s : State) (ceiling : Option ℕ) where
   low_still : (low place top : ℕ) (ms : List Mark) → All (λ m. m.bound.0 ≤ top) ms → All (λ m. m.bound.0 ≤ top) (map (raised low place) ms)
   low_still low place top ms low_ms = All-map (λ m. m.bound.0 ≤ top) (raised low place) ms low_ms
 
-  -- a hand whose own piece ends at a place, at which a bound stands that is the next above its key, goes on through the pieces above
+  -- a hand whose own piece ends at a place, at which a bound is that is the next above its key, goes on through the pieces above
   turns-leads : (pieces : Pieces Handle) (prefix : List Handle) (place : ℕ) (ms : List Mark) (b : InnerBound) (h : Handle) (n top : ℕ) → length prefix ≡ place → ((rest : List Mark) → next_mark (key h) (ms ++ rest) ≡ Some (mark_at b place)) → All (λ m. m.bound.0 ≤ top) ms → b.0 ≤ top → AreDivided key top pieces → stops h ≡ false → Leads ceiling (carried_with s (prefix ++ column_of pieces) (ms ++ marks_of place pieces) n h) (landed s (prefix ++ h ∷ column_of (reached key stops (turns n) pieces)) (map (raised b.0 place) ms ++ marks_of ((place + 1)) (reached key stops (turns n) pieces)) (outcome key stops (turns n) pieces))
   turns-leads (last []) prefix place ms b h n top at next low order divided goes =
       let done = ends_here (prefix ++ []) (ms ++ []) n h (Some (mark_at b place)) goes (next []) (omega (arith, at, ap length (append-nil prefix))) in

@@ -1,4 +1,4 @@
--- Where no pending deletion stands among the first rows of its piece, as many as come in, no carry meets one.
+-- If no pending deletion is among the first rows of its piece, as many as come in, no carry meets one.
 use Rattle.std.proofs.Common.{◌≡◌, ℕ, zero, suc, ◌+◌, ◌-◌, ◌<◌, ◌≤◌, false, min, List, [], ◌∷◌, length, map, take, drop, get_or, Option, Some, None, refl, sym, ap, ◌∙◌, inl, inr, arith}
 use Rattle.std.specs.Prelude.{unwrap_or}
 use Rattle.std.specs.List.{All, between}
@@ -50,7 +50,7 @@ first_start m ms k less = rw (lt-leb m.bound.0 k less) refl
 first_end : (m : Mark) (ms : List Mark) (k : ℕ) → k < m.bound.0 → next_mark k (m ∷ ms) ≡ Some m
 first_end m ms k less = rw (lt-ltb k m.bound.0 less) refl
 
--- the row isn't met: it stands elsewhere than among the first rows of its piece
+-- the row isn't met: it is elsewhere than among the first rows of its piece
 abbrev pub IsClear : ℕ → State → Handle → Type 0
 IsClear count s h =
     let from = piece_start s (key_at s.cells h) in
@@ -63,7 +63,7 @@ module _ (count : ℕ) (s : State) (intact : IsIntact s []) (clear : (k : ℕ) �
   abbrev Goes : Handle → Type 0
   Goes h = ends_with None s h ≡ false
 
-  -- a row that stands among the first of its piece isn't doomed
+  -- a row that is among the first of its piece isn't doomed
   lasts : (h : Handle) (place from to : ℕ) → place < length s.column → get_or s.column place no_handle ≡ h → piece_start s (key h) ≡ from → piece_end s (key h) ≡ to → from ≤ place → place < from + count → place < to → to ≤ length s.column → Goes h
   lasts h place from to within here starts ends behind near before whole = elim (cases_Bool (is_doomed s h)) [
     | inr lasting ↦ rw lasting refl

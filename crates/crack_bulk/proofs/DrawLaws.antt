@@ -17,7 +17,7 @@ use Rattle.crack_state.specs.Steps.{more, pulled_back, exchanged, buried}
 use Rattle.crack_bulk.proofs.Draws.{Draws, reaches, exchanges, draws, drawn_with, fallen, upward, pulled_down, drawn_down}
 use Rattle.crack_bulk.proofs.PieceLaws.{next_mark-skips}
 
--- a counter raised by so many, and by one more
+-- a counter raised by this many, and by one more
 more-min : (n k : ℕ) → more (min (n + k) greatest) ≡ min (n + (k + 1)) greatest
 more-min n k = elim (cases_lt (n + k) greatest) [
   | inl l ↦
@@ -28,7 +28,7 @@ more-min n k = elim (cases_lt (n + k) greatest) [
       min-eq_right (omega (arith, full)) ∙ sym (min-eq_right (omega (arith, l)))
 ]
 
--- the row stands at a place, and no other of its cell stands anywhere
+-- the row is at a place, and no other of its cell is anywhere
 pub record IsOnlyAt (d : Handle) (hs : List Handle) (i : ℕ) : Type 0 where
   pub within : i < length hs
   pub is : get_or hs i no_handle ≡ d
@@ -152,7 +152,7 @@ module _ (key : Handle → ℕ) where
     pub before : (k : ℕ) → k < m.position → key (get_or all k no_handle) < m.bound.0
     pub behind : (k : ℕ) → m.position ≤ k → k < length all → m.bound.0 ≤ key (get_or all k no_handle)
 
-  -- the bound is above all keys of these rows, and stands after them, but for the last
+  -- the bound is above all keys of these rows, and is after them, but for the last
   pub record IsOver (all : List Handle) (m : Mark) : Type 0 where
     pub place : length all ≤ m.position + 1
     pub keys : (k : ℕ) → k < length all → key (get_or all k no_handle) < m.bound.0
@@ -188,7 +188,7 @@ module _ (s : State) (d : Handle) where
   abbrev key : Handle → ℕ
   key h = key_at s.cells h
 
-  -- the row is in hand, or stands in the own piece of the hand
+  -- the row is in hand, or is in the own piece of the hand
   here : (rows suf : List Handle) (marks : List Mark) (z : Handle) (n i : ℕ) → IsOnlyAt d (rows ++ z ∷ []) i → start_of (last_mark (key z) marks) ≤ i → length rows ≤ end_of (length (rows ++ suf)) (next_mark (key z) marks) → Draws d (drawn_with s (rows ++ suf) marks n z) (buried (drawn_with s (without d (rows ++ z ∷ []) ++ suf) marks (n + one_unless_last d (rows ++ z ∷ [])) d))
   here rows suf marks z n i at from to = elim (cases_lt i (length rows)) [
     | inl before ↦
@@ -243,7 +243,7 @@ module _ (s : State) (d : Handle) where
       let over = over-hand [] rows upper z are in
       here rows suf upper z n i at (rw (last_mark-none (key z) upper (λ k e h. (over k e h).1)) (omega arith)) (ends-behind (key z) (length (rows ++ suf)) (length rows) upper over (omega (arith, length-append rows suf)))
 
-  -- the highest mark stands at the end: the piece above it is empty
+  -- the highest mark is at the end: the piece above it is empty
   draws-empty : (m : Mark) (ms : List Mark) → Down ms → (rows suf : List Handle) (upper : List Mark) (z : Handle) (n i : ℕ) → m.position ≡ length rows + 1 → AreBetween key (m ∷ ms) upper (rows ++ z ∷ []) → IsOnlyAt d (rows ++ z ∷ []) i → Leads (rows ++ suf) (map (lowered_at (length rows + 1)) (upward (m ∷ ms)) ++ upper) n z (pulled_down key d (m ∷ ms) (rows ++ z ∷ []) ++ suf) (map (fallen (key d)) (upward (m ∷ ms)) ++ upper) (n + drawn_down key d (m ∷ ms) (rows ++ z ∷ []))
   draws-empty m ms lower_down rows suf upper z n i end are at =
       let all : List Handle = rows ++ z ∷ [] in
@@ -264,7 +264,7 @@ module _ (s : State) (d : Handle) where
       subst (λ (ns : List Mark). Draws d (drawn_with s (rows ++ suf) ns n z) (buried (drawn_with s (pulled_down key d (m ∷ ms) all ++ suf) (map (fallen (key d)) (upward (m ∷ ms)) ++ upper) (n + drawn_down key d (m ∷ ms) all) d))) (sym before)
       (leads-same (drawn_with s (rows ++ suf) (map (lowered_at (length rows + 1)) (upward ms) ++ lower m ∷ upper) n z) (pulled_down key d ms all ++ suf) (pulled_down key d (m ∷ ms) all ++ suf) (map (fallen (key d)) (upward ms) ++ lower m ∷ upper) (map (fallen (key d)) (upward (m ∷ ms)) ++ upper) (n + drawn_down key d ms all) (n + drawn_down key d (m ∷ ms) all) column (sym after) count rest)
 
-  -- the highest mark stands before the hand
+  -- the highest mark is before the hand
   module _ (m : Mark) (ms : List Mark) (rows suf : List Handle) (upper : List Mark) (z : Handle) (n i : ℕ) (front : m.position ≤ length rows) (are : AreBetween key (m ∷ ms) upper (rows ++ z ∷ [])) (at : IsOnlyAt d (rows ++ z ∷ []) i) where
     abbrev all : List Handle
     all = rows ++ z ∷ []
@@ -309,7 +309,7 @@ module _ (s : State) (d : Handle) where
         let count : n + one_unless_last d all ≡ n + drawn_down key d (m ∷ ms) all = ap (λ k. n + k) (rw (le-ltb (key d) m.bound.0 low) part.1) in
         leads-same c (without d all ++ suf) (pulled_down key d (m ∷ ms) all ++ suf) M (map (fallen (key d)) (upward (m ∷ ms)) ++ upper) (n + one_unless_last d all) (n + drawn_down key d (m ∷ ms) all) column marks count done
 
-    -- it is of a lower one: the hand goes before the piece, and the row that stood there comes into hand
+    -- it is of a lower one: the hand goes before the piece, and the row that was there comes into hand
     draws-on : Down ms → i < m.position → Done M
     draws-on lower_down before =
         let c = drawn_with s (rows ++ suf) M n z in
@@ -348,7 +348,7 @@ module _ (s : State) (d : Handle) where
         let led : Draws d c (buried T) = draws c i (buried T) apart stands (rw next before) (subst (λ (x : Carried). Draws d x (buried T)) (sym pulled) rest) in
         leads-same c (pulled_down key d ms (rows' ++ y ∷ []) ++ suf') (pulled_down key d (m ∷ ms) all ++ suf) (map (fallen (key d)) (upward ms) ++ lower m ∷ upper) (map (fallen (key d)) (upward (m ∷ ms)) ++ upper) ((n + 1) + drawn_down key d ms (rows' ++ y ∷ [])) (n + drawn_down key d (m ∷ ms) all) column_after marks_after count_after led
       where
-        -- the bound itself, and those above it, are above what stands before its place
+        -- the bound itself, and those above it, are above what is before its place
         over_part : All (IsOver key (take m.position all)) (lower m ∷ upper)
         over_part =
             let short = length-take-le m.position all first.within in

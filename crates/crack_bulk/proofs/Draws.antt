@@ -12,12 +12,12 @@ use Rattle.crack_bulk.specs.Pulled.{pulled_by}
 pub data Draws (doomed : Handle) : Carried → State → Type 0 where
   -- the hand is that row: it is buried
   reaches : (c : Carried) → c.hand ≡ doomed → Draws doomed c (buried c)
-  -- else, that row stands in the own piece of the hand: the hand takes its place, and it is buried
+  -- else, that row is in the own piece of the hand: the hand takes its place, and it is buried
   exchanges : (c : Carried) (place : ℕ) → c.hand ≢ doomed → StandsAt c.store.column place doomed → piece_start c.store (hand_key c) ≤ place → place < piece_end c.store (hand_key c) → Draws doomed c (buried (exchanged place c))
-  -- else, it stands before that piece: the hand takes the last place before its piece, and the pull goes on with the row that stood there in hand
+  -- else, it is before that piece: the hand takes the last place before its piece, and the pull goes on with the row that was there in hand
   draws : (c : Carried) (place : ℕ) (t : State) → c.hand ≢ doomed → StandsAt c.store.column place doomed → place < piece_start c.store (hand_key c) → Draws doomed (pulled_back c) t → Draws doomed c t
 
--- the store with this column, these marks and so many rows pulled, and a hand
+-- the store with this column, these marks and this many rows pulled, and a hand
 abbrev pub drawn_with : State → List Handle → List Mark → ℕ → Handle → Carried
 drawn_with s column marks count hand =
     record {

@@ -91,7 +91,7 @@ module _ (place : ℕ) (s : State) (within : place < length s.pending_out) (inta
       let same : key (get_or (column_of (pieces_of s)) i no_handle) ≡ key d = ap (λ hs. key (get_or hs i no_handle)) (sym cuts.column) ∙ ap key at.is in
       marks_of-pulled key d 0 0 i (pieces_of s) (omega arith) inside same cuts.divided ∙ ap (map (fallen (key d))) (sym cuts.marks)
 
-  -- bounds above it stand after it
+  -- bounds above it are after it
   some-below : All (λ m. key d < m.bound.0 → 1 ≤ m.position) s.marks
   some-below = λ k e h under.
       let one = intact.obeyed k e h in

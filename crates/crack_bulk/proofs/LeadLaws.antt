@@ -1,4 +1,4 @@
--- What a carry keeps: the store intact, and of each row that still stands its key and whether it ends a carry.
+-- What a carry keeps: the store intact, and of each row that still is its key and whether it ends a carry.
 use Rattle.std.proofs.Common.{◌≡◌, ℕ, ◌+◌, ◌-◌, ◌<◌, ◌≤◌, false, ltb, List, [], ◌∷◌, length, get_or, Option, None, refl, sym, ap, inl, inr, arith}
 use Rattle.std.specs.List.{All}
 use Rattle.std.proofs.lemmas.Bool.{cases_Bool, le-ltb}
@@ -46,7 +46,7 @@ StaysAs-buried c hs intact doomed off = λ k d within.
     let same : times h.slot (slots (buried c).pending_out) ≡ times h.slot (slots s.pending_out) = omega (arith, counted, times_other h.slot c.hand.slot (λ e. apart (sym e))) in
     (key_at-off c.hand.slot s.cells (buried c).cells h (AgreeOff-set s.cells c.hand.slot (record { generation = c.hand.generation + 1; value = None })) apart, ap (λ n. ltb 0 n) same)
 
--- each row that stands in the column or is pending stays as it was
+-- each row that is in the column or is pending stays as it was
 pub StaysAs-Leads : (ceiling : Option ℕ) (c : Carried) (t : State) → IsIntact c.store (c.hand ∷ []) → Leads ceiling c t → All (StaysAs c.store t) t.column × All (StaysAs c.store t) t.pending_in
 StaysAs-Leads ceiling c t intact (buries d doomed) =
     let s = d.store in

@@ -41,7 +41,7 @@ bulk_from ceiling es left s =
       tally = put_in_by (length es) s.tally;
     })
 
--- a counter that is raised by one, and then by so many
+-- a counter that is raised by one, and then by this many
 more_and : (n k : ℕ) → min (more n + k) greatest ≡ min (n + suc k) greatest
 more_and n k = elim (cases_lt n greatest) [
   | inl l ↦
@@ -117,7 +117,7 @@ module _ (ceiling : Option ℕ) (place : ℕ) (s : State) (a b : ℕ) where
       of_coming (turns moved) agree one = tt
       of_coming (stopped moved y) agree one = tt
 
--- where none comes in, all is as it was
+-- if none comes in, all is as it was
 pub bulk_from-none : (ceiling : Option ℕ) (s : State) → IsIntact s [] → bulk_from ceiling [] s.pending_in s ≡ s
 bulk_from-none ceiling s intact =
     let cut = IsCut-intact s [] intact in

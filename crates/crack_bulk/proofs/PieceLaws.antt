@@ -19,7 +19,7 @@ next_mark-skips key [] rest low = refl
 next_mark-skips key (m ∷ ms) rest low =
     rw (le-ltb key m.bound.0 (All-head (λ n. n.bound.0 ≤ key) m ms low)) (next_mark-skips key ms rest (All-tail (λ n. n.bound.0 ≤ key) m ms low))
 
--- a bound that stands at the place moves up
+-- a bound that is at the place moves up
 pub raised-here : (low place : ℕ) (bound : InnerBound) → low ≤ bound.0 → raised low place (mark_at bound place) ≡ mark_at bound (place + 1)
 raised-here low place bound above = rw (le-leb low bound.0 above, eq-eqb place place refl) refl
 

@@ -47,7 +47,7 @@ module _ {X : Type 0} (key : X → ℕ) (stops : X → Bool) where
   behind_front low (y ∷ ys) = cond (nat_lt (key y) low) (behind_front low ys) (y ∷ ys)
 
   -- a pass over what follows a piece: each row of a lower piece changes places with the first of the piece, after the rows of lower pieces at
-  -- the front; how these stand then, and the piece
+  -- the front; how these are then, and the piece
   abbrev pub pass_over : ℕ → List X → List X → List X → List X × List X
   pass_over low [] lower rows = (lower ++ front low rows, behind_front low rows)
   pass_over low (x ∷ xs) lower rows =
@@ -67,7 +67,7 @@ module _ {X : Type 0} (key : X → ℕ) (stops : X → Bool) where
   placed_all low xs es (below rows bound pieces) =
       below (placed (turners low (reaching (is_below key stops bound) xs es)) rows) bound (placed_all bound.0 xs (passed key stops (is_below key stops bound) es rows) pieces)
 
-  -- the passes, from the highest piece down: first over what follows the last piece, and then over the rows of lower pieces that stand before
+  -- the passes, from the highest piece down: first over what follows the last piece, and then over the rows of lower pieces that are before
   -- the one above
   abbrev pub sifted_down : ℕ → Pieces X → List X → List X × Pieces X
   sifted_down low (last rows) behind =

@@ -20,7 +20,7 @@ module _ {X : Type 0} (key : X → ℕ) (stops : X → Bool) where
   placed-push (w ∷ ws) [] x goes = rw (goes, placed-nil ws) refl
   placed-push (w ∷ ws) (y ∷ ys) x goes = ap (λ zs. cond (stops y) w y ∷ zs) (placed-push ws ys x goes)
 
-  -- rows of lower pieces at the front stand there, whatever stands after them
+  -- rows of lower pieces at the front are there, whatever is after them
   pub front-lower : (low : ℕ) (lower rows : List X) → All (λ x. key x < low) lower → (front key stops low (lower ++ rows) ≡ lower ++ front key stops low rows) × (behind_front key stops low (lower ++ rows) ≡ behind_front key stops low rows)
   front-lower low [] rows all = (refl, refl)
   front-lower low (x ∷ xs) rows all =
@@ -94,7 +94,7 @@ module _ {X : Type 0} (key : X → ℕ) (stops : X → Bool) where
             rw (survive, turners-turn low x xs under, leave, place, ← (joined before lower ts x)) (pass-turn low x sv before (lower ++ y ∷ standing) under ∙ rw (split.0, split.1) (rw (first.0, first.1, append-nil lower) right))
       ]
 
-  -- what a pass leaves, where so many rows of lower pieces stand before the piece, and more of them at its front
+  -- what a pass leaves, where this many rows of lower pieces are before the piece, and more of them at its front
   pub pass_over-placed : (low : ℕ) (xs rows before lower : List X) → All Goes xs → All (λ y. low ≤ key y) rows → All (λ x. key x < low) lower → pass_over key stops low (survivors key stops low xs rows) before (lower ++ placed key stops (turners key stops low xs) rows) ≡ ((before ++ lower) ++ turners key stops low xs, met_by key stops low xs rows)
   pass_over-placed low [] [] before lower coming own fronts =
       let split = front-lower low lower [] fronts in

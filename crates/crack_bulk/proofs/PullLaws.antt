@@ -44,7 +44,7 @@ live_rows-Draws place doomed c t listed now (exchanges e j other at from to) =
 live_rows-Draws place doomed c t listed now (draws e j u other at before rest) =
     live_rows-Draws place doomed (pulled_back e) u listed (IsIntact-pulled_back e (omega arith) now) rest
 
--- Where the row stands
+-- Where the row is
 
 twice : (hs : List Handle) (i k slot : ℕ) → i < k → k < length hs → (get_or hs i no_handle).slot ≡ slot → (get_or hs k no_handle).slot ≡ slot → 2 ≤ times slot (slots hs)
 twice [] i k slot order within first second = absurd (omega (arith, within))
@@ -69,7 +69,7 @@ IsOnlyAt-once d hs i within is once = record {
   ];
 }
 
--- a pending deletion stands in the column, once
+-- a pending deletion is in the column, once
 pub IsOnlyAt-doomed : (place : ℕ) (s : State) → place < length s.pending_out → IsIntact s [] → IsOnlyAt (get_or s.pending_out place no_handle) s.column (place_in s.column (get_or s.pending_out place no_handle).slot)
 IsOnlyAt-doomed place s within intact =
     let d = get_or s.pending_out place no_handle in

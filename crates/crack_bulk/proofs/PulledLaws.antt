@@ -93,7 +93,7 @@ module _ (key : Handle → ℕ) (d : Handle) where
   All-column low (below rows bound pieces) divided =
       All-append (λ h. low ≤ key h) rows (column_of pieces) (λ k e h. (divided.0 k e h).0) (λ k e h. omega (arith, divided.1, All-column bound.0 pieces divided.2 k e h))
 
-  -- each bound stands where its piece ends
+  -- each bound is where its piece ends
   pub marks_of-pulled : (low place i : ℕ) (pieces : Pieces Handle) → low ≤ key d → i < length (column_of pieces) → key (get_or (column_of pieces) i no_handle) ≡ key d → AreDivided key low pieces → marks_of place (pulled key itself low one pieces) ≡ map (fallen (key d)) (marks_of place pieces)
   marks_of-pulled low place i (last rows) at_low within is divided = refl
   marks_of-pulled low place i (below rows bound pieces) at_low within is divided =

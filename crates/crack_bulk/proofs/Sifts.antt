@@ -1,4 +1,4 @@
--- Where no carry ends with a row in hand: rows that come in stand after a piece, and are sifted through it.
+-- Where no carry ends with a row in hand: rows that come in are after a piece, and are sifted through it.
 use Rattle.std.specs.Prelude.{ℕ, ◌+◌, nat_lt, count_by, List, take}
 use Rattle.std.specs.List.{All}
 use Rattle.crack_index.specs.declared.mark.Mark.{Mark}

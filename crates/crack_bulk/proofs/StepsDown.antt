@@ -61,7 +61,7 @@ module _ {X : Type 0} (key : X → ℕ) where
   take_less (suc i) (suc n) [] few = refl
   take_less (suc i) (suc n) (x ∷ xs) few = ap (λ ys. x ∷ ys) (take_less i n xs (omega arith))
 
-  -- the marks are in order, and none stands before the place
+  -- the marks are in order, and none is before the place
   pub record AreFrom (place : ℕ) (ms : List Mark) : Type 0 where
     pub pairs : AllPairs InOrder ms
     pub behind : All (λ m. place ≤ m.position) ms

@@ -1,4 +1,4 @@
--- So many turns of a piece in which no row ends a carry are a rotation, and each bound moves up by as many carries as reach the piece above it.
+-- This many turns of a piece in which no row ends a carry are a rotation, and each bound moves up by as many carries as reach the piece above it.
 use Rattle.std.proofs.Common.{◌≡◌, ℕ, ◌+◌, ◌*◌, ◌/◌, ◌%◌, ◌<◌, ◌≤◌, Bool, cond, zero, suc, List, [], ◌∷◌, ◌++◌, take, drop, length, refl, sym, ap, ◌∙◌, inl, inr, arith}
 use Rattle.std.specs.List.{All}
 use Rattle.std.proofs.lemmas.Bool.{cases_Bool, lt-ltb}
@@ -11,7 +11,7 @@ use Rattle.crack_bulk.specs.Queues.{Event, comes, turns, stopped, is_below, left
 use Rattle.crack_column.specs.Sifts.{turned_once, queued}
 use Rattle.crack_bulk.proofs.PieceLaws.{mark_at}
 
--- the first row went after the last, so many times
+-- the first row went after the last, this many times
 abbrev pub turned_by : {X : Type 0} → ℕ → List X → List X
 turned_by zero rows = rows
 turned_by (suc g) rows = turned_by g (turned_once rows)

@@ -1,4 +1,4 @@
--- What all carries of a range leave of a store whose column stands in pieces.
+-- What all carries of a range leave of a store whose column is in pieces.
 use Rattle.std.specs.Prelude.{ℕ, ◌+◌, Bool, false, cond, nat_lt, nat_le, ◌||◌, min, map, filter, List, [], ◌∷◌, length, Option, Some, None}
 use Rattle.crack_row.specs.Ranges.{Range, is_in}
 use Rattle.crack_row.specs.declared.Row.{Row}
@@ -29,11 +29,11 @@ is_doomed s h = nat_lt 0 (times h.slot (slots s.pending_out))
 abbrev pub ends_with : Option ℕ → State → Handle → Bool
 ends_with ceiling s h = is_doomed s h || is_over ceiling (key_at s.cells h)
 
--- so many rows more made way
+-- this many rows more made way
 abbrev pub moved_by : ℕ → MergeReport → MergeReport
 moved_by count tally = record tally { moved = min (tally.moved + count) greatest }
 
--- the store with this column, these marks and so many rows moved, and a hand
+-- the store with this column, these marks and this many rows moved, and a hand
 abbrev pub carried_with : State → List Handle → List Mark → ℕ → Handle → Carried
 carried_with s column marks moved hand =
     record {
@@ -45,7 +45,7 @@ carried_with s column marks moved hand =
       hand = hand;
     }
 
--- what an outcome leaves of a store, but for its column, its marks and its room: rows made way, and the hand that ended the carry is buried, where
+-- what an outcome leaves of a store, except its column, its marks and its room: rows made way, and the hand that ended the carry is buried if
 -- it is doomed, else it is evicted
 abbrev pub ended_so : Event Handle → State → State
 ended_so (comes x) s = s
@@ -63,15 +63,15 @@ ended_by (e ∷ es) s = ended_by es (ended_so e s)
 abbrev pub inside_of : List (Cell Row) → Range → List Handle → List Handle
 inside_of cells r hs = filter (λ h. is_in r (key_at cells h)) hs
 
--- so many rows more were put in
+-- this many more rows were put in
 abbrev pub put_in_by : ℕ → MergeReport → MergeReport
 put_in_by count tally = record tally { put_in = min (tally.put_in + count) greatest }
 
--- the pending insertions of a range come in, in the order of arrival
+-- the pending insertions of a range come in, in order of arrival
 abbrev pub arrivals : Range → State → List (Event Handle)
 arrivals r s = map comes (inside_of s.cells r s.pending_in)
 
--- what all carries of a range leave, room aside: each piece has what the rows that reach it leave of it, each bound stands where its piece ends,
+-- what all carries of a range leave, room aside: each piece has what the rows that reach it leave of it, each bound is where its piece ends,
 -- and the carries have ended one after the other as their outcomes say
 abbrev pub carried_in_bulk : Option ℕ → Range → State → State
 carried_in_bulk ceiling r s =

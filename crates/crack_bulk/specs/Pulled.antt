@@ -1,4 +1,4 @@
--- What all pulls of a range leave of a store whose column stands in pieces, where no filler comes in.
+-- What all pulls of a range leave of a store whose column is in pieces, if no filler comes in.
 use Rattle.std.specs.Prelude.{ℕ, ◌+◌, Bool, true, nat_lt, min, List, [], ◌∷◌, length}
 use Rattle.crack_row.specs.Ranges.{Range}
 use Rattle.crack_row.specs.declared.InnerBound.{InnerBound}
@@ -21,7 +21,7 @@ module _ {D : Type 0} (key : D → ℕ) (handle : D → Handle) where
   abbrev pub ends_above : InnerBound → D → Bool
   ends_above bound d = nat_lt (key d) bound.0
 
-  -- piece by piece: what is left of each by the pulls of all doomed rows of it and of the pieces below
+  -- piece by piece: what the pulls of all doomed rows of a piece and of the pieces below leave of it
   abbrev pub pulled : ℕ → List D → Pieces Handle → Pieces Handle
   pulled low ds (last rows) = last (drained key handle low any_doomed ds rows)
   pulled low ds (below rows bound pieces) = below (drained key handle low (ends_above bound) ds rows) bound (pulled bound.0 ds pieces)
@@ -35,7 +35,7 @@ module _ {D : Type 0} (key : D → ℕ) (handle : D → Handle) where
 abbrev pub itself : Handle → Handle
 itself h = h
 
--- so many rows more were pulled
+-- this many more rows were pulled
 abbrev pub pulled_by : ℕ → MergeReport → MergeReport
 pulled_by count tally = record tally { pulled = min (tally.pulled + count) greatest }
 
@@ -55,7 +55,7 @@ pulled_from hs s =
       column_room = s.column_room + length hs;
     })
 
--- what all pulls of a range leave: each piece has what the pulls that reach it leave of it, each bound stands where its piece ends, and the
--- doomed rows are buried in the order of arrival
+-- what all pulls of a range leave: each piece has what the pulls that reach it leave of it, each bound is where its piece ends, and the
+-- doomed rows are buried in order of arrival
 abbrev pub pulled_in_bulk : Range → State → State
 pulled_in_bulk r s = pulled_from (inside_of s.cells r s.pending_out) s

@@ -1,15 +1,15 @@
--- What a row that comes in does to the pieces of a column: to one piece, rows that come in are a queue.
+-- What an incoming row does to the pieces of a column: for one piece, incoming rows are a queue.
 use Rattle.std.specs.Prelude.{ℕ, suc, Bool, true, cond, nat_lt, List, [], ◌∷◌, ◌++◌}
 use Rattle.crack_row.specs.declared.InnerBound.{InnerBound}
 use Rattle.crack_bulk.specs.Pieces.{Pieces, last, below}
 
 -- how far a carry has come when it reaches a piece
 pub data Event (X : Type 0) : Type 0 where
-  -- the row that comes in is in hand, and its own piece is this one or one above
+  -- the incoming row is in hand, and its own piece is this one or one above
   comes : X → Event X
-  -- the row in hand is of a lower piece; so many rows made way before
+  -- the row in hand is of a lower piece; this many rows made way before
   turns : ℕ → Event X
-  -- the carry has ended below, with this row in hand, after so many rows made way
+  -- the carry has ended below, with this row in hand, after this many rows made way
   stopped : ℕ → X → Event X
 
 -- `key` of each row, and whether a carry ends with it in hand: it is doomed, or at or above a ceiling
@@ -27,7 +27,7 @@ module _ {X : Type 0} (key : X → ℕ) (stops : X → Bool) where
   after_turn [] = []
   after_turn (y ∷ ys) = cond (stops y) ys (ys ++ y ∷ [])
 
-  -- how far a carry has come once it turned a piece
+  -- how far a carry has come after it turned a piece
   abbrev pub onward : ℕ → List X → Event X
   onward moved [] = turns moved
   onward moved (y ∷ ys) = cond (stops y) (stopped (suc moved) y) (turns (suc moved))

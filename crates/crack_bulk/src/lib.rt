@@ -1,3 +1,3 @@
-//! What many carries leave of a cracked column, piece by piece: to one piece they are a queue, so pieces can be done
-//! one after the other. The definitions stand in `specs/`, over plain lists, and the laws in `proofs/`.
+//! What many carries leave of a cracked column, piece by piece: for one piece they are a queue, so pieces can be done
+//! one after the other. The definitions are in `specs/`, over plain lists, and the laws in `proofs/`.
 #![tactic(auto)]
