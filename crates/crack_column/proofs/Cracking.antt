@@ -1,4 +1,4 @@
--- Laws of a crack: what stands where after it, and how it divides.
+-- Laws of a crack: what is where after it, and how it divides.
 use Rattle.std.proofs.Common.{◌≡◌, ℕ, ◌+◌, ◌-◌, ◌<◌, ◌≤◌, ◌⊎◌, List, ◌++◌, length, map, get_or, take, drop, refl, sym, ap, ◌∙◌, inl, inr, arith, length-append}
 use Rattle.std.specs.List.{All, between}
 use Rattle.std.specs.List.Sorted.{IsPermutation}
@@ -12,7 +12,7 @@ use Rattle.crack_row.specs.declared.Row.{Row}
 use Rattle.crack_arena.specs.Rows.{key_at}
 use Rattle.crack_column.specs.Column.{Memory, nothing, memory_at, Remembers, IsDividedAt, Cracks}
 
--- what stands where in a list whose middle was replaced
+-- what is at each place of a list whose middle was replaced
 pub record Replaced {X : Type 0} (from to : ℕ) (old piece new : List X) : Type 0 where
   pub len : length new ≡ length old
   pub before : (k : ℕ) (d : X) → k < from → get_or new k d ≡ get_or old k d
@@ -88,7 +88,7 @@ module _ (cells : List (Cell Row)) (bound from to : ℕ) (handles : List Handle)
       let back : from + k - from ≡ k = omega arith in
       rw (get_or-between handles' from to k no_handle inside, (placed c).inside (from + k) no_handle (omega arith) inside, back) refl)
 
-  -- in the stretch stand the same handles
+  -- in the stretch are the same handles
   pub Cracks-own : Cracks cells bound from to handles remembered handles' remembered' place → IsPermutation (between from to handles) (between from to handles')
   Cracks-own c = rw (piece_now c) c.kept
 
@@ -107,7 +107,7 @@ module _ (cells : List (Cell Row)) (bound from to : ℕ) (handles : List Handle)
       let new : between 0 (length handles) handles' ≡ handles' = ap (λ n. between 0 n handles') (sym (length-Cracks c)) ∙ whole handles' in
       rw (whole handles, new) at around
 
-  -- the whole column is divided at the place, where the stretch lies between two lesser and greater bounds
+  -- the whole column is divided at the place, if the stretch lies between two lesser and greater bounds
   pub Cracks-divides : Cracks cells bound from to handles remembered handles' remembered' place → (low high : ℕ) → low ≤ bound → bound ≤ high → IsDividedAt low (map (key_at cells) handles) from → IsDividedAt high (map (key_at cells) handles) to → IsDividedAt bound (map (key_at cells) handles') place
   Cracks-divides c low high below above d e =
       let at = placed c in

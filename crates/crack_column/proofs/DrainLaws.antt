@@ -93,7 +93,7 @@ module _ (hs : List Handle) (start end : ℕ) (h : Handle) (order : start < end)
   long : length front ≡ end - 1 - start
   long = length-between hs start (end - 1) (omega (arith, within))
 
-  -- it stands before the last
+  -- it is before the last
   module _ (place : ℕ) (from : start ≤ place) (found : IsFirstAt front h (place - start)) where
     abbrev i : ℕ
     i = place - start
@@ -121,7 +121,7 @@ module _ (hs : List Handle) (start end : ℕ) (h : Handle) (order : start < end)
     pub taken-one : one_unless_last h (between start end hs) ≡ 1
     taken-one = ap (one_unless_last h) (between-last hs start end order within) ∙ rw (first, lt-ltb (i + 1) (length (front ++ z ∷ [])) (omega (arith, found.here.within, length_push front z))) refl
 
-  -- it is the last, or stands nowhere
+  -- it is the last, or is nowhere
   module _ (absent : IsAbsent front h) where
     behind : length front ≤ place_of h (front ++ z ∷ [])
     behind = elim (cases_lt (place_of h (front ++ z ∷ [])) (length front)) [

@@ -21,7 +21,7 @@ module _ (ts : List Tag) (len place : ℕ) (hand there : Tag) (first : place < l
   pub there_is : get_or before place no_tag ≡ there
   there_is = get_or-set_other ts len place hand no_tag (λ e. absurd (omega (arith, e))) ∙ sym is
 
-  -- it is an exchange with the row that stands after the last place
+  -- it is an exchange with the row that is after the last place
   pub swapped-held : after ≡ set (set before place (get_or before len no_tag)) len (get_or before place no_tag)
   swapped-held =
       let moved : set before place hand ≡ set (set ts place hand) len hand = set_comm ts len place hand hand (λ e. absurd (omega (arith, e))) in

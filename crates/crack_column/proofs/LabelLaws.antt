@@ -85,7 +85,7 @@ payloads-tags_of [] (p ∷ ps) beside = absurd (omega (arith, beside))
 payloads-tags_of (l ∷ ls) [] beside = absurd (omega (arith, beside))
 payloads-tags_of (l ∷ ls) (p ∷ ps) beside = ap (λ (qs : List Payload). p ∷ qs) (payloads-tags_of ls ps (omega (arith, beside)))
 
--- a sum is read off the payloads alone
+-- a sum is read from the payloads alone
 pub total-tags_of : (ls : List Label) (ps : List Payload) → length ps ≡ length ls → total_by amount ps ≡ total_by amount_borne (tags_of ls ps)
 total-tags_of ls ps beside =
     ap (λ (qs : List Payload). total_by amount qs) (sym (payloads-tags_of ls ps beside)) ∙ total_by-map amount (λ (t : Tag). t.payload) (tags_of ls ps)

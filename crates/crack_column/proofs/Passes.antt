@@ -19,7 +19,7 @@ use Rattle.crack_column.specs.Tickets.{tag_handle}
 use Rattle.crack_column.specs.Keeps.{remembered_key}
 use Rattle.crack_column.specs.Inside.{no_tag, forgotten, shifted, Knows, Read}
 
--- the tags before the gap stand divided
+-- the tags before the gap are divided
 pub record IsSplit (bound : ℕ) (tags : List Tag) (low gap : ℕ) : Type 0 where
   pub within : low ≤ gap
   pub below : (k : ℕ) → k < low → (get_or tags k no_tag).key < bound
@@ -44,7 +44,7 @@ IsPartway-start bound ts first is = record {
   split = IsSplit-start bound ts;
 }
 
--- on which side of the bound a tag is, and where the tags at or above it begin once it stands there
+-- on which side of the bound a tag is, and where the tags at or above it begin once it is there
 abbrev pub Falls : ℕ → Tag → ℕ → ℕ → Type 0
 Falls bound t low low2 = ((t.key < bound) × (low2 ≡ low + 1)) ⊎ ((bound ≤ t.key) × (low2 ≡ low))
 
@@ -74,7 +74,7 @@ IsSplit-shifted bound ts t low gap low2 inside falls split =
       }
     ]
 
--- a tag that fills the gap itself, or comes in elsewhere and leaves the gap to the one that stood there: the tags are the same
+-- a tag that fills the gap itself, or comes in elsewhere and leaves the gap to the one that was there: the tags are the same
 pub shifted-permutes : (ts : List Tag) (t : Tag) (low gap : ℕ) → low ≤ gap → gap < length ts → IsPermutation (set ts gap t) (shifted ts gap low t)
 shifted-permutes ts t low gap order inside =
     let filled : List Tag = set ts gap t in
@@ -88,7 +88,7 @@ shifted-permutes ts t low gap order inside =
           IsPermutation-swap filled (shifted ts gap low t) gap low (omega arith) (omega arith) (same ∙ swap_is filled gap low no_tag (omega arith) (omega arith))
     ]
 
--- the tag after the gap comes in, and the gap is where it stood
+-- the tag after the gap comes in, and the gap is where it was
 pub IsPartway-step : (bound : ℕ) (ts ts1 : List Tag) (first next : Tag) (low gap low2 : ℕ) → gap + 1 < length ts1 → get_or ts1 (gap + 1) no_tag ≡ next → Falls bound next low low2 → IsPartway bound ts ts1 first low gap → IsPartway bound ts (shifted ts1 gap low next) first low2 (gap + 1)
 IsPartway-step bound ts ts1 first next low gap low2 inside is falls so_far =
     let whole : List Tag = set ts1 gap first in
@@ -114,7 +114,7 @@ IsPartway-step bound ts ts1 first next low gap low2 inside is falls so_far =
 pub permuted_all : (bound : ℕ) (ts ts' : List Tag) (first : Tag) (low gap : ℕ) → gap < length ts' → IsPartway bound ts ts' first low gap → IsPermutation ts (shifted ts' gap low first)
 permuted_all bound ts ts' first low gap inside so_far = IsPermutation-trans ts (set ts' gap first) (shifted ts' gap low first) so_far.kept (shifted-permutes ts' first low gap so_far.split.within inside)
 
--- and the keys stand divided
+-- and the keys are divided
 pub divided_all : (bound : ℕ) (ts ts' : List Tag) (first : Tag) (low gap place : ℕ) → gap + 1 ≡ length ts' → Falls bound first low place → IsPartway bound ts ts' first low gap → IsDividedAt bound (map remembered_key (shifted ts' gap low first)) place
 divided_all bound ts ts' first low gap place is_last falls so_far =
     let after : List Tag = shifted ts' gap low first in
@@ -128,7 +128,7 @@ divided_all bound ts ts' first low gap place is_last falls so_far =
       above = λ k g l. rw (get_or-map remembered_key after k no_tag 0 (omega (arith, keys))) (split.above k g (omega (arith, long, keys)));
     }
 
--- the first i tags were read, so many of them weren't known and no more are, and nothing else was changed
+-- the first i tags were read, this many of them weren't known and no more are, and nothing else was changed
 pub record IsLearned (cells : List (Cell Row)) (gens : List ℕ) (tags tags' : List Tag) (learned i : ℕ) : Type 0 where
   pub few : learned ≤ i
   pub fewer : times unknown (map remembered_key tags') + learned ≡ times unknown (map remembered_key tags)
@@ -139,7 +139,7 @@ pub record IsLearned (cells : List (Cell Row)) (gens : List ℕ) (tags tags' : L
 pub length-IsLearned : (cells : List (Cell Row)) (gs : List ℕ) (ts ts' : List Tag) (n i : ℕ) → IsLearned cells gs ts ts' n i → length ts' ≡ length ts
 length-IsLearned cells gs ts ts' n i so_far = omega (arith, length-map ts' forgotten, length-map ts forgotten, ap (λ (xs : List Tag). length xs) so_far.kept)
 
--- each ticket is of a generation still
+-- each ticket is still of a generation
 pub drawn-IsLearned : (cells : List (Cell Row)) (gs : List ℕ) (ts ts' : List Tag) (n i k : ℕ) (d : Tag) → IsLearned cells gs ts ts' n i → All (λ t. t.ticket < length gs) ts → k < length ts' → (get_or ts' k d).ticket < length gs
 drawn-IsLearned cells gs ts ts' n i k d so_far drawn inside =
     let long = length-IsLearned cells gs ts ts' n i so_far in
@@ -194,7 +194,7 @@ IsLearned-known cells gs ts ts1 n i known so_far =
 pub learned_all : (cells : List (Cell Row)) (gs : List ℕ) (ts ts' : List Tag) (n i : ℕ) → length ts' ≤ i → IsLearned cells gs ts ts' n i → All (Read cells gs) ts'
 learned_all cells gs ts ts' n i past so_far = λ k d l. rw (get_or_default ts' k d no_tag l) (so_far.read k (omega arith) l)
 
--- where each row is known, each tag that knows its row bears it
+-- if each row is known, each tag that knows its row bears it
 pub all_read : (cells : List (Cell Row)) (gs : List ℕ) (ts : List Tag) → times unknown (map remembered_key ts) ≡ 0 → All (Knows cells gs) ts → All (Read cells gs) ts
 all_read cells gs ts none known = λ k d h. elim (known k d h) [
   | inl u ↦ absurd (omega (arith, none, times_map_at unknown remembered_key ts k d h u))

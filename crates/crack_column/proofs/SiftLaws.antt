@@ -72,7 +72,7 @@ module _ {X : Type 0} (key : X → ℕ) where
     | inr over ↦ rw (below-over bound x xs over) (omega (arith, below-few bound xs))
   ]
 
--- What is read off the rows
+-- What is read from the rows
 
 map-turned : {X Y : Type 0} (f : X → Y) (rows : List X) → map f (turned_once rows) ≡ turned_once (map f rows)
 map-turned f [] = refl
@@ -242,7 +242,7 @@ module _ (gs : List ℕ) (bound start from to : ℕ) (ts ts' : List Tag) (below 
     pub moved-sifted : moved ≡ made_way (key_at cells) bound (between from to (handles_in gs ts len)) (between start from (handles_in gs ts len))
     moved-sifted = sifts.moved_is ∙ map-made_way (tag_handle gs) remembered_key (key_at cells) bound came stood same_keys ∙ rw (came_is, stood_is) refl
 
-    -- what stands first of them now
+    -- what is first of them now
     first_of : {X : Type 0} (f : Tag → X) (d : X) → between start (start + below) (map f (take len ts')) ≡ map f (below_bound remembered_key bound came)
     first_of {X = X} f d =
         let there = over_tags gs start to ts ts' 0 len are (omega arith) end reordered f d in

@@ -7,7 +7,7 @@ use Rattle.crack_column.specs.Inside.{no_tag, shifted}
 use Rattle.crack_column.specs.Keeps.{remembered_key}
 use Rattle.crack_column.specs.Sifts.{turned_once, one_if_some, below_bound, queued, made_way}
 
--- up to a gap the tags were sifted: those below the bound stand first, then the stretch
+-- up to a gap the tags were sifted: those below the bound are first, then the stretch
 pub record IsSifting (bound : ℕ) (tags now : List Tag) (from gap low moved : ℕ) : Type 0 where
   pub lower : List Tag
   pub rows : List Tag

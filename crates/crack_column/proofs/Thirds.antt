@@ -12,7 +12,7 @@ use Rattle.crack_column.specs.Keeps.{remembered_key}
 use Rattle.crack_column.specs.Inside.{no_tag, shifted, turned}
 use Rattle.crack_column.proofs.Passes.{shifted-permutes, IsSplit, IsSplit-start, IsPartway-start, Falls}
 
--- what stands where after it
+-- what is where after it
 record Turned (ts after : List Tag) (gap upper place : ℕ) (t : Tag) : Type 0 where
   pub long : length after ≡ length ts
   pub at_place : get_or after place no_tag ≡ t
@@ -34,7 +34,7 @@ Turned-is ts gap upper place t low high inside =
       others = λ k apart other ne. get_or-set_other second place k t no_tag apart ∙ get_or-set_other filled upper k (get_or filled place no_tag) no_tag other ∙ get_or-set_other ts gap k (get_or ts upper no_tag) no_tag ne;
     }
 
--- the tags up to the gap stand divided, where the new one is below the bound
+-- the tags up to the gap are divided, if the new one is below the bound
 split_below : (bound : ℕ) (ts after : List Tag) (p gap upper place : ℕ) (t : Tag) → Turned ts after gap upper place t → t.key < bound → place ≤ p → p ≤ upper → (place ≡ p) ⊎ (p ≡ upper) → upper ≤ gap → IsSplit bound ts p gap → IsSplit bound after (p + 1) (gap + 1)
 split_below bound ts after p gap upper place t at key low high which inside split = record {
   within = omega (arith, split.within);
@@ -58,7 +58,7 @@ split_below bound ts after p gap upper place t at key low high which inside spli
   ];
 }
 
--- and where it is at or above the bound
+-- and if it is at or above the bound
 split_above : (bound : ℕ) (ts after : List Tag) (p gap upper : ℕ) (t : Tag) → Turned ts after gap upper upper t → bound ≤ t.key → p ≤ upper → upper ≤ gap → IsSplit bound ts p gap → IsSplit bound after p (gap + 1)
 split_above bound ts after p gap upper t at key high inside split = record {
   within = omega (arith, split.within);
@@ -89,7 +89,7 @@ turned-permutes ts gap upper place t low high inside =
           IsPermutation-trans (set ts gap t) one (turned ts gap upper place t) first (IsPermutation-swap one (turned ts gap upper place t) upper place (omega (arith, one_long, filled_long)) (omega (arith, one_long, filled_long)) (same ∙ swap_is one upper place no_tag (omega (arith, one_long, filled_long)) (omega (arith, one_long, filled_long))))
     ]
 
--- the tags before the gap stand divided by both bounds, and the first one is to fill it
+-- the tags before the gap are divided by both bounds, and the first one is to fill it
 pub record IsThirdway (low high : ℕ) (tags tags' : List Tag) (first : Tag) (middle upper gap : ℕ) : Type 0 where
   pub kept : IsPermutation tags (set tags' gap first)
   pub order : middle ≤ upper
@@ -105,7 +105,7 @@ IsThirdway-start low high ts first is = record {
   higher = IsSplit-start high ts;
 }
 
--- where a tag belongs, and where the middle and the upper tags begin once it stands there
+-- where a tag belongs, and where the middle and the upper tags begin once it is there
 pub record Belongs (low high : ℕ) (t : Tag) (middle upper place middle2 upper2 : ℕ) : Type 0 where
   pub which : ((t.key < low) × (place ≡ middle) × (middle2 ≡ middle + 1)) ⊎ ((low ≤ t.key) × (place ≡ upper) × (middle2 ≡ middle))
   pub falls : Falls high t upper upper2
@@ -157,7 +157,7 @@ Divided-turned low high ts t middle upper gap place middle2 upper2 bounds inside
 pub Belongs-within : (low high : ℕ) (t : Tag) (middle upper place middle2 upper2 : ℕ) → middle ≤ upper → Belongs low high t middle upper place middle2 upper2 → place ≤ upper
 Belongs-within low high t middle upper place middle2 upper2 order belongs = elim belongs.which [ inl l ↦ omega (arith, l.1) | inr g ↦ omega (arith, g.1) ]
 
--- the tag after the gap comes in, and the gap is where it stood
+-- the tag after the gap comes in, and the gap is where it was
 pub IsThirdway-step : (low high : ℕ) (ts ts1 : List Tag) (first next : Tag) (middle upper gap place middle2 upper2 : ℕ) → low ≤ high → gap + 1 < length ts1 → get_or ts1 (gap + 1) no_tag ≡ next → Belongs low high next middle upper place middle2 upper2 → IsThirdway low high ts ts1 first middle upper gap → IsThirdway low high ts (turned ts1 gap upper place next) first middle2 upper2 (gap + 1)
 IsThirdway-step low high ts ts1 first next middle upper gap place middle2 upper2 bounds inside is belongs so_far =
     let before : place ≤ upper = Belongs-within low high next middle upper place middle2 upper2 so_far.order belongs in
@@ -189,7 +189,7 @@ IsThirdway-step low high ts ts1 first next middle upper gap place middle2 upper2
       higher = divided.higher;
     }
 
--- once the gap is the last place, the first tag comes in: the tags are the same, and their keys stand divided by both bounds
+-- once the gap is the last place, the first tag comes in: the tags are the same, and their keys are divided by both bounds
 pub record IsThirds (low high : ℕ) (tags after : List Tag) (middle upper : ℕ) : Type 0 where
   pub kept : IsPermutation tags after
   pub order : middle ≤ upper

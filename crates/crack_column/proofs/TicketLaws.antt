@@ -1,4 +1,4 @@
--- What a column's handles are and what it remembers, place by place, after a row was put at a place or a stretch was turned.
+-- What a column's handles are and what it remembers, place by place, after a row was put at a place or a stretch was cracked.
 use Rattle.std.proofs.Common.{◌≡◌, ◌≢◌, ℕ, suc, ◌+◌, ◌-◌, ◌<◌, ◌≤◌, ◌^◌, List, [], ◌∷◌, ◌++◌, length, map, get_or, set, take, drop, slice_get, Some, refl, sym, ap, ◌∙◌, inl, inr, arith, length-append, length-set}
 use Rattle.std.specs.Prelude.{remove}
 use Rattle.std.specs.List.{All, between}
@@ -66,7 +66,7 @@ memory_in ts len k d within inside =
 pub unread-le : (ts : List Tag) (len : ℕ) → len ≤ length ts → unread_in (take len ts) ≤ len
 unread-le ts len within = omega (arith, times-le-length unknown (map remembered_key (take len ts)), length-map (take len ts) remembered_key, length-take-le len ts within)
 
--- one tag more at the end
+-- one more tag at the end
 pub remembered-longer : (ts ts' : List Tag) (len : ℕ) (t : Tag) → take (len + 1) ts' ≡ take len ts ++ t ∷ [] → remembered_in ts' (len + 1) ≡ remembered_in ts len ++ memory_of t ∷ []
 remembered-longer ts ts' len t longer = ap (λ (xs : List Tag). map memory_of xs) longer ∙ map-append memory_of (take len ts) (t ∷ [])
 
@@ -90,13 +90,13 @@ aside_at : (gs : List ℕ) (ts : List Tag) (len k : ℕ) (d : Aside) → len + k
 aside_at gs ts len k d inside =
     get_or-map (aside_of gs) (drop len ts) k no_tag d (omega (arith, length-drop len ts)) ∙ ap (aside_of gs) (get_or-drop len ts k no_tag)
 
--- the one aside is read off the tag after the last place
+-- the one aside is read from the tag after the last place
 pub first-aside : (gs : List ℕ) (ts : List Tag) (len : ℕ) → len < length ts → get_or (aside_in gs ts len) 0 no_aside ≡ aside_of gs (get_or ts len no_tag)
 first-aside gs ts len inside =
     let at : len + 0 ≡ len = omega arith in
     aside_at gs ts len 0 no_aside (omega arith) ∙ ap (λ n. aside_of gs (get_or ts n no_tag)) at
 
--- and without it the rest is what follows one place more
+-- and without it the rest is what follows one place further on
 pub aside-longer : (gs : List ℕ) (ts : List Tag) (len : ℕ) → drop 1 (aside_in gs ts len) ≡ aside_in gs ts (len + 1)
 aside-longer gs ts len = drop-map (aside_of gs) 1 (drop len ts) ∙ ap (λ (xs : List Tag). map (aside_of gs) xs) (drop-drop 1 len ts)
 
@@ -193,7 +193,7 @@ module _ (gs : List ℕ) (ts : List Tag) (place : ℕ) (h : Handle) (m : Memory)
       let by_tag : Tag → Aside = λ t. record { handle = tag_handle gs (get_or ts k no_tag); memory = memory_of t } in
       ap by_handle (other_handle k ne within) ∙ ap by_tag (other_tag k ne)
 
-  -- what stands aside after it stays
+  -- what is aside after it stays
   pub aside-behind : (from : ℕ) → place < from → aside_in gs' ts' from ≡ aside_in gs ts from
   aside-behind from behind =
       ext_get_or no_aside (aside_in gs' ts' from) (aside_in gs ts from) (omega (arith, length-aside gs' ts' from, length-aside gs ts from, length-Kept)) (λ k l.
@@ -325,7 +325,7 @@ split_in_three xs from to order =
     let behind : drop to xs ≡ drop (to - from) (drop from xs) = rw (drop-drop (to - from) from xs, on) refl in
     rw (behind, take-append-drop (to - from) (drop from xs), take-append-drop from xs) refl
 
--- what is read off a stretch of the column's tags
+-- what is read from a stretch of the column's tags
 pub stretch_of : {X : Type 0} (f : Tag → X) (d : X) (ts : List Tag) (len from to : ℕ) → len ≤ length ts → to ≤ len → between from to (map f (take len ts)) ≡ map f (between from to ts)
 stretch_of f d ts len from to within end =
     let cut = length-between ts from to (omega arith) in
@@ -341,7 +341,7 @@ unread-between ts len from to within order end =
     let split : ks ≡ take from ks ++ (between from to ks ++ drop to ks) = split_in_three ks from to order in
     rw (← stretch_of remembered_key 0 ts len from to within end) (omega (arith, ap (times unknown) split, times-append unknown (take from ks) (between from to ks ++ drop to ks), times-append unknown (between from to ks) (drop to ks)))
 
--- handles and tickets are read off what a crack keeps
+-- handles and tickets are read from what a crack keeps
 handles_bare : (gs : List ℕ) (xs : List Tag) → map (tag_handle gs) xs ≡ map (tag_handle gs) (map forgotten xs)
 handles_bare gs [] = refl
 handles_bare gs (t ∷ xs) = ap (λ ys. tag_handle gs t ∷ ys) (handles_bare gs xs)
@@ -350,7 +350,7 @@ tickets_bare : (xs : List Tag) → map ticket_of xs ≡ map ticket_of (map forgo
 tickets_bare [] = refl
 tickets_bare (t ∷ xs) = ap (λ ys. t.ticket ∷ ys) (tickets_bare xs)
 
--- a stretch of the column stands in another order, and so many of its rows are known that weren't
+-- a stretch of the column is in another order, and this many of its rows are known that weren't
 pub record Reorders (from to : ℕ) (tags tags' : List Tag) (learned : ℕ) : Type 0 where
   pub stretch : List Tag
   pub are : tags' ≡ take from tags ++ stretch ++ drop to tags
@@ -390,7 +390,7 @@ module _ (gs : List ℕ) (from to : ℕ) (ts ts' : List Tag) (learned len : ℕ)
     once = λ n. rw (times-IsPermutation n (map ticket_of ts) (map ticket_of ts') tickets-Reorders) (are.once n);
   }
 
-  -- a list over the column's tags, whose middle is read off the stretch
+  -- a list over the column's tags, whose middle is read from the stretch
   module _ {X : Type 0} (f : Tag → X) (d : X) where
     pub over_tags : map f (take len ts') ≡ take from (map f (take len ts)) ++ map f reorders.stretch ++ drop to (map f (take len ts))
     over_tags =
@@ -418,7 +418,7 @@ module _ (gs : List ℕ) (from to : ℕ) (ts ts' : List Tag) (learned len : ℕ)
       let inside : len + k < length ts' = omega (arith, length-aside gs ts' len) in
       rw (aside_at gs ts' len k no_aside inside, aside_at gs ts len k no_aside (omega (arith, standing.len)), standing.behind (len + k) no_tag (omega arith)) refl)
 
-  -- the rows that became known are unread no more
+  -- the rows that became known are no longer unread
   pub unread-Reorders : unread_in (take len ts') + learned ≡ unread_in (take len ts)
   unread-Reorders =
       let ks = map remembered_key (take len ts) in
@@ -487,7 +487,7 @@ drawn-between gs ts from to within all = λ k d l.
     let inside : from + k < to = omega (arith, length-between ts from to within) in
     rw (get_or-between ts from to k d inside) (all (from + k) d (omega arith))
 
--- the handle that stands at a place
+-- the handle that is at a place
 pub stands_at : (gs : List ℕ) (ts : List Tag) (len place : ℕ) → len ≤ length ts → place < len → slice_get (handles_in gs ts len) place ≡ Some (tag_handle gs (get_or ts place no_tag))
 stands_at gs ts len place within inside =
     slice_get-get_or (handles_in gs ts len) place no_handle (omega (arith, length-in gs ts len within)) ∙ ap (λ (h : Handle). Some h) (handle_in gs ts len place no_handle within inside)

@@ -16,7 +16,7 @@ pub record Memory : Type 0 where
 abbrev pub nothing : Memory
 nothing = record { key = unknown; payload = no_payload }
 
--- what is to be remembered of the row that the handle reads
+-- what is to be remembered about the row that the handle reads
 abbrev pub memory_at : List (Cell Row) → Handle → Memory
 memory_at cells h = record { key = key_at cells h; payload = payload_at cells h }
 
@@ -24,12 +24,12 @@ memory_at cells h = record { key = key_at cells h; payload = payload_at cells h 
 abbrev pub Agrees : List (Cell Row) → Handle → Memory → Type 0
 Agrees cells h m = (m.key ≡ unknown) ⊎ (m ≡ memory_at cells h)
 
--- a handle that stands aside, and what is remembered of its row
+-- a handle that is aside, and what is remembered about its row
 pub record Aside : Type 0 where
   pub handle : Handle
   pub memory : Memory
 
--- handles in cracked order, what is remembered of their rows, how many more fit in without memory, and what follows the last
+-- handles in cracked order, what is remembered about their rows, how many more fit in without memory, and what follows the last
 -- place: the first of these is the one aside
 pub record Column : Type 0 where
   pub handles : List Handle
@@ -44,15 +44,15 @@ no_aside = record { handle = no_handle; memory = record { key = 0; payload = no_
 abbrev pub first_aside : Column → Aside
 first_aside c = slice_index_or c.aside 0 no_aside
 
--- what stands at a place
+-- what is at a place
 abbrev pub standing_at : ℕ → Column → Aside
 standing_at place c = record { handle = slice_index_or c.handles place no_handle; memory = slice_index_or c.remembered place nothing }
 
--- another stands aside first
+-- another handle is first set aside
 abbrev pub with_aside : Aside → Column → Column
 with_aside a c = record c { aside = a ∷ drop 1 c.aside }
 
--- the one aside takes a place, and the one that stood there is aside
+-- the handle aside takes a place, and the one that was there is set aside
 abbrev pub exchanged_aside : ℕ → Column → Column
 exchanged_aside place c = record c {
   handles = slice_set c.handles place (first_aside c).handle;
@@ -60,7 +60,7 @@ exchanged_aside place c = record c {
   aside = standing_at place c ∷ drop 1 c.aside;
 }
 
--- the one aside becomes the last
+-- the handle aside becomes the last
 abbrev pub appended_aside : Column → Column
 appended_aside c = record {
   handles = c.handles ++ (first_aside c).handle ∷ [];
@@ -69,7 +69,7 @@ appended_aside c = record {
   aside = drop 1 c.aside;
 }
 
--- the last is aside
+-- the last is set aside
 abbrev pub popped_aside : Column → Column
 popped_aside c = record {
   handles = take (length c.handles - 1) c.handles;
@@ -82,26 +82,26 @@ popped_aside c = record {
 abbrev pub swapped : {X : Type 0} → X → ℕ → ℕ → List X → List X
 swapped d one other xs = slice_set (slice_set xs one (slice_index_or xs other d)) other (slice_index_or xs one d)
 
--- what is remembered of each handle's row is right
+-- what is remembered about each handle's row is right
 pub record Remembers (cells : List (Cell Row)) (handles : List Handle) (remembered : List Memory) : Type 0 where
   pub beside : length remembered ≡ length handles
   pub right : (k : ℕ) (d : Handle) → k < length handles → Agrees cells (slice_index_or handles k d) (slice_index_or remembered k nothing)
 
--- over whatever cells the first column remembers its rows rightly, the second does
+-- over whatever cells the first column remembers its rows rightly, the second does as well
 abbrev pub StillRemembers : Column → Column → Type 0
 StillRemembers old new = (cells : List (Cell Row)) → Remembers cells old.handles old.remembered → Remembers cells new.handles new.remembered
 
--- and where this is right of the handle's row besides
+-- and if this is also right of the handle's row
 abbrev pub StillRemembersWith : Handle → Memory → Column → Column → Type 0
 StillRemembersWith h m old new = (cells : List (Cell Row)) → Remembers cells old.handles old.remembered → Agrees cells h m → Remembers cells new.handles new.remembered
 
--- the keys below the bound stand before the place, all others from it on
+-- the keys below the bound are before the place, all others from it on
 pub record IsDividedAt (bound : ℕ) (keys : List ℕ) (place : ℕ) : Type 0 where
   pub within : place ≤ length keys
   pub below : (k : ℕ) → k < place → slice_index keys k < bound
   pub above : (k : ℕ) → place ≤ k → k < length keys → bound ≤ slice_index keys k
 
--- from `from` up to `to` the same handles stand in some order, divided by the bound at the place, their rows remembered; all else is as it was
+-- from `from` up to `to` the same handles are in some order, divided by the bound at the place, with their rows remembered; all else is as it was
 pub record Cracks (cells : List (Cell Row)) (bound from to : ℕ) (handles : List Handle) (remembered : List Memory) (handles' : List Handle) (remembered' : List Memory) (place : ℕ) : Type 0 where
   pub within : to ≤ length handles
   pub piece : List Handle

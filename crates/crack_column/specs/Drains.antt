@@ -1,4 +1,4 @@
--- What pulls leave of a piece: each doomed row of a lower piece turns it back, and each of its own is taken out.
+-- What pulls leave of a piece: each doomed row of a lower piece rotates it backwards, and each of its own is taken out.
 use Rattle.std.specs.Prelude.{◌≡◌, ℕ, ◌+◌, ◌-◌, Bool, true, cond, nat_lt, Option, Some, None, List, [], ◌∷◌, ◌++◌, length, take, drop, slice_index_or, slice_set}
 use Rattle.std.specs.List.{between, position_or_len}
 use Rattle.crack_arena.specs.Arena.{Handle, no_handle, same_handle}
@@ -19,7 +19,7 @@ place_of handle rows = position_or_len (λ h. same_handle h handle) rows
 abbrev pub without : Handle → List Handle → List Handle
 without handle rows = take (length rows - 1) (slice_set rows (place_of handle rows) (slice_index_or rows (length rows - 1) no_handle))
 
--- one where the last takes the place of another
+-- 1 if the last takes the place of another
 abbrev pub one_unless_last : Handle → List Handle → ℕ
 one_unless_last handle rows = cond (nat_lt (place_of handle rows + 1) (length rows)) 1 0
 
@@ -63,8 +63,8 @@ doomed_handle d = d.handle
 abbrev pub left_by : ℕ → Option InnerBound → List Doomed → List Handle → List Handle
 left_by low high ds rows = drained doomed_key doomed_handle low (λ d. is_under high d.key) ds rows
 
--- doomed rows were pulled out of the piece from `from` up to `to`: what they left of it stands from `start` up to the place `end`, so many of its
--- rows were pulled, and what stands before `start` and from `to` on is as it was
+-- doomed rows were pulled out of the piece from `from` up to `to`: what they left of it is from `start` up to the place `end`, this many of its
+-- rows were pulled, and what is before `start` and from `to` on is as it was
 pub record Drains (low : ℕ) (high : Option InnerBound) (ds : List Doomed) (start from to : ℕ) (old new : Column) (end pulled : ℕ) : Type 0 where
   pub front : take start new.handles ≡ take start old.handles
   pub piece : between start end new.handles ≡ left_by low high ds (between from to old.handles)

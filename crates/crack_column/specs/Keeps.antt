@@ -1,5 +1,5 @@
 -- What private clauses alone cite.
--- What a column keeps of its tickets.
+-- What a column keeps about its tickets.
 use Rattle.std.specs.Prelude.{◌≡◌, ℕ, ◌+◌, ◌<◌, ◌≤◌, ◌^◌, List, length, map, take, All, [], ◌∷◌}
 use Rattle.crack_arena.specs.Arena.{times}
 use Rattle.crack_arena.specs.Rows.{unknown}
@@ -25,12 +25,12 @@ pub record AreDrawn (generations : List ℕ) (tags : List Tag) (len : ℕ) : Typ
   pub drawn : All (λ t. t.ticket < length generations) tags
   pub once : (ticket : ℕ) → times ticket (map ticket_of tags) ≤ 1
 
--- and so many tags of the column don't know their rows
+-- and this many tags of the column don't know their rows
 pub record IsKept (generations : List ℕ) (tags : List Tag) (len unread : ℕ) : Type 0 where
   pub are : AreDrawn generations tags len
   pub counted : unread_in (take len tags) ≡ unread
 
--- then each ticket is drawn by one tag, and so many tags of the column and the hand don't know their rows
+-- then each ticket is drawn by one tag, and this many tags of the column and the hand don't know their rows
 pub record IsHeld (generations : List ℕ) (tags : List Tag) (len unread : ℕ) (hand : Tag) : Type 0 where
   pub are : AreDrawn generations (tags_with tags len hand) len
   pub some : len < length tags

@@ -1,4 +1,4 @@
--- How tags are kept: all but their payloads in one list, the payloads in another.
+-- How tags are stored: all but their payloads in one list, the payloads in another.
 use Rattle.std.specs.Prelude.{ℕ, List, [], ◌∷◌}
 use Rattle.crack_row.specs.declared.Payload.{Payload}
 use Rattle.crack_column.specs.declared.tag.Label.{Label}

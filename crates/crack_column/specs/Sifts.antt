@@ -1,4 +1,4 @@
--- What rows that stand after a piece leave of it, where they are sifted through it one after the other.
+-- What rows after a piece leave of it, if they are sifted through it one after the other.
 use Rattle.std.specs.Prelude.{◌≡◌, ℕ, ◌+◌, cond, nat_lt, filter, List, [], ◌∷◌, ◌++◌, length, map, take, drop}
 use Rattle.std.specs.List.{between}
 use Rattle.crack_arena.specs.Arena.{Cell}
@@ -11,7 +11,7 @@ abbrev pub turned_once : {X : Type 0} → List X → List X
 turned_once [] = []
 turned_once (y ∷ ys) = ys ++ y ∷ []
 
--- one where there is one that makes way
+-- 1 if there is one that makes way
 abbrev pub one_if_some : {X : Type 0} → List X → ℕ
 one_if_some [] = 0
 one_if_some (y ∷ ys) = 1
@@ -21,7 +21,7 @@ module _ {X : Type 0} (key : X → ℕ) where
   abbrev pub below_bound : ℕ → List X → List X
   below_bound bound xs = filter (λ x. nat_lt (key x) bound) xs
 
-  -- what rows that come in leave of a piece that begins at this bound: one below the bound takes the place of the first, which goes after the
+  -- what incoming rows leave of a piece that begins at this bound: one below the bound takes the place of the first, which goes after the
   -- last; another goes after the last
   abbrev pub queued : ℕ → List X → List X → List X
   queued bound [] rows = rows
@@ -36,8 +36,8 @@ module _ {X : Type 0} (key : X → ℕ) where
 abbrev pub AreRead : List (Cell Row) → ℕ → ℕ → Column → Type 0
 AreRead cells from to c = between from to c.remembered ≡ map (memory_at cells) (between from to c.handles)
 
--- the rows from `from` up to `to` were sifted through those from `start` up to `from`: so many are below the bound, which stand first, and are
--- remembered; then stands what they left, so many of which made way; all else is as it was
+-- the rows from `from` up to `to` were sifted through those from `start` up to `from`: this many are below the bound, which are first, and are
+-- remembered; after them is what they left, this many of which made way; all else is as it was
 pub record Sifts (cells : List (Cell Row)) (bound start from to : ℕ) (old new : Column) (below moved : ℕ) : Type 0 where
   pub handles_are : new.handles ≡ take start old.handles ++ (below_bound (key_at cells) bound (between from to old.handles) ++ queued (key_at cells) bound (between from to old.handles) (between start from old.handles)) ++ drop to old.handles
   pub below_is : below ≡ length (below_bound (key_at cells) bound (between from to old.handles))

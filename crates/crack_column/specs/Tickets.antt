@@ -12,7 +12,7 @@ memory_of t = record { key = t.key; payload = t.payload }
 abbrev pub tag_handle : List ℕ → Tag → Handle
 tag_handle generations t = record { slot = t.slot; generation = slice_index generations t.ticket }
 
--- the handles of the column that has so many places
+-- the handles of the column with this many places
 abbrev pub handles_in : List ℕ → List Tag → ℕ → List Handle
 handles_in generations tags len = map (tag_handle generations) (take len tags)
 
@@ -20,14 +20,14 @@ handles_in generations tags len = map (tag_handle generations) (take len tags)
 abbrev pub remembered_in : List Tag → ℕ → List Memory
 remembered_in tags len = map memory_of (take len tags)
 
--- what stands aside under a tag
+-- what is aside under a tag
 abbrev pub aside_of : List ℕ → Tag → Aside
 aside_of generations t = record { handle = tag_handle generations t; memory = memory_of t }
 
--- what follows the column that has so many places
+-- what follows the column with this many places
 abbrev pub aside_in : List ℕ → List Tag → ℕ → List Aside
 aside_in generations tags len = map (aside_of generations) (drop len tags)
 
--- how many more handles fit in without memory, where as many tickets were drawn
+-- how many more handles fit in without memory, if as many tickets were drawn
 abbrev pub room_in : ℕ → ℕ → ℕ → ℕ → ℕ
 room_in tickets generation_capacity tag_capacity len = tickets - len + min (2 ^ 32 - tickets) (min (generation_capacity - tickets) (tag_capacity - tickets))

@@ -23,9 +23,9 @@ use std::marker::Model;
 use std::mem;
 
 /// Handles in cracked order. A crack exchanges tags, one at each place: a tag has its row's key and payload, the
-/// handle's slot, and the ticket under which the handle's generation is kept, which no crack moves. The payloads stand
-/// apart, where a sum of known rows reads them alone. A ticket has 32 bits, so there are at most `MOST_PLACES` places.
-/// A row is asked of the arena once, if at all; only one with the greatest key is asked for again.
+/// handle's slot, and the ticket under which the handle's generation is kept, which no crack moves. The payloads are
+/// stored separately, where a sum of known rows reads only them. A ticket has 32 bits, so there are at most
+/// `MOST_PLACES` places. The arena is asked for a row at most once; only one with the greatest key is asked for again.
 #[derive(Drop)]
 pub struct CrackerColumn {
     /// By ticket.
@@ -72,7 +72,7 @@ impl CrackerColumn {
         }
     }
 
-    /// The column, as a value of its own, with one without handles left in its place. O(1), and takes no memory.
+    /// Takes the column, and leaves one without handles in its place. O(1), and takes no memory.
     pub fn take(&mut self) -> CrackerColumn
         ensures { result ≡ self.old }
     {
@@ -88,7 +88,7 @@ impl CrackerColumn {
         self.len
     }
 
-    /// Whether there is no handle. O(1).
+    /// Whether there are no handles. O(1).
     pub fn is_empty(&self) -> bool
         ensures { IsTrue result ↔ (self.now.handles ≡ []) }
     {
@@ -103,7 +103,7 @@ impl CrackerColumn {
         self.tags.label(place).handle(&self.generations)
     }
 
-    /// The slot of the handle at the place. O(1), and reads that place alone.
+    /// The slot of the handle at the place. O(1), and reads only that place.
     pub fn slot_at(&self, place: usize) -> u32
         requires { place < length self.now.handles }
         ensures { result ≡ (slice_index_or self.now.handles place no_handle).slot }
@@ -111,7 +111,7 @@ impl CrackerColumn {
         self.tags.label(place).slot
     }
 
-    /// The first place where the handle stands; none where it stands nowhere. O(n).
+    /// The first place where the handle is; none if it is nowhere. O(n).
     pub fn place_of(&self, handle: Handle<Row>) -> Option<usize>
         ensures { MatchOption result (IsAbsent self.now.handles handle) (IsFirstAt self.now.handles handle) }
     {
@@ -119,7 +119,7 @@ impl CrackerColumn {
             .find_between(0, self.len, &self.generations, handle)
     }
 
-    /// The first place from `from` up to and without `to` where the handle stands; none where it stands at none of
+    /// The first place in `from..to` where the handle is; none if it is at none of
     /// them. O(to - from).
     pub fn place_between(&self, from: usize, to: usize, handle: Handle<Row>) -> Option<usize>
         requires order { from ≤ to }
@@ -134,8 +134,8 @@ impl CrackerColumn {
         }
     }
 
-    /// The sum of the payloads of the rows from the place `from` up to and without `to`. O(to - from), takes no memory.
-    /// A row is asked of the arena where it isn't known, and only there.
+    /// The sum of the payloads of the rows at the places `from..to`. O(to - from), takes no memory.
+    /// The arena is asked for a row only if the row isn't known.
     pub fn sum_between(&self, from: usize, to: usize, arena: &Arena<Row>) -> i128
         requires order { from ≤ to }
         requires within { to ≤ length self.now.handles }
@@ -149,8 +149,8 @@ impl CrackerColumn {
             .sum_between(from, to, self.unread, &self.generations, arena)
     }
 
-    /// Makes room for so many handles more. A handle of each cell of an arena fits.
-    /// Refused with 8 where it finds no memory; what it found is given back.
+    /// Makes room for this many more handles. A handle of each cell of an arena fits.
+    /// Refused with 8 if it finds no memory; what it found is freed.
     pub fn reserve(&mut self, additional: usize) -> Result<(), Refusal>
         requires { length self.old.handles + additional ≤ 2 ^ 32 }
         ensures same { self.new ≡ record self.old { room = self.new.room } }
@@ -184,7 +184,7 @@ impl CrackerColumn {
         self.append_remembered(handle, Remembered::nothing());
     }
 
-    /// Puts the handle at the end, into room that was reserved, with what is to be remembered of its row. O(1).
+    /// Puts the handle at the end, into room that was reserved, with what is to be remembered about its row. O(1).
     pub fn append_remembered(&mut self, handle: Handle<Row>, remembered: Remembered)
         requires { 0 < self.old.room }
         ensures after { self.new ≡ record {
@@ -199,7 +199,7 @@ impl CrackerColumn {
         self.append_aside();
     }
 
-    /// Puts the handle at the place, and gives back the one that stood there. Its row isn't known. O(1).
+    /// Puts the handle at the place, and returns the one that was there. Its row isn't known. O(1).
     pub fn swap_in(&mut self, place: usize, handle: Handle<Row>) -> Handle<Row>
         requires { place < length self.old.handles }
         ensures result { slice_get self.old.handles place ≡ Some result }
@@ -213,7 +213,7 @@ impl CrackerColumn {
             .0
     }
 
-    /// Puts the handle at the place, with what is to be remembered of its row, and gives back the one that stood there,
+    /// Puts the handle at the place, with what is to be remembered about its row, and returns the one that was there,
     /// with what was remembered. O(1).
     pub fn swap_in_remembered(
         &mut self,
@@ -258,7 +258,7 @@ impl CrackerColumn {
         }
     }
 
-    /// Takes the last handle out, with what was remembered of its row. O(1).
+    /// Takes the last handle out, with what was remembered about its row. O(1).
     pub fn pop_remembered(&mut self) -> Option<(Handle<Row>, Remembered)>
         ensures handles { MatchOption result
             ((self.old.handles ≡ []) × (self.new ≡ self.old))
@@ -278,8 +278,8 @@ impl CrackerColumn {
         Some((self.aside(), self.aside_memory()))
     }
 
-    /// Puts the handle aside, after the last place, into room that was reserved, with what is to be remembered of its
-    /// row. It stands at no place of the column; one that stood aside before is let go. O(1).
+    /// Sets the handle aside, after the last place, into room that was reserved, with what is to be remembered about
+    /// its row. It is at no place of the column; one that was aside before is dropped. O(1).
     pub fn set_aside(&mut self, handle: Handle<Row>, remembered: Remembered)
         requires { 0 < self.old.room }
         ensures { self.new ≡ with_aside (record { handle = handle; memory = remembered }) self.old }
@@ -293,7 +293,7 @@ impl CrackerColumn {
         );
     }
 
-    /// Takes the last handle out and puts it aside. O(1), and reads no row.
+    /// Takes the last handle out and sets it aside. O(1), and reads no row.
     pub fn pop_aside(&mut self)
         requires { 0 < length self.old.handles }
         ensures { self.new ≡ popped_aside self.old }
@@ -302,7 +302,7 @@ impl CrackerColumn {
         self.unread -= self.tags.get(self.len).unread();
     }
 
-    /// Puts the handle that stands aside after the last. O(1), and reads no row.
+    /// Puts the handle that is aside after the last. O(1), and reads no row.
     pub fn append_aside(&mut self)
         requires { 0 < length self.old.aside }
         ensures after { self.new ≡ appended_aside self.old }
@@ -313,7 +313,7 @@ impl CrackerColumn {
         self.len += 1;
     }
 
-    /// Puts the handle that stands aside at the place, and the one that stood there aside. O(1): two tags change
+    /// Puts the handle that is aside at the place, and sets the one that was there aside. O(1): two tags change
     /// places, with their tickets, and no generation is read.
     pub fn exchange(&mut self, place: usize)
         requires within { place < length self.old.handles }
@@ -330,7 +330,7 @@ impl CrackerColumn {
         self.unread -= there.unread();
     }
 
-    /// The handle that stands aside. O(1).
+    /// The handle that is aside. O(1).
     pub fn aside(&self) -> Handle<Row>
         requires { 0 < length self.now.aside }
         ensures { result ≡ (first_aside self.now).handle }
@@ -338,7 +338,7 @@ impl CrackerColumn {
         self.tags.label(self.len).handle(&self.generations)
     }
 
-    /// The slot of the handle that stands aside. O(1), and reads no generation.
+    /// The slot of the handle that is aside. O(1), and reads no generation.
     pub fn aside_slot(&self) -> u32
         requires { 0 < length self.now.aside }
         ensures { result ≡ (first_aside self.now).handle.slot }
@@ -346,7 +346,7 @@ impl CrackerColumn {
         self.tags.label(self.len).slot
     }
 
-    /// What is remembered of the row of the handle that stands aside. O(1).
+    /// What is remembered about the row of the handle that is aside. O(1).
     pub fn aside_memory(&self) -> Remembered
         requires { 0 < length self.now.aside }
         ensures { result ≡ (first_aside self.now).memory }
@@ -364,7 +364,7 @@ impl CrackerColumn {
         self.tags.get(place).key(&self.generations, arena)
     }
 
-    /// The key of the row that stands aside. O(1); its cell is read only where the row isn't known.
+    /// The key of the row that is aside. O(1); its cell is read only if the row isn't known.
     pub fn aside_key(&self, arena: &Arena<Row>) -> Key
         requires some { 0 < length self.now.aside }
         requires known { Agrees arena.now.cells (first_aside self.now).handle (first_aside self.now).memory }
@@ -373,8 +373,8 @@ impl CrackerColumn {
         self.tags.get(self.len).key(&self.generations, arena)
     }
 
-    /// Cracks in two: reorders what stands from the place `from` up to and without `to`, rows below the bound first,
-    /// and gives the place of the first row at or above it. In place, without memory.
+    /// Cracks in two: reorders what is at the places `from..to`, rows below the bound first,
+    /// and returns the place of the first row at or above it. In place, without memory.
     /// O(to - from); reads each row there that isn't known through the arena, and remembers it.
     pub fn crack_two(
         &mut self,
@@ -400,8 +400,8 @@ impl CrackerColumn {
         place
     }
 
-    /// Cracks in three: reorders what stands from the place `from` up to and without `to`, rows below the low bound
-    /// first, then those below the high one, and gives the places of the first row at or above either. In place,
+    /// Cracks in three: reorders what is at the places `from..to`, rows below the low bound
+    /// first, then those below the high one, and returns the places of the first row at or above either. In place,
     /// without memory, in one pass. O(to - from); reads each row there that isn't known through the arena, and
     /// remembers it.
     pub fn crack_three(
@@ -433,11 +433,11 @@ impl CrackerColumn {
         places
     }
 
-    /// Sifts the rows from the place `from` up to and without `to`, one after the other, through the piece before them,
-    /// which begins at the place `start`: one below the bound changes places with the first of the piece, and the
-    /// others stay after its last. Those below the bound stand first then. How many they are, and how many rows of the
-    /// piece made way. The rows that are sifted are known. In place, without memory. O(to - from); reads no other row,
-    /// and the arena not at all.
+    /// Sifts the rows at the places `from..to`, one after the other, through the piece before them, which begins at the
+    /// place `start`: one below the bound changes places with the first of the piece, and the others stay after its
+    /// last. Then those below the bound are first. Returns how many they are, and how many rows of the piece made way.
+    /// The rows that are sifted are known. In place, without memory. O(to - from); reads no other row, and the arena
+    /// not at all.
     pub fn sift(
         &mut self,
         start: usize,
@@ -460,7 +460,7 @@ impl CrackerColumn {
     }
 }
 
-/// Keeps the handle at the place, under the ticket there, and gives back the one that was kept there.
+/// Keeps the handle at the place, under the ticket there, and returns the one that was kept there.
 fn keep(
     generations: &mut Vec<u64>,
     tags: &mut Tags,
@@ -481,7 +481,7 @@ fn keep(
     (Handle::new(here.slot, generation), here.remembered())
 }
 
-/// Keeps the handle after the last place: under the ticket that stands there, or under a new one.
+/// Keeps the handle after the last place: under the ticket that is there, or under a new one.
 fn keep_behind(
     generations: &mut Vec<u64>,
     tags: &mut Tags,

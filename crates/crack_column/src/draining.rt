@@ -17,12 +17,12 @@ pub struct Doomed {
 }
 
 impl CrackerColumn {
-    /// Pulls doomed rows out of the piece from the place `from` up to and without `to`, one after the other, as far as
-    /// their pulls reach it: one below its bound `low` puts its last row before its first, into the gap of so many
-    /// places that the rows taken out of the pieces below have left; one of its own makes place for its last row. It
-    /// begins where the gap began then, and where it ends the rows taken out follow. Where it ends, and how many of its
-    /// rows were pulled. In place, without memory. O(doomed rows), and O(to - from) for each of its own; reads no row,
-    /// and the arena not at all.
+    /// Pulls doomed rows out of the piece at the places `from..to`, one after the other, as far as their pulls reach
+    /// it: one below its bound `low` puts its last row before its first, into the gap of this many places that the rows
+    /// taken out of the pieces below have left; one of its own makes place for its last row. It begins where the gap
+    /// began then, and where it ends the rows taken out follow. Returns where it ends, and how many of its rows were
+    /// pulled. In place, without memory. O(doomed rows), and O(to - from) for each of its own; reads no row, and the
+    /// arena not at all.
     pub fn drain(
         &mut self,
         gap: usize,
@@ -56,7 +56,7 @@ impl CrackerColumn {
     }
 
     /// One pull of them, for a piece that begins at the place `start` and ends before `end`, with a gap from `first` up
-    /// to it. Where it begins and ends then, and how many of its rows were pulled.
+    /// to it. Returns where it begins and ends then, and how many of its rows were pulled.
     fn drain_once(
         &mut self,
         first: usize,

@@ -8,14 +8,14 @@ use crate::tag::Tag;
 use crate::tags::Tags;
 use std::marker::Model;
 
-/// A column whose row aside is in hand, for a way on which it takes place after place: an exchange reads and writes the
-/// place alone. Contracts see the column.
+/// A column whose row aside is in hand, for a walk on which it takes place after place: an exchange reads and writes
+/// only the place. Contracts see the column.
 #[derive(Drop)]
 pub struct HeldColumn {
     generations: Vec<u64>,
     tags: Tags,
     len: usize,
-    /// How many tags don't know their rows, the one in hand among them.
+    /// How many tags don't know their rows, including the one in hand.
     unread: usize,
     /// The tag of the row in hand; the one after the last place isn't read.
     hand: Tag,
@@ -101,7 +101,7 @@ impl HeldColumn {
         self.hand.slot
     }
 
-    /// What is remembered of the row in hand. O(1).
+    /// What is remembered about the row in hand. O(1).
     #[inline(always)]
     pub fn memory(&self) -> Remembered
         ensures { result ≡ (first_aside self.now).memory }
@@ -109,7 +109,7 @@ impl HeldColumn {
         self.hand.remembered()
     }
 
-    /// Puts the handle in hand at the place, and takes the one that stood there into the hand, as
+    /// Puts the handle in hand at the place, and takes the one that was there into the hand, as
     /// `CrackerColumn::exchange` does. O(1).
     #[inline(always)]
     pub fn exchange(&mut self, place: usize)

@@ -1,4 +1,4 @@
-//! What a cracker column remembers of a row.
+//! What a cracker column remembers about a row.
 ghost use Rattle.std.specs.Prelude.{◌≡◌, ◌≢◌, ◌<◌, ◌↔◌, [], ◌∷◌, IsTrue};
 ghost use Rattle.crack_arena.specs.Arena.{times};
 ghost use Rattle.crack_arena.specs.Rows.{key_at, unknown};
@@ -29,7 +29,7 @@ impl Model for Remembered {
 }
 
 impl Remembered {
-    /// What is to be remembered of the row. One with the greatest key isn't known by it. O(1).
+    /// What is to be remembered about the row. One with the greatest key isn't known by it. O(1).
     pub fn of(row: Row) -> Remembered
         ensures { result ≡ record { key = row.key.0; payload = row.payload } }
     {
@@ -39,7 +39,7 @@ impl Remembered {
         }
     }
 
-    /// Of a row that isn't known. O(1).
+    /// For a row that isn't known. O(1).
     pub fn nothing() -> Remembered
         ensures { result ≡ nothing }
     {
@@ -49,7 +49,7 @@ impl Remembered {
         }
     }
 
-    /// The key of the handle's row, which is asked of the arena only where the row isn't known. O(1).
+    /// The key of the handle's row; the arena is asked for it only if the row isn't known. O(1).
     pub fn key_of(&self, handle: Handle<Row>, arena: &Arena<Row>) -> Key
         requires { Agrees arena.now.cells handle self.now }
         ensures { result.0 ≡ key_at arena.now.cells handle }
@@ -69,7 +69,7 @@ impl Remembered {
         self.key != UNKNOWN && bound.is_above(Key::from_number(self.key))
     }
 
-    /// What is to be remembered of the row that the handle reads.
+    /// What is to be remembered about the row that the handle reads.
     pub(crate) fn read(arena: &Arena<Row>, handle: Handle<Row>) -> Remembered
         ensures { result ≡ memory_at arena.now.cells handle }
     {
@@ -79,7 +79,7 @@ impl Remembered {
         }
     }
 
-    /// Of a row that has this key and this payload.
+    /// For a row with this key and this payload.
     pub(crate) fn new(key: KeyNumber, payload: Payload) -> Remembered
         ensures { result ≡ record { key = key; payload = payload } }
     {
@@ -98,7 +98,7 @@ impl Remembered {
         self.payload
     }
 
-    /// 1 where the row isn't known, else 0.
+    /// 1 if the row isn't known, else 0.
     pub(crate) fn unread(&self) -> usize
         ensures { result ≡ times unknown (self.now.key ∷ []) }
     {

@@ -1,5 +1,5 @@
 //! The tags of a cracker column, one at each place: what a crack and a sum read, and what a crack exchanges. A tag is
-//! kept as its label and its payload, side by side in two lists, so that a sum of known rows reads payloads alone.
+//! stored as its label and its payload, in two lists, so that a sum of known rows reads only payloads.
 ghost use Rattle.std.specs.Prelude.{◌≡◌, ◌+◌, ◌<◌, ◌≤◌, ◌^◌, All, [], ◌∷◌, MatchOption, length, map, take, drop, ◌++◌};
 ghost use Rattle.std.specs.Prelude.{cond, pos, neg_ℤ, ◌≤ℤ◌, ◌*◌};
 ghost use Rattle.std.specs.List.Sorted.{IsPermutation};
@@ -18,7 +18,7 @@ use crate::remembered::{Remembered, UNKNOWN};
 use crack_arena::{Arena, Handle, amount_of, key_of};
 use crack_row::{InnerBound, Key, KeyNumber, Payload, Row};
 
-/// What stands at a place: what is remembered of a row, its handle's slot, and the ticket under which its generation is
+/// What is at a place: what is remembered about a row, its handle's slot, and the ticket under which its generation is
 /// kept.
 #[derive(Clone, Copy)]
 pub(crate) struct Tag {
@@ -37,7 +37,7 @@ pub(crate) struct Label {
 }
 
 impl Label {
-    /// The tag that has this payload besides.
+    /// The tag with this payload.
     #[inline(always)]
     pub(crate) fn with_payload(self, payload: Payload) -> Tag
         ensures { result ≡ tag_of self payload }
@@ -59,7 +59,7 @@ impl Label {
 }
 
 impl Tag {
-    /// The tag of a ticket, for a handle of whose row this is remembered.
+    /// The tag of a ticket, for a handle about whose row this is remembered.
     pub(crate) fn new(ticket: u32, handle: Handle<Row>, remembered: Remembered) -> Tag
         ensures { result ≡ tag_for ticket handle remembered }
     {
@@ -89,14 +89,14 @@ impl Tag {
         }
     }
 
-    /// 1 where the row isn't known, else 0.
+    /// 1 if the row isn't known, else 0.
     pub(crate) fn unread(&self) -> usize
         ensures { result ≡ times unknown (self.now.key ∷ []) }
     {
         self.remembered().unread()
     }
 
-    /// The key of the row. It is asked of the arena where the row isn't known.
+    /// The key of the row. The arena is asked for it if the row isn't known.
     pub(crate) fn key(&self, generations: &[u64], arena: &Arena<Row>) -> Key
         requires drawn { self.now.ticket < length generations.now }
         requires known { Knows arena.now.cells generations.now self.now }
@@ -108,7 +108,7 @@ impl Tag {
         Key::from_number(self.key)
     }
 
-    /// What the row adds to a sum. It is asked of the arena where the row isn't known.
+    /// What the row adds to a sum. The arena is asked for it if the row isn't known.
     fn amount(&self, generations: &[u64], arena: &Arena<Row>) -> i128
         requires drawn { self.now.ticket < length generations.now }
         requires known { Knows arena.now.cells generations.now self.now }
@@ -123,8 +123,8 @@ impl Tag {
     }
 }
 
-/// Reads the rows of the tags, if any of at most so many is unread, and puts those below the bound first.
-/// How many these are, and how many rows are known now that weren't.
+/// Reads the rows of the tags, if any of at most this many is unread, and puts those below the bound first.
+/// Returns how many these are, and how many rows are known now that weren't.
 pub(crate) fn crack(
     labels: &mut [Label],
     payloads: &mut [Payload],
@@ -151,8 +151,8 @@ pub(crate) fn crack(
     (divide(labels, payloads, bound.number()), learned)
 }
 
-/// Reads the rows of the tags, if any of at most so many is unread, and puts those below the low bound first, then
-/// those below the high one. How many are below either, and how many rows are known now that weren't.
+/// Reads the rows of the tags, if any of at most this many is unread, and puts those below the low bound first, then
+/// those below the high one. Returns how many are below either, and how many rows are known now that weren't.
 pub(crate) fn crack_three(
     labels: &mut [Label],
     payloads: &mut [Payload],
@@ -185,7 +185,7 @@ pub(crate) fn crack_three(
     (middle, upper, learned)
 }
 
-/// Reads each row that isn't known. How many are known now.
+/// Reads each row that isn't known. Returns how many are known now.
 fn learn(
     labels: &mut [Label],
     payloads: &mut [Payload],
@@ -214,10 +214,10 @@ fn learn(
     learned
 }
 
-/// Puts the keys below the bound first, and gives their number. The first tag is held, and the gap that it leaves goes
-/// round: each step fills it from the place where the keys at or above the bound begin, and puts the next tag there, so
-/// that no branch hangs on a key. To exchange the two tags instead costs a fourth more. The key is read first and then
-/// its label: to read the whole label before its key costs three times as much.
+/// Puts the keys below the bound first, and returns their number. The first tag is held, and the gap that it leaves
+/// moves: each step fills it from the place where the keys at or above the bound begin, and puts the next tag there, so
+/// that no branch depends on a key. Exchanging the two tags instead costs a fourth more. The key is read first and then
+/// its label: reading the whole label before its key costs three times as much.
 fn divide(labels: &mut [Label], payloads: &mut [Payload], bound: KeyNumber) -> usize
     requires beside { length payloads.old ≡ length labels.old }
     ensures kept { IsPermutation (tags_of labels.old payloads.old) (tags_of labels.new payloads.new) }
@@ -239,8 +239,8 @@ fn divide(labels: &mut [Label], payloads: &mut [Payload], bound: KeyNumber) -> u
 }
 
 /// Sifts the tags from the place `from` on through those before it: each below the bound changes places with the first
-/// that isn't, as long as one is left. How many are below the bound, which stand first then, and how many made way.
-/// O(tags from there on).
+/// that isn't, as long as one is left. Returns how many are below the bound, which are then first, and how many made
+/// way. O(tags from there on).
 pub(crate) fn sift(
     labels: &mut [Label],
     payloads: &mut [Payload],
@@ -269,7 +269,7 @@ pub(crate) fn sift(
     (low, moved)
 }
 
-/// Fills the gap from the place `low`, and puts the tag of this label and this payload there.
+/// Fills the gap from the place `low`, and puts the tag with this label and this payload there.
 /// The labels come first: a payload written between them costs a trip of the label through memory.
 #[inline(always)]
 fn shift(
@@ -292,10 +292,10 @@ fn shift(
     payloads[low] = payload;
 }
 
-/// Puts the keys below the low bound first, then those below the high one, and gives how many are below either. The gap
-/// goes round as in `divide`: each step fills it from the place where the keys at or above the high bound begin, that
+/// Puts the keys below the low bound first, then those below the high one, and returns how many are below either. The
+/// gap moves as in `divide`: each step fills it from the place where the keys at or above the high bound begin, that
 /// place from the one where those at or above the low bound begin, and puts the next tag where it belongs; no branch
-/// hangs on a key.
+/// depends on a key.
 fn divide_three(
     labels: &mut [Label],
     payloads: &mut [Payload],
@@ -330,7 +330,7 @@ fn divide_three(
     (middle + is_low as usize, upper + is_below as usize)
 }
 
-/// Fills the gap from the place `upper`, that one from `place`, and puts the tag of this label and this payload there.
+/// Fills the gap from the place `upper`, that one from `place`, and puts the tag with this label and payload there.
 #[inline(always)]
 fn turn(
     labels: &mut [Label],
@@ -363,7 +363,7 @@ fn place_of(is_low: bool, middle: usize, upper: usize) -> usize
     if is_low { middle } else { upper }
 }
 
-/// The sum of the payloads of the tags' rows, of which at most so many aren't known.
+/// The sum of the payloads of the tags' rows, of which at most this many aren't known.
 pub(crate) fn sum(
     labels: &[Label],
     payloads: &[Payload],
@@ -389,7 +389,7 @@ pub(crate) fn sum(
     }
 }
 
-/// The sum of the payloads. No branch and no cell.
+/// The sum of the payloads. It needs no branch and no cell.
 fn sum_remembered(payloads: &[Payload]) -> i128
     requires few { length payloads.now ≤ MOST_PLACES }
     ensures value { result ≡ total_by amount payloads.now }
@@ -423,7 +423,7 @@ fn sum_read(labels: &[Label], payloads: &[Payload], generations: &[u64], arena: 
     sum
 }
 
-/// The first of the labels whose handle this is. Reads the generation where the slot is the same, and nowhere else.
+/// The first of the labels whose handle this is. Reads the generation only if the slot is the same.
 pub(crate) fn find(labels: &[Label], generations: &[u64], handle: Handle<Row>) -> Option<usize>
     requires drawn { All (λ l. l.ticket < length generations.now) labels.now }
     ensures { MatchOption result

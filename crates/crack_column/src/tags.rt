@@ -1,4 +1,4 @@
-//! The tags of a cracker column, kept as labels and payloads side by side.
+//! The tags of a cracker column, stored as labels and payloads in two lists.
 ghost use Rattle.std.specs.Prelude.{◌≡◌, ◌+◌, ◌-◌, ◌<◌, ◌≤◌, ◌^◌, ◌*◌, ◌++◌, ◌∷◌, [], All, MatchOption, OnOk, OnErr};
 ghost use Rattle.std.specs.Prelude.{IfErr, length, map, pos, neg_ℤ, ◌≤ℤ◌, slice_index_or, slice_set};
 ghost use Rattle.std.specs.List.{between};
@@ -16,7 +16,7 @@ use crack_row::{InnerBound, KeyNumber, Payload, Refusal, Row};
 use std::alloc::Global;
 use std::marker::Model;
 
-/// Tags in two vectors, so that a sum reads payloads alone. Contracts see the tags.
+/// Tags in two vectors, so that a sum reads only payloads. Contracts see the tags.
 #[derive(Drop)]
 pub(crate) struct Tags {
     labels: Vec<Label>,
@@ -85,7 +85,7 @@ impl Tags {
         self.payloads[place] = tag.payload;
     }
 
-    /// Makes room for so many more. Where that is refused, memory that was found is given back.
+    /// Makes room for this many more. If that is refused, memory that was found is freed.
     pub(crate) fn reserve(&mut self, additional: usize) -> Result<(), Refusal>
         ensures items { self.new.items ≡ self.old.items }
         ensures ok { OnOk result (length self.new.items + additional ≤ self.new.capacity) }
@@ -111,8 +111,8 @@ impl Tags {
         self.payloads.push_reserved(tag.payload);
     }
 
-    /// Cracks the tags from the place `from` up to and without `to`, of which at most so many rows are unread.
-    /// The place between, and how many rows are known now that weren't.
+    /// Cracks the tags at the places `from..to`, of which at most this many rows are unread.
+    /// Returns the place between, and how many rows are known now that weren't.
     pub(crate) fn crack_between(
         &mut self,
         from: usize,
@@ -142,8 +142,8 @@ impl Tags {
         (from + place, learned)
     }
 
-    /// Cracks the tags from the place `from` up to and without `to` in three, of which at most so many rows are unread.
-    /// The two places between, and how many rows are known now that weren't.
+    /// Cracks the tags at the places `from..to` in three, of which at most this many rows are unread.
+    /// Returns the two places between, and how many rows are known now that weren't.
     pub(crate) fn crack_between_three(
         &mut self,
         from: usize,
@@ -179,8 +179,8 @@ impl Tags {
         ((from + middle, from + upper), learned)
     }
 
-    /// Sifts the tags from the place `from` up to and without `to` through those before them from the place `start` on.
-    /// How many are below the bound, and how many made way.
+    /// Sifts the tags at the places `from..to` through those before them from the place `start` on.
+    /// Returns how many are below the bound, and how many made way.
     pub(crate) fn sift_between(
         &mut self,
         start: usize,
@@ -202,7 +202,7 @@ impl Tags {
         )
     }
 
-    /// The sum of the payloads of the rows from the place `from` up to and without `to`, of which at most so many are
+    /// The sum of the payloads of the rows at the places `from..to`, of which at most this many are
     /// unread.
     pub(crate) fn sum_between(
         &self,
@@ -233,7 +233,7 @@ impl Tags {
         )
     }
 
-    /// The first place from `from` up to and without `to` where the handle stands, counted from `from`.
+    /// The first place in `from..to` where the handle is, counted from `from`.
     pub(crate) fn find_between(
         &self,
         from: usize,
