@@ -37,7 +37,7 @@ fn key_of(arena: &Arena<Row>, handle: Handle<Row>) -> KeyNumber {
     }
 }
 
-/// The bound of this number, which is to stand between two keys.
+/// The bound with this number, which lies between two keys.
 fn bound_of(rt: &impl Abort, number: KeyNumber) -> InnerBound
     ensures { result.0 ≡ number }
 {
@@ -47,7 +47,7 @@ fn bound_of(rt: &impl Abort, number: KeyNumber) -> InnerBound
         .expect(rt, "a bound between two keys")
 }
 
-/// Cracks a stretch of the column. Where its bound then stands.
+/// Cracks a stretch of the column. Returns where its bound then is.
 fn crack(
     rt: &impl Abort,
     arena: &Arena<Row>,
@@ -80,7 +80,7 @@ fn at(rt: &impl Abort, column: &CrackerColumn, place: usize) -> Handle<Row> {
     column.at(place)
 }
 
-/// Asserts that two rows with these keys stand at these places, in any order.
+/// Asserts that two rows with these keys are at these places, in any order.
 fn assert_two(
     rt: &impl Abort,
     arena: &Arena<Row>,
@@ -216,7 +216,7 @@ fn fill_five(
     Ok(())
 }
 
-/// Cracks a stretch of the column in three. Where both bounds then stand.
+/// Cracks a stretch of the column in three. Returns where both bounds then are.
 fn crack_in_three(
     rt: &impl Abort,
     arena: &Arena<Row>,
@@ -322,7 +322,7 @@ fn handles_go_in_and_out(rt: HostRuntime) -> Result<(), Fail> {
     told
 }
 
-/// What is to be remembered of the row that the handle reads.
+/// What is to be remembered about the row that the handle reads.
 fn memory(arena: &Arena<Row>, handle: Handle<Row>) -> Remembered
     ensures { Agrees arena.now.cells handle result }
 {
@@ -360,7 +360,7 @@ fn slot_at(rt: &impl Abort, column: &CrackerColumn, place: usize) -> u32 {
     column.slot_at(place)
 }
 
-/// Where a handle stands in the second of two places.
+/// Where a handle is in the second of two places.
 fn place_in_second(rt: &impl Abort, column: &CrackerColumn, handle: Handle<Row>) -> Option<usize> {
     let len = column.len();
     assert!(rt; len == 2);
@@ -398,7 +398,7 @@ fn sums_are_of_remembered_payloads(rt: HostRuntime) -> Result<(), Fail> {
     told
 }
 
-/// Puts a third row aside of two, and lets it change places with the first, which is then appended and taken out again.
+/// Sets a third row aside of two, and lets it change places with the first, which is then appended and taken out again.
 fn go_aside(rt: &impl Abort, arena: &mut Arena<Row>, column: &mut CrackerColumn) -> Result<(), Fail>
     requires remembered { (cells : List (Cell RowValue)) → Remembers cells column.old.handles column.old.remembered }
 {
@@ -434,7 +434,7 @@ fn a_row_aside_changes_places(rt: HostRuntime) -> Result<(), Fail> {
     told
 }
 
-/// Takes a third row of three in hand, lets it change places with both others, and lets go of it.
+/// Takes a third row of three in hand, lets it change places with both others, and drops it.
 fn go_in_hand(
     rt: &impl Abort,
     arena: &mut Arena<Row>,
