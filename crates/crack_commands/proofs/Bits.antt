@@ -19,7 +19,7 @@ field_if : (is_set : Bool) (number : ℕ) → flat_map field_text (cond is_set (
 field_if true number = append-nil (field_text number)
 field_if false number = refl
 
--- one bit more
+-- one more bit
 bits_text-suc : (bits number : ℕ) → bits_text bits (suc number) ≡ bits_text bits number ++ bit_text bits number
 unfolding bits_text
 bits_text-suc bits number =
@@ -49,7 +49,7 @@ bits_text-more bits number (suc more) =
           ∙ append_assoc (bits_text bits number) rest (bit_text bits (number + more)),
     )
 
--- where the writer fails within a bit's text
+-- if the writer fails within a bit's text
 pub front_in_bits : (bits number count : ℕ) (a b c : Option (List ℕ)) → number < count → Appends a b (bits_text bits number) → AppendsFront b c (bit_text bits number) → AppendsFront a c (bits_text bits count)
 front_in_bits bits number count a b c below sent cut =
     let (rest, is) = bits_text-more bits (suc number) (count - suc number) in

@@ -25,7 +25,7 @@ printed_no_space (b ∷ bs) h =
     let rest = printed_no_space bs each.1 in
     (rw (other, rest.0) refl, rw (shown, rest.1) refl)
 
--- a number and a whole number after the name of an insert, a space between them
+-- a number and an integer after the name of an insert, a space between them
 says_insert : (xs ys : List ℕ) (v : ℕ) (z : ℤ) (key : Key) (payload : Payload) → 0 < length xs → has_space xs ≡ false → number_of xs ≡ Some v → 0 < length ys → has_space ys ≡ false → whole_number_of ys ≡ Some z
     → row_from v z ≡ Some (key, payload)
     → statement_of (codes "insert " ++ (xs ++ 32 ∷ ys)) ≡ Ok (Insert key payload)
@@ -36,7 +36,7 @@ says_insert xs ys v z key payload some alone is some' alone' is' row =
     let all : words (codes "insert " ++ (xs ++ 32 ∷ ys)) ≡ codes "insert" ∷ xs ∷ ys ∷ [] = ap (λ r. codes "insert" ∷ r) both in
     said _ (codes "insert") (xs ∷ ys ∷ []) all ∙ rw (is, is', row) refl
 
--- the text after the name: so many digits, a space, and so many digits
+-- the text after the name: this many digits, a space, and this many digits
 two_parts : (rest : List ℕ) (m n : ℕ) → m < length rest → get_or rest m 0 ≡ 32 → take (m + 1 + n) rest ≡ take m rest ++ 32 ∷ take n (drop (m + 1) rest)
 two_parts rest m n within space =
     let behind : drop m rest ≡ 32 ∷ drop (m + 1) rest = drop_more rest m 0 within ∙ ap (λ b. b ∷ drop (m + 1) rest) space in

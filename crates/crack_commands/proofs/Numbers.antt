@@ -9,7 +9,7 @@ use Rattle.crack_commands.specs.Grammar.{words, is_word, is_digit, number_of, wh
 use Rattle.crack_commands.specs.Inside.{value_on, has_space, IsFirstWord, IsFirstNumber, IsFirstWholeNumber, BeginsWithDigits, BeginsWithWhole}
 use Rattle.crack_commands.proofs.Splitting.{is_word_some, first_word}
 
--- one digit more
+-- one more digit
 value_on-append : (n : ℕ) (xs : List ℕ) (b : ℕ) → value_on n (xs ++ b ∷ []) ≡ value_on n xs * 10 + (b - 48)
 value_on-append n [] b = refl
 value_on-append n (x ∷ xs) b = value_on-append (n * 10 + (x - 48)) xs b
@@ -30,7 +30,7 @@ digits_more xs i below so_far digit =
 pub digit_bounds : (b : ℕ) → is_digit b ≡ true → (48 ≤ b) × (b < 58)
 digit_bounds b d = let each = and_parts (leb 48 b) (ltb b 58) d in (leb-true 48 b each.0, ltb-true b 58 each.1)
 
--- a byte less 48, wrapped round, is below 10 only for a digit, and then it is its value
+-- one byte less 48, wrapped round, is below 10 only for a digit, and then it is its value
 pub digit_from : (b d : ℕ) → b < 256 → d ≡ (b + (2 ^ 64 - 48)) % 2 ^ 64 → d < 10 → (is_digit b ≡ true) × (d ≡ b - 48)
 digit_from b d byte is small =
     let low : 48 ≤ b = omega (arith, is, small, byte) in
@@ -39,7 +39,7 @@ digit_from b d byte is small =
     let h : ltb b 58 ≡ true = lt-ltb b 58 high in
     (rw (l, h) refl, omega (arith, is, small, byte))
 
--- one digit more stays below the next power of 10, and up to 19 digits fit 64 bits
+-- one more digit stays below the next power of 10, and up to 19 digits fit 64 bits
 pub value_below : (v i b : ℕ) → v < 10 ^ i → i < 19 → is_digit b ≡ true → (v * 10 + (b - 48) < 10 ^ (i + 1)) × (v * 10 + (b - 48) < 2 ^ 64)
 value_below v i b below few digit =
     let bounds = digit_bounds b digit in
@@ -94,7 +94,7 @@ pub short_number : (bytes xs : List ℕ) (value : ℕ) (rest : List ℕ) → wor
 short_number bytes xs value rest same front d =
     rw (d.value, d.behind) (first_number bytes xs d.count same front d.few.0 d.few.2 (omega (arith, d.few.1)) d.digits d.ends)
 
--- a front of bytes keeps the sign
+-- a prefix of bytes keeps the sign
 sign_kept : (n : ℕ) (xs : List ℕ) → 0 < n → has_sign (take n xs) ≡ has_sign xs
 sign_kept zero xs some = absurd (omega (arith, some))
 sign_kept (suc n) [] some = refl
@@ -108,7 +108,7 @@ unsigned word = cond (has_sign word) (drop 1 word) word
 abbrev pub signed : Bool → ℕ → ℤ
 signed is_negative n = cond is_negative (neg_ℤ (pos n)) (pos n)
 
--- a whole number by its sign, and the number after it
+-- an integer by its sign, and the number after it
 whole_by : (word : List ℕ) (is_negative : Bool) → has_sign word ≡ is_negative → whole_number_of word ≡ option_map (signed is_negative) (number_of (cond is_negative (drop 1 word) word))
 whole_by word true sign = rw sign refl
 whole_by word false sign = rw sign refl
@@ -117,7 +117,7 @@ whole_by word false sign = rw sign refl
 whole_is : (word : List ℕ) (is_negative : Bool) (n : ℕ) → has_sign word ≡ is_negative → number_of (cond is_negative (drop 1 word) word) ≡ Some n → whole_number_of word ≡ Some (signed is_negative n)
 whole_is word is_negative n sign is = whole_by word is_negative sign ∙ ap (option_map (signed is_negative)) is
 
--- a minus sign and digits are no space
+-- a minus sign and digits aren't spaces
 sign_no_space : (b : ℕ) (xs : List ℕ) → eqb b 45 ≡ true → list_all is_digit xs ≡ true → has_space (b ∷ xs) ≡ false
 sign_no_space b xs sign digits =
     let is : b ≡ 45 = eqb-true b 45 sign in
@@ -140,7 +140,7 @@ short_whole_by bytes b bs value rest false sign same front d =
     let number : number_of word ≡ Some value = number_of_digits word (omega (arith, long, d.few)) (omega (arith, long, d.few)) d.digits ∙ ap Some (sym d.value) in
     (word, rw d.behind first, sym (whole_is word false value (sign_kept n xs d.few.0 ∙ sign) number))
 
--- digits after a minus sign or none are the first word, and a whole number
+-- digits after a minus sign or none are the first word, and an integer
 pub short_whole : (bytes xs : List ℕ) (value : ℕ) (rest : List ℕ) → words xs ≡ words bytes → (get_or xs 0 0 ≡ 32 → ⊥) → BeginsWithDigits (unsigned xs) value rest → IsFirstWholeNumber bytes (Some (signed (has_sign xs) value)) rest
 short_whole bytes [] value rest same front d = absurd (omega (arith, d.few))
 short_whole bytes (b ∷ bs) value rest same front d = short_whole_by bytes b bs value rest (eqb b 45) refl same front d
@@ -185,7 +185,7 @@ whole_before_by b bs stop value n false sign few stops digits is =
       says = whole_is (take n xs) false value (sign_kept n xs few.0 ∙ sign) number;
     }
 
--- digits up to a byte, after a minus sign or none, are a whole number
+-- digits up to a byte, after a minus sign or none, are an integer
 pub whole_before : (xs : List ℕ) (stop value n : ℕ) → (0 < n) × (n ≤ 20) × (n < length (unsigned xs)) → get_or (unsigned xs) n 0 ≡ stop → list_all is_digit (take n (unsigned xs)) ≡ true → value ≡ value_on 0 (take n (unsigned xs))
     → BeginsWithWhole xs stop (signed (has_sign xs) value) (length xs - length (unsigned xs) + n)
 whole_before [] stop value n few stops digits is = absurd (omega (arith, few))

@@ -36,7 +36,7 @@ pub then_err : {T E : Type 0} (r : Result T E) {P Q : Type 0} → (P → Q) → 
 then_err (Ok x) f p = tt
 then_err (Err e) f p = f p
 
--- a front of a text is one of a longer text
+-- a prefix of a text is one of a longer text
 pub front_first : (a b : Option (List ℕ)) (xs ys : List ℕ) → AppendsFront a b xs → AppendsFront a b (xs ++ ys)
 front_first a b xs ys (n, short, wrote) =
     let long = length-append xs ys in
@@ -55,12 +55,12 @@ texts_cut : {X : Type 0} (f : X → List ℕ) (xs : List X) (i : ℕ) (d : X) �
 texts_cut f xs i d below =
     ap (flat_map f) (sym (take-append-drop i xs) ∙ ap (λ r. take i xs ++ r) (drop_more xs i d below)) ∙ flat_map-append f (take i xs) (get_or xs i d ∷ drop (i + 1) xs)
 
--- one item more
+-- one more item
 pub texts_more : {X : Type 0} (f : X → List ℕ) (xs : List X) (i : ℕ) (d : X) → i < length xs → flat_map f (take (i + 1) xs) ≡ flat_map f (take i xs) ++ f (get_or xs i d)
 texts_more f xs i d below =
     ap (flat_map f) (take_more xs i d below) ∙ flat_map-append f (take i xs) (get_or xs i d ∷ []) ∙ ap (λ r. flat_map f (take i xs) ++ r) (append-nil (f (get_or xs i d)))
 
--- where the writer fails within an item's text
+-- if the writer fails within an item's text
 pub front_within : {X : Type 0} (f : X → List ℕ) (xs : List X) (i : ℕ) (d : X) (a b c : Option (List ℕ)) → i < length xs → Appends a b (flat_map f (take i xs)) → AppendsFront b c (f (get_or xs i d)) → AppendsFront a c (flat_map f xs)
 front_within f xs i d a b c below sent cut =
     rw (texts_cut f xs i d below) (front_then a b c (flat_map f (take i xs)) _ sent (front_first b c (f (get_or xs i d)) _ cut))

@@ -19,7 +19,7 @@ words_space xs i below here so_far =
 pub words_all : (xs : List ℕ) (i : ℕ) → length xs ≤ i → words (drop i xs) ≡ words xs → words [] ≡ words xs
 words_all xs i past so_far = ap words (sym (drop_all i xs past)) ∙ so_far
 
--- a front without spaces
+-- a prefix without spaces
 has_space-append : (xs ys : List ℕ) → has_space xs ≡ false → has_space (xs ++ ys) ≡ has_space ys
 has_space-append [] ys h = refl
 has_space-append (b ∷ bs) ys h =
@@ -94,7 +94,7 @@ pub is_word_none : (w : List ℕ) → length w ≡ 0 → is_word w ≡ false
 is_word_none [] h = refl
 is_word_none (b ∷ bs) h = absurd (omega arith)
 
--- the place of the first full stop, where none stands before it
+-- the place of the first full stop, where none is before it
 pub stop_here : (xs : List ℕ) (i : ℕ) → i < length xs → get_or xs i 0 ≡ 46 → ((k : ℕ) → k < i → eqb (get_or xs k 0) 46 ≡ false) → i ≡ position_or_len (λ b. eqb b 46) xs
 stop_here xs i below here before = sym (position_or_len_is (λ b. eqb b 46) xs i 0 (omega (arith, below)) before (λ within. rw here refl))
 

@@ -16,7 +16,7 @@ use Rattle.crack_commands.specs.declared.words.TheConstants.{MOST_DIGITS, GREATE
 use Rattle.crack_commands.specs.declared.statement.Statement.{Statement}
 use Rattle.crack_commands.specs.declared.statement.Statement.TheVariants.{Insert, Delete, Update, Count, Sum, Select, Layout, Checkpoint, Policy, Quit}
 
--- what a line says: a statement, or why it is none
+-- the meaning of a line: a statement, or why it isn't one
 abbrev pub Reading : Type 0
 Reading = Result Statement Refusal
 
@@ -25,7 +25,7 @@ abbrev pub is_word : List ℕ → Bool
 is_word [] = false
 is_word (b ∷ bs) = true
 
--- the words: what stands between spaces and isn't empty
+-- the words: what is between spaces and isn't empty
 abbrev pub words : List ℕ → List (List ℕ)
 words line = filter is_word (slice_split (λ b. b == 32) line)
 
@@ -33,20 +33,20 @@ words line = filter is_word (slice_split (λ b. b == 32) line)
 abbrev pub is_digit : ℕ → Bool
 is_digit b = nat_le 48 b && nat_lt b 58
 
--- a NUMBER: 1 to MOST_DIGITS decimal digits, leading zeros too
+-- a NUMBER: 1 to MOST_DIGITS decimal digits, leading zeros included
 abbrev pub number_of : List ℕ → Option ℕ
 number_of word = if is_word word && nat_le (length word) MOST_DIGITS && list_all is_digit word then Some (fold (λ n b. n * 10 + (b - 48)) 0 word) else None
 
--- whether a minus sign stands at the front
+-- whether a minus sign is at the front
 abbrev pub has_sign : List ℕ → Bool
 has_sign [] = false
 has_sign (b ∷ bs) = b == 45
 
--- a whole number: a NUMBER, and right before it a minus sign or none
+-- an integer: a NUMBER, with or without a minus sign directly before it
 abbrev pub whole_number_of : List ℕ → Option ℤ
 whole_number_of word = if has_sign word then option_map (λ n. neg_ℤ (pos n)) (number_of (drop 1 word)) else option_map pos (number_of word)
 
--- the two NUMBERs that these words are, if they are that and no more
+-- the two NUMBERs that these words are, if they are exactly that
 abbrev pub two_numbers : List (List ℕ) → Option (ℕ × ℕ)
 two_numbers (first ∷ second ∷ []) = option_zip (number_of first) (number_of second)
 two_numbers _ = None
@@ -59,11 +59,11 @@ number_up_to greatest word = option_and_then (λ n. if nat_le n greatest then So
 abbrev pub key_of : List ℕ → Option Key
 key_of word = option_map (λ n. record { 0 = n }) (number_up_to GREATEST_KEY word)
 
--- a payload: a whole number that is neither below the least nor above the greatest
+-- a payload: an integer that is neither below the least nor above the greatest
 abbrev pub payload_of : List ℕ → Option Payload
 payload_of word = option_and_then (λ z. if int_le LEAST_PAYLOAD z && int_le z GREATEST_PAYLOAD then Some (record { 0 = z }) else None) (whole_number_of word)
 
--- the key and the payload that these words are, if they are that and no more
+-- the key and the payload that these words are, if they are exactly that
 abbrev pub key_and_payload : List (List ℕ) → Option (Key × Payload)
 key_and_payload (key ∷ payload ∷ []) = option_zip (key_of key) (payload_of payload)
 key_and_payload _ = None
@@ -75,26 +75,26 @@ row_number_of word =
     let serial = number_up_to GREATEST_SERIAL (after_first (λ b. b == 46) word) in
     option_map (λ n. record { part = n.0; serial = record { 0 = n.1 } }) (option_zip part serial)
 
--- the one word that there is; no bytes, which are neither number nor name, where there is none or more
+-- the only word; no bytes, which are neither number nor name, if there is none or several
 abbrev pub only_word : List (List ℕ) → List ℕ
 only_word (word ∷ []) = word
 only_word _ = []
 
--- the policy of this name
+-- the policy with this name
 abbrev pub policy_named : List ℕ → Option Merging
 policy_named name =
     if bytes_eq name (codes "complete") then Some Complete else if bytes_eq name (codes "gradual") then Some Gradual else if bytes_eq name (codes "ripple") then Some Ripple else if bytes_eq name (codes "auto") then Some Auto else None
 
--- a statement that is made from what there is, if there is something
+-- a statement that is made from its parts, if they exist
 abbrev pub made : {A : Type 0} → (A → Statement) → Option A → Reading
 made statement arguments = ok_or (option_map statement arguments) BadStatement
 
--- a statement over the range between two numbers, which alone may be a bad one
+-- a statement over the range between two numbers, which alone may be wrong
 abbrev pub over : (Range → Statement) → Option (ℕ × ℕ) → Reading
 over statement (Some (low, high)) = if nat_le low high && nat_le high GREATEST_BOUND then Ok (statement (record { low = low; high = high })) else Err BadRange
 over statement None = Err BadStatement
 
--- the statement of this name and these arguments
+-- the statement with this name and these arguments
 abbrev pub named : List ℕ → List (List ℕ) → Reading
 named name arguments =
     if bytes_eq name (codes "insert") then made (λ n. Insert n.0 n.1) (key_and_payload arguments)
@@ -109,6 +109,6 @@ named name arguments =
     else if bytes_eq name (codes "quit") && length arguments == 0 then Ok Quit
     else Err BadStatement
 
--- what a line says: the first of its words is a name, and the others are its arguments
+-- the meaning of a line: the first of its words is a name, and the others are its arguments
 unfoldable pub statement_of : List ℕ → Reading
 statement_of line = named (slice_index_or (words line) 0 []) (drop 1 (words line))

@@ -23,7 +23,7 @@ abbrev pub has_space : List ℕ → Bool
 has_space [] = false
 has_space (b ∷ bs) = b == 32 || has_space bs
 
--- the first of the words, and what follows it: no word where there is none
+-- the first of the words, and what follows it: an empty word if there is none
 pub record IsFirstWord (bytes word rest : List ℕ) : Type 0 where
   pub some : is_word word ≡ true → words bytes ≡ word ∷ words rest
   pub none : is_word word ≡ false → (words bytes ≡ []) × (words rest ≡ [])
@@ -32,7 +32,7 @@ pub record IsFirstWord (bytes word rest : List ℕ) : Type 0 where
 abbrev pub IsFirstNumber : List ℕ → Option ℕ → List ℕ → Type 0
 IsFirstNumber bytes number rest = (word : List ℕ) × IsFirstWord bytes word rest × (number ≡ number_of word)
 
--- the whole number that the first of the words is, if it is one, and what follows that word
+-- the integer that the first of the words is, if it is one, and what follows that word
 abbrev pub IsFirstWholeNumber : List ℕ → Option ℤ → List ℕ → Type 0
 IsFirstWholeNumber bytes number rest = (word : List ℕ) × IsFirstWord bytes word rest × (number ≡ whole_number_of word)
 
@@ -53,7 +53,7 @@ pub record BeginsWithDigits (bytes : List ℕ) (number : ℕ) (rest : List ℕ) 
   pub ends : count < length bytes → slice_index bytes count ≡ 32
   pub behind : rest ≡ drop count bytes
 
--- Bytes begin with a whole number of so many bytes, few of them, after which this byte stands.
+-- Bytes begin with an integer of this many bytes, few of them, after which this byte is.
 pub record BeginsWithWhole (bytes : List ℕ) (stop : ℕ) (number : ℤ) (count : ℕ) : Type 0 where
   pub few : (0 < count) × (count ≤ 21) × (count < length bytes)
   pub stops : slice_index bytes count ≡ stop
@@ -64,7 +64,7 @@ pub record BeginsWithWhole (bytes : List ℕ) (stop : ℕ) (number : ℤ) (count
 abbrev pub placed_text : ℕ → Serial → List ℕ
 placed_text part serial = codes "row " ++ decimal part ++ codes "." ++ decimal serial.0 ++ codes "\n"
 
--- a row that was taken out
+-- a row that was removed
 abbrev pub gone_text : Row → List ℕ
 gone_text row = codes "gone " ++ key_text row.key ++ codes " " ++ payload_text row.payload ++ codes "\n"
 
@@ -85,15 +85,15 @@ layout_head part layout =
     ++ two_fields (codes " free ") layout.free (codes " pieces ") (length layout.pieces)
     ++ codes "\n"
 
--- whether the bit of this number is set
+-- whether the bit with this number is set
 abbrev pub has_bit : ℕ → ℕ → Bool
 has_bit bits number = bit_at bits number == 1
 
--- the number of a bit, where it is set
+-- the number of a bit, if it is set
 abbrev pub bit_text : ℕ → ℕ → List ℕ
 bit_text bits number = if has_bit bits number then field_text number else []
 
--- the line of a refusal's number and of what it carries
+-- the line of a refusal's number and of the numbers it carries
 abbrev pub refused_text : ℕ → List ℕ → List ℕ
 refused_text code carried = codes "refused " ++ decimal code ++ carried ++ codes "\n"
 

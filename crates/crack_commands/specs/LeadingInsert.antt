@@ -6,8 +6,8 @@ use Rattle.crack_row.specs.declared.Payload.{Payload}
 use Rattle.crack_commands.specs.Grammar.{statement_of}
 use Rattle.crack_commands.specs.declared.statement.Statement.TheVariants.{Insert}
 
--- The bytes begin with a line of this length, up to a line feed: an insert of this row. It is no blank line, has no control character, which
--- line feeds and carriage returns are, and is short.
+-- The bytes begin with a line of this length, up to a line feed: an insert of this row. The line isn't blank, has no control character, such as
+-- line feeds and carriage returns, and is short.
 pub record BeginsWithInsert (bytes : List ℕ) (len : ℕ) (key : Key) (payload : Payload) : Type 0 where
   pub within : len < length bytes
   pub feed : slice_index bytes len ≡ 10

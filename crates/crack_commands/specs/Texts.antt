@@ -25,7 +25,7 @@ use Rattle.crack_row.specs.Rows.{amount}
 abbrev pub key_text : Key → List ℕ
 key_text key = decimal key.0
 
--- a payload: its digits, and a minus sign before them where it is below 0
+-- a payload: its digits, with a minus sign before them if it is below 0
 abbrev pub payload_text : Payload → List ℕ
 payload_text payload = signed_decimal (amount payload)
 
@@ -91,7 +91,7 @@ field_text number = codes " " ++ decimal number
 unfoldable pub bits_text : ℕ → ℕ → List ℕ
 bits_text bits count = flat_map field_text (filter (λ number. bit_at bits number == 1) (range_with_len 0 count))
 
--- what a refusal carries: the length of a full history, the numbers of missing workers, a partition and a position, or a record's number
+-- the numbers that a refusal carries: the length of a full history, the missing workers, a partition and a position, or a record's number
 abbrev pub carried_text : Refusal → List ℕ
 carried_text (HistoryFull entries) = field_text entries
 carried_text (WorkersMissing missing) = bits_text missing 64
@@ -103,11 +103,11 @@ carried_text _ = []
 abbrev pub refusal_text : Refusal → List ℕ
 refusal_text refusal = codes "refused " ++ decimal (code_of refusal) ++ carried_text refusal ++ codes "\n"
 
--- of the text a front is written that is shorter than it
+-- a prefix of the text is written that is shorter than it
 abbrev pub AppendsFront : Option (List ℕ) → Option (List ℕ) → List ℕ → Type 0
 AppendsFront old new text = (n : ℕ) × (n < length text) × Appends old new (take n text)
 
--- All of a text is written, or, where the writer failed, a front of it that is shorter.
+-- All of a text is written, or, if the writer failed, a prefix of it that is shorter.
 pub record Writes {W : Type 0} (contents : W → Option (List ℕ)) (text : List ℕ) (result : Result (Unit {0}) Refusal) (old new : Watched W) : Type 0 where
   pub ok : OnOk result (Appends (contents (device old)) (contents (device new)) text)
   pub unfailed : OnOk result (has_failed new ≡ has_failed old)

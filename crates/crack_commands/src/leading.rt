@@ -1,4 +1,4 @@
-//! An insert at the front of bytes of which nobody has looked yet where their first line ends.
+//! An insert at the front of bytes whose first line end isn't known yet.
 ghost use Rattle.std.specs.Prelude.{◌≡◌, ◌<◌, ◌≤◌, true, length, take, slice_index, IfSome};
 ghost use Rattle.std.specs.List.{list_all};
 ghost use Rattle.crack_commands.specs.Grammar.{is_digit};
@@ -11,7 +11,7 @@ use crack_row::{Key, Payload};
 /// The name of the statement with the space after it.
 const NAME: &[u8] = b"insert ";
 
-/// An insert that bytes begin with: the row that it brings, and how long its line is.
+/// An insert that bytes begin with: its row, and the length of its line.
 #[derive(Clone, Copy, Debug)]
 pub struct LeadingInsert {
     pub key: Key,
@@ -20,9 +20,9 @@ pub struct LeadingInsert {
     pub len: usize,
 }
 
-/// The insert that bytes begin with, up to a line feed, where it is written without a space more than it needs, and its
-/// numbers are short; so most inserts are. The end of the line isn't looked for first. None says nothing of what they
-/// begin with. O(bytes of the line), no memory.
+/// The insert that bytes begin with, up to a line feed, if it is written without needless spaces, and its
+/// numbers are short, as most inserts are. The end of the line isn't searched for first. None says nothing of what the
+/// bytes begin with. O(bytes of the line), no memory.
 #[inline(always)]
 pub fn leading_insert(bytes: &[u8]) -> Option<LeadingInsert>
     ensures { IfSome result (λ i. BeginsWithInsert bytes.now i.len i.key i.payload) }
@@ -38,7 +38,7 @@ pub fn leading_insert(bytes: &[u8]) -> Option<LeadingInsert>
     })
 }
 
-/// The whole number that bytes begin with, and how many bytes it takes, where this byte stands after it.
+/// The integer that bytes begin with, and how many bytes it takes, if this byte is after it.
 #[inline(always)]
 fn whole_number_before(bytes: &[u8], stop: u8) -> Option<(i128, usize)>
     ensures { IfSome result (λ n. BeginsWithWhole bytes.now stop n.0 n.1) }
@@ -49,7 +49,7 @@ fn whole_number_before(bytes: &[u8], stop: u8) -> Option<(i128, usize)>
     Some((number, bytes.len() - digits.len() + count))
 }
 
-/// The number that bytes begin with, and how many digits it has, where this byte stands after them.
+/// The number that bytes begin with, and how many digits it has, if this byte is after them.
 #[inline(always)]
 fn number_before(bytes: &[u8], stop: u8) -> Option<(u64, usize)>
     ensures within { IfSome result (λ n. (0 < n.1) × (n.1 ≤ MOST_DIGITS) × (n.1 < length bytes.now)) }

@@ -4,7 +4,7 @@ ghost use Rattle.crack_commands.specs.Texts.{Writes};
 use crack_row::{Refusal, Watched};
 use std::io::Write;
 
-/// Writes all of the bytes. Where the writer fails a front of them may be written, and not all.
+/// Writes all of the bytes. If the writer fails, a prefix of them may be written, but not all.
 pub fn send<W: Write>(writer: &mut Watched<W>, bytes: &[u8]) -> Result<(), Refusal>
     ensures { Writes W.contents bytes.now result writer.old writer.new }
 {

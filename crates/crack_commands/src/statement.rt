@@ -10,17 +10,17 @@ use crate::words::{
 };
 use crack_row::{Key, KeyRange, Payload, Policy, Refusal, RowNo};
 
-/// What a line asks.
+/// A question or a request of a line.
 #[derive(Clone, Copy, Debug)]
 pub enum Statement {
-    /// A row more.
+    /// Insert a row.
     Insert {
         key: Key,
         payload: Payload,
     },
-    /// A row less.
+    /// Delete a row.
     Delete(RowNo),
-    /// Another key and payload for a row.
+    /// Give a row another key and payload.
     Update {
         row: RowNo,
         key: Key,
@@ -28,13 +28,13 @@ pub enum Statement {
     },
     /// How many rows have their key in a range.
     Count(KeyRange),
-    /// What the payloads of these rows add up to.
+    /// The sum of the payloads of these rows.
     Sum(KeyRange),
     /// These rows.
     Select(KeyRange),
-    /// What stands where in a partition.
+    /// The layout of a partition.
     Layout(u32),
-    /// That a partition's answered commands be kept as the rows that they left.
+    /// Make a checkpoint of a partition.
     Checkpoint(u32),
     /// How pending rows are merged from now on.
     Policy(Policy),
@@ -42,7 +42,7 @@ pub enum Statement {
     Quit,
 }
 
-/// What a line says: a statement, or why it is none. Refused with 2 where the ends of a range
+/// The meaning of a line: a statement, or why it isn't one. Refused with 2 if the ends of a range
 /// are out of order or too great, else with 1; so is a line without a word. O(its bytes), no memory.
 #[inline(always)]
 pub fn parse_statement(line: &[u8]) -> Result<Statement, Refusal>
@@ -52,7 +52,7 @@ pub fn parse_statement(line: &[u8]) -> Result<Statement, Refusal>
     parse_named(name, rest)
 }
 
-/// The statement of a name and of what follows it.
+/// The statement with a name, and with what follows it.
 #[inline(never)]
 fn parse_named(name: &[u8], rest: &[u8]) -> Result<Statement, Refusal>
     ensures { result ≡ named name.now (words rest.now) }
@@ -82,7 +82,7 @@ fn parse_named(name: &[u8], rest: &[u8]) -> Result<Statement, Refusal>
     }
 }
 
-/// An insert of the words after its name.
+/// An insert with the words after its name.
 #[inline(always)]
 fn parse_insert(rest: &[u8]) -> Result<Statement, Refusal>
     ensures { result ≡ insert_of (words rest.now) }
@@ -93,7 +93,7 @@ fn parse_insert(rest: &[u8]) -> Result<Statement, Refusal>
     }
 }
 
-/// A delete of the one word after its name.
+/// A delete with the one word after its name.
 fn parse_delete(rest: &[u8]) -> Result<Statement, Refusal>
     ensures { result ≡ delete_of (words rest.now) }
 {
@@ -103,7 +103,7 @@ fn parse_delete(rest: &[u8]) -> Result<Statement, Refusal>
     }
 }
 
-/// An update of the words after its name.
+/// An update with the words after its name.
 fn parse_update(rest: &[u8]) -> Result<Statement, Refusal>
     ensures { result ≡ update_of (words rest.now) }
 {
@@ -124,7 +124,7 @@ fn update_from(row: RowNo, pair: Option<(Key, Payload)>) -> Result<Statement, Re
     }
 }
 
-/// A count of the words after its name.
+/// A count with the words after its name.
 #[tactic(auto, using(crate::proofs::Statements::over_ok, crate::proofs::Statements::over_err))]
 fn parse_count(rest: &[u8]) -> Result<Statement, Refusal>
     ensures { result ≡ over Count (two_numbers (words rest.now)) }
@@ -135,7 +135,7 @@ fn parse_count(rest: &[u8]) -> Result<Statement, Refusal>
     }
 }
 
-/// A sum of the words after its name.
+/// A sum with the words after its name.
 #[tactic(auto, using(crate::proofs::Statements::over_ok, crate::proofs::Statements::over_err))]
 fn parse_sum(rest: &[u8]) -> Result<Statement, Refusal>
     ensures { result ≡ over Sum (two_numbers (words rest.now)) }
@@ -146,7 +146,7 @@ fn parse_sum(rest: &[u8]) -> Result<Statement, Refusal>
     }
 }
 
-/// A select of the words after its name.
+/// A select with the words after its name.
 #[tactic(auto, using(crate::proofs::Statements::over_ok, crate::proofs::Statements::over_err))]
 fn parse_select(rest: &[u8]) -> Result<Statement, Refusal>
     ensures { result ≡ over Select (two_numbers (words rest.now)) }
@@ -167,7 +167,7 @@ fn parse_range(rest: &[u8]) -> Result<KeyRange, Refusal>
     }
 }
 
-/// A layout of the one word after its name.
+/// A layout with the one word after its name.
 fn parse_layout(rest: &[u8]) -> Result<Statement, Refusal>
     ensures { result ≡ layout_of (words rest.now) }
 {
@@ -177,7 +177,7 @@ fn parse_layout(rest: &[u8]) -> Result<Statement, Refusal>
     }
 }
 
-/// A checkpoint of the one word after its name.
+/// A checkpoint with the one word after its name.
 fn parse_checkpoint(rest: &[u8]) -> Result<Statement, Refusal>
     ensures { result ≡ checkpoint_of (words rest.now) }
 {
@@ -187,7 +187,7 @@ fn parse_checkpoint(rest: &[u8]) -> Result<Statement, Refusal>
     }
 }
 
-/// A policy of the one word after its name.
+/// A policy with the one word after its name.
 fn parse_policy(rest: &[u8]) -> Result<Statement, Refusal>
     ensures { result ≡ policy_of (words rest.now) }
 {
@@ -197,7 +197,7 @@ fn parse_policy(rest: &[u8]) -> Result<Statement, Refusal>
     }
 }
 
-/// The policy of a name.
+/// The policy with a name.
 fn policy_named(name: &[u8]) -> Option<Policy>
     ensures { result ≡ policy_named name.now }
 {
@@ -214,7 +214,7 @@ fn policy_named(name: &[u8]) -> Option<Policy>
     }
 }
 
-/// A quit, where no word stands after its name.
+/// A quit, if no word is after its name.
 fn parse_quit(rest: &[u8]) -> Result<Statement, Refusal>
     ensures { result ≡ quit_of (words rest.now) }
 {

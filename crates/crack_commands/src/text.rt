@@ -16,14 +16,14 @@ use crack_row::{
 use std::io::Write;
 
 /// Room for a line of text, or a part of one. The longest is a piece's: a word, two bounds of up to 40 digits, a size
-/// of 20, and four bytes more.
+/// of 20, and four more bytes.
 const TEXT_BYTES: usize = 112;
 
-/// A line of text in the making.
+/// A line of text under construction.
 type Text = ArrayVec<u8, TEXT_BYTES>;
 
 /// Room for the line of a placed row, the most frequent one: a word, a partition's number of 10 digits, a serial of 20,
-/// and three bytes more. It is cleared for each line.
+/// and three more bytes. It is cleared for each line.
 const PLACED_BYTES: usize = 48;
 
 /// Writes a partition's reply: a line, and for rows a line for each of them, a row at a time.
@@ -38,7 +38,7 @@ pub fn write_reply<W: Write>(
     match reply {
         Reply::Placed(serial) => write_placed(part, *serial, writer),
         Reply::Gone(row) => {
-            // a copy, so that a placed row's reply stands in no memory
+            // a copy, so that a placed row's reply isn't stored in memory
             let gone = *row;
             write_gone(&gone, writer)
         }
@@ -62,7 +62,7 @@ fn write_placed<W: Write>(part: u32, serial: Serial, writer: &mut Watched<W>) ->
     send(writer, text.as_slice())
 }
 
-/// Adds the beginning of a placed row's line, through the full stop after the partition's number: at once where that
+/// Adds the beginning of a placed row's line, through the full stop after the partition's number: in one step if that
 /// has one digit.
 #[inline(always)]
 #[tactic(auto, using(std::proofs::lemmas::Fmt::decimal_digit))]
@@ -80,7 +80,7 @@ fn push_part(text: &mut ArrayVec<u8, PLACED_BYTES>, part: u32)
     }
 }
 
-/// Writes the line of a row that was taken out.
+/// Writes the line of a row that was removed.
 fn write_gone<W: Write>(row: &Row, writer: &mut Watched<W>) -> Result<(), Refusal>
     ensures { Writes W.contents (gone_text row.now) result writer.old writer.new }
 {
@@ -115,7 +115,7 @@ pub fn write_sum<W: Write>(sum: i128, writer: &mut Watched<W>) -> Result<(), Ref
     send(writer, text.as_slice())
 }
 
-/// Writes the line of a checkpoint, which says how many entries it took.
+/// Writes the line of a checkpoint, with the number of entries.
 pub fn write_folded<W: Write>(folded: u64, writer: &mut Watched<W>) -> Result<(), Refusal>
     ensures { Writes W.contents (folded_text folded) result writer.old writer.new }
 {
@@ -148,7 +148,7 @@ pub fn write_each_row<W: Write>(
     Ok(())
 }
 
-/// Writes the line above rows, which says how many there are.
+/// Writes the line above rows, with their number.
 pub fn write_head<W: Write>(total: u64, writer: &mut Watched<W>) -> Result<(), Refusal>
     ensures { Writes W.contents (head_text total) result writer.old writer.new }
 {
@@ -286,7 +286,7 @@ fn write_refused<W: Write>(
     send(writer, text.as_slice())
 }
 
-/// Writes the line of a refusal that carries the numbers of missing workers, a number at a time: all of them pass a
+/// Writes the line of a refusal that carries the numbers of missing workers, one number at a time: all of them exceed a
 /// text.
 fn write_missing<W: Write>(code: u32, missing: u64, writer: &mut Watched<W>) -> Result<(), Refusal>
     ensures { Writes W.contents (refused_text code (bits_text missing 64)) result writer.old writer.new }
@@ -316,7 +316,7 @@ fn write_bits<W: Write>(bits: u64, writer: &mut Watched<W>) -> Result<(), Refusa
     Ok(())
 }
 
-/// Writes the number of a bit, where it is set.
+/// Writes the number of a bit, if it is set.
 fn write_bit<W: Write>(bits: u64, number: u32, writer: &mut Watched<W>) -> Result<(), Refusal>
     requires { number < 64 }
     ensures { Writes W.contents (bit_text bits number) result writer.old writer.new }
@@ -328,7 +328,7 @@ fn write_bit<W: Write>(bits: u64, number: u32, writer: &mut Watched<W>) -> Resul
     send(writer, text.as_slice())
 }
 
-/// Whether the bit of this number is set.
+/// Whether the bit with this number is set.
 #[tactic(auto, using(std::proofs::lemmas::Nat::Bits::shr_and_one))]
 fn has_bit(bits: u64, number: u32) -> bool
     requires { number < 64 }
@@ -389,7 +389,7 @@ fn push_key(text: &mut Text, key: Key)
     push_number(text, key.number());
 }
 
-/// Adds a payload in decimal: 19 digits and a minus sign at most.
+/// Adds a payload in decimal: at most 19 digits and a minus sign.
 #[inline(always)]
 fn push_payload(text: &mut Text, payload: Payload)
     requires { length text.old.items + 20 ≤ TEXT_BYTES }
@@ -400,7 +400,7 @@ fn push_payload(text: &mut Text, payload: Payload)
     push(text, digits.format(payload.number()).as_bytes());
 }
 
-/// Adds the end of a range in decimal: mostly one that 64 bits hold.
+/// Adds the end of a range in decimal: usually one that fits 64 bits.
 fn push_bound(text: &mut Text, bound: Bound)
     requires { length text.old.items + 40 ≤ TEXT_BYTES }
     ensures digits { text.new.items ≡ text.old.items ++ bound_text bound }
@@ -412,7 +412,7 @@ fn push_bound(text: &mut Text, bound: Bound)
     }
 }
 
-/// Adds a whole number in decimal, a minus sign before it where it is below 0: 40 bytes at most.
+/// Adds an integer in decimal, with a minus sign before it if it is below 0: at most 40 bytes.
 #[inline(always)]
 fn push_whole(text: &mut Text, number: i128)
     requires { length text.old.items + 40 ≤ TEXT_BYTES }
@@ -428,7 +428,7 @@ fn push_whole(text: &mut Text, number: i128)
     }
 }
 
-/// Adds a number in decimal: 20 digits at most.
+/// Adds a number in decimal: at most 20 digits.
 #[inline(always)]
 #[tactic(auto, using(std::proofs::lemmas::Fmt::decimal_digit))]
 fn push_number<const ROOM: usize>(text: &mut ArrayVec<u8, ROOM>, number: u64)
@@ -444,7 +444,7 @@ fn push_number<const ROOM: usize>(text: &mut ArrayVec<u8, ROOM>, number: u64)
     }
 }
 
-/// Adds a number of up to 128 bits in decimal: 40 digits at most.
+/// Adds a number of up to 128 bits in decimal: at most 40 digits.
 fn push_wide_number(text: &mut Text, number: u128)
     requires { length text.old.items + 40 ≤ TEXT_BYTES }
     ensures digits { text.new.items ≡ text.old.items ++ decimal number }

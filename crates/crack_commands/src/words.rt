@@ -12,22 +12,22 @@ use crack_row::{
     Serial,
 };
 
-/// The greatest number of digits of a number in a statement, leading zeros counted.
+/// The greatest number of digits of a number in a statement, including leading zeros.
 pub const MOST_DIGITS: usize = 20;
 
-/// So many digits fit 64 bits, whatever they are.
+/// This many digits fit 64 bits, whatever they are.
 pub(crate) const SHORT_DIGITS: usize = 19;
 
-/// So many digits are read at once where a number has as many.
+/// This many digits are read at once if a number has as many.
 const BLOCK_DIGITS: usize = 8;
 
-/// The greatest number that a statement names a partition by.
+/// The greatest number by which a statement names a partition.
 pub const GREATEST_PART: u32 = 4294967295;
 
-/// The greatest number that a statement names a row of a partition by.
+/// The greatest number by which a statement names a row of a partition.
 pub const GREATEST_SERIAL: u64 = 18446744073709551615;
 
-/// The key and the payload, where there are just two words, and they are such.
+/// The key and the payload, if there are exactly two words, which are a key and a payload.
 #[inline(always)]
 pub fn key_and_payload(bytes: &[u8]) -> Option<(Key, Payload)>
     ensures { result ≡ key_and_payload (words bytes.now) }
@@ -40,7 +40,7 @@ pub fn key_and_payload(bytes: &[u8]) -> Option<(Key, Payload)>
     any_key_and_payload(bytes)
 }
 
-/// A number and a whole number, where there are just two words, these, 64 bits are enough for each, and no space stands
+/// A number and an integer, if there are exactly two words, these, 64 bits are enough for each, and no space comes
 /// after them.
 #[inline(always)]
 fn two_short_words(bytes: &[u8]) -> Option<(u64, i128)>
@@ -71,7 +71,7 @@ fn any_key_and_payload(bytes: &[u8]) -> Option<(Key, Payload)>
     }
 }
 
-/// The key and the payload of two numbers, if they are such. Both are looked at, side by side.
+/// The key and the payload of two numbers, if they are a key and a payload. Both are tested together.
 #[inline(always)]
 pub(crate) fn row_from(key: u128, payload: i128) -> Option<(Key, Payload)>
     ensures { result ≡ row_from key payload }
@@ -113,14 +113,14 @@ fn is_key(number: u128) -> bool
     number <= GREATEST_KEY as u128
 }
 
-/// Whether a whole number is a payload.
+/// Whether an integer is a payload.
 fn is_payload(number: i128) -> bool
     ensures { result ≡ (int_le LEAST_PAYLOAD number && int_le number GREATEST_PAYLOAD) }
 {
     LEAST_PAYLOAD as i128 <= number && number <= GREATEST_PAYLOAD as i128
 }
 
-/// The two numbers, where there are just two words and both are numbers.
+/// The two numbers, if there are exactly two words and both are numbers.
 #[inline(always)]
 pub fn two_numbers(bytes: &[u8]) -> Option<(u128, u128)>
     ensures { result ≡ two_numbers (words bytes.now) }
@@ -131,7 +131,7 @@ pub fn two_numbers(bytes: &[u8]) -> Option<(u128, u128)>
     }
 }
 
-/// The two numbers, where there are just two words, both are numbers of 64 bits, and no space stands after them.
+/// The two numbers, if there are exactly two words, both are numbers of 64 bits, and no space is after them.
 #[inline(always)]
 fn two_short_numbers(bytes: &[u8]) -> Option<(u64, u64)>
     ensures { IfSome result (λ pair. two_numbers (words bytes.now) ≡ Some (pair.0, pair.1)) }
@@ -194,7 +194,7 @@ pub fn read_part(word: &[u8]) -> Option<u32>
     read_number_up_to(GREATEST_PART, word)
 }
 
-/// The number that a word is, if it is one that is at most the greatest.
+/// The number that a word is, if it is one and at most the greatest.
 pub fn read_number_up_to(greatest: u32, word: &[u8]) -> Option<u32>
     ensures { result ≡ number_up_to greatest word.now }
 {
@@ -235,7 +235,7 @@ fn short_number(bytes: &[u8]) -> Option<(u64, &[u8])>
     short_digits(without_spaces(bytes))
 }
 
-/// The whole number that the first word is, if 64 bits are enough for its digits, and what follows the word.
+/// The integer that the first word is, if 64 bits are enough for its digits, and what follows the word.
 #[inline(always)]
 fn short_whole_number(bytes: &[u8]) -> Option<(i128, &[u8])>
     ensures { IfSome result (λ pair. IsFirstWholeNumber bytes.now (Some pair.0) pair.1.now) }
@@ -245,7 +245,7 @@ fn short_whole_number(bytes: &[u8]) -> Option<(i128, &[u8])>
     Some((signed(has_sign(word), value as u128), rest))
 }
 
-/// The number of 64 bits that bytes begin with, where a space stands after it or nothing, and what follows it.
+/// The number of 64 bits that bytes begin with, if a space or nothing is after it, and what follows it.
 #[inline(always)]
 fn short_digits(bytes: &[u8]) -> Option<(u64, &[u8])>
     ensures { IfSome result (λ pair. BeginsWithDigits bytes.now pair.0 pair.1.now) }
@@ -258,7 +258,7 @@ fn short_digits(bytes: &[u8]) -> Option<(u64, &[u8])>
     }
 }
 
-/// Whether a minus sign stands at the front.
+/// Whether a minus sign is at the front.
 #[inline(always)]
 pub(crate) fn has_sign(bytes: &[u8]) -> bool
     ensures { result ≡ has_sign bytes.now }
@@ -274,7 +274,7 @@ pub(crate) fn unsigned(bytes: &[u8]) -> &[u8]
     if has_sign(bytes) { &bytes[1..] } else { bytes }
 }
 
-/// The number, or its opposite.
+/// The number, or its negative.
 #[inline(always)]
 pub(crate) fn signed(is_negative: bool, number: u128) -> i128
     requires { number < 2 ^ 127 }
@@ -295,7 +295,7 @@ fn ends_at(bytes: &[u8], end: usize) -> bool
     end == bytes.len() || bytes[end] == b' '
 }
 
-/// The digits at the front, `MOST_DIGITS` at the most, and no more than fit 64 bits: their value, and how many they
+/// The digits at the front, at most `MOST_DIGITS`, and no more than fit 64 bits: their value, and how many they
 /// are.
 #[inline(always)]
 pub(crate) fn leading_number(bytes: &[u8]) -> (u64, usize)
@@ -313,7 +313,7 @@ pub(crate) fn leading_number(bytes: &[u8]) -> (u64, usize)
     }
 }
 
-/// The number with a digit more after it, if the byte is one, and the number fits.
+/// The number with one more digit after it, if the byte is one, and the number fits.
 fn with_digit(value: u64, byte: u8) -> Option<u64>
     ensures { IfSome result (λ n. (is_digit byte ≡ true) × (n ≡ value * 10 + (byte - 48))) }
 {
@@ -343,7 +343,7 @@ pub(crate) fn leading_digits(bytes: &[u8]) -> (u64, usize)
     (value, bytes.len())
 }
 
-/// The value of a block of digits at the front, and how many these are: none where there are fewer.
+/// The value of a block of digits at the front, and how many these are: none if there are fewer.
 #[inline(always)]
 fn leading_block(bytes: &[u8]) -> (u64, usize)
     ensures within { result.1 ≤ length bytes.now }
@@ -362,7 +362,7 @@ fn leading_block(bytes: &[u8]) -> (u64, usize)
     }
 }
 
-/// Whether there are digits alone. All bytes are looked at, side by side.
+/// Whether there are only digits. All bytes are tested together.
 fn are_digits(block: &[u8]) -> bool
     ensures { result ≡ list_all is_digit block.now }
 {
@@ -387,7 +387,7 @@ fn block_value(block: &[u8]) -> u64
     value
 }
 
-/// A number of 1 to `MOST_DIGITS` digits, and right before it a minus sign or none.
+/// A number of 1 to `MOST_DIGITS` digits, with or without a minus sign directly before it.
 fn read_whole_number(word: &[u8]) -> Option<i128>
     ensures { result ≡ whole_number_of word.now }
 {
@@ -407,7 +407,7 @@ fn read_number(word: &[u8]) -> Option<u128>
     }
 }
 
-/// Whether there are digits alone.
+/// Whether there are only digits.
 fn all_digits(word: &[u8]) -> bool
     ensures { result ≡ list_all is_digit word.now }
 {
@@ -435,7 +435,7 @@ fn value_of(word: &[u8]) -> u128
     value
 }
 
-/// The first word, and what follows it. It is empty where there is none.
+/// The first word, and what follows it. It is empty if there is none.
 pub fn next_word(bytes: &[u8]) -> (&[u8], &[u8])
     ensures { IsFirstWord bytes.now result.0.now result.1.now }
 {
@@ -444,7 +444,7 @@ pub fn next_word(bytes: &[u8]) -> (&[u8], &[u8])
     word.split_at(end)
 }
 
-/// The word, where there is just one; else no bytes.
+/// The word, if there is exactly one; else no bytes.
 pub fn only_word(bytes: &[u8]) -> &[u8]
     ensures { result.now ≡ only_word (words bytes.now) }
 {
