@@ -1,4 +1,4 @@
--- What follows of asking a partition whose full history is checkpointed first.
+-- What follows from asking a partition whose full history is checkpointed first.
 use Rattle.std.specs.Prelude.{◌≡◌, ◌⊎◌, ℕ, ◌+◌, ◌<◌, ◌≤◌, ◌≤ℤ◌, ◌^◌, neg_ℤ, pos, All, sum_by, Bool, true, false, cond, ◌&&◌, not, List, [], ◌∷◌, ◌++◌, length, take, drop, Option, None, Some, Result, Ok, Err, IsOk, nat_le, slice_get, if◌then◌else◌}
 use Rattle.std.specs.Option.{option_map, option_or}
 use Rattle.std.proofs.Common.{zero, suc, get_or, set, arith, ap, refl, sym, subst, ◌∙◌, inl, inr}
@@ -37,13 +37,13 @@ accepted-same table = omega arith
 checkpointed-twice : (table : PlainView) → checkpointed (checkpointed table) ≡ checkpointed table
 checkpointed-twice table = ap (folded_table table.state) (accepted-same table)
 
--- a command that is answered comes to the same before a checkpoint and after it
+-- a command has the same reply before a checkpoint and after it
 once : (table : PlainView) (command : Command) → checkpointed (table_after table command) ≡ checkpointed (table_after (checkpointed table) command)
 once table command =
     let same : table.folded + (table.since + 1) ≡ (table.folded + table.since) + (0 + 1) = omega arith in
     ap (folded_table (after table.state command)) same
 
--- upkeep shows in no table as checkpoints leave it
+-- upkeep makes no difference to a table as checkpoints leave it
 once-upkept : (limits : Limits) (table : PlainView) (command : Command) → checkpointed (table_after (upkept_table limits table) command) ≡ checkpointed (table_after (checkpointed table) command)
 once-upkept limits table command = by_test (is_due limits table.since)
   where
@@ -90,7 +90,7 @@ Comes wanted Lacks r = (r ≡ wanted) ⊎ (IsOk wanted × ((r ≡ Err OutOfMemor
 no-ok : {X : Type 0} (e : Refusal) → IsOk (refused_with e) → X
 no-ok e is = absurd (true≢false (sym is))
 
--- where it isn't the history that refuses, the history is nothing to it
+-- if it isn't the history that refuses, the history doesn't matter
 without-history : (is_own full over : Bool) (limit : ℕ) (said : Reply) (Lacks : Type 0) (r : Result Reply Refusal) → (r ≡ Err (HistoryFull limit) → ⊥) → Comes (by_tests is_own full over limit said) Lacks r → Comes (by_tests is_own false over limit said) Lacks r
 without-history false full over limit said Lacks r other comes = comes
 without-history true false over limit said Lacks r other comes = comes
@@ -99,7 +99,7 @@ without-history true true over limit said Lacks r other comes = elim comes [
   | inr both ↦ no-ok (HistoryFull limit) both.0
 ]
 
--- what comes out of a partition, by its test
+-- the outcome of a partition, by its test
 last-same : (limits : Limits) (keys : Range) (t : PlainView) (command : Command) (r : Result Reply Refusal) → Comes (by_tests (is_key_in keys (key_of command)) false (nat_le limits.life (accepted_of t)) limits.history (reply_to t.state command)) (MayLackCell (bounds_of limits) (Some t) command) r → IsOutcome (lasting_bounds limits) keys (Some (checkpointed t)) command r
 last-same limits keys t command r comes = rw (accepted-same t) comes
 
@@ -153,7 +153,7 @@ short false full_now over limit said Lacks Lacks' r full comes = elim comes [
 short true full_now false limit said Lacks Lacks' r full comes = inl (inr (refl, inl refl))
 short true full_now true limit said Lacks Lacks' r full comes = inr (refl, refl)
 
--- what comes out then
+-- what the outcome is then
 abbrev Shortly : Limits → Range → Option PlainView → Command → Result Reply Refusal → Type 0
 Shortly limits keys table command r = IsOutcome (lasting_bounds limits) keys table command r ⊎ ((r ≡ Err OutOfMemory) × (expected (lasting_bounds limits) keys table command ≡ Err LifeOver))
 
@@ -214,7 +214,7 @@ asks-said limits splits part command reply old new asks = elim asks.comes_out [
   | inr both ↦ cc both.0
 ]
 
--- one partition more replies
+-- one more partition replies
 pub AsksInTurn-more : {limits : Limits} {splits : List Bound} (query : Query) (old : List PlainView) (parts : List (ℕ × Range)) (i : ℕ) (part : ℕ × Range) (command : Command) (said said' : List Reply) (reply : Reply) (between new : List PlainView) → i < length parts → part ≡ get_or parts i part → command ≡ asking query part.1 → said' ≡ said ++ reply ∷ [] → AsksInTurn limits splits query old (take i parts) (Ok said) between → Asks limits splits part.0 command (Ok reply) between new → AsksInTurn limits splits query old (take (i + 1) parts) (Ok said') new
 AsksInTurn-more query old parts i part command said said' reply between new below is asked grown so_far asks =
     let more : take (i + 1) parts ≡ take i parts ++ part ∷ [] = take_more parts i part below ∙ ap (λ (p : ℕ × Range). take i parts ++ p ∷ []) (sym is) in

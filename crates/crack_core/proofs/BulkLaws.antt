@@ -1,4 +1,4 @@
--- What follows of lists of calls.
+-- What follows from lists of calls.
 use Rattle.std.specs.Prelude.{◌≡◌, ℕ, ◌+◌, ◌<◌, ◌≤◌, ℤ, pos, List, Option, None, Some, Result, Ok, Err, length, is_some, Bool, true, slice_index_or}
 use Rattle.std.proofs.Common.{set, arith, ap, subst, ◌∙◌}
 use Rattle.std.proofs.lemmas.List.{get_or-set_same, get_or-set_other}
@@ -19,7 +19,7 @@ answered-as call call' old done new turns none = none
 answered-as call call' old done new turns (one_more begun between new' so_far called) =
     one_more begun between new' (answered-as call call' old begun between (λ k before after below. turns k before after (omega arith)) so_far) (turns begun between new' (omega arith) called)
 
--- one call more
+-- one more call
 pub answered-more : (call call' : Call) (old : List PlainView) (done : ℕ) (between new : List PlainView) → ((k : ℕ) (before after : List PlainView) → k < done → call k None before after → call' k None before after) → Answered call old done between → call' done None between new → Answered call' old (done + 1) new
 answered-more call call' old done between new turns so_far called = one_more done between new (answered-as call call' old done between turns so_far) called
 

@@ -1,4 +1,4 @@
--- What follows of jobs, one after the other: of steps, and of checkpoints between them.
+-- What follows from jobs, one after the other: of steps, and of checkpoints between them.
 use Rattle.std.specs.Prelude.{◌≡◌, ◌≢◌, ℕ, ◌+◌, ◌<◌, ◌≤◌, ◌==◌, Bool, true, false, cond, List, [], ◌∷◌, ◌++◌, length, take, Option, None, Some, Result, Ok, Err, IfOk, IfErr, OnOk, OnErr, ◌⊎◌, slice_get, if◌then◌else◌}
 use Rattle.std.specs.Option.{option_map}
 use Rattle.std.proofs.Common.{get_or, set, arith, ap, refl, sym, subst, ◌∙◌, ⊎_elim, inl, inr, length-append}
@@ -22,7 +22,7 @@ use Rattle.crack_core.specs.Steps.{bounds_of, fresh_table, tables_of, pasts_of, 
 use Rattle.crack_core.specs.Jobs.{part_of, folding, past_after, past_at, KeepsJobs, IsJobOutcome, AreExpectedOutcomes, FoldsAt, Does, DoesAll}
 use Rattle.crack_core.proofs.StepLaws.{tables-pasts, get-last, get-front, get-set_same, get-set_other}
 
--- one job more
+-- one more job
 past_at-push : (limits : Limits) (part : ℕ) (jobs : List Job) (results : List (Result Done Refusal)) (job : Job) (result : Result Done Refusal) (past : Past) → length results ≡ length jobs → past_at limits part (jobs ++ job ∷ []) (results ++ result ∷ []) past ≡ past_after limits part job result (past_at limits part jobs results past)
 past_at-push limits part [] [] job result past same = refl
 past_at-push limits part [] (r ∷ results) job result past same = absurd (omega (arith, same))
@@ -96,7 +96,7 @@ accepted-folded parts i q d within is =
     let same : accepted_in q.past ≡ accepted_in (get_or parts i d).past + 0 = ap (λ (p : Part). accepted_in p.past) is in
     omega (arith, sum, same)
 
--- what comes out of a checkpoint: of a partition that is there, and where there is none
+-- the outcome of a checkpoint: of a partition that is there, and if there is none
 pub fold-at : (parts : List Part) (i : ℕ) (r : Result ℕ Refusal) (d : Part) → i < length parts → (r ≡ Ok (length (get_or parts i d).past.tail)) ⊎ (r ≡ Err OutOfMemory) → IsFoldOutcome (slice_get (tables_of parts) i) r
 fold-at parts i r d within outcome =
     let table = λ (p : Part). table_of p.past in
@@ -140,7 +140,7 @@ pub opened-fold : (parts : List Part) (i : ℕ) (q d : Part) (r : Result ℕ Ref
 opened-fold parts i q d (Ok count) is = (ap (λ (p : Part). p.keys) is.0, ap (λ (p : Part). p.limits) is.0)
 opened-fold parts i q d (Err e) is = (ap (λ (p : Part). p.keys) is.1, ap (λ (p : Part). p.limits) is.1)
 
--- the plain rows of the partitions after jobs, by what they lived through before
+-- the plain rows of the partitions after jobs, by their pasts before
 pub tables-kept : (limits : Limits) (old now : List Part) (part : ℕ) (jobs : List Job) (results : List (Result Done Refusal)) → KeepsJobs limits (pasts_of old) jobs results (pasts_of now) → slice_get (tables_of now) part ≡ option_map (λ (past : Past). table_of (past_at limits part jobs results past)) (slice_get (pasts_of old) part)
 tables-kept limits old now part jobs results kept = tables-pasts now part ∙ ap (option_map table_of) (kept part) ∙ by_past (slice_get (pasts_of old) part)
   where
@@ -152,7 +152,7 @@ tables-kept limits old now part jobs results kept = tables-pasts now part ∙ ap
 pub AreExpectedOutcomes-nil : (limits : Limits) (splits : List Bound) (pasts : List Past) → AreExpectedOutcomes limits splits pasts [] []
 AreExpectedOutcomes-nil limits splits pasts = record { each = refl; outcomes = λ k j r at. absurd (omega (arith, slice_get_within {A = Job} [] k j at)) }
 
--- one job more
+-- one more job
 pub AreExpectedOutcomes-push : (limits : Limits) (splits : List Bound) (pasts : List Past) (jobs : List Job) (results : List (Result Done Refusal)) (j : Job) (r : Result Done Refusal) → AreExpectedOutcomes limits splits pasts jobs results → IsJobOutcome (bounds_of limits) splits (option_map (λ (past : Past). table_of (past_at limits (part_of j) jobs results past)) (slice_get pasts (part_of j))) j r → AreExpectedOutcomes limits splits pasts (jobs ++ j ∷ []) (results ++ r ∷ [])
 AreExpectedOutcomes-push limits splits pasts jobs results j r before now = record {
   each = omega (arith, before.each, length-append jobs (j ∷ []), length-append results (r ∷ []));
@@ -182,7 +182,7 @@ AreExpectedOutcomes-push limits splits pasts jobs results j r before now = recor
 pub DoesAll-nil : (splits : List Bound) (limits : Limits) (parts : List Part) → DoesAll splits limits [] [] parts parts
 DoesAll-nil splits limits parts = refl
 
--- one job more
+-- one more job
 pub DoesAll-push : (splits : List Bound) (limits : Limits) (jobs : List Job) (results : List (Result Done Refusal)) (j : Job) (r : Result Done Refusal) (old now new : List Part) → DoesAll splits limits jobs results old now → Does splits limits j r now new → DoesAll splits limits (jobs ++ j ∷ []) (results ++ r ∷ []) old new
 DoesAll-push splits limits [] [] j r old now new before does = (new, rw before at does, refl)
 DoesAll-push splits limits [] (y ∷ results) j r old now new before does = absurd before

@@ -1,4 +1,4 @@
--- What follows of rows that are written into lists.
+-- What follows from rows that are written into lists.
 use Rattle.std.specs.Prelude.{◌≡◌, ◌≢◌, ℕ, ◌+◌, ◌<◌, ◌≤◌, ℤ, pos, List, [], ◌∷◌, ◌++◌, length, take, drop, ◌^◌, slice_index_or}
 use Rattle.std.proofs.Common.{zero, suc, get_or, set, arith, ap, refl, sym, subst, ◌∙◌, ⊎_elim, append_assoc, add-one}
 use Rattle.std.proofs.lemmas.List.{get_or-set_same, get_or-set_other, get_or_append_left, get_or_push, length-append, length-map, length-take-le, take_more, take-append-drop, map-append, append-nil}
@@ -14,13 +14,13 @@ use Rattle.crack_core.specs.Listing.{rows_in, of_part, listed, listed_at, no_row
 abbrev row_of : ℕ → ℕ → ℕ → ℤ → ℕ × Row
 row_of part serial key payload = (part, record { serial = record { 0 = serial }; key = record { 0 = key }; payload = record { 0 = payload } })
 
--- rows after those that there is room for stand nowhere
+-- rows after those that there is room for are nowhere
 pub stand-longer : (rows more : List (ℕ × Row)) (parts serials keys : List ℕ) (payloads : List ℤ) → length parts ≤ length rows → StandIn rows parts serials keys payloads → StandIn (rows ++ more) parts serials keys payloads
 stand-longer rows more parts serials keys payloads full stand k within there =
     let below : k < length rows = omega arith in
     stand k below there ∙ sym (get_or_append_left rows more no_row k below)
 
--- a row more is written after them
+-- one more row is written after them
 pub stand-more : (rows : List (ℕ × Row)) (row : ℕ × Row) (parts serials keys : List ℕ) (payloads : List ℤ) (at : ℕ)
     → length rows ≡ at → at < length parts → length serials ≡ length parts → length keys ≡ length parts → length payloads ≡ length parts
     → StandIn rows parts serials keys payloads
@@ -49,7 +49,7 @@ stand-more rows row parts serials keys payloads at is below s k' p stand k withi
         let of_payload : get_or (set payloads at row.1.payload.0) k (pos 0) ≡ get_or payloads k (pos 0) = get_or-set_other payloads at k row.1.payload.0 (pos 0) other in
         rw (of_part', of_serial, of_key, of_payload) (stand k front in_parts ∙ sym (get_or_append_left rows (row ∷ []) no_row k front))
 
--- a row more of a partition
+-- one more row of a partition
 pub of_part-more : (part : ℕ) (rows : List Row) (i : ℕ) (d : Row) → i < length rows → of_part part (take (i + 1) rows) ≡ of_part part (take i rows) ++ (part, get_or rows i d) ∷ []
 of_part-more part rows i d below = ap (of_part part) (take_more rows i d below) ∙ map-append (λ (row : Row). (part, row)) (take i rows) (get_or rows i d ∷ [])
 
@@ -77,13 +77,13 @@ listed-all (m ∷ met) [] few = refl
 listed-all [] (r ∷ replies) few = absurd (omega arith)
 listed-all (m ∷ met) (r ∷ replies) few = ap (λ (rows : List (ℕ × Row)). of_part m.0 (rows_in r) ++ rows) (listed-all met replies (omega arith))
 
--- how many rows are written once so many of a partition are
+-- how many rows are written once this many of a partition are
 pub long-so-far : (before : List (ℕ × Row)) (part : ℕ) (rows : List Row) (i from : ℕ) → length before ≡ from → i ≤ length rows → length (before ++ of_part part (take i rows)) ≡ from + i
 long-so-far before part rows i from is within =
     let with_part : Row → ℕ × Row = λ r. (part, r) in
     length-append before (of_part part (take i rows)) ∙ ap (λ (n : ℕ). length before + n) (length-map (take i rows) with_part ∙ length-take-le i rows within) ∙ ap (λ (n : ℕ). n + i) is
 
--- where the lists are full, all rows of the partition stand in them as far as there is room
+-- if the lists are full, all rows of the partition are in them as far as there is room
 pub rest-behind : (before : List (ℕ × Row)) (part : ℕ) (rows : List Row) (i : ℕ) (parts serials keys : List ℕ) (payloads : List ℤ) → length parts ≤ length (before ++ of_part part (take i rows)) → StandIn (before ++ of_part part (take i rows)) parts serials keys payloads → StandIn (before ++ of_part part rows) parts serials keys payloads
 rest-behind before part rows i parts serials keys payloads full stand =
     let row : Row → ℕ × Row = λ r. (part, r) in

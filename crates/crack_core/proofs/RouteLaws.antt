@@ -1,4 +1,4 @@
--- What follows of splits that rise, and of the partitions that a range meets.
+-- What follows from splits that rise, and of the partitions that a range meets.
 use Rattle.std.specs.Prelude.{◌≡◌, ℕ, ◌+◌, ◌-◌, ◌<◌, ◌≤◌, ◌⊎◌, Bool, true, false, cond, nat_lt, nat_le, List, [], ◌∷◌, ◌++◌, length, map, filter, get_or, count_by}
 use Rattle.std.specs.List.{range_with_len, AllWithin}
 use Rattle.std.specs.List.Sorted.{IsNonDecreasingBy}
@@ -35,7 +35,7 @@ rising-at low (split ∷ splits) (suc part) d rising within =
     let later = rising-at split.0 splits part d now.2 (omega (arith, within)) in
     omega (arith, now.0, later)
 
--- one split more
+-- one more split
 count-cons : (p : Bound → Bool) (split : Bound) (splits : List Bound) (b : Bool) → p split ≡ b → count_by p (split ∷ splits) ≡ cond b 1 0 + count_by p splits
 count-cons p split splits b is =
     let one = sum_by-append (λ (x : Bound). cond (p x) 1 0) (split ∷ []) splits in
@@ -117,7 +117,7 @@ sorted-rising low (split ∷ splits) rising = λ i j d i_le_j j_lt. at (sorted-r
     at later (suc i) zero d i_le_j j_lt = absurd (omega (arith, i_le_j))
     at later (suc i) (suc j) d i_le_j j_lt = later i j d (omega (arith, i_le_j)) (omega (arith, j_lt))
 
--- where those that pass a test stand first, the place after them is how many there are
+-- if those that pass a test are first, the place after them is how many there are
 pub count-point : (p : Bound → Bool) (splits : List Bound) (place : ℕ) → place ≤ length splits → AllWithin (λ (b : Bound). p b ≡ true) splits 0 place → AllWithin (λ (b : Bound). p b ≡ false) splits place (length splits) → place ≡ count_by p splits
 count-point p [] place within pass fail = omega (arith, within)
 count-point p (split ∷ splits) zero within pass fail =
@@ -204,7 +204,7 @@ part-some splits r part are filled bounded within from to =
 abbrev pub parts_below : List Bound → Range → ℕ → List (ℕ × Range)
 parts_below splits r n = filter has_keys (map (part_at splits r) (range_with_len 0 n))
 
--- one partition more, with no keys of the range, or some
+-- one more partition, with no keys of the range, or some
 pub parts_below-none : (splits : List Bound) (r : Range) (n : ℕ) → has_keys (part_at splits r n) ≡ false → parts_below splits r (n + 1) ≡ parts_below splits r n
 parts_below-none splits r n none =
     filter_of_map_range_with_len_more has_keys (part_at splits r) 0 n n (omega arith) ∙ ap (λ (b : Bool). parts_below splits r n ++ cond b (part_at splits r n ∷ []) []) none ∙ append-nil (parts_below splits r n)

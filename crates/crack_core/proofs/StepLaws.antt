@@ -1,4 +1,4 @@
--- What follows of a step, of the entry that it leaves, and of partitions of which one is replaced.
+-- What follows from a step, of the entry that it leaves, and of partitions of which one is replaced.
 use Rattle.std.specs.Prelude.{◌≡◌, ◌≢◌, ℕ, ◌+◌, ◌<◌, ◌≤◌, Bool, true, false, cond, List, [], ◌∷◌, ◌++◌, length, take, drop, Option, None, Some, Result, Ok, Err, is_ok, slice_get, IfSome, IfOk, IfErr, OnOk, OnErr, IsOk, ◌⊎◌, if◌then◌else◌}
 use Rattle.std.specs.Option.{option_map, option_or}
 use Rattle.std.proofs.Common.{zero, suc, get_or, set, arith, ap, refl, sym, subst, ◌∙◌, ⊎_elim, inl, inr, length-append, length-set}
@@ -33,7 +33,7 @@ use Rattle.crack_part.proofs.UpkeepLaws.{upkept_table, table_of-upkept, accepted
 use Rattle.crack_core.specs.Steps.{Bounds, bounds_of, reply_unless, MayLackCell, IsOutcome, IsOutcomeAt, fresh_table, table_after, tables_after, tables_of, pasts_of, accepted_by}
 use Rattle.crack_core.specs.Jobs.{performed, past_after, past_at, KeepsJobs}
 
--- what comes of an answer once the reply's copy is let go
+-- the outcome of an answer once the reply's copy is released
 pub record Gives (answered : Result (Reply × Reply) Refusal) (given : Result Reply Refusal) : Type 0 where
   pub ok : IfOk answered (λ (replies : Reply × Reply). given ≡ Ok replies.0)
   pub err : IfErr answered (λ (e : Refusal). given ≡ Err e)
@@ -54,7 +54,7 @@ small-given (Err e) r gives small = rw gives.err tt
 given-err : (a : Result (Reply × Reply) Refusal) (r : Result Reply Refusal) (e : Refusal) → Gives a r → a ≡ Err e → r ≡ Err e
 given-err a r e gives is = rw is at gives.err
 
--- what comes of a command that a partition doesn't refuse by itself
+-- the outcome of a command that a partition doesn't refuse by itself
 kept-or-short : (said : Reply) (a : Result (Reply × Reply) Refusal) (r : Result Reply Refusal) → Gives a r → IfOk a (λ (replies : Reply × Reply). (replies.0 ≡ said) × (replies.1 ≡ replies.0)) → IfErr a (λ e. e ≡ OutOfMemory) → (r ≡ Ok said) ⊎ (r ≡ Err OutOfMemory)
 kept-or-short said (Ok replies) r gives says short = inl (gives.ok ∙ ap Ok says.0)
 kept-or-short said (Err e) r gives says short = inr (gives.err ∙ ap Err short)
@@ -70,7 +70,7 @@ by_cause true lacks (Some e) said Lacks r refused rest lack = inl refused
 by_cause true true None said Lacks r refused rest lack = inr (refl, inr (refused, lack refl))
 by_cause true false None said Lacks r refused rest lack = ⊎_elim (λ (is : r ≡ Ok said). inl is) (λ (short : r ≡ Err OutOfMemory). inr (refl, inl short)) (rest refl)
 
--- what a partition answers is the reply of its plain rows, or the refusal that they call for, or a want of memory or of a cell in place of a reply
+-- what a partition answers is the reply of its plain rows, or the refusal that they call for, or a lack of memory or of a cell in place of a reply
 pub outcome-given : (p q : Part) (command : Command) (a : Result (Reply × Reply) Refusal) (r : Result Reply Refusal) → Gives a r → IfOk a (λ (replies : Reply × Reply). (replies.0 ≡ reply_to (state_after p.past) command) × (replies.1 ≡ replies.0)) → IfSome (refusal_of p command) (λ e. (a ≡ Err e) × (q ≡ p)) → (refusal_of p command ≡ None → IfErr a (λ e. e ≡ OutOfMemory)) → (is_without_cell p.limits p.store (change_of command) ≡ true → MayLackCell (bounds_of p.limits) (Some (table_of p.past)) command) → IsOutcome (bounds_of p.limits) p.keys (Some (table_of p.past)) command r
 outcome-given p q command a r gives said refused memory lack =
     by_cause (is_key_in p.keys (key_of command)) (is_without_cell p.limits p.store (change_of command)) (stopped_by p.limits (table_of p.past)) (reply_to (state_after p.past) command) (MayLackCell (bounds_of p.limits) (Some (table_of p.past)) command) r
@@ -78,13 +78,13 @@ outcome-given p q command a r gives said refused memory lack =
     (λ none. kept-or-short (reply_to (state_after p.past) command) a r gives said (memory none))
     lack
 
--- a refusal for another cause than want of memory leaves a partition as it was
+-- a refusal for another cause than lack of memory leaves a partition as it was
 pub same-given : (p q : Part) (o : Option Refusal) (a : Result (Reply × Reply) Refusal) (r : Result Reply Refusal) → Gives a r → IfSome o (λ e. (a ≡ Err e) × (q ≡ p)) → (o ≡ None → IfErr a (λ e. e ≡ OutOfMemory)) → IfErr r (λ e. e ≢ OutOfMemory → q ≡ p)
 same-given p q o (Ok replies) r gives refused memory = rw gives.ok tt
 same-given p q None (Err e) r gives refused memory = rw gives.err (λ other. absurd (other (memory refl)))
 same-given p q (Some x) (Err e) r gives refused memory = rw gives.err (λ other. refused.1)
 
--- one entry more
+-- one more entry
 pub table_of-push : (past : Past) (e : Entry) → table_of (with_entry past e) ≡ table_after (table_of past) e.command
 table_of-push past e =
     let long : length (past.tail ++ e ∷ []) ≡ length past.tail + 1 = omega (arith, length-append past.tail (e ∷ [])) in
@@ -122,7 +122,7 @@ get-front [] x k within = absurd (omega (arith, within))
 get-front (y ∷ xs) x zero within = refl
 get-front (y ∷ xs) x (suc k) within = get-front xs x k (omega (arith, within))
 
--- what stands in a list of which one element was replaced
+-- what is in a list of which one element was replaced
 pub get-set_same : {X : Type 0} (xs : List X) (i : ℕ) (y : X) → i < length xs → slice_get (set xs i y) i ≡ Some y
 get-set_same [] i y within = absurd (omega (arith, within))
 get-set_same (x ∷ xs) zero y within = refl
@@ -195,20 +195,20 @@ AreParts-set splits limits parts i q d within are keys limits_are sound = record
   sound = All-set IsSound parts i q sound are.sound;
 }
 
--- where there is no such partition
+-- if there is no such partition
 pub outcome-nowhere : (splits : List Bound) (bounds : Bounds) (parts : List Part) (s : Step) → length parts ≤ s.part → IsOutcomeAt bounds splits (tables_of parts) s.part s.command (Err NoSuchPartition)
 outcome-nowhere splits bounds parts s beyond =
     let none = slice_get_past (tables_of parts) s.part (omega (arith, beyond, length-map parts (λ (p : Part). table_of p.past))) in
     subst (λ (t : Option PlainView). IsOutcome bounds (keys_of_part splits s.part) t s.command (Err NoSuchPartition)) (sym none) (inl refl)
 
--- what a partition of these splits is to answer is what the one of this number is to answer
+-- what a partition of these splits is to answer is what the one with this number is to answer
 pub outcome-at : (splits : List Bound) (limits : Limits) (parts : List Part) (s : Step) (r : Result Reply Refusal) (d : Part) → AreParts splits limits parts → s.part < length parts → IsOutcome (bounds_of (get_or parts s.part d).limits) (get_or parts s.part d).keys (Some (table_of (get_or parts s.part d).past)) s.command r → IsOutcomeAt (bounds_of limits) splits (tables_of parts) s.part s.command r
 outcome-at splits limits parts s r d are within outcome =
     let table = λ (p : Part). table_of p.past in
     let there = slice_get-map table parts s.part ∙ ap (option_map table) (slice_get-get_or parts s.part d within) in
     rw (there, ← are.keys s.part d within) (subst (λ (l : Limits). IsOutcome (bounds_of l) (get_or parts s.part d).keys (Some (table_of (get_or parts s.part d).past)) s.command r) (are.alike s.part d within) outcome)
 
--- what holds of a partition and of the one that replaces it holds of those of its number
+-- what holds of a partition and of the one that replaces it holds of those with its number
 pub replaced-at : (R : Part → Part → Type 0) (parts : List Part) (i : ℕ) (q d : Part) → i < length parts → R (get_or parts i d) q → (old new : Part) → slice_get parts i ≡ Some old → slice_get (set parts i q) i ≡ Some new → R old new
 replaced-at R parts i q d within related old new at_old at_new =
     let first : get_or parts i d ≡ old = some_is (sym (slice_get-get_or parts i d within) ∙ at_old) in
@@ -218,10 +218,10 @@ replaced-at R parts i q d within related old new at_old at_new =
     some_is : {x y : Part} → Some x ≡ Some y → x ≡ y
     some_is e = cc
 
--- nothing holds of a partition that isn't there
+-- nothing holds of a partition that doesn't exist
 pub nowhere-at : (R : Part → Part → Type 0) (parts : List Part) (i : ℕ) → length parts ≤ i → (old new : Part) → slice_get parts i ≡ Some old → slice_get parts i ≡ Some new → R old new
 nowhere-at R parts i beyond old new at_old at_new = absurd (omega (arith, beyond, slice_get_within parts i old at_old))
 
--- a vector whose elements were lent, once as many have come back
+-- a vector whose elements were lent, once as many were returned
 pub come_back : (old new : List Part) (n : ℕ) → length new ≡ n → take n (new ++ drop (length new) old) ≡ new
 come_back old new n long = take-append-le n new (drop (length new) old) (omega (arith, long)) ∙ take_all n new (omega (arith, long))

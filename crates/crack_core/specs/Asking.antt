@@ -1,4 +1,4 @@
--- What is answered where a full history is checkpointed first: one command, and what is asked of a range over all partitions.
+-- The answers if a full history is checkpointed first: to one command, and to questions about a range over all partitions.
 use Rattle.std.specs.Prelude.{◌≡◌, ◌⊎◌, ℕ, ℤ, pos, Bool, false, List, [], ◌∷◌, ◌++◌, map, Option, None, Some, Result, Ok, Err, IfOk, IfErr, nat_le, slice_get, slice_set, slice_index_or, sum_by, if◌then◌else◌}
 use Rattle.crack_row.specs.Ranges.{Range}
 use Rattle.crack_row.specs.Rows.{total_by}
@@ -28,34 +28,34 @@ lasting_bounds limits = record { stop = λ table. if nat_le limits.life (accepte
 abbrev pub lasting : List PlainView → List PlainView
 lasting tables = map checkpointed tables
 
--- what comes out of asking a partition whose full history is checkpointed first: what its plain rows call for; where that is 10, it may be 8, for a
+-- the outcome of asking a partition whose full history is checkpointed first: what its plain rows require; if that is 10, it may be 8, for a
 -- checkpoint that found no memory
 abbrev pub IsLastingOutcome : Limits → List Bound → List PlainView → ℕ → Command → Result Reply Refusal → Type 0
 IsLastingOutcome limits splits tables part command outcome =
     IsOutcomeAt (lasting_bounds limits) splits tables part command outcome
     ⊎ ((outcome ≡ Err OutOfMemory) × (expected (lasting_bounds limits) (keys_of_part splits part) (slice_get tables part) command ≡ Err LifeOver))
 
--- the partitions after what came out of asking one of them: a refusal leaves all as they were
+-- the partitions after the outcome of asking one of them: a refusal leaves all as they were
 abbrev pub lasting_after : List PlainView → ℕ → Command → Result Reply Refusal → List PlainView
 lasting_after tables part command (Ok reply) = slice_set tables part (checkpointed (table_after (slice_index_or tables part fresh_table) command))
 lasting_after tables part command (Err e) = tables
 
--- one partition is asked, and this comes out
+-- one partition is asked, with this outcome
 pub record Asks (limits : Limits) (splits : List Bound) (part : ℕ) (command : Command) (outcome : Result Reply Refusal) (old new : List PlainView) : Type 0 where
   pub comes_out : IsLastingOutcome limits splits old part command outcome
   pub leaves : new ≡ lasting_after old part command outcome
 
--- what comes out of a command, by what comes of its reply
+-- the outcome of a command, by the outcome of its reply
 abbrev pub replied : {X : Type 0} → (X → Reply) → Result X Refusal → Result Reply Refusal
 replied reply (Ok x) = Ok (reply x)
 replied reply (Err e) = Err e
 
--- the reply to a deletion, by the row that went
+-- the reply to a deletion, by the removed row
 abbrev pub gone_reply : Option Row → Reply
 gone_reply None = NoRow
 gone_reply (Some row) = Gone row
 
--- the reply to an update, by whether the row was there
+-- the reply to an update, by whether the row exists
 abbrev pub changed_reply : Bool → Reply
 changed_reply found = if found then Changed else NoRow
 
@@ -64,15 +64,15 @@ pub record Inserts (limits : Limits) (splits : List Bound) (key : Key) (payload 
   pub asks : Asks limits splits (route splits key.0) (Insert key payload) (replied (λ row. Placed row.serial) result) old new
   pub part : IfOk result (λ row. row.part ≡ route splits key.0)
 
--- a row is taken out, and this is what went
+-- a row is removed, and this is the row
 abbrev pub Deletes : Limits → List Bound → RowNo → Result (Option Row) Refusal → List PlainView → List PlainView → Type 0
 Deletes limits splits row result old new = Asks limits splits row.part (Delete row.serial) (replied gone_reply result) old new
 
--- a row gets another key and payload, and this is whether it is there
+-- a row gets another key and payload, and this is whether it exists
 abbrev pub Updates : Limits → List Bound → RowNo → Key → Payload → Result Bool Refusal → List PlainView → List PlainView → Type 0
 Updates limits splits row key payload result old new = Asks limits splits row.part (Update row.serial key payload) (replied changed_reply result) old new
 
--- what is asked of a part of a range
+-- a question about a part of a range
 abbrev pub asking : Query → Range → Command
 asking CountRows range = Count range
 asking SumPayloads range = Sum range
@@ -93,7 +93,7 @@ pub data AsksInTurn (limits : Limits) (splits : List Bound) (query : Query) (old
       → Asks limits splits part.0 (asking query part.1) (Err e) between new
       → AsksInTurn limits splits query old (parts ++ part ∷ behind) (Err e) new
 
--- a range is read: what its parts reply comes to something, or it is refused as they are, or for want of memory before one is asked
+-- a range is read: the replies of its parts are combined, or it is refused as they are, or for lack of memory before one is asked
 pub record Reads {X : Type 0} (limits : Limits) (splits : List Bound) (query : Query) (comes_to : List Reply → X → Type 0) (range : Range) (result : Result X Refusal) (old new : List PlainView) : Type 0 where
   pub ok : IfOk result (λ x. (said : List Reply) × AsksInTurn limits splits query old (parts_of splits range) (Ok said) new × comes_to said x)
   pub err : IfErr result (λ e. AsksInTurn limits splits query old (parts_of splits range) (Err e) new ⊎ ((e ≡ OutOfMemory) × (new ≡ old)))
@@ -112,6 +112,6 @@ summed _ = pos 0
 abbrev pub Counts : Limits → List Bound → Range → Result ℕ Refusal → List PlainView → List PlainView → Type 0
 Counts limits splits range result old new = Reads limits splits CountRows (λ said count. count ≡ sum_by counted said) range result old new
 
--- a range is added up: so are its parts
+-- the payloads of a range are added up: so are its parts
 abbrev pub Sums : Limits → List Bound → Range → Result ℤ Refusal → List PlainView → List PlainView → Type 0
 Sums limits splits range result old new = Reads limits splits SumPayloads (λ said sum. sum ≡ total_by summed said) range result old new

@@ -13,21 +13,21 @@ use Rattle.crack_plain.specs.Plain.{PlainView}
 use Rattle.crack_core.specs.Asking.{Inserts, Deletes, Updates, Counts, Sums}
 use Rattle.crack_core.specs.declared.bulk.Progress.{Progress}
 
--- a call of a list is made: of which it is the number, why it was refused, if it was, and the partitions before and after
+-- a call of a list is made: its number, why it was refused, if it was, and the partitions before and after
 abbrev pub Call : Type 1
 Call = ℕ → Option Refusal → List PlainView → List PlainView → Type 0
 
--- as many calls of a list were answered, from the first on, each on the partitions that the one before it left
+-- as many calls of a list were answered, from the first on, each on the partitions that the previous one left
 pub data Answered (call : Call) (old : List PlainView) : ℕ → List PlainView → Type 0 where
   none : Answered call old 0 old
   one_more : (done : ℕ) (between new : List PlainView) → Answered call old done between → call done None between new → Answered call old (done + 1) new
 
--- so many calls of a list were made: all were answered, or those before one that was refused, and those after it weren't made
+-- this many calls of a list were made: all were answered, or those before one that was refused, and those after it weren't made
 pub data Went (call : Call) (count : ℕ) (old : List PlainView) : Progress → List PlainView → Type 0 where
   whole : (new : List PlainView) → Answered call old count new → Went call count old (record { done = count; refusal = None }) new
   stopped : (done : ℕ) (e : Refusal) (between new : List PlainView) → done < count → Answered call old done between → call done (Some e) between new → Went call count old (record { done = done; refusal = Some e }) new
 
--- what comes of a call: this answer, or a refusal, if there is one
+-- the outcome of a call: this answer, or a refusal, if there is one
 abbrev pub comes_to : {X : Type 0} → X → Option Refusal → Result X Refusal
 comes_to x None = Ok x
 comes_to x (Some e) = Err e
@@ -46,21 +46,21 @@ row_at parts serials k = record { part = slice_index_or parts k 0; serial = reco
 abbrev pub flag : Bool → ℕ
 flag is = if is then 1 else 0
 
--- a row is placed, and its number stands at its place
+-- a row is placed, and its number is at its place
 abbrev pub InsertsAt : Limits → List Bound → List ℕ → List ℤ → List ℕ → List ℕ → Call
 InsertsAt limits splits keys payloads parts serials k refusal old new = Inserts limits splits (key_at keys k) (payload_at payloads k) (comes_to (row_at parts serials k) refusal) old new
 
--- a row is taken out, and 1 stands at its place, or 0 where it wasn't there
+-- a row is removed, and 1 is at its place, or 0 if it didn't exist
 abbrev pub DeletesAt : Limits → List Bound → List ℕ → List ℕ → List ℕ → Call
 DeletesAt limits splits parts serials gone k refusal old new =
     (row : Option Row) × Deletes limits splits (row_at parts serials k) (comes_to row refusal) old new × (refusal ≡ None → slice_index_or gone k 0 ≡ flag (is_some row))
 
--- a row gets another key and payload, and 1 stands at its place, or 0 where it isn't there
+-- a row gets another key and payload, and 1 is at its place, or 0 if it doesn't exist
 abbrev pub UpdatesAt : Limits → List Bound → List ℕ → List ℕ → List ℕ → List ℤ → List ℕ → Call
 UpdatesAt limits splits parts serials keys payloads found k refusal old new =
     (is : Bool) × Updates limits splits (row_at parts serials k) (key_at keys k) (payload_at payloads k) (comes_to is refusal) old new × (refusal ≡ None → slice_index_or found k 0 ≡ flag is)
 
--- what is asked of the keys from one to another, both included: where they are out of order it is refused with 2, else it is asked of their range
+-- a question about the keys from one to another, both included: if they are out of order it is refused with 2, else it is asked of their range
 pub record OverKeys {X : Type 0} (Asks : Range → Result X Refusal → List PlainView → List PlainView → Type 0) (first last : ℕ) (result : Result X Refusal) (old new : List PlainView) : Type 0 where
   pub asked : first ≤ last + 1 → Asks (record { low = first; high = last + 1 }) result old new
   pub refused : last + 1 < first → (result ≡ Err BadRange) × (new ≡ old)
@@ -72,15 +72,15 @@ CountsKeys limits splits first last result old new = OverKeys (Counts limits spl
 abbrev pub SumsKeys : Limits → List Bound → ℕ → ℕ → Result ℤ Refusal → List PlainView → List PlainView → Type 0
 SumsKeys limits splits first last result old new = OverKeys (Sums limits splits) first last result old new
 
--- a sum of its low 64 bits and those above them
+-- a sum from its low 64 bits and those above them
 abbrev pub joined : ℕ → ℤ → ℤ
 joined low high = pos low +ℤ (high *ℤ pos (2 ^ 64))
 
--- the rows of a range are counted, and their count stands at its place
+-- the rows of a range are counted, and their count is at its place
 abbrev pub CountsAt : Limits → List Bound → List ℕ → List ℕ → List ℕ → Call
 CountsAt limits splits firsts lasts counts k refusal old new = CountsKeys limits splits (slice_index_or firsts k 0) (slice_index_or lasts k 0) (comes_to (slice_index_or counts k 0) refusal) old new
 
--- the payloads of a range are added up, and the halves of their sum stand at its place
+-- the payloads of a range are added up, and the halves of their sum are at its place
 abbrev pub SumsAt : Limits → List Bound → List ℕ → List ℕ → List ℕ → List ℤ → Call
 SumsAt limits splits firsts lasts lows highs k refusal old new =
     SumsKeys limits splits (slice_index_or firsts k 0) (slice_index_or lasts k 0) (comes_to (joined (slice_index_or lows k 0) (slice_index_or highs k (pos 0))) refusal) old new

@@ -1,4 +1,4 @@
--- What steps and checkpoints, one after the other, are to be answered, and what they leave.
+-- The expected answers to steps and checkpoints, one after the other, and what these leave.
 use Rattle.std.specs.Prelude.{◌≡◌, ◌≢◌, ℕ, ◌==◌, List, [], ◌∷◌, length, take, Option, Some, Result, Ok, Err, OnOk, OnErr, IfErr, slice_get, if◌then◌else◌}
 use Rattle.std.specs.Option.{option_map}
 use Rattle.crack_row.specs.declared.Bound.{Bound}
@@ -25,17 +25,17 @@ abbrev pub part_of : Job → ℕ
 part_of (Perform step) = step.part
 part_of (Fold part) = part
 
--- what comes of a job whose step came out so
+-- the outcome of a job with this outcome of its step
 abbrev pub performed : Result Reply Refusal → Result Done Refusal
 performed (Ok reply) = Ok (Replied reply)
 performed (Err e) = Err e
 
--- what comes of a job whose checkpoint came out so
+-- the outcome of a job with this outcome of its checkpoint
 abbrev pub folding : Result ℕ Refusal → Result Done Refusal
 folding (Ok count) = Ok (Folded count)
 folding (Err e) = Err e
 
--- what one partition of these limits lived through, after a job: a step of its own that was answered is one entry more, once upkeep is done,
+-- the past of one partition with these limits, after a job: a step of its own that was answered is one more entry, after upkeep is done,
 -- and a checkpoint of its own moves its history into its base
 abbrev pub past_after : Limits → ℕ → Job → Result Done Refusal → Past → Past
 past_after limits part (Perform step) (Ok (Replied reply)) past = if step.part == part then with_entry (upkept limits past) (record { worker = step.worker; command = step.command; reply = reply }) else past
@@ -47,15 +47,15 @@ abbrev pub past_at : Limits → ℕ → List Job → List (Result Done Refusal) 
 past_at limits part (job ∷ jobs) (result ∷ results) past = past_at limits part jobs results (past_after limits part job result past)
 past_at limits part _ _ past = past
 
--- each partition of these limits lived through what it had, and then through its own jobs
+-- each partition with these limits has its former past, continued by its own jobs
 abbrev pub KeepsJobs : Limits → List Past → List Job → List (Result Done Refusal) → List Past → Type 0
 KeepsJobs limits old jobs results new = (part : ℕ) → slice_get new part ≡ option_map (past_at limits part jobs results) (slice_get old part)
 
--- what holds of the partition of this number, if there is one, and of the one that takes its place
+-- what holds of the partition with this number, if there is one, and of the one that takes its place
 abbrev pub AtPart : ℕ → (Part → Part → Type 0) → List Part → List Part → Type 0
 AtPart part Holds old new = (p q : Part) → slice_get old part ≡ Some p → slice_get new part ≡ Some q → Holds p q
 
--- what a step does to the partitions of these splits: each stays one, the step's own keeps its entry and is served or spared by the
+-- what a step does to the partitions of these splits: each remains one, the step's own keeps its entry and is served or spared by the
 -- step's policy, the others are as they were, and so are all after any refusal but 8
 pub record Makes (splits : List Bound) (limits : Limits) (step : Step) (result : Result Reply Refusal) (old new : List Part) : Type 0 where
   pub parts : AreParts splits limits new
@@ -65,24 +65,24 @@ pub record Makes (splits : List Bound) (limits : Limits) (step : Step) (result :
   pub spared : OnErr result (AtPart step.part (λ p q. Spares step.policy p step.command q.store) old new)
   pub same : IfErr result (λ e. e ≢ OutOfMemory → new ≡ old)
 
--- what comes of a job whose partition is this: a step comes out as its partition is to answer, and a checkpoint reports how many commands it
+-- the outcome of a job whose partition is this: a step is answered as its partition must, and a checkpoint returns how many commands it
 -- accepted since the last one
 abbrev pub IsJobOutcome : Bounds → List Bound → Option PlainView → Job → Result Done Refusal → Type 0
 IsJobOutcome bounds splits table (Perform step) result = (outcome : Result Reply Refusal) × (result ≡ performed outcome) × IsOutcome bounds (keys_of_part splits step.part) table step.command outcome
 IsJobOutcome bounds splits table (Fold part) result = (outcome : Result ℕ Refusal) × (result ≡ folding outcome) × IsFoldOutcome table outcome
 
--- the expected replies over jobs: each comes out as its partition is to answer from what it lived through before the first job and its own
+-- the expected replies over jobs: each is answered as its partition must answer, from its past before the first job and its own
 -- jobs done before; neither workers nor policies nor other partitions' jobs matter
 pub record AreExpectedOutcomes (limits : Limits) (splits : List Bound) (pasts : List Past) (jobs : List Job) (results : List (Result Done Refusal)) : Type 0 where
   pub each : length results ≡ length jobs
   pub outcomes : (k : ℕ) (job : Job) (result : Result Done Refusal) → slice_get jobs k ≡ Some job → slice_get results k ≡ Some result →
       IsJobOutcome (bounds_of limits) splits (option_map (λ (past : Past). table_of (past_at limits (part_of job) (take k jobs) (take k results) past)) (slice_get pasts (part_of job))) job result
 
--- the partition of this number is checkpointed, and the others are as they were
+-- a checkpoint of the partition with this number is made, and the others are as they were
 abbrev pub FoldsAt : ℕ → List Part → List Part → Type 0
 FoldsAt number old new = (k : ℕ) → slice_get new k ≡ option_map (λ part. if number == k then folded_part part else part) (slice_get old k)
 
--- what a checkpoint does to the partitions of these splits: each stays one, the one that is named is checkpointed, and a refusal changes nothing
+-- what a checkpoint does to the partitions of these splits: each remains one, the named one is checkpointed, and a refusal changes nothing
 pub record Folds (splits : List Bound) (limits : Limits) (number : ℕ) (result : Result ℕ Refusal) (old new : List Part) : Type 0 where
   pub parts : AreParts splits limits new
   pub folds : OnOk result (FoldsAt number old new)

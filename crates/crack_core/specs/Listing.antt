@@ -27,7 +27,7 @@ abbrev pub listed : List (ℕ × Range) → List Reply → List (ℕ × Row)
 listed (part ∷ parts) (reply ∷ replies) = of_part part.0 (rows_in reply) ++ listed parts replies
 listed _ _ = []
 
--- what stands at a place of four lists
+-- what is at a place of four lists
 abbrev pub listed_at : List ℕ → List ℕ → List ℕ → List ℤ → ℕ → ℕ × Row
 listed_at parts serials keys payloads k = (slice_index_or parts k 0, record { serial = record { 0 = slice_index_or serials k 0 }; key = key_at keys k; payload = payload_at payloads k })
 
@@ -35,15 +35,15 @@ listed_at parts serials keys payloads k = (slice_index_or parts k 0, record { se
 abbrev pub no_row : ℕ × Row
 no_row = (0, record { serial = record { 0 = 0 }; key = record { 0 = 0 }; payload = record { 0 = pos 0 } })
 
--- rows stand in four lists in their order, as far as these have room
+-- rows are in four lists in their order, as far as there is room
 abbrev pub StandIn : List (ℕ × Row) → List ℕ → List ℕ → List ℕ → List ℤ → Type 0
 StandIn rows parts serials keys payloads = (k : ℕ) → k < length rows → k < length parts → listed_at parts serials keys payloads k ≡ slice_index_or rows k no_row
 
--- the rows of a range are listed: so many there are, and as many of them as there is room for stand in the lists
+-- the rows of a range are listed: there are this many, and as many of them as there is room for are in the lists
 abbrev pub Selects : Limits → List Bound → List ℕ → List ℕ → List ℕ → List ℤ → Range → Result ℕ Refusal → List PlainView → List PlainView → Type 0
 Selects limits splits parts serials keys payloads range result old new =
     Reads limits splits SelectRows (λ said found. (found ≡ length (listed (parts_of splits range) said)) × StandIn (listed (parts_of splits range) said) parts serials keys payloads) range result old new
 
--- the same of the keys from one to another
+-- the same for the keys from one to another
 abbrev pub SelectsKeys : Limits → List Bound → List ℕ → List ℕ → List ℕ → List ℤ → ℕ → ℕ → Result ℕ Refusal → List PlainView → List PlainView → Type 0
 SelectsKeys limits splits parts serials keys payloads first last result old new = OverKeys (Selects limits splits parts serials keys payloads) first last result old new

@@ -22,7 +22,7 @@ limits_fault limits = if are_limits limits then None else Some BadLimit
 abbrev pub opening_fault : List Bound → Limits → Option Refusal
 opening_fault splits limits = option_or (splits_fault splits) (limits_fault limits)
 
--- why an opening is refused: for its first fault, or, where there is none, for want of memory
+-- why an opening is refused: for its first fault, or, if there is none, for lack of memory
 abbrev pub MayFault : List Bound → Limits → Refusal → Type 0
 MayFault splits limits e = (opening_fault splits limits ≡ Some e) ⊎ ((opening_fault splits limits ≡ None) × (e ≡ OutOfMemory))
 

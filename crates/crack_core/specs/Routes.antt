@@ -6,12 +6,12 @@ use Rattle.crack_row.specs.declared.TheConstants.{GREATEST_BOUND}
 use Rattle.crack_row.specs.declared.Bound.{Bound}
 use Rattle.crack_core.specs.declared.TheConstants.{MOST_SPLITS}
 
--- whether splits rise strictly, the first above a number, and are bounds of keys on either side
+-- whether splits rise strictly, the first above a number, and are bounds with keys on either side
 abbrev pub is_rising : ℕ → List Bound → Bool
 is_rising low [] = true
 is_rising low (split ∷ splits) = nat_lt low split.0 && (nat_lt split.0 GREATEST_BOUND && is_rising split.0 splits)
 
--- splits that cut all keys into partitions: they rise strictly, each is 1 to the greatest key, and there are few enough
+-- splits that divide all keys into partitions: they rise strictly, each is 1 to the greatest key, and there are few enough
 pub record AreSplits (splits : List Bound) : Type 0 where
   pub rising : is_rising 0 splits ≡ true
   pub few : length splits ≤ MOST_SPLITS
@@ -32,7 +32,7 @@ part_at splits range part = (part, clipped range (keys_of_part splits part))
 abbrev pub has_keys : ℕ × Range → Bool
 has_keys part = nat_lt part.1.low part.1.high
 
--- the partitions that have keys of a range, in rising order, each with its part of the range; an empty range goes as it is to the
+-- the partitions that have keys of a range, in rising order, each with its part of the range; an empty range goes unchanged to the
 -- partition in which its low end falls
 abbrev pub parts_of : List Bound → Range → List (ℕ × Range)
 parts_of splits range = if nat_lt range.low range.high then filter has_keys (map (part_at splits range) (range_with_len 0 (length splits + 1))) else (route splits range.low, range) ∷ []

@@ -1,4 +1,4 @@
--- What a step and a checkpoint are to be answered, and what they leave of the plain rows.
+-- The expected answers to a step and to a checkpoint, and what they leave of the plain rows.
 use Rattle.std.specs.Prelude.{◌≡◌, ◌⊎◌, ℕ, ◌+◌, ◌≤◌, Bool, true, false, List, length, map, Option, None, Some, Result, Ok, Err, IsOk, is_some, slice_get, slice_set, slice_index_or, sum_by, if◌then◌else◌}
 use Rattle.crack_row.specs.Ranges.{Range}
 use Rattle.crack_row.specs.Commands.{key_of}
@@ -17,15 +17,15 @@ use Rattle.crack_part.specs.Refusals.{table_of, stopped_by, first_cause}
 use Rattle.crack_part.specs.Upkeep.{is_automatic, is_due}
 use Rattle.crack_core.specs.Routes.{keys_of_part}
 
--- what bounds the partitions of a table: why one accepts no command more, if so, how many cells its rows may take, how many may be taken
--- where one lacks, and whether a checkpoint is made before the next command is added
+-- what bounds the partitions of a table: why one accepts no more commands, if so, how many cells its rows may take, how many may be taken
+-- if a cell is missing, and whether a checkpoint is made before the next command is added
 pub record Bounds : Type 0 where
   pub stop : PlainView → Option Refusal
   pub cells : ℕ
   pub taken : PlainView → ℕ
   pub due : PlainView → Bool
 
--- how many cells may be taken where one lacks: where upkeep is automatic, each is some row's; else there are no more than commands accepted
+-- how many cells may be taken if one is missing: if upkeep is automatic, each is some row's; else there are no more than commands accepted
 abbrev pub taken_where_full : Limits → PlainView → ℕ
 taken_where_full limits table = if is_automatic limits.upkeep then length table.state.rows else accepted_of table
 
@@ -38,21 +38,21 @@ abbrev pub reply_unless : Option Refusal → Reply → Result Reply Refusal
 reply_unless None reply = Ok reply
 reply_unless (Some e) reply = Err e
 
--- what a partition of these keys and bounds is to answer; there may be none
+-- the expected answer of a partition with these keys and bounds; there may be none
 abbrev pub expected : Bounds → Range → Option PlainView → Command → Result Reply Refusal
 expected bounds keys None command = Err NoSuchPartition
 expected bounds keys (Some table) command = reply_unless (first_cause keys (bounds.stop table) false command) (reply_to table.state command)
 
--- a partition may lack a cell for a command that brings a key, once as many may be taken as its rows may take
+-- a partition may lack a cell for a command with a key, once as many may be taken as its rows may take
 abbrev pub MayLackCell : Bounds → Option PlainView → Command → Type 0
 MayLackCell bounds None command = ⊥
 MayLackCell bounds (Some table) command = (is_some (key_of command) ≡ true) × (bounds.cells ≤ bounds.taken table)
 
--- what comes out of asking a partition is what is expected, or, in place of a reply, a want of memory, or of a cell where one may lack
+-- the outcome of asking a partition is the expected one or, in place of a reply, a lack of memory, or of a cell if one may be missing
 abbrev pub IsOutcome : Bounds → Range → Option PlainView → Command → Result Reply Refusal → Type 0
 IsOutcome bounds keys table command outcome = (outcome ≡ expected bounds keys table command) ⊎ (IsOk (expected bounds keys table command) × ((outcome ≡ Err OutOfMemory) ⊎ ((outcome ≡ Err NoCell) × MayLackCell bounds table command)))
 
--- what comes out of asking the partition of this number
+-- the outcome of asking the partition with this number
 abbrev pub IsOutcomeAt : Bounds → List Bound → List PlainView → ℕ → Command → Result Reply Refusal → Type 0
 IsOutcomeAt bounds splits tables part command outcome = IsOutcome bounds (keys_of_part splits part) (slice_get tables part) command outcome
 
@@ -60,33 +60,33 @@ IsOutcomeAt bounds splits tables part command outcome = IsOutcome bounds (keys_o
 abbrev pub fresh_table : PlainView
 fresh_table = record { state = no_rows; folded = 0; since = 0 }
 
--- a partition after an answered command: its rows, and one entry more
+-- a partition after an answered command: its rows, and one more entry
 abbrev pub table_after : PlainView → Command → PlainView
 table_after table command = record { state = after table.state command; folded = table.folded; since = table.since + 1 }
 
--- the table to which the next command is added: after a checkpoint, where one is due
+-- the table to which the next command is added: after a checkpoint, if one is due
 abbrev pub upkept_by : Bounds → PlainView → PlainView
 upkept_by bounds table = if bounds.due table then checkpointed table else table
 
--- the partitions after what came out of asking one of them: an answer is added after the checkpoint that is due, and a refusal leaves all as they were
+-- the partitions after the outcome of asking one of them: an answer is added after the checkpoint that is due, and a refusal leaves all as they were
 abbrev pub tables_after : Bounds → List PlainView → ℕ → Command → Result Reply Refusal → List PlainView
 tables_after bounds tables part command (Ok reply) = slice_set tables part (table_after (upkept_by bounds (slice_index_or tables part fresh_table)) command)
 tables_after bounds tables part command (Err e) = tables
 
--- what comes out of asking for a layout: 5 where there is no such partition, else any layout between the partition's ends
--- that has as many rows as there are plain rows, or a want of memory
+-- the outcome of asking for a layout: 5 if there is no such partition, else any layout between the partition's ends
+-- that has as many rows as there are plain rows, or a lack of memory
 abbrev pub IsLayoutOutcome : Range → Option PlainView → Result Layout Refusal → Type 0
 IsLayoutOutcome keys None outcome = outcome ≡ Err NoSuchPartition
 IsLayoutOutcome keys (Some table) (Ok layout) = IsLayout keys layout × (layout.rows ≡ length table.state.rows)
 IsLayoutOutcome keys (Some table) (Err e) = e ≡ OutOfMemory
 
--- what comes out of asking a partition for a checkpoint: 5 where there is none, else how many commands it accepted since its last one, or
--- a want of memory
+-- the outcome of asking a partition for a checkpoint: 5 if there is none, else how many commands it accepted since its last one, or
+-- a lack of memory
 abbrev pub IsFoldOutcome : Option PlainView → Result ℕ Refusal → Type 0
 IsFoldOutcome None outcome = outcome ≡ Err NoSuchPartition
 IsFoldOutcome (Some table) outcome = (outcome ≡ Ok table.since) ⊎ (outcome ≡ Err OutOfMemory)
 
--- the partitions after what came out of a checkpoint of one of them: a refusal leaves all as they were
+-- the partitions after the outcome of a checkpoint of one of them: a refusal leaves all as they were
 abbrev pub tables_folded : List PlainView → ℕ → Result ℕ Refusal → List PlainView
 tables_folded tables part (Ok count) = slice_set tables part (checkpointed (slice_index_or tables part fresh_table))
 tables_folded tables part (Err e) = tables
@@ -95,10 +95,10 @@ tables_folded tables part (Err e) = tables
 abbrev pub tables_of : List Part → List PlainView
 tables_of parts = map (λ (part : Part). table_of part.past) parts
 
--- what partitions lived through
+-- the pasts of partitions
 abbrev pub pasts_of : List Part → List Past
 pasts_of parts = map (λ (part : Part). part.past) parts
 
--- how many commands partitions have accepted together, since they were opened
+-- how many commands partitions have accepted in total, since they were opened
 abbrev pub accepted_by : List Part → ℕ
 accepted_by parts = sum_by (λ (part : Part). accepted_in part.past) parts

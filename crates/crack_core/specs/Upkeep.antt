@@ -11,11 +11,11 @@ use Rattle.crack_core.specs.declared.step.Job.TheVariants.{Perform, Fold}
 use Rattle.crack_core.specs.declared.step.Done.{Done}
 use Rattle.crack_core.specs.declared.step.Done.TheVariants.{Replied, Folded}
 
--- the same limits, with checkpoints on request alone
+-- the same limits, with checkpoints only on request
 abbrev pub on_request : Limits → Limits
 on_request limits = record limits { upkeep = OnRequest }
 
--- whether upkeep made a checkpoint of this partition with a job that came out so: it was a step of its own that was answered, and one was due
+-- whether upkeep made a checkpoint of this partition with a job with this outcome: it was a step of its own that was answered, and one was due
 abbrev pub is_kept_up : Limits → ℕ → Job → Result Done Refusal → Past → Bool
 is_kept_up limits part (Perform step) (Ok (Replied reply)) past = step.part == part && is_due limits (length past.tail)
 is_kept_up limits part job result past = false
@@ -26,12 +26,12 @@ with_folds limits part (job ∷ jobs) (result ∷ results) past =
     (if is_kept_up limits part job result past then Fold part ∷ job ∷ [] else job ∷ []) ++ with_folds limits part jobs results (past_after limits part job result past)
 with_folds limits part _ _ past = []
 
--- what comes of these
+-- the outcomes of these
 abbrev pub with_folded : Limits → ℕ → List Job → List (Result Done Refusal) → Past → List (Result Done Refusal)
 with_folded limits part (job ∷ jobs) (result ∷ results) past =
     (if is_kept_up limits part job result past then Ok (Folded (length past.tail)) ∷ result ∷ [] else result ∷ []) ++ with_folded limits part jobs results (past_after limits part job result past)
 with_folded limits part _ _ past = []
 
--- what a partition lived through under its upkeep is what it lives through on request, where each of these checkpoints is asked for
+-- the past of a partition under its upkeep is its past on request if each of these checkpoints is asked for
 abbrev pub IsKeptUp : Limits → ℕ → List Job → List (Result Done Refusal) → Past → Type 0
 IsKeptUp limits part jobs results past = past_at limits part jobs results past ≡ past_at (on_request limits) part (with_folds limits part jobs results past) (with_folded limits part jobs results past) past

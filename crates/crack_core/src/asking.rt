@@ -1,4 +1,4 @@
-//! Commands before which a full history is checkpointed, and ranges over all partitions.
+//! Commands before which a full history is emptied, and ranges over all partitions.
 ghost use Rattle.std.specs.Prelude.{◌≡◌, ◌⊎◌, ℕ, ℤ, ◌<◌, ◌≤◌, ◌≤ℤ◌, ◌^◌, neg_ℤ, pos, [], All, length, vec_capacity};
 ghost use Rattle.std.specs.Prelude.{sum_by, Ok, Err, IfOk, IfErr};
 ghost use Rattle.crack_row.specs.Rows.{total_by};
@@ -21,14 +21,14 @@ use std::alloc::Global;
 pub enum Query {
     /// How many rows it has.
     CountRows,
-    /// What their payloads come to.
+    /// The sum of their payloads.
     SumPayloads,
     /// The rows themselves.
     SelectRows,
 }
 
 impl Query {
-    /// The command that asks it of one partition.
+    /// The command that asks one partition for it.
     pub fn over(self, range: KeyRange) -> Command
         ensures { result ≡ asking self range }
     {
@@ -41,9 +41,9 @@ impl Query {
 }
 
 impl Core {
-    /// Asks one partition as `step` does, but where its history is full, that is checkpointed first, by `checkpoint`.
+    /// Asks one partition as `step` does, but if its history is full, `checkpoint` is called first.
     /// So it is never refused with 6. Refused, in this order: with 5, 4, 10, 9 and 8 as `step` is; with 8, before 10,
-    /// where a checkpoint finds no memory. Takes what these two take.
+    /// if a checkpoint finds no memory. Takes what these two take.
     pub fn ask(&mut self, step: &Step) -> Result<Reply, Refusal>
         ensures asks { Asks self.old.limits self.old.splits step.now.part step.now.command result
             (lasting (tables_of self.old.parts)) (lasting (tables_of self.new.parts)) }
@@ -85,7 +85,7 @@ impl Core {
         }
     }
 
-    /// Takes a row out, and returns it as it was; `None` where it isn't there. Refused as `ask` is, with 5, 10 and 8.
+    /// Removes a row, and returns it as it was; `None` if it doesn't exist. Refused as `ask` is, with 5, 10 and 8.
     pub fn delete(&mut self, row: RowNo) -> Result<Option<Row>, Refusal>
         ensures deletes { Deletes self.old.limits self.old.splits row result (lasting (tables_of self.old.parts))
             (lasting (tables_of self.new.parts)) }
@@ -104,7 +104,7 @@ impl Core {
         }
     }
 
-    /// Replaces the key and the payload of a row, which keeps its number; returns whether it is there. Refused as
+    /// Replaces the key and the payload of a row, which keeps its number; returns whether it exists. Refused as
     /// `ask` is.
     pub fn update(&mut self, row: RowNo, key: Key, payload: Payload) -> Result<bool, Refusal>
         ensures updates { Updates self.old.limits self.old.splits row key payload result
@@ -129,7 +129,7 @@ impl Core {
     }
 
     /// Counts the rows of a range, over all partitions: each that holds a part of it is asked. Refused with 10 and 8
-    /// as `ask` is; the partitions before the one that refused have then answered. Takes memory for one reply of each
+    /// as `ask` is; the partitions before the refusing one have then answered. Takes memory for one reply of each
     /// partition that it meets.
     pub fn count(&mut self, range: KeyRange, policy: Policy) -> Result<u64, Refusal>
         ensures counts { Counts self.old.limits self.old.splits range result (lasting (tables_of self.old.parts))
@@ -151,7 +151,7 @@ impl Core {
         }
     }
 
-    /// Adds up the payloads of the rows of a range, over all partitions, as `count` counts them. Refused as `count` is.
+    /// Adds up the payloads of the rows of a range, over all partitions, in the way of `count`. Refused as `count` is.
     pub fn sum(&mut self, range: KeyRange, policy: Policy) -> Result<i128, Refusal>
         ensures sums { Sums self.old.limits self.old.splits range result (lasting (tables_of self.old.parts))
             (lasting (tables_of self.new.parts)) }
@@ -237,7 +237,7 @@ impl Core {
     }
 }
 
-/// Whether a full history refused.
+/// Whether it is a refusal by a full history.
 fn is_full(answered: &Result<Reply, Refusal>) -> bool
     ensures { result ≡ is_full answered.now }
 {
@@ -266,7 +266,7 @@ fn gone_in(reply: &Reply) -> Option<Row>
     }
 }
 
-/// Whether a reply to an update says that the row was there.
+/// Whether a reply to an update says that the row exists.
 fn is_changed(reply: &Reply) -> bool
     ensures { (s : PlainState) (serial : Serial) (key : Key) (payload : Payload) →
         reply.now ≡ reply_to s (Update serial key payload) → reply.now ≡ changed_reply result }
@@ -294,7 +294,7 @@ fn summed(reply: &Reply) -> i128
     }
 }
 
-/// What replies count, all together.
+/// The sum of what replies count.
 fn count_in(replies: &[Reply]) -> u64
     requires { sum_by counted replies.now < 2 ^ 64 }
     ensures { result ≡ sum_by counted replies.now }
@@ -306,7 +306,7 @@ fn count_in(replies: &[Reply]) -> u64
     total
 }
 
-/// What the sums of replies come to.
+/// The sum of the sums of replies.
 fn sum_in(replies: &[Reply]) -> i128
     requires small { All IsSmall replies.now }
     requires few { length replies.now ≤ 64 }

@@ -14,7 +14,7 @@ use crack_row::{Command, Policy, Refusal, Reply};
 use std::alloc::Global;
 use std::marker::Model;
 
-/// A worker's number and its receipts, with three shares that are always the totals of the receipts' entries.
+/// A worker's number and its receipts, with three shares that always equal the totals of the receipts' entries.
 #[derive(Drop)]
 pub struct Book {
     worker: u32,
@@ -40,7 +40,7 @@ impl Model for Book {
 }
 
 impl Book {
-    /// The book of a worker who has asked nothing yet. Takes no memory.
+    /// The book of a worker that has asked nothing yet. Takes no memory.
     pub fn new(alloc: Global, worker: u32) -> Book
         ensures worker { result.worker ≡ worker }
         ensures empty { result.receipts ≡ [] }
@@ -54,7 +54,7 @@ impl Book {
         }
     }
 
-    /// Makes room for one receipt: O(1), amortised. Refused with 8 where it finds no memory.
+    /// Makes room for one receipt: O(1), amortised. Refused with 8 if it finds no memory.
     pub fn reserve(&mut self) -> Result<(), Refusal>
         ensures same { (self.new.worker ≡ self.old.worker) × (self.new.receipts ≡ self.old.receipts) }
         ensures room { OnOk result (0 < self.new.room) }
@@ -79,7 +79,7 @@ impl Book {
         self.receipts.as_slice()
     }
 
-    /// How many commands the worker was answered: O(1).
+    /// How many commands were answered for the worker: O(1).
     pub fn accepted(&self) -> u64
         ensures { result ≡ accepted (entries_of self.now.receipts) }
     {
@@ -93,7 +93,7 @@ impl Book {
         self.inserted
     }
 
-    /// How many rows the worker took out: O(1).
+    /// How many rows the worker removed: O(1).
     pub fn deleted(&self) -> u64
         ensures { result ≡ deleted (entries_of self.now.receipts) }
     {
@@ -101,7 +101,7 @@ impl Book {
     }
 
     /// Asks a partition for the worker, and adds the receipt of the entry that was kept; `part` is the partition's
-    /// number. Refused as `Partition::apply` is, and the book is then as it was. Besides what `apply` takes it is O(1)
+    /// number. Refused as `Partition::apply` is, and the book is then as it was. Beyond what `apply` takes it is O(1)
     /// and takes no memory.
     pub fn ask(
         &mut self,
@@ -162,7 +162,7 @@ fn is_placed(reply: &Reply) -> bool
     matches!(reply, Reply::Placed(_))
 }
 
-/// Whether a row went.
+/// Whether a row was removed.
 fn is_gone(reply: &Reply) -> bool
     ensures { result ≡ is_gone reply.now }
 {

@@ -10,7 +10,7 @@ use crack_row::{
     BoundNumber, Key, KeyNumber, KeyRange, Payload, PayloadNumber, Policy, Refusal, RowNo, Serial,
 };
 
-/// How a list of calls went.
+/// The result of a list of calls.
 #[derive(Clone, Copy, Debug)]
 pub struct Progress {
     /// How many were answered, from the first on.
@@ -20,7 +20,7 @@ pub struct Progress {
 }
 
 impl Progress {
-    /// All of so many calls were answered.
+    /// All of these calls were answered.
     fn whole(count: usize) -> Progress
         ensures { result ≡ record { done = count; refusal = None } }
     {
@@ -30,7 +30,7 @@ impl Progress {
         }
     }
 
-    /// So many were answered, and the next one was refused.
+    /// This many were answered, and the next one was refused.
     fn stopped(done: usize, refusal: Refusal) -> Progress
         ensures { result ≡ record { done = done; refusal = Some refusal } }
     {
@@ -44,14 +44,14 @@ impl Progress {
 /// 2^64.
 const HIGH_UNIT: u128 = 18446744073709551616;
 
-/// A multiple of 2^64 that is as great as any sum: 2^102, and how many times 2^64 that is.
+/// A multiple of 2^64 that is at least as great as any sum: 2^102, and how many times 2^64 that is.
 const FARTHEST: i128 = 5070602400912917605986812821504;
 
 const FARTHEST_HIGH: i64 = 274877906944;
 
 impl Core {
     /// Counts the rows whose keys are `first` to `last`, both included, as `count` does. Refused as `count` is, and
-    /// with 2 where `first` is above `last` by more than 1.
+    /// with 2 if `first` is above `last` by more than 1.
     pub fn count_keys(
         &mut self,
         first: KeyNumber,
@@ -88,7 +88,7 @@ impl Core {
     }
 
     /// Places a row for each key and payload, in order, as `insert` does, and writes its number: partition and serial.
-    /// Goes on up to the first that is refused. Takes what `insert` takes.
+    /// Continues up to the first that is refused. Takes what `insert` takes.
     pub fn insert_many(
         &mut self,
         keys: &[KeyNumber],
@@ -117,8 +117,8 @@ impl Core {
         Progress::whole(keys.len())
     }
 
-    /// Takes rows out, in order, as `delete` does, and writes 1 for each that was there and 0 for each that wasn't.
-    /// Goes on up to the first that is refused. Takes what `delete` takes.
+    /// Removes rows, in order, as `delete` does, and writes 1 for each that existed and 0 for each that didn't.
+    /// Continues up to the first that is refused. Takes what `delete` takes.
     pub fn delete_many(&mut self, parts: &[u32], serials: &[u64], gone: &mut [u8]) -> Progress
         requires serials { length serials.now ≡ length parts.now }
         requires gone { length gone.old ≡ length parts.now }
@@ -136,8 +136,8 @@ impl Core {
         Progress::whole(parts.len())
     }
 
-    /// Replaces keys and payloads of rows, in order, as `update` does, and writes 1 for each row that is there and 0
-    /// for each that isn't. Goes on up to the first that is refused. Takes what `update` takes.
+    /// Replaces keys and payloads of rows, in order, as `update` does, and writes 1 for each row that exists and 0
+    /// for each that doesn't. Continues up to the first that is refused. Takes what `update` takes.
     pub fn update_many(
         &mut self,
         parts: &[u32],
@@ -167,7 +167,7 @@ impl Core {
         Progress::whole(parts.len())
     }
 
-    /// Counts the rows of each range, from its first key to its last, in order, as `count_keys` does. Goes on up to
+    /// Counts the rows of each range, from its first key to its last, in order, as `count_keys` does. Continues up to
     /// the first that is refused. Takes what `count` takes.
     pub fn count_many(
         &mut self,
@@ -192,7 +192,7 @@ impl Core {
     }
 
     /// Adds up the payloads of each range, from its first key to its last, in order, as `sum_keys` does, and writes
-    /// the low 64 bits of each sum and those above them. Goes on up to the first that is refused. Takes what `sum`
+    /// the low 64 bits of each sum and those above them. Continues up to the first that is refused. Takes what `sum`
     /// takes.
     pub fn sum_many(
         &mut self,

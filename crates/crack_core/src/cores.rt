@@ -62,9 +62,9 @@ impl Core {
         Core::open_with(alloc, splits, Limits::of_history(limit))
     }
 
-    /// Partitions without rows, one more than splits, each with these limits. Refused, in this order: with 11 where
-    /// the splits don't rise strictly or one isn't 1 to `GREATEST_KEY`, with 12 where they are more than
-    /// `MOST_SPLITS`, with 14 where a limit isn't 1 to the greatest of its kind, and with 8 where no memory is found.
+    /// Partitions without rows, one more than splits, each with these limits. Refused, in this order: with 11 if
+    /// the splits don't rise strictly or one isn't 1 to `GREATEST_KEY`, with 12 if there are more than
+    /// `MOST_SPLITS`, with 14 if a limit isn't 1 to the greatest of its kind, and with 8 if no memory is found.
     pub fn open_with(alloc: Global, splits: &[Bound], limits: Limits) -> Result<Core, Refusal>
         ensures opened { IfOk result (λ core. (core.splits ≡ splits.now) × (core.limits ≡ limits)) }
         ensures fresh { IfOk result (λ core. All (λ (part : Part). part.past ≡ no_past) core.parts) }
@@ -89,7 +89,7 @@ impl Core {
         })
     }
 
-    /// States what is true of every core, and does nothing.
+    /// States the invariants of every core, and does nothing.
     pub fn facts(&self)
         ensures { IsCore self.now }
     {
@@ -114,7 +114,7 @@ impl Core {
     }
 
     /// The partitions that a range meets, as `parts_of` gives them for its splits. Up to 8 take no memory; refused
-    /// with 8 where more find none.
+    /// with 8 if more find none.
     pub fn parts_of(&self, range: KeyRange) -> Result<SmallVec<(u32, KeyRange), 8>, Refusal>
         ensures ok { IfOk result (λ parts. parts.items ≡ parts_of self.now.splits range) }
         ensures few { IfOk result (λ parts. length parts.items ≤ length self.now.splits + 1) }
@@ -124,8 +124,8 @@ impl Core {
         routes::parts_of(*self.splits.allocator(), &self.splits, range)
     }
 
-    /// What stands where in one partition. It cracks and merges nothing, and isn't kept. Refused with 5 where there is
-    /// no such partition, and with 8 where it finds no memory. O(pieces).
+    /// The layout of one partition. It cracks and merges nothing, and isn't kept. Refused with 5 if there is
+    /// no such partition, and with 8 if it finds no memory. O(pieces).
     pub fn layout(&self, part: u32) -> Result<Layout, Refusal>
         ensures outcome { IsLayoutOutcome (keys_of_part self.now.splits part)
             (slice_get (tables_of self.now.parts) part) result }
@@ -138,14 +138,14 @@ impl Core {
         }
     }
 
-    /// Asks one partition, by one `Partition::apply`. Refused, in this order: with 5 where there is no such partition,
-    /// with 4 where the command brings a key that isn't the partition's, with 6 where its history is full and upkeep
-    /// is on request, with 10 where it has accepted as many commands as it may in all, with 9 where no cell is free
-    /// for a row, upkeep frees none and it has as many as it may have, and with 8 where no memory is found. Nothing
-    /// has changed then, but after 8, which leaves what `Partition::apply` says.
+    /// Asks one partition, by one `Partition::apply`. Refused, in this order: with 5 if there is no such partition,
+    /// with 4 if the command has a key that isn't the partition's, with 6 if its history is full and upkeep
+    /// is on request, with 10 if it has accepted as many commands as it may in total, with 9 if no cell is free
+    /// for a row, upkeep frees none and it has as many as it may have, and with 8 if no memory is found. Then nothing
+    /// has changed, except after 8, which leaves what `Partition::apply` says.
     #[inline(always)]
     pub fn step(&mut self, step: Step) -> Result<Reply, Refusal>
-        // It is the reply of the partition's plain rows, or the refusal that they call for; in place of a reply it may
+        // It is the reply of the partition's plain rows, or the refusal that they require; in place of a reply it may
         // be 8, or 9.
         ensures outcome { IsOutcomeAt (bounds_of self.old.limits) self.old.splits
             (tables_of self.old.parts) step.part step.command result }
@@ -169,8 +169,8 @@ impl Core {
         ask_at(&mut self.partitions, step)
     }
 
-    /// Makes these steps one after the other, and answers what comes out of each. A step that is refused leaves what
-    /// `step` says, and the next one is made. Refused with 8, before the first step, where the list of the answers
+    /// Makes these steps one after the other, and returns the outcome of each. A refused step leaves what
+    /// `step` says, and the next one is made. Refused with 8, before the first step, if the list of the outcomes
     /// finds no memory.
     pub fn run_steps(&mut self, steps: &[Step]) -> Result<Vec<Result<Reply, Refusal>>, Refusal>
         ensures replies { IfOk result (λ results.
@@ -192,10 +192,10 @@ impl Core {
         Ok(results)
     }
 
-    /// Folds the history of one partition into its base, and returns how many entries went: the partition's rows are
-    /// kept as they are now, its commands no more, and its history begins anew. It cracks and merges nothing, and no
-    /// later reply depends on it. Refused with 5 where there is no such partition, and with 8 where no memory is
-    /// found; nothing has changed then. Its costs are those of `Partition::checkpoint`.
+    /// Makes a checkpoint of one partition, and returns how many entries its history had: the partition's rows are
+    /// kept as they are now, its commands aren't, and its history starts again. It cracks and merges nothing, and no
+    /// later reply depends on it. Refused with 5 if there is no such partition, and with 8 if no memory is
+    /// found; then nothing has changed. Its costs are those of `Partition::checkpoint`.
     pub fn checkpoint(&mut self, part: u32) -> Result<u64, Refusal>
         ensures outcome { IsFoldOutcome (slice_get (tables_of self.old.parts) part) result }
         ensures after { tables_of self.new.parts ≡ tables_folded (tables_of self.old.parts) part result }
@@ -207,9 +207,9 @@ impl Core {
         fold_at(&mut self.partitions, part)
     }
 
-    /// Does these jobs one after the other, and answers what comes out of each. A job that is refused leaves what
-    /// `step` and `checkpoint` say, and the next one is done. Refused with 8, before the first job, where the list of
-    /// the answers finds no memory.
+    /// Does these jobs one after the other, and returns the outcome of each. A refused job leaves what
+    /// `step` and `checkpoint` say, and the next one is done. Refused with 8, before the first job, if the list of
+    /// the outcomes finds no memory.
     pub fn run_jobs(&mut self, jobs: &[Job]) -> Result<Vec<Result<Done, Refusal>>, Refusal>
         ensures replies { IfOk result (λ results.
             AreExpectedOutcomes self.old.limits self.old.splits (pasts_of self.old.parts) jobs.now results.items) }
@@ -241,7 +241,7 @@ impl Core {
     }
 }
 
-/// Asks the partition of a step, if there is one, and lets the receipt go.
+/// Asks the partition of a step, if there is one, and drops the receipt.
 #[inline(always)]
 fn ask_at(partitions: &mut [Partition], step: Step) -> Result<Reply, Refusal>
     ensures outcome { (splits : List Bound) (limits : Limits) → AreParts splits limits partitions.old →
@@ -274,7 +274,7 @@ fn ask_at(partitions: &mut [Partition], step: Step) -> Result<Reply, Refusal>
     without_receipt(answered)
 }
 
-/// What came of asking a partition, without the reply's copy.
+/// The outcome of asking a partition, without the reply's copy.
 #[inline(always)]
 fn without_receipt(answered: Result<(Reply, Reply), Refusal>) -> Result<Reply, Refusal>
     ensures ok { IfOk answered (λ replies. result ≡ Ok replies.0) }
@@ -286,7 +286,7 @@ fn without_receipt(answered: Result<(Reply, Reply), Refusal>) -> Result<Reply, R
     }
 }
 
-/// Makes steps one after the other, and adds what comes out of each where there is room.
+/// Makes steps one after the other, and adds the outcome of each if there is room.
 fn run_all(partitions: &mut [Partition], steps: &[Step], results: &mut Vec<Result<Reply, Refusal>>)
     requires empty { results.old.items ≡ [] }
     requires room { length steps.now ≤ vec_capacity results.old }
@@ -308,7 +308,7 @@ fn run_all(partitions: &mut [Partition], steps: &[Step], results: &mut Vec<Resul
     }
 }
 
-/// Folds the history of one partition, if there is one of this number.
+/// Makes a checkpoint of one partition, if there is one with this number.
 fn fold_at(partitions: &mut [Partition], part: u32) -> Result<u64, Refusal>
     ensures outcome { IsFoldOutcome (slice_get (tables_of partitions.old) part) result }
     ensures after { tables_of partitions.new ≡ tables_folded (tables_of partitions.old) part result }
@@ -348,7 +348,7 @@ fn do_job(partitions: &mut [Partition], job: Job) -> Result<Done, Refusal>
     }
 }
 
-/// What comes of a job whose step came out so.
+/// The outcome of a job with this outcome of its step.
 fn performed(answered: Result<Reply, Refusal>) -> Result<Done, Refusal>
     ensures { result ≡ performed answered }
 {
@@ -358,7 +358,7 @@ fn performed(answered: Result<Reply, Refusal>) -> Result<Done, Refusal>
     }
 }
 
-/// What comes of a job whose checkpoint came out so.
+/// The outcome of a job with this outcome of its checkpoint.
 fn folding(folded: Result<u64, Refusal>) -> Result<Done, Refusal>
     ensures { result ≡ folding folded }
 {
@@ -368,7 +368,7 @@ fn folding(folded: Result<u64, Refusal>) -> Result<Done, Refusal>
     }
 }
 
-/// Does jobs one after the other, and adds what comes out of each where there is room.
+/// Does jobs one after the other, and adds the outcome of each if there is room.
 fn do_all(partitions: &mut [Partition], jobs: &[Job], results: &mut Vec<Result<Done, Refusal>>)
     requires empty { results.old.items ≡ [] }
     requires room { length jobs.now ≤ vec_capacity results.old }

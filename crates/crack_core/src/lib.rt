@@ -22,5 +22,5 @@ pub use routes::{keys_of_part, only_part, parts_of, route};
 pub use step::{Done, Job, Step};
 pub use upkeep::upkeep_is_checkpoints;
 
-/// The greatest number of splits, one fewer than that of partitions.
+/// The greatest number of splits, one less than that of partitions.
 pub const MOST_SPLITS: usize = 63;

@@ -1,4 +1,4 @@
-//! The rows of a range, written into lists that the caller gives.
+//! The rows of a range, written into lists of the caller.
 ghost use Rattle.std.specs.Prelude.{◌≡◌, ◌+◌, ◌<◌, ◌≤◌, ◌^◌, ℕ, List, ◌++◌, All, length, OnErr};
 ghost use Rattle.crack_row.specs.declared.Row.{Row};
 ghost use Rattle.crack_plain.specs.Plain.{IsSmall};
@@ -10,7 +10,7 @@ use crate::{Core, Query};
 use crack_row::{BoundNumber, KeyNumber, KeyRange, PayloadNumber, Policy, Refusal, Reply, Row};
 
 impl Core {
-    /// Lists the rows whose keys are `first` to `last`, both included, by partition and then in rising serial, as far
+    /// Lists the rows whose keys are `first` to `last`, both included, by partition and then by rising serial, as far
     /// as the lists have room: of each its partition, serial, key and payload. Returns how many there are. Refused as
     /// `count_keys` is; the lists are then as they were. Takes memory for the replies of the partitions that it meets.
     pub fn select_keys(
@@ -80,7 +80,7 @@ impl Core {
     }
 }
 
-/// Writes the rows that partitions reply, one after the other. How many there are.
+/// Writes the rows of the partitions' replies, one after the other. Returns how many there are.
 fn list_all(
     met: &[(u32, KeyRange)],
     replies: &[Reply],

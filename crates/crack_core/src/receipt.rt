@@ -2,7 +2,7 @@
 
 use crack_row::{Command, Reply};
 
-/// What a worker was replied to a command, and where its entry stands: in which partition, and how many commands that
+/// What a worker's command was answered, and the place of its entry: in which partition, and how many commands that
 /// had accepted before.
 #[derive(Drop, Debug)]
 pub struct Receipt {

@@ -1,4 +1,4 @@
-//! Which partitions a key or a range meets, where splits cut the keys into partitions.
+//! Which partitions a key or a range meets, if splits divide the keys into partitions.
 ghost use Rattle.std.specs.Prelude.{◌≡◌, ◌+◌, ◌-◌, ◌<◌, ◌≤◌, [], ◌∷◌, length, IsOk, IfOk, IfErr, IfSome, IfNone};
 ghost use Rattle.crack_row.specs.Ranges.{IsIn};
 ghost use Rattle.crack_row.specs.declared.TheConstants.{GREATEST_BOUND};
@@ -20,9 +20,9 @@ pub fn route(splits: &[Bound], key: Key) -> u32
     splits_up_to(splits, key.bound()) as u32
 }
 
-/// The partitions that a range meets, in rising order, each with its part of the range; an empty range goes as it is
-/// to the partition in which its low end falls, the last one where that is the greatest bound. O(log splits +
-/// partitions met). Up to 8 partitions take no memory; refused with 8 where more find none.
+/// The partitions that a range meets, in rising order, each with its part of the range; an empty range goes unchanged
+/// to the partition in which its low end falls, or to the last one if that is the greatest bound. O(log splits +
+/// partitions met). Up to 8 partitions take no memory; refused with 8 if more find none.
 pub fn parts_of(
     alloc: Global,
     splits: &[Bound],
@@ -46,7 +46,7 @@ pub fn parts_of(
     Ok(parts)
 }
 
-/// The partition that alone has keys of a range, or in which an empty range falls; `None` where several have. Takes no
+/// The only partition with keys of a range, or in which an empty range falls; `None` if several have keys. Takes no
 /// memory. O(log splits).
 pub fn only_part(splits: &[Bound], range: KeyRange) -> Option<u32>
     requires { AreSplits splits.now }

@@ -2,7 +2,7 @@
 
 use crack_row::{Command, Policy, Reply};
 
-/// What a worker asks of a partition, and which pending rows that merges.
+/// What a worker asks of a partition, and which pending rows are merged for it.
 #[derive(Clone, Copy, Debug)]
 pub struct Step {
     pub worker: u32,
@@ -14,17 +14,17 @@ pub struct Step {
 /// What a thread does to the partitions of a core: a step, or a checkpoint of a partition.
 #[derive(Clone, Copy, Debug)]
 pub enum Job {
-    /// To ask a partition.
+    /// Ask a partition.
     Perform(Step),
-    /// To checkpoint the history of the partition of this number.
+    /// Make a checkpoint of the partition with this number.
     Fold(u32),
 }
 
-/// What comes of a job.
+/// The outcome of a job.
 #[derive(Drop, Debug)]
 pub enum Done {
-    /// A step was replied.
+    /// The reply to a step.
     Replied(Reply),
-    /// So many entries were checkpointed.
+    /// This many entries were checkpointed.
     Folded(u64),
 }

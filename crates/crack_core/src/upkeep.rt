@@ -1,4 +1,4 @@
-//! What automatic upkeep comes to.
+//! The result of automatic upkeep.
 ghost use Rattle.std.specs.Prelude.{ℕ, List, Result};
 ghost use Rattle.crack_row.specs.declared.refusal.Refusal.{Refusal};
 ghost use Rattle.crack_plain.specs.Past.{Past};
@@ -9,7 +9,7 @@ ghost use Rattle.crack_core.specs.declared.step.Done.{Done};
 use crate::Core;
 
 /// A command whose history is full leaves what a checkpoint and then the command leave: under automatic upkeep, any
-/// jobs leave a partition what they leave on request, where each checkpoint that upkeep makes is asked for as a job
+/// jobs leave a partition what they leave on request if each checkpoint that upkeep makes is requested as a job
 /// before its step. Does nothing.
 pub fn upkeep_is_checkpoints(core: &Core)
     ensures { (part : ℕ) (jobs : List Job) (results : List (Result Done Refusal)) (past : Past) →

@@ -10,7 +10,7 @@ use Rattle.crack_part.specs.Parts.{Part, IsSound}
 use Rattle.crack_core.specs.Routes.{keys_of_part}
 use Rattle.crack_core.proofs.opening.open_partitions.Goals as goal
 
--- one partition more
+-- one more partition
 keys-push : (splits : List Bound) (parts : List Part) (p : Part) → ((k : ℕ) (d : Part) → k < length parts → (get_or parts k d).keys ≡ keys_of_part splits k) → p.keys ≡ keys_of_part splits (length parts) → (k : ℕ) (d : Part) → k < length (parts ++ p ∷ []) → (get_or (parts ++ p ∷ []) k d).keys ≡ keys_of_part splits k
 keys-push splits parts p before now k d k_lt = ⊎_elim
     (λ (front : k < length parts). rw (get_or_append_left parts (p ∷ []) d k front) (before k d front))
