@@ -1,4 +1,4 @@
-//! Receipts beside what partitions keep.
+//! Receipts compared with what partitions keep.
 ghost use Rattle.std.specs.Prelude.{◌+◌, ◌≤◌};
 ghost use Rattle.crack_table.specs.Cover.{told, IsKept};
 
@@ -39,7 +39,7 @@ fn standing(tail: &[Entry]) -> Kept<'_>
     }
 }
 
-/// What a partition keeps that has two commands in its base, of which so many placed a row and took one out.
+/// What a partition keeps that has two commands in its base, of which this many placed and removed a row.
 fn two_folded(inserted: u64, deleted: u64, tail: &[Entry]) -> Kept<'_>
     requires { inserted + deleted ≤ 2 }
     ensures { IsKept (told result) }
@@ -72,7 +72,7 @@ fn cover_two(
     cover(alloc, &[first, second], receipts)
 }
 
-/// The same where a hundred partitions that keep nothing are before it.
+/// The same if a hundred partitions that keep nothing precede it.
 fn cover_behind_others(
     alloc: Global,
     last: Kept<'_>,
@@ -187,7 +187,7 @@ fn an_altered_receipt_is_strange(rt: HostRuntime) {
     assert_eq!(rt; found, strange(0, 0));
 }
 
-/// What worker 5 was replied to an insert or a delete, at this position of partition 0.
+/// The reply to worker 5 for an insert or a delete, at this position of partition 0.
 fn changed(position: u64, reply: Reply) -> Receipt {
     Receipt {
         part: 0,
