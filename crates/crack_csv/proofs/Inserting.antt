@@ -28,7 +28,7 @@ abbrev IsAnswered : List Bound → Policy → NewRow → Call → Type 0
 IsAnswered splits policy row call = (reply : Reply) × (call ≡ insertion splits policy row (Ok reply))
 
 module _ {R D : Type 0} (remaining : R → Option (List ℕ)) (leads : D → Call → D → Type 0) (splits : List Bound) (policy : Policy) (bytes : List ℕ) (old : D) where
-  -- A reader stands before the record of this number, and the insertions of the records before it are asked.
+  -- A reader is before the record with this number, and the insertions of the records before it are asked.
   pub record Inserting (reader : Reader R) (number loaded : ℕ) (now : D) : Type 0 where
     pub records : List Fields
     pub behind : IsBehind remaining reader (strip_bom bytes) records

@@ -29,7 +29,7 @@ without_header-more : (header : Bool) (first : Fields) (records : List Fields) (
 without_header-more true first records fields = refl
 without_header-more false first records fields = refl
 
--- after others, a record that is no header is to be inserted
+-- after others, a record that isn't a header is to be inserted
 pub without_header-push : (records : List Fields) (fields : Fields) → is_header_behind records fields ≡ false → without_header (records ++ fields ∷ []) ≡ without_header records ++ fields ∷ []
 without_header-push [] fields e = rw e refl
 without_header-push (first ∷ records) fields e = without_header-more (is_header first) first records fields
@@ -49,7 +49,7 @@ AreInserted-push {bounds} {splits} {tables} records fields left' was plain bring
   left_is = brings.2 ∙ ap Some (sym (with_rows-push bounds splits tables was.rows brings.0));
 }
 
--- a header is no record that is to be inserted, and comes first
+-- a header isn't a record that is to be inserted, and comes first
 pub first_is_header : (records : List Fields) (fields : Fields) (number : ℕ) → length records + 1 ≡ number → (number == 1 && is_header fields) ≡ true → without_header (records ++ fields ∷ []) ≡ without_header records
 first_is_header [] fields number n header = let is : is_header fields ≡ true = rw (← n) at header in rw is refl
 first_is_header (first ∷ records) fields number n header = absurd (let other : (number == 1) ≡ false = ne_eqb number 1 (λ one. omega (arith, n, one)) in cc (rw other at header))
@@ -58,12 +58,12 @@ first_is_header (first ∷ records) fields number n header = absurd (let other :
 AreInserted-header : {bounds : Bounds} {splits : List Bound} {tables : List PlainView} {count : ℕ} {left : Option (List PlainView)} (records : List Fields) (fields : Fields) (number : ℕ) → length records + 1 ≡ number → (number == 1 && is_header fields) ≡ true → AreInserted bounds splits tables records count left → AreInserted bounds splits tables (records ++ fields ∷ []) count left
 AreInserted-header records fields number n header was = record { rows = was.rows; are = ap (map new_row_of) (first_is_header records fields number n header) ∙ was.are; count_is = was.count_is; left_is = was.left_is }
 
--- a record is no header unless it is the first
+-- a record isn't a header unless it is the first
 pub no_header : (records : List Fields) (fields : Fields) (number : ℕ) → length records + 1 ≡ number → (number == 1 && is_header fields) ≡ false → is_header_behind records fields ≡ false
 no_header [] fields number n e = rw (← n) at e
 no_header (first ∷ records) fields number n e = refl
 
--- A reader stands before the record of this number, and the rows of the records before it are inserted.
+-- A reader is before the record with this number, and the rows of the records before it are inserted.
 pub record Going {R : Type 0} (remaining : R → Option (List ℕ)) (reader : Reader R) (bounds : Bounds) (splits : List Bound) (tables : List PlainView) (bytes : List ℕ) (number loaded : ℕ) (left : Option (List PlainView)) : Type 0 where
   pub records : List Fields
   pub behind : IsBehind remaining reader (strip_bom bytes) records
@@ -102,7 +102,7 @@ Going-row new fields left' g reads plain brings = record {
 pub Going-end : {R : Type 0} {remaining : R → Option (List ℕ)} {old : Reader R} {bounds : Bounds} {splits : List Bound} {tables : List PlainView} {bytes : List ℕ} {number loaded : ℕ} {left : Option (List PlainView)} → Going remaining old bounds splits tables bytes number loaded left → ((text : List ℕ) (records : List Fields) → IsBehind remaining old text records → AreRecords default_config st.StartRecord text records) → IsLoaded bounds splits tables bytes loaded left
 Going-end g ends = record { records = g.records; all = ends _ g.records g.behind; inserted = g.inserted }
 
--- why a record isn't inserted after so many others: they are as many as may be, or it is refused
+-- why a record isn't inserted after this many others: they are as many as may be, or it is refused
 abbrev pub IsCause : Bounds → List Bound → List PlainView → ℕ → ℕ → Fields → Refusal → Type 0
 IsCause bounds splits tables loaded number fields e = ((loaded ≡ MOST_RECORDS) × (e ≡ ReadFault)) ⊎ ((loaded < MOST_RECORDS) × Refuses bounds splits tables number (new_row_of fields) e)
 

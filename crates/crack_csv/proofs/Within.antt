@@ -26,7 +26,7 @@ both_true : (a b : Bool) → (a && b) ≡ true → (a ≡ true) × (b ≡ true)
 both_true true b e = (refl, e)
 both_true false b e = absurd (cc e)
 
--- nothing is left out where all pass
+-- nothing is left out if all pass
 filter_all : {X : Type 0} (p : X → Bool) (xs : List X) → list_all p xs ≡ true → filter p xs ≡ xs
 filter_all p [] e = refl
 filter_all p (x ∷ xs) e = let both = both_true (p x) (list_all p xs) e in rw both.0 (ap (λ z. x ∷ z) (filter_all p xs both.1))
@@ -50,7 +50,7 @@ either p false x y e f = f
 is_in_from : (keys : Range) (key : ℕ) → IsIn keys key → is_in keys key ≡ true
 is_in_from keys key inside = rw (le-leb keys.low key inside.0, lt-ltb key keys.high inside.1) refl
 
--- a command that brings a key among these leaves the rows' keys among these
+-- a command that has a key among these leaves the rows' keys among these
 within_after : (keys : Range) (s : PlainState) (command : Command) → IsWithin keys command → list_all (in_range keys) s.rows ≡ true → list_all (in_range keys) (after s command).rows ≡ true
 within_after keys s (Insert key payload) inside e =
     let new : Row = record { serial = record { 0 = s.next }; key = key; payload = payload } in

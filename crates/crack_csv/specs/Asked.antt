@@ -18,11 +18,11 @@ use Rattle.crack_csv.specs.declared.record.NewRow.{NewRow}
 use Rattle.crack_csv.specs.Exports.{header_text, record_text, AreUnsent}
 use Rattle.crack_csv.specs.Records.{without_header, new_row_of, AreFirstOf}
 
--- the call that asks the partition of its key to insert a row, and what came of it
+-- the call that asks the partition of its key to insert a row, and its outcome
 abbrev pub insertion : List Bound → Policy → NewRow → Result Reply Refusal → Call
 insertion splits policy row outcome = Asked (route splits row.key.0) (Insert row.key row.payload) policy outcome
 
--- These calls insert the rows of so many records, in order and each once, and are answered: each record but a header brings a row.
+-- These calls insert the rows of this many records, in order and each once, and are answered: each record but a header brings a row.
 pub record AreInsertions (splits : List Bound) (policy : Policy) (records : List (List (List ℕ))) (count : ℕ) (calls : List Call) : Type 0 where
   pub rows : List NewRow
   pub are : map new_row_of (without_header records) ≡ map Some rows
@@ -33,17 +33,17 @@ pub record AreInsertions (splits : List Bound) (policy : Policy) (records : List
 abbrev pub IsAskedAll : {D : Type 0} → (D → Call → D → Type 0) → List Bound → Policy → List ℕ → ℕ → D → D → Type 0
 IsAskedAll leads splits policy bytes count old new = (records : List (List (List ℕ))) × AreRecords default_config st.StartRecord (strip_bom bytes) records × (calls : List Call) × Calls leads old calls new × AreInsertions splits policy records count calls
 
--- why the record of this number isn't inserted, and the calls for it: none where it brings no row, else the one that its partition refuses
+-- why the record with this number isn't inserted, and the calls for it: none if it isn't a row, else the one that its partition refuses
 abbrev pub IsRefusedBy : List Bound → Policy → ℕ → Option NewRow → Refusal → List Call → Type 0
 IsRefusedBy splits policy number None e calls = (e ≡ BadRecord number) × (calls ≡ [])
 IsRefusedBy splits policy number (Some row) e calls = calls ≡ insertion splits policy row (Err e) ∷ []
 
--- on a fault it is asked the insertions of the first records, and nothing else, or what the next record is refused by
+-- on a fault it is asked the insertions of the first records, and nothing else, or the one by which the next record is refused
 abbrev pub IsAskedFirst : {D : Type 0} → (D → Call → D → Type 0) → List Bound → Policy → List ℕ → LoadFault → D → D → Type 0
 IsAskedFirst leads splits policy bytes fault old new = (records : List (List (List ℕ))) × AreFirstOf (strip_bom bytes) records × (calls : List Call) × (last : List Call) × Calls leads old (calls ++ last) new × AreInsertions splits policy records fault.loaded calls
     × (((last ≡ []) × ((fault.refusal ≡ ReadFault) ⊎ (fault.refusal ≡ OutOfMemory))) ⊎ ((fields : List (List ℕ)) × AreFirstOf (strip_bom bytes) (records ++ fields ∷ []) × (without_header (records ++ fields ∷ []) ≡ without_header records ++ fields ∷ []) × IsRefusedBy splits policy (length records + 1) (new_row_of fields) fault.refusal last))
 
--- the call that asks a partition for all its rows, and what came of it
+-- the call that asks a partition for all its rows, and its outcome
 abbrev pub listing : List Bound → Policy → ℕ → Result Reply Refusal → Call
 listing splits policy part outcome = Asked part (Select (keys_of_part splits part)) policy outcome
 

@@ -21,16 +21,16 @@ header_text = row_text default_writer (codes "key" ∷ codes "payload" ∷ [])
 abbrev pub record_text : Row → List ℕ
 record_text row = row_text default_writer (key_text row.key ∷ payload_text row.payload ∷ [])
 
--- the rows of these partitions, whose numbers rise from this one on: those of each in turn, in rising serial
+-- the rows of these partitions, whose numbers rise from this one on: those of each in turn, by rising serial
 abbrev pub rows_from : List Bound → ℕ → List PlainView → List Row
 rows_from splits part [] = []
 rows_from splits part (table ∷ tables) = rows_in (keys_of_part splits part) table.state.rows ++ rows_from splits (part + 1) tables
 
--- a partition that was asked for its rows: these are as they were, and its history has one entry more, after the checkpoint that is due
+-- a partition that was asked for its rows: these are as they were, and its history has one more entry, after the checkpoint that is due
 abbrev pub asked : Bounds → PlainView → PlainView
 asked bounds table = record { state = table.state; folded = (upkept_by bounds table).folded; since = (upkept_by bounds table).since + 1 }
 
--- The header and a record for each row are written, partitions rising, and within each its rows in rising serial.
+-- The header and a record for each row are written, by rising partition, and within each its rows by rising serial.
 pub record IsExported (bounds : Bounds) (splits : List Bound) (tables : List PlainView) (count : ℕ) (left : Option (List PlainView)) (out out' : Option (List ℕ)) : Type 0 where
   pub count_is : count ≡ length (rows_from splits 0 tables)
   pub left_is : left ≡ Some (map (asked bounds) tables)
@@ -40,7 +40,7 @@ pub record IsExported (bounds : Bounds) (splits : List Bound) (tables : List Pla
 abbrev pub lines_of : List Bound → List PlainView → List (List ℕ)
 lines_of splits tables = header_text ∷ map record_text (rows_from splits 0 tables)
 
--- why texts aren't all written: for want of memory, and the first of them are, each whole; or the writer failed, and a front of all is
+-- why texts aren't all written: for lack of memory, and the first of them are, each whole; or the writer failed, and a prefix of all is
 abbrev pub AreUnsent : List (List ℕ) → Refusal → Bool → Bool → Option (List ℕ) → Option (List ℕ) → Type 0
 AreUnsent texts e failed failed' out out' = ((e ≡ OutOfMemory) × (failed' ≡ failed) × (count : ℕ) × (count < length texts) × Appends out out' (concat (take count texts)))
     ⊎ ((e ≡ WriteFault) × (failed' ≡ true) × AppendsFront out out' (concat texts))

@@ -33,13 +33,13 @@ use Rattle.csv.specs.declared.reader.Trim.TheVariants as trim
 abbrev pub Fields : Type 0
 Fields = List (List ℕ)
 
--- a writer of CSV writes by default, and stands before a record
+-- a writer of CSV writes by default, and is before a record
 pub record IsFresh {W : Type 0} (writer : Writer W) : Type 0 where
   pub setup : writer_setup writer ≡ default_writer
   pub none : fields_written writer ≡ 0
   pub empty : has_written writer ≡ false
 
--- the rows of a partition, in rising serial
+-- the rows of a partition, by rising serial
 abbrev pub rows_at : List Bound → ℕ → PlainView → List Row
 rows_at splits part table = rows_in (keys_of_part splits part) table.state.rows
 
@@ -51,12 +51,12 @@ pub record IsPartExported (bounds : Bounds) (splits : List Bound) (tables : List
   pub left_is : left ≡ Some (slice_set tables part (asked bounds table))
   pub written : Appends out out' (flat_map record_text (rows_at splits part table))
 
--- why a text isn't written: for want of memory, and nothing of it is; or the writer failed, and a front of it is
+-- why a text isn't written: for lack of memory, and nothing of it is; or the writer failed, and a prefix of it is
 abbrev pub IsUnsent : List ℕ → Refusal → Bool → Bool → Option (List ℕ) → Option (List ℕ) → Type 0
 IsUnsent text e failed failed' out out' = ((e ≡ OutOfMemory) × (failed' ≡ failed) × Keeps out out')
     ⊎ ((e ≡ WriteFault) × (failed' ≡ true) × AppendsFront out out' text)
 
--- A partition refuses the list of its rows: all is as it was.
+-- A partition refuses the list of its rows: everything is as it was.
 pub record IsUnlisted (bounds : Bounds) (splits : List Bound) (tables : List PlainView) (part : ℕ) (table : PlainView) (e : Refusal) (receipts receipts' : ℕ) (failed failed' : Bool) (left : Option (List PlainView)) (out out' : Option (List ℕ)) : Type 0 where
   pub cause : IsOutcome bounds (keys_of_part splits part) (Some table) (Select (keys_of_part splits part)) (Err e)
   pub left_is : left ≡ Some tables
@@ -77,11 +77,11 @@ pub record IsPartCut (bounds : Bounds) (splits : List Bound) (tables : List Plai
   pub how : IsUnlisted bounds splits tables part table e receipts receipts' failed failed' left out out'
       ⊎ IsUnwritten bounds splits tables part table e receipts receipts' failed failed' left out out'
 
--- a record brings a row, which is inserted
+-- a record is a row, which is inserted
 abbrev pub BringsRow : Bounds → List Bound → List PlainView → Fields → Option (List PlainView) → Type 0
 BringsRow bounds splits tables fields left = (row : NewRow) × (new_row_of fields ≡ Some row) × (left ≡ Some (with_row bounds splits tables row))
 
--- the refusal that says why a record isn't read: no memory was found, or else the reader failed
+-- the refusal that says why a record isn't read: no memory was found, or otherwise the reader failed
 abbrev pub unread_by : ErrorKind → Refusal
 unread_by kind.OutOfMemory = OutOfMemory
 unread_by _ = ReadFault
@@ -93,21 +93,21 @@ pub record IsReady {R : Type 0} (reader : Reader R) : Type 0 where
   pub flexible : is_flexible reader ≡ true
   pub ready : Ready reader
 
--- a reader of a text stands after these records
+-- a reader of a text is after these records
 pub record IsBehind {R : Type 0} (remaining : R → Option (List ℕ)) (reader : Reader R) (text : List ℕ) (records : List Fields) : Type 0 where
   pub rest : List ℕ
   pub left : source_of remaining reader ≡ Some rest
   pub reached : Reached default_config st.StartRecord text records (reader_state reader) rest
 
--- a record brings a row, and the partition of its key is asked to insert it, and answers
+-- a record is a row, and the partition of its key is asked to insert it, and answers
 abbrev pub AsksRow : {D : Type 0} → (D → Call → D → Type 0) → List Bound → Policy → Fields → D → D → Type 0
 AsksRow leads splits policy fields old new = (row : NewRow) × (new_row_of fields ≡ Some row) × (reply : Reply) × leads old (insertion splits policy row (Ok reply)) new
 
--- a record isn't inserted, and only what it is refused by is asked
+-- a record isn't inserted, and only the call that refuses it is asked
 abbrev pub AsksNoRow : {D : Type 0} → (D → Call → D → Type 0) → List Bound → Policy → ℕ → Fields → Refusal → D → D → Type 0
 AsksNoRow leads splits policy number fields e old new = (calls : List Call) × Calls leads old calls new × IsRefusedBy splits policy number (new_row_of fields) e calls
 
--- a partition is asked for its rows, and this comes of it
+-- a partition is asked for its rows, with this outcome
 abbrev pub AsksPart : {D : Type 0} → (D → Call → D → Type 0) → List Bound → Policy → ℕ → Result Reply Refusal → D → D → Type 0
 AsksPart leads splits policy part outcome old new = leads old (listing splits policy part outcome) new
 

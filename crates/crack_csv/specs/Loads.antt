@@ -18,12 +18,12 @@ use Rattle.crack_csv.specs.Records.{without_header, new_row_of, AreFirstOf}
 abbrev pub with_row : Bounds → List Bound → List PlainView → NewRow → List PlainView
 with_row bounds splits tables row = slice_set tables (route splits row.key.0) (table_after (upkept_by bounds (slice_index_or tables (route splits row.key.0) fresh_table)) (Insert row.key row.payload))
 
--- why the record of this number isn't inserted: it brings no row, or else as the partition of its key answers
+-- why the record with this number isn't inserted: it isn't a row, or else as the partition of its key answers
 abbrev pub Refuses : Bounds → List Bound → List PlainView → ℕ → Option NewRow → Refusal → Type 0
 Refuses bounds splits tables number None e = e ≡ BadRecord number
 Refuses bounds splits tables number (Some row) e = IsOutcomeAt bounds splits tables (route splits row.key.0) (Insert row.key row.payload) (Err e)
 
--- Of these records each but a header brings a row, and these rows are inserted, in order.
+-- Each of these records except a header is a row, and these rows are inserted, in order.
 pub record AreInserted (bounds : Bounds) (splits : List Bound) (tables : List PlainView) (records : List (List (List ℕ))) (count : ℕ) (left : Option (List PlainView)) : Type 0 where
   pub rows : List NewRow
   pub are : map new_row_of (without_header records) ≡ map Some rows
@@ -36,14 +36,14 @@ pub record IsLoaded (bounds : Bounds) (splits : List Bound) (tables : List Plain
   pub all : AreRecords default_config st.StartRecord (strip_bom bytes) records
   pub inserted : AreInserted bounds splits tables records count left
 
--- A record of the bytes is refused after so many others, whose rows are inserted: it is no header, and these are as many as may be, or it is refused.
+-- A record of the bytes is refused after this many others, whose rows are inserted: it isn't a header, and there are as many as there may be, or it is refused.
 pub record IsRefused (bounds : Bounds) (splits : List Bound) (tables : List PlainView) (bytes : List ℕ) (records : List (List (List ℕ))) (fault : LoadFault) : Type 0 where
   pub fields : List (List ℕ)
   pub first : AreFirstOf (strip_bom bytes) (records ++ fields ∷ [])
   pub no_header : without_header (records ++ fields ∷ []) ≡ without_header records ++ fields ∷ []
   pub cause : ((fault.loaded ≡ MOST_RECORDS) × (fault.refusal ≡ ReadFault)) ⊎ ((fault.loaded < MOST_RECORDS) × Refuses bounds splits tables (length records + 1) (new_row_of fields) fault.refusal)
 
--- on a fault the first records of the bytes are inserted, up to where the reader failed, or up to one that is refused
+-- on a fault the first records of the bytes are inserted, up to where the reader failed, or up to a refused one
 pub record IsCutShort (bounds : Bounds) (splits : List Bound) (tables : List PlainView) (bytes : List ℕ) (fault : LoadFault) (left : Option (List PlainView)) : Type 0 where
   pub records : List (List (List ℕ))
   pub first : AreFirstOf (strip_bom bytes) records

@@ -1,4 +1,4 @@
--- What records of CSV say, and how far a reader of them is.
+-- The meaning of CSV records, and how far a reader of them is.
 use Rattle.std.specs.Prelude.{ℕ, Bool, false, List, [], ◌∷◌, Option, option_map, ◌&&◌, codes, if◌then◌else◌}
 use Rattle.std.specs.Str.{bytes_eq}
 use Rattle.crack_commands.specs.Grammar.{key_and_payload}
@@ -12,12 +12,12 @@ abbrev pub is_header : List (List ℕ) → Bool
 is_header (key ∷ payload ∷ []) = bytes_eq key (codes "key") && bytes_eq payload (codes "payload")
 is_header _ = false
 
--- the records that are to be inserted: all, but for a header
+-- the records that are to be inserted: all except a header
 abbrev pub without_header : List (List (List ℕ)) → List (List (List ℕ))
 without_header [] = []
 without_header (first ∷ records) = if is_header first then records else first ∷ records
 
--- the row that a record brings: it has just two fields, a key and a payload
+-- the row of a record that has exactly two fields, a key and a payload
 abbrev pub new_row_of : List (List ℕ) → Option NewRow
 new_row_of fields = option_map (λ n. record { key = n.0; payload = n.1 }) (key_and_payload fields)
 

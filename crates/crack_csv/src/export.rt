@@ -18,13 +18,13 @@ use crack_session::Desk;
 use std::alloc::Global;
 use std::io::Write;
 
-/// The records of so many rows stand in memory at once.
+/// The records of this many rows are in memory at once.
 const BATCH_ROWS: usize = 256;
 
-/// Writes the header `key,payload` and then a record for each row, and says how many rows there were; records end with
-/// a line feed. Each partition is asked for a list of all its rows, which its history keeps. What is written is handed
-/// on at the end. The first refusal ends the export: 6, 7, 8 or 10 of a partition, 8 for the text of a batch of rows,
-/// or 18. The list of one partition's rows stands in memory, and the text of a batch of them.
+/// Writes the header `key,payload` and then a record for each row, and returns how many rows there were; records end
+/// with a line feed. Each partition is asked for a list of all its rows, which its history keeps. The output is flushed
+/// at the end. The first refusal ends the export: 6, 7, 8 or 10 of a partition, 8 for the text of a batch of rows,
+/// or 18. The list of one partition's rows is in memory, and the text of a batch of them.
 pub fn export_csv<D: Desk, W: Write>(
     alloc: Global,
     desk: &mut D,
@@ -41,8 +41,8 @@ pub fn export_csv<D: Desk, W: Write>(
         (has_failed writer.old) (has_failed writer.new) (D.tables desk.new) (W.contents (device writer.old))
         (W.contents (device writer.new))) }
     // Whatever is known of the rows: each partition is asked for them, once, in order and by this policy, and what is
-    // written is the header and a record for each row that it lists; on a refusal the last call may be the one that was
-    // refused.
+    // written is the header and a record for each row that it lists; on a refusal the last call may be the refused
+    // one.
     ensures asks { IfOk result (λ count.
         IsListed D.leads (D.splits desk.old) policy count desk.old desk.new (W.contents (device writer.old))
         (W.contents (device writer.new))) }
@@ -71,7 +71,7 @@ pub fn export_csv<D: Desk, W: Write>(
     }
 }
 
-/// The keys of a core's rows are those of their partitions: an export of it leaves no row out. Does nothing.
+/// The keys of a core's rows are those of their partitions, so an export of it leaves no row out. Does nothing.
 pub fn leaves_no_row_out(core: &Core)
     ensures { rows_from core.now.splits 0 (tables_of core.now.parts) ≡
         flat_map (λ (table : PlainView). table.state.rows) (tables_of core.now.parts) }

@@ -17,7 +17,7 @@ use crack_row::{Command, Policy, Refusal};
 use crack_session::Desk;
 use csv::ByteRecord;
 
-/// Inserts the row of the record of this number. Refused with 19 where it brings none, and else as the partition of
+/// Inserts the row of the record with this number. Refused with 19 if it isn't a row, and else as the partition of
 /// its key refuses.
 pub fn insert_record<D: Desk>(
     desk: &mut D,

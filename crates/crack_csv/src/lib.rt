@@ -1,4 +1,4 @@
-//! Rows as CSV: records in, which are inserted into a table, and a table's rows out as records.
+//! Rows as CSV: input records are inserted into a table, and a table's rows are output as records.
 #![tactic(auto)]
 
 pub mod export;

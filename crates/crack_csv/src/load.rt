@@ -22,11 +22,11 @@ pub struct LoadFault {
     pub loaded: u64,
 }
 
-/// Inserts the row of each record that a reader's bytes are read as, in order, each into the partition of its key, and
-/// says how many. A first record of the fields `key` and `payload` is a header, which is skipped. Records are read
-/// with commas and double quotes; a record of other than two fields, or with a field that isn't a number of 1 to 20
-/// digits in range, a payload's with a minus sign or without, is refused with 19. A reader that fails is refused with
-/// 17, and so is one record more than `MOST_RECORDS`. One record at a time stands in memory.
+/// Inserts the row of each record in a reader's bytes, in order, each into the partition of its key, and
+/// returns how many. A first record of the fields `key` and `payload` is a header, which is skipped. Records are read
+/// with commas and double quotes; a record that doesn't have two fields, or with a field that isn't a number of 1 to 20
+/// digits in range, for a payload with or without a minus sign, is refused with 19. A reader that fails is refused with
+/// 17, and so is one record more than `MOST_RECORDS`. One record at a time is in memory.
 pub fn load_csv<D: Desk, R: Read + Drop>(
     alloc: Global,
     desk: &mut D,
@@ -37,12 +37,12 @@ pub fn load_csv<D: Desk, R: Read + Drop>(
     ensures loaded { IfOk result (λ count. (bytes : List ℕ) (tables : List PlainView) →
         R.remaining reader ≡ Some bytes → D.tables desk.old ≡ Some tables →
         IsLoaded (D.bounds desk.old) (D.splits desk.old) tables bytes count (D.tables desk.new)) }
-    // The first of them are, up to where the reader failed, or up to one that is refused.
+    // The first of them are, up to where the reader failed, or up to a refused one.
     ensures cut_short { IfErr result (λ fault. (bytes : List ℕ) (tables : List PlainView) →
         R.remaining reader ≡ Some bytes → D.tables desk.old ≡ Some tables →
         IsCutShort (D.bounds desk.old) (D.splits desk.old) tables bytes fault (D.tables desk.new)) }
-    // Whatever is known of the rows: the desk is asked to insert the rows of just the records that are read, in order,
-    // each once, by this policy, and each is answered; on a fault the last call may be the one that was refused.
+    // Whatever is known of the rows: the desk is asked to insert the rows of exactly the records that are read, in
+    // order, each once, by this policy, and each is answered; on a fault the last call may be the refused one.
     ensures asks { IfOk result (λ count. (bytes : List ℕ) → R.remaining reader ≡ Some bytes →
         IsAskedAll D.leads (D.splits desk.old) policy bytes count desk.old desk.new) }
     ensures asks_in_part { IfErr result (λ fault. (bytes : List ℕ) → R.remaining reader ≡ Some bytes →

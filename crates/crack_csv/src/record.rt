@@ -1,4 +1,4 @@
-//! Records of CSV: what they say, and how they are read.
+//! Records of CSV: their meaning, and how they are read.
 ghost use Rattle.std.specs.Prelude.{◌≡◌, ◌≢◌, ◌⊎◌, ◌++◌, ◌∷◌, ◌==◌, ◌&&◌, [], ℕ, List, true, false, length, Ok, Err};
 ghost use Rattle.std.specs.Prelude.{IfOk, IfErr, IfSome, IfNone};
 ghost use Rattle.csv.specs.Reading.{AreRecords, default_config, error_kind};
@@ -19,7 +19,7 @@ pub struct NewRow {
     pub payload: Payload,
 }
 
-/// The row that a record brings: it has just two fields, a key and a payload, both numbers in range.
+/// The row of a record that has exactly two fields, a key and a payload, both numbers in range.
 pub fn new_row(fields: &ByteRecord) -> Option<NewRow>
     ensures { result ≡ new_row_of (fields_of fields.now) }
 {
@@ -29,7 +29,7 @@ pub fn new_row(fields: &ByteRecord) -> Option<NewRow>
     Some(NewRow { key, payload })
 }
 
-/// Whether the record of this number, from 1, is a header.
+/// Whether the record with this number, from 1, is a header.
 pub fn is_header_at(number: u64, fields: &ByteRecord) -> bool
     ensures { result ≡ (number == 1 && is_header (fields_of fields.now)) }
 {
@@ -46,7 +46,7 @@ fn is_header(fields: &ByteRecord) -> bool
     }
 }
 
-/// The fields of a record, where there are just two.
+/// The fields of a record, if there are exactly two.
 fn two_fields(fields: &ByteRecord) -> Option<(&[u8], &[u8])>
     ensures some { IfSome result (λ pair. fields_of fields.now ≡ pair.0.now ∷ pair.1.now ∷ []) }
     ensures none { IfNone result (length (fields_of fields.now) ≢ 2) }
@@ -64,7 +64,7 @@ fn two_fields(fields: &ByteRecord) -> Option<(&[u8], &[u8])>
     }
 }
 
-/// Reads the next record, if there is one. Refused with 17 where the reader failed, and with 8 where no memory was
+/// Reads the next record, if there is one. Refused with 17 if the reader failed, and with 8 if no memory was
 /// found.
 pub fn read_next<R: Read>(reader: &mut Reader<R>, fields: &mut ByteRecord) -> Result<bool, Refusal>
     requires { IsReady reader.old }
@@ -79,7 +79,7 @@ pub fn read_next<R: Read>(reader: &mut Reader<R>, fields: &mut ByteRecord) -> Re
     found_or_refused(reader.read_byte_record(fields))
 }
 
-/// What came of reading a record, with the refusal that says why it isn't read: 8 where no memory was found, else 17.
+/// The outcome of reading a record, with the refusal that says why it isn't read: 8 if no memory was found, else 17.
 fn found_or_refused(read: Result<bool, Error>) -> Result<bool, Refusal>
     ensures ok { IfOk read (λ found. result ≡ Ok found) }
     ensures err { IfErr read (λ error. result ≡ Err (unread_by (error_kind error))) }
@@ -90,7 +90,7 @@ fn found_or_refused(read: Result<bool, Error>) -> Result<bool, Refusal>
     }
 }
 
-/// The refusal that says why a record isn't read: 8 where no memory was found, else 17.
+/// The refusal that says why a record isn't read: 8 if no memory was found, else 17.
 fn unread_by(kind: &ErrorKind) -> Refusal
     ensures { result ≡ unread_by kind.now }
 {

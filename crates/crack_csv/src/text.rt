@@ -11,7 +11,7 @@ use csv::{Writer, WriterBuilder};
 use std::alloc::Global;
 use std::io::Write;
 
-/// The text of the header. Refused with 8 where no memory is found.
+/// The text of the header. Refused with 8 if no memory is found.
 pub fn header_text(alloc: Global) -> Result<Vec<u8>, Refusal>
     ensures text { IfOk result (λ text. text.items ≡ header_text) }
     ensures err { IfErr result (λ e. e ≡ Refusal.OutOfMemory) }
@@ -21,7 +21,7 @@ pub fn header_text(alloc: Global) -> Result<Vec<u8>, Refusal>
     text_of(writer)
 }
 
-/// The texts of the records of rows. Refused with 8 where no memory is found.
+/// The texts of the records of rows. Refused with 8 if no memory is found.
 pub fn rows_text(alloc: Global, rows: &[Row]) -> Result<Vec<u8>, Refusal>
     ensures text { IfOk result (λ text. text.items ≡ flat_map record_text rows.now) }
     ensures err { IfErr result (λ e. e ≡ Refusal.OutOfMemory) }
