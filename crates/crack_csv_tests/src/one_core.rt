@@ -17,8 +17,8 @@ use std::io::{Read, Write};
 use std::process::Abort;
 use std::test::Fail;
 
-/// Serves one session and then another. Both are of the limit and the splits that the core had before, and the second
-/// is of the rows and the bytes that the first left.
+/// Serves one session and then another. Both have the limit and the splits that the core had before, and the second
+/// has the rows and the bytes that the first left.
 fn serve_both<R: Read, W: Write>(
     alloc: Global,
     core: &mut Core,
@@ -43,7 +43,7 @@ fn serve_both<R: Read, W: Write>(
     }
 }
 
-/// Serves a session, and then exports the rows. The export is of the splits that the core had before, and of the rows
+/// Serves a session, and then exports the rows. The export has the splits that the core had before, and the rows
 /// that the session left.
 fn serve_and_export<R: Read, W: Write>(
     alloc: Global,
@@ -68,8 +68,8 @@ fn serve_and_export<R: Read, W: Write>(
     }
 }
 
-/// What the three write, one after another. It promises nothing, so that the test carries nothing of what they
-/// promise.
+/// What the three write, one after another. It promises nothing, so that the test carries nothing of their
+/// promises.
 fn tell_all(alloc: Global, core: &mut Core) -> Result<Vec<u8>, Refusal> {
     let mut first = Watched::new(b"insert 150 6\nquit\ninsert 1 1\n".as_slice());
     let mut second = Watched::new(b"insert 50 5\ncount 0 200\n".as_slice());

@@ -31,7 +31,7 @@ fn bad_record(number: u64, loaded: u64) -> Result<u64, LoadFault> {
     Err(LoadFault { refusal, loaded })
 }
 
-/// A load of what a reader gives into one partition, which is to end so.
+/// A load of what a reader returns into one partition, which is to end in this way.
 fn assert_load(
     rt: &impl Abort,
     alloc: Global,
@@ -45,7 +45,7 @@ fn assert_load(
     Ok(())
 }
 
-/// A load that is to be refused for the record of this number, after so many rows.
+/// A load that is to be refused for the record with this number, after this many rows.
 fn assert_bad(
     rt: &impl Abort,
     alloc: Global,
@@ -56,7 +56,7 @@ fn assert_bad(
     assert_load(rt, alloc, Source::new(bytes), bad_record(number, loaded))
 }
 
-/// An export of a core that is to write this text, and lets the core go.
+/// An export of a core that is to write this text, and drops the core.
 fn assert_text(
     rt: &impl Abort,
     alloc: Global,
@@ -89,7 +89,7 @@ fn assert_through(
     assert_text(rt, alloc, core, count, text)
 }
 
-/// How the load of so many bytes of the text is to end.
+/// How the load of this many bytes of the text is to end.
 fn end_of_cut(bytes: usize) -> Result<u64, LoadFault> {
     if bytes == 0 || bytes == 11 || bytes == 12 {
         Ok(0)
@@ -164,7 +164,7 @@ fn fields_are_numbers_in_range(rt: HostRuntime) -> Result<(), Fail> {
     assert_bad(&rt, rt.alloc(), b"000000000000000000005,6\n", 1, 0)
 }
 
-/// A payload's sign comes in and goes out; what is above 0 has none.
+/// A payload's sign is read and written; numbers above 0 have none.
 #[test]
 fn payloads_below_0_go_through(rt: HostRuntime) -> Result<(), Fail> {
     let same = b"key,payload\n5,-6\n";
@@ -191,7 +191,7 @@ fn a_record_has_two_fields(rt: HostRuntime) -> Result<(), Fail> {
 
 #[test]
 fn a_reader_fails_behind_two_records(rt: HostRuntime) -> Result<(), Fail> {
-    // Its first byte is read by itself.
+    // Its first byte is read separately.
     let reader = Source::new(TEXT).cut(&[5]).failing_at(7);
     let mut core = Core::open(rt.alloc(), &[], GREATEST_LIMIT)?;
     let result = load(rt.alloc(), &mut core, reader);
