@@ -16,14 +16,14 @@ fn hundred() -> [Bound; 1] {
     [Bound::from_number(100)]
 }
 
-/// Each statement, at both partitions, and each refusal that needs no want of room and no gate.
+/// Each statement, at both partitions, and each refusal that needs no lack of room and no gate.
 static SCRIPT: &[u8] = b"insert 50 5\ninsert 150 6\ninsert 99 7\ninsert 100 8\n\
 count 50 151\nsum 0 18446744073709551616\nselect 60 160\nupdate 0.0 60 9\nupdate 0.0 100 9\n\
 delete 1.0\ndelete 1.0\nlayout 2\nupdate 2.0 100 9\ncount 5 1\nx\npolicy complete\n\
 select 0 18446744073709551616\nlayout 0\nlayout 1\n\
 policy gradual\ninsert 10 1\ninsert 20 2\ncount 10 11\nlayout 0\nquit\ninsert 1 1\n";
 
-/// What is replied to it.
+/// The replies to it.
 static REPLIES: &[u8] = b"row 0.0\nrow 1.0\nrow 0.1\nrow 1.1\n\
 count 4\nsum 26\nrows 3\n0.1 99 7\n1.0 150 6\n1.1 100 8\nchanged\nrefused 4\n\
 gone 150 6\nnone\nrefused 5\nrefused 5\nrefused 2\nrefused 1\npolicy complete\n\
@@ -39,7 +39,7 @@ piece 0 10 0\npiece 10 11 1\npiece 11 50 0\npiece 50 60 0\npiece 60 100 2\nbye\n
 /// The one partition of all keys.
 static UNDIVIDED: [Bound; 0] = [];
 
-/// A row of the range 10 to 20 pends, and one outside it, over bounds that stand at one place: by the complete merge
+/// A row of the range 10 to 20 is pending, and one outside it, over bounds at one place: by the complete merge
 /// both are put in.
 static COMPLETE: &[u8] =
     b"policy complete\ninsert 10 1\ninsert 40 4\ncount 0 18446744073709551616\ncount 20 30\n\
@@ -75,7 +75,7 @@ static MERGED_BY_A_SELECT: &[u8] = b"policy gradual\nrow 0.0\nrow 0.1\ncount 2\n
 row 0.2\nrow 0.3\nrows 2\n0.0 10 1\n0.2 15 5\nlayout 0 rows 4 column 3 out 0 in 1 cells 4 free 0 pieces 4\n\
 piece 0 10 0\npiece 10 20 2\npiece 20 30 0\npiece 30 18446744073709551616 1\n";
 
-/// By ripple it is, and the row above the range that makes room for it pends again.
+/// By ripple it is, and the row above the range that makes room for it is pending again.
 static RIPPLE: &[u8] =
     b"policy ripple\ninsert 10 1\ninsert 40 4\ncount 0 18446744073709551616\ncount 20 30\n\
 insert 15 5\ninsert 50 6\ncount 10 20\nlayout 0\n";
@@ -95,7 +95,7 @@ row 0.2\nrow 0.3\nsum 5\nsum -9223372036854775809\n\
 layout 0 rows 4 column 4 out 0 in 0 cells 4 free 0 pieces 3\n\
 piece 0 4294967296 1\npiece 4294967296 4294967297 1\npiece 4294967297 18446744073709551616 2\n";
 
-/// Serves a session over memory, which is to write these replies and to end so, with no want of room.
+/// Serves a session over memory, which is to write these replies and to end in this way, with no lack of room.
 fn assert_session<D: Desk>(
     rt: &impl Abort,
     alloc: Global,
@@ -169,7 +169,7 @@ fn a_worker_desk_merges_by_the_policy(rt: HostRuntime) -> Result<(), Fail> {
     assert_desk(&rt, alloc, RIPPLE, RIPPLED)
 }
 
-/// Whatever is asked of a range is asked by the session's policy.
+/// Every question about a range is asked by the session's policy.
 #[test]
 fn a_worker_desk_adds_up_and_lists_by_the_policy(rt: HostRuntime) -> Result<(), Fail> {
     let alloc: Global = rt.alloc();
@@ -182,7 +182,7 @@ fn a_worker_desk_adds_up_below_0(rt: HostRuntime) -> Result<(), Fail> {
     assert_desk(&rt, rt.alloc(), WIDE, ADDED)
 }
 
-/// Each checkpoint checkpoints the partition that it names, and no other.
+/// Each checkpoint is of the partition that it names, and of no other.
 #[test]
 fn a_worker_desk_folds_one_partition_at_a_time(rt: HostRuntime) -> Result<(), Fail> {
     let alloc: Global = rt.alloc();

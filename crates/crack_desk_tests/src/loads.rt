@@ -12,7 +12,7 @@ use std::test::Fail;
 /// A header and two records.
 static RECORDS: &[u8] = b"key,payload\n150,6\n50,5\n";
 
-/// How the load of so many of these bytes is to end: the number of a bad record, or 0 where there is none, and how
+/// How the load of this many of these bytes is to end: the number of a bad record, or 0 if there is none, and how
 /// many rows are loaded.
 static ENDS: [(u64, u64); 24] = [
     (0, 0),
@@ -41,7 +41,7 @@ static ENDS: [(u64, u64); 24] = [
     (0, 2),
 ];
 
-/// How a load by a worker ends, byte by byte, and what the worker's table comes to.
+/// How a load by a worker ends, byte by byte, and the totals of the worker's table.
 fn load<R: Wait>(
     rt: &R,
     alloc: Global,
