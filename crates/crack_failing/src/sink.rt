@@ -16,7 +16,7 @@ pub struct Sink {
 }
 
 impl Sink {
-    /// A writer that takes all that it is given, after the bytes that are there, and never fails but where it finds no
+    /// A writer that takes all that it is given, after the bytes that are there, and never fails but if it finds no
     /// memory for them.
     pub fn new(bytes: Vec<u8>) -> Sink
         ensures bytes { result.bytes ≡ bytes }
@@ -31,7 +31,7 @@ impl Sink {
         }
     }
 
-    /// The same writer, which takes at most so many bytes at a time, and one where this is 0.
+    /// The same writer, which takes at most this many bytes at a time, and one where this is 0.
     pub fn taking(self, most: usize) -> Sink
         ensures { result ≡ record self { most = most } }
     {
@@ -62,7 +62,7 @@ impl Sink {
         self.bytes
     }
 
-    /// How many calls there were, failed ones too; stays at the greatest number once it is there.
+    /// How many calls there were, including failed ones; stops at the greatest number.
     pub fn calls(&self) -> u64
         ensures { result ≡ self.now.calls }
     {

@@ -34,8 +34,8 @@ impl<'a> Source<'a> {
         }
     }
 
-    /// The same reader, whose reads give at most so many bytes each, by these sizes in turn and then from the first one
-    /// again; where a size is 0, one byte. Without sizes it gives all that there is room for.
+    /// The same reader, whose reads give at most this many bytes each, by these sizes in turn and then from the first
+    /// one again; if a size is 0, one byte. Without sizes it gives all that there is room for.
     pub fn cut(self, sizes: &'a [usize]) -> Source<'a>
         ensures sizes { result.sizes.now ≡ sizes.now }
         ensures bytes { result.bytes.now ≡ self.entry.bytes.now }
