@@ -166,7 +166,7 @@ pub struct Notes {
 }
 
 impl Notes {
-    /// Notes with room for so many.
+    /// Notes with room for this many.
     pub fn new(alloc: Global, room: u32) -> Result<Notes, AllocError> {
         let mut workers = Vec::new(alloc);
         'places: for _ in 0..room {
@@ -178,7 +178,7 @@ impl Notes {
         })
     }
 
-    /// Notes a worker after those that are noted; where there is no room, it is counted alone.
+    /// Notes a worker after those that are noted; if there is no room, it is counted alone.
     fn note(&self, worker: u32) {
         let place = self.entered.fetch_add(1, Ordering::SeqCst);
         if let Some(noted) = self.workers.get(place as usize) {
@@ -191,7 +191,7 @@ impl Notes {
         self.entered.load(Ordering::SeqCst)
     }
 
-    /// Whether this worker was let in when so many others had been.
+    /// Whether this worker was let in when this many others had been.
     pub fn has(&self, place: u64, worker: u32) -> bool {
         match self.workers.get(place as usize) {
             Some(noted) => noted.load(Ordering::SeqCst) == worker,
@@ -200,7 +200,7 @@ impl Notes {
     }
 }
 
-/// A gate that says yes, and notes its worker each time. All gates of one partition share their notes, which then stand
+/// A gate that says yes, and notes its worker each time. All gates of one partition share their notes, which then are
 /// in the order of its history, as long as each command is let in once and nobody comes between a gate's yes and the
 /// command.
 #[derive(Clone, Copy, Drop)]
