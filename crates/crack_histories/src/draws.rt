@@ -26,7 +26,7 @@ pub fn splits() -> [Bound; 2] {
 /// How far from the least or the greatest payload one is drawn that is next to it.
 const NEAR: u32 = 3;
 
-/// How wide the range of a query is, at most, where it isn't of all keys.
+/// How wide the range of a query is, at most, if it isn't of all keys.
 const WIDEST: u32 = 64;
 
 /// How many serials back a deletion or an update aims, at most.

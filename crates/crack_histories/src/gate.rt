@@ -5,10 +5,10 @@ use crack_table::Gate;
 use std::sync::atomic::{AtomicU32, Ordering};
 use std::thread;
 
-/// Of each partition's commands one of so many is refused.
+/// Of each partition's commands one of this many is refused.
 const REFUSED: u32 = 50;
 
-/// Of each partition's commands one of so many gives way to other threads under its lock, and comes at the second turn.
+/// Of each partition's commands one of this many yields to other threads under its lock, and comes at the second turn.
 const GIVES_WAY: u32 = 3;
 
 /// How often a thread that waits for the others to begin gives way, at most.
@@ -29,7 +29,7 @@ impl Restless {
         }
     }
 
-    /// Waits, not for ever, until so many threads have come here.
+    /// Waits, not forever, until this many threads have come here.
     pub fn begin_together(&self, threads: u32) {
         self.begun.fetch_add(1, Ordering::SeqCst);
         'others: for _ in 0..PATIENCE {

@@ -122,7 +122,7 @@ impl Pool {
         Ok(Pool { table, hands })
     }
 
-    /// Has each worker ask, on threads of their own. No worker is left where it finds no memory.
+    /// Has each worker ask, on threads of their own. No worker is left if it finds no memory.
     pub fn work<R: Threads + Wait + Sync>(
         &mut self,
         rt: &R,

@@ -1,4 +1,4 @@
-//! Questions and answers as lines: a statement, and after it the lines of its reply. Refused with 18 where the writer
+//! Questions and answers as lines: a statement, and after it the lines of its reply. Refused with 18 if the writer
 //! fails.
 
 use crack_commands::{write_folded, write_refusal, write_reply, write_row};
@@ -8,7 +8,7 @@ use crack_row::{Command, Entry, KeyRange, Refusal, Reply, Watched};
 use std::io;
 use std::io::Write;
 
-/// What came of a writing.
+/// The outcome of a writing.
 pub fn written(line: io::Result<()>) -> Result<(), Refusal> {
     match line {
         Ok(()) => Ok(()),
