@@ -12,7 +12,7 @@ use Rattle.crack_index.specs.declared.mark.Mark.{Mark}
 use Rattle.crack_index.specs.Marks.{InOrder, Rising, Fits, bounds_of, HasBound, position_of, next_mark, last_mark, first_behind, last_before, start_of, end_of, size_between, pieces_from, added, raised, lowered, lowered_at}
 use Rattle.crack_index.specs.Steps.{one_up, one_down}
 
--- what stands beyond the last mark, where a list has to answer something
+-- what is beyond the last mark, if a list must return something
 abbrev pub no_mark : Mark
 no_mark = record { bound = record { 0 = 0 }; position = 0 }
 
@@ -30,7 +30,7 @@ Rising-cons m ms above rising (suc i) (suc j) d h k = rising i j d (omega arith)
 pub Rising-head : (m : Mark) (ms : List Mark) → Rising (m ∷ ms) → All (InOrder m) ms
 Rising-head m ms rising = λ k d h. rising zero (suc k) d (omega arith) (omega arith)
 
--- of two marks of one index, that of the lower bound stands at or before the other
+-- of two marks of one index, that of the lower bound is at or before the other
 pub Rising-positions : (marks : List Mark) (m n : Mark) → Rising marks → Contains marks m → Contains marks n → m.bound.0 ≤ n.bound.0 → m.position ≤ n.position
 Rising-positions marks m n rising is_m is_n h =
     let at_m : get_or marks is_m.0 n ≡ m = get_or_default marks is_m.0 n m is_m.1 ∙ is_m.2 in
@@ -55,14 +55,14 @@ HasBound-mark marks m is =
     let bound : Mark → ℕ = λ n. n.bound.0 in
     (is.0, omega (arith, length-map marks bound, is.1), get_or-map bound marks is.0 m m.bound.0 is.1 ∙ ap bound is.2)
 
--- a bound that is there stands in one of the marks
+-- a bound that is in the index is in one of the marks
 pub HasBound-contains : (marks : List Mark) (b : ℕ) → HasBound marks b → (m : Mark) × Contains marks m × (m.bound.0 ≡ b)
 HasBound-contains marks b there =
     let bound : Mark → ℕ = λ n. n.bound.0 in
     let short : there.0 < length marks = omega (arith, there.1, length-map marks bound) in
     (get_or marks there.0 no_mark, Contains-get_or marks there.0 no_mark short, sym (get_or-map bound marks there.0 no_mark b short) ∙ there.2)
 
--- where a mark's bound stands
+-- where a mark's bound is
 pub place_of-mark : (marks : List Mark) (m : Mark) → Rising marks → Contains marks m → position_of m.bound.0 marks ≡ m.position
 place_of-mark [] m rising is = absurd (let h = is.1 in omega arith)
 place_of-mark (n ∷ ns) m rising (zero, h, e) = rw (e, eq-eqb m.bound.0 m.bound.0 refl) refl
@@ -111,7 +111,7 @@ next_mark-is number (n ∷ ns) m rising found = elim (cases_lt number n.bound.0)
       }
 ]
 
--- where there is no next mark, no bound is above the number
+-- if there is no next mark, no bound is above the number
 pub next_mark-none : (number : ℕ) (marks : List Mark) → next_mark number marks ≡ None → All (λ m. m.bound.0 ≤ number) marks
 next_mark-none number [] found = All-nil (λ m. m.bound.0 ≤ number)
 next_mark-none number (n ∷ ns) found = elim (cases_lt number n.bound.0) [
@@ -119,7 +119,7 @@ next_mark-none number (n ∷ ns) found = elim (cases_lt number n.bound.0) [
   | inr l ↦ All-cons (λ m. m.bound.0 ≤ number) n ns l (next_mark-none number ns (rw (le-ltb number n.bound.0 l) at found))
 ]
 
--- where there is no last mark, every bound is above the number
+-- if there is no last mark, every bound is above the number
 pub last_mark-none : (number : ℕ) (marks : List Mark) → Rising marks → last_mark number marks ≡ None → All (λ m. number < m.bound.0) marks
 last_mark-none number [] rising found = All-nil (λ m. number < m.bound.0)
 last_mark-none number (n ∷ ns) rising found = elim (cases_lt number n.bound.0) [
@@ -262,7 +262,7 @@ Rising-added m (n ∷ ns) rising absent fits = elim (cases_lt m.bound.0 n.bound.
 
 -- Moving
 
--- a bound moves up only where it stands at the place and is `low` or above
+-- a bound moves up only where it is at the place and is `low` or above
 pub raised_cases : (low place : ℕ) (m : Mark) → ((low ≤ m.bound.0) × (m.position ≡ place) × (raised low place m ≡ one_up m)) ⊎ ((raised low place m ≡ m) × ((low ≤ m.bound.0) → m.position ≡ place → ⊥))
 raised_cases low place m =
     elim (cases_lt m.bound.0 low) [
@@ -273,7 +273,7 @@ raised_cases low place m =
       ]
     ]
 
--- a bound moves down only where it stands at the place and is `high` or below
+-- a bound moves down only where it is at the place and is `high` or below
 pub lowered_cases : (high place : ℕ) (m : Mark) → ((m.bound.0 ≤ high) × (m.position ≡ place) × (lowered high place m ≡ one_down m)) ⊎ ((lowered high place m ≡ m) × ((m.bound.0 ≤ high) → m.position ≡ place → ⊥))
 lowered_cases high place m =
     elim (cases_lt high m.bound.0) [

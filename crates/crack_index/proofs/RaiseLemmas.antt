@@ -12,7 +12,7 @@ use Rattle.crack_index.specs.Trees.{Grown, marks_of}
 use Rattle.crack_index.specs.Keeps.{height_of, IsBalanced}
 use Rattle.crack_index.proofs.WalkLemmas.{reverse-node, AllPairs-reverse, AllPairs-cons, AllPairs-tail, IsBalanced-walked}
 
--- the first mark is above the second, or stands where it stands
+-- the first mark is above the second, or is where it is
 abbrev Falls : Mark → Mark → Type 0
 Falls m n = InOrder n m
 

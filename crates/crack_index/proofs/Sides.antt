@@ -144,7 +144,7 @@ moved_left f l m r behind one = rw (map-append f l (m ∷ r), map_same f r behin
 pub moved_both : (f : Mark → Mark) (l : List Mark) (m n : Mark) (r : List Mark) → f m ≡ n → map f (l ++ m ∷ r) ≡ map f l ++ n ∷ map f r
 moved_both f l m n r one = rw (map-append f l (m ∷ r), one) refl
 
--- those before a mark that isn't moved for its bound, or stands before the place, aren't either
+-- those before a mark that isn't moved for its bound, or is before the place, aren't either
 pub raised-right : (low place : ℕ) (l : List Mark) (m : Mark) (r : List Mark) → Rising (l ++ m ∷ r) → (m.bound.0 < low) ⊎ (m.position < place) → map (raised low place) (l ++ m ∷ r) ≡ l ++ m ∷ map (raised low place) r
 raised-right low place l m r rising which =
     let order = Rising-before l m r rising in
@@ -160,7 +160,7 @@ raised-left low place l m r rising past =
     let order = Rising-behind l m r rising in
     moved_left (raised low place) l m r (λ k d h. raised_apart low place (get_or r k d) (omega (arith, past, (order k d h).positions))) (raised_apart low place m (omega arith))
 
--- those after a mark that isn't moved for its bound, or stands after the place, aren't either
+-- those after a mark that isn't moved for its bound, or is after the place, aren't either
 pub lowered-left : (high place : ℕ) (l : List Mark) (m : Mark) (r : List Mark) → Rising (l ++ m ∷ r) → (high < m.bound.0) ⊎ (place < m.position) → map (lowered high place) (l ++ m ∷ r) ≡ map (lowered high place) l ++ m ∷ r
 lowered-left high place l m r rising which =
     let order = Rising-behind l m r rising in
@@ -311,7 +311,7 @@ leans_right-behind left top inner outer p q k b j is parts rising = Rising-inner
 
 -- Pieces
 
--- all pieces, the last one too
+-- all pieces, including the last one
 pub pieces_whole : (none made all : List PieceSize) (low high : Bound) (l h : ℕ) (last : Edge) (marks : List Mark) (len : ℕ) (piece : PieceSize)
     → none ≡ [] → low.0 ≡ l → high.0 ≡ h
     → none ++ pieces_from low 0 (marks ++ []) high len ≡ made ++ pieces_from last.bound last.position [] high len
@@ -346,7 +346,7 @@ IsKept-added m marks new spare left len is one rising kept = record {
   few = omega (arith, kept.few);
 }
 
--- no bound stands before the front
+-- no bound is before the front
 pub lowered_at-zero : (marks : List Mark) → map (lowered_at 0) marks ≡ marks
 lowered_at-zero marks = map_same (lowered_at 0) marks (λ k d h. same (get_or marks k d))
   where

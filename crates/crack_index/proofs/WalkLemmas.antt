@@ -22,7 +22,7 @@ Goes-append step xs xs' ys ys' a b c u v w (Goes.here way x) rest = rest
 Goes-append step xs xs' ys ys' a b c u v w (Goes.more m m' ms ms' d e f x y z first onward) rest =
     Goes.more m m' (ms ++ ys) (ms' ++ ys') d e c x y w first (Goes-append step ms ms' ys ys' e f c y z w onward rest)
 
--- those that leave all as it is
+-- those that leave everything as it is
 pub Goes-stay : {V : Type 0} (step : Mark → Way → V → Mark → Way → V → Type 0) (xs : List Mark) (a : Way) (u : V) → All (λ m. step m a u m a u) xs → Goes step xs a u xs a u
 Goes-stay step [] a u all = Goes.here a u
 Goes-stay step (m ∷ ms) a u all = Goes.more m m ms ms a a a u u u (All-head (λ x. step x a u x a u) m ms all) (Goes-stay step ms a u (All-tail (λ x. step x a u x a u) m ms all))
@@ -109,7 +109,7 @@ up-bound visits number m m' a b u v (StepsUp.along n way x above going at) = (re
 up-bound visits number m m' a b u v (StepsUp.goes_on n way x y above going apart told) = (refl, omega arith)
 up-bound visits number m m' a b u v (StepsUp.stops n way x y above going apart told) = (refl, omega arith)
 
--- after a mark that moved, a mark at its place moves, too
+-- after a mark that moved, a mark at its place moves as well
 up-behind : {V : Type 0} (visits : V → ℕ → Bool → V → Type 0) (number : ℕ) (m m' : Mark) (a b : Way) (u v : V) → StepsUp visits number m a u m' b v → number < m.bound.0 → a.ended ≡ None → a.last ≤ m.position → a.last < m'.position
 up-behind visits number m m' a b u v (StepsUp.apart n way x below) above going behind = absurd (omega arith)
 up-behind visits number m m' a b u v (StepsUp.over n e way x is) above going behind = absurd (let both : Some e ≡ None = sym is ∙ going in cc)
@@ -133,7 +133,7 @@ up-order visits number m m' n n' a b c u v w first second order =
 pub Rising-up : {V : Type 0} (visits : V → ℕ → Bool → V → Type 0) (number : ℕ) (xs xs' : List Mark) (a b : Way) (u v : V) → Goes (StepsUp visits number) xs a u xs' b v → Rising xs → Rising xs'
 Rising-up visits number xs xs' a b u v goes rising = Goes-ordered (StepsUp visits number) InOrder InOrder-trans (up-order visits number) xs xs' a b u v goes rising
 
--- likewise down
+-- the same downwards
 down-moves : {V : Type 0} (visits : V → ℕ → Bool → V → Type 0) (number : ℕ) (m m' : Mark) (a b : Way) (u v : V) → StepsDown visits number m a u m' b v → (m' ≡ m) ⊎ ((m' ≡ one_down m) × (m.bound.0 ≤ number) × (b.ended ≡ None) × (b.last ≡ m.position))
 down-moves visits number m m' a b u v (StepsDown.apart n way x above) = inl refl
 down-moves visits number m m' a b u v (StepsDown.over n e way x is) = inl refl
@@ -230,7 +230,7 @@ module _ (P : Mark → Type 0) (l : Option (Box Grown Global)) (m : Mark) (r : O
 pub All-some : (P : Mark → Type 0) (o : Option (Box Grown Global)) (box : Box Grown Global) (n : Grown) → o ≡ Some box → n ≡ box.value → All P (marks_of o) → All P n.marks
 All-some P o box n is at all = subst (λ (k : Grown). All P k.marks) (sym at) (subst (λ (p : Option (Box Grown Global)). All P (marks_of p)) is all)
 
--- where the mark is above a number, so are those to the right of it, and where it is not, nor are those to the left
+-- if the mark is above a number, so are those to the right of it, and where it is not, nor are those to the left
 pub above-right : (number : ℕ) (l : List Mark) (m : Mark) (r : List Mark) → Rising (l ++ m ∷ r) → number < m.bound.0 → All (λ n. number < n.bound.0) r
 above-right number l m r rising above = λ k d h. omega (arith, above, (Rising-behind l m r rising k d h).bounds)
 
@@ -301,7 +301,7 @@ module _ {V : Type 0} (visits : V → ℕ → Bool → V → Type 0) (number : �
   up-whole a b c u v w near far =
       rw (append_assoc (marks_of l) (m ∷ []) (marks_of r), append_assoc (marks_of l') (m' ∷ []) (marks_of r')) at (Goes-append (StepsUp visits number) (marks_of l ++ m ∷ []) (marks_of l' ++ m' ∷ []) (marks_of r) (marks_of r') a b c u v w near.goes far.goes)
 
--- a node on a walk down, likewise, from the right side
+-- the same for a walk down, from the right side
 module _ {V : Type 0} (visits : V → ℕ → Bool → V → Type 0) (number : ℕ) (l l' : Option (Box Grown Global)) (m m' : Mark) (r r' : Option (Box Grown Global)) where
   pub down-near : (a b : Way) (u v : V) → Walked (StepsDown visits number) reverse r r' a b u v → is_some b.ended ≡ true → Goes (StepsDown visits number) (reverse (marks_of l ++ m ∷ marks_of r)) a u (reverse (marks_of l ++ m ∷ marks_of r')) b v
   down-near a b u v walked ended =

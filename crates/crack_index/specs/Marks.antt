@@ -25,15 +25,15 @@ pub record Fits (m : Mark) (marks : List Mark) : Type 0 where
   pub behind : All (λ n. n.bound.0 < m.bound.0 → n.position ≤ m.position) marks
   pub before : All (λ n. m.bound.0 < n.bound.0 → m.position ≤ n.position) marks
 
--- the bounds alone, in their order
+-- only the bounds, in their order
 abbrev pub bounds_of : List Mark → List ℕ
 bounds_of marks = map (λ (m : Mark). m.bound.0) marks
 
--- the bound is there
+-- the bound is in the marks
 abbrev pub HasBound : List Mark → ℕ → Type 0
 HasBound marks bound = Contains (bounds_of marks) bound
 
--- where the bound stands
+-- the place of the bound
 abbrev pub position_of : ℕ → List Mark → ℕ
 position_of bound [] = 0
 position_of bound (m ∷ ms) = cond (m.bound.0 == bound) m.position (position_of bound ms)
@@ -48,12 +48,12 @@ abbrev pub last_mark : ℕ → List Mark → Option Mark
 last_mark number [] = None
 last_mark number (m ∷ ms) = cond (nat_le m.bound.0 number) (Some (unwrap_or (last_mark number ms) m)) None
 
--- the first mark that stands after the place
+-- the first mark that is after the place
 abbrev pub first_behind : ℕ → List Mark → Option Mark
 first_behind place [] = None
 first_behind place (m ∷ ms) = cond (nat_lt place m.position) (Some m) (first_behind place ms)
 
--- the last mark before the first that stands at the place or after it
+-- the last mark before the first that is at the place or after it
 abbrev pub last_before : ℕ → List Mark → Option Mark
 last_before place [] = None
 last_before place (m ∷ ms) = cond (nat_lt m.position place) (Some (unwrap_or (last_before place ms) m)) None
@@ -75,11 +75,11 @@ piece_at key len marks =
     let high = next_mark key marks in
     record { low = option_map (λ (m : Mark). m.bound) low; high = option_map (λ (m : Mark). m.bound) high; from = start_of low; to = end_of len high }
 
--- the piece between two bounds that stand at these places
+-- the piece between two bounds that are at these places
 abbrev pub size_between : Bound → ℕ → Bound → ℕ → PieceSize
 size_between low from high to = record { low = low; high = high; size = to - from }
 
--- the pieces from a bound and its place on, by way of the marks, up to another
+-- the pieces from a bound and its place on, through the marks, up to another
 abbrev pub pieces_from : Bound → ℕ → List Mark → Bound → ℕ → List PieceSize
 pieces_from low from [] high to = size_between low from high to ∷ []
 pieces_from low from (m ∷ ms) high to =
@@ -91,14 +91,14 @@ abbrev pub added : Mark → List Mark → List Mark
 added m [] = m ∷ []
 added m (n ∷ ns) = cond (nat_lt m.bound.0 n.bound.0) (m ∷ n ∷ ns) (n ∷ added m ns)
 
--- a bound at or above `low` that stands at the place moves up by one
+-- a bound at or above `low` that is at the place moves up by one
 abbrev pub raised : ℕ → ℕ → Mark → Mark
 raised low place m = record m { position = cond (nat_le low m.bound.0 && (m.position == place)) (m.position + 1) m.position }
 
--- a bound at or below `high` that stands at the place moves down by one
+-- a bound at or below `high` that is at the place moves down by one
 abbrev pub lowered : ℕ → ℕ → Mark → Mark
 lowered high place m = record m { position = cond (nat_le m.bound.0 high && (m.position == place)) (m.position - 1) m.position }
 
--- a bound that stands at the place moves down by one
+-- a bound that is at the place moves down by one
 abbrev pub lowered_at : ℕ → Mark → Mark
 lowered_at place m = record m { position = cond (m.position == place) (m.position - 1) m.position }

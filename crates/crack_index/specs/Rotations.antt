@@ -1,9 +1,9 @@
 -- What private clauses alone cite.
--- What becomes of the height where two sides are joined.
+-- The height after two sides are joined.
 use Rattle.std.specs.Prelude.{◌≡◌, ℕ, ◌+◌, ◌≤◌, max}
 use Rattle.crack_index.specs.Keeps.{DifferByAtMost}
 
--- what sides of these heights grow to: at most one level above the higher, and exactly that where they differ by at most one
+-- the height that sides of these heights grow to: at most one level above the higher, and exactly that if they differ by at most one
 pub record Settles (l r height : ℕ) : Type 0 where
   pub lower : max l r ≤ height
   pub upper : height ≤ max l r + 1

@@ -30,7 +30,7 @@ pub struct Piece {
 
 /// The bounds that divide a cracked column, in rising order ("Database Cracking", CIDR 2007).
 /// Contracts see the list of its marks, and for how many more it has room.
-/// They stand in a balanced tree, whose nodes come from a stock of spare ones.
+/// They are in a balanced tree, whose nodes come from a stock of spare ones.
 #[derive(Drop)]
 pub struct CrackerIndex {
     root: Link,
@@ -64,7 +64,7 @@ impl CrackerIndex {
         }
     }
 
-    /// Makes room for `n` more bounds; refused with 8 where it finds no memory. Then it keeps what it found.
+    /// Makes room for `n` more bounds; refused with 8 if it finds no memory. Then it keeps what it found.
     pub fn reserve(&mut self, n: usize) -> Result<(), Refusal>
         ensures marks { self.new.marks ≡ self.old.marks }
         ensures ok { OnOk result (n ≤ self.new.room) }
@@ -89,14 +89,14 @@ impl CrackerIndex {
         self.len
     }
 
-    /// Whether there is no bound.
+    /// Whether there are no bounds.
     pub fn is_empty(&self) -> bool
         ensures { IsTrue result ↔ (self.now.marks ≡ []) }
     {
         self.len == 0
     }
 
-    /// The height of the tree in which the bounds stand: 0 for none. O(1).
+    /// The height of the tree of the bounds: 0 for none. O(1).
     pub fn height(&self) -> u32
         ensures least { least result ≤ length self.now.marks }
         ensures most { length self.now.marks < most result }
@@ -104,7 +104,7 @@ impl CrackerIndex {
         tree::height(&self.root)
     }
 
-    /// Adds a bound that stands at the place. Takes no memory. O(log bounds).
+    /// Adds a bound at the place. Takes no memory. O(log bounds).
     pub fn add(&mut self, bound: InnerBound, position: usize)
         requires room { 0 < self.old.room }
         requires absent { HasBound self.old.marks bound.0 → ⊥ }
@@ -121,7 +121,7 @@ impl CrackerIndex {
         self.len += 1;
     }
 
-    /// Where the bound stands, if it is there. O(log bounds).
+    /// The position of the bound, if it is in the index. O(log bounds).
     pub fn position(&self, bound: InnerBound) -> Option<usize>
         ensures found { IsSome result ↔ HasBound self.now.marks bound.0 }
         ensures place { IfSome result (λ place. place ≡ position_of bound.0 self.now.marks) }
@@ -142,7 +142,7 @@ impl CrackerIndex {
         tree::next_above(&self.root, key.number())
     }
 
-    /// The least bound above this one, which need not be there, with its place. O(log bounds).
+    /// The least bound above this one, which need not be in the index, with its place. O(log bounds).
     pub fn next_after(&self, bound: InnerBound) -> Option<Mark>
         ensures value { result ≡ next_mark bound.0 self.now.marks }
         ensures there { IfSome result (λ m. Contains self.now.marks m) }
@@ -180,7 +180,7 @@ impl CrackerIndex {
     }
 
     /// The sizes of the pieces, in rising order, in a column of `len` rows whose keys lie in this range;
-    /// refused with 8 where it finds no memory. O(bounds).
+    /// refused with 8 if it finds no memory. O(bounds).
     pub fn pieces(&self, keys: KeyRange, len: usize) -> Result<Vec<PieceSize>, Refusal>
         ensures ok { IfOk result (λ v. v.items ≡ pieces_from (record { 0 = keys.low }) 0 self.now.marks
             (record { 0 = keys.high }) len) }
@@ -193,7 +193,7 @@ impl CrackerIndex {
         tree::piece_sizes(*self.spare.allocator(), &self.root, self.len, keys, len)
     }
 
-    /// Each bound at or above this one that stands where it stands moves up by one.
+    /// Each bound at or above this one that is at its place moves up by one.
     /// O(log bounds) and the bounds at that place.
     pub fn raise_from(&mut self, bound: InnerBound)
         requires there { HasBound self.old.marks bound.0 }
@@ -207,7 +207,7 @@ impl CrackerIndex {
         }
     }
 
-    /// Each bound at or below this one that stands where it stands moves down by one.
+    /// Each bound at or below this one that is at its place moves down by one.
     /// O(log bounds) and the bounds at that place.
     pub fn lower_to(&mut self, bound: InnerBound)
         requires there { HasBound self.old.marks bound.0 }
@@ -221,7 +221,7 @@ impl CrackerIndex {
         }
     }
 
-    /// Each bound that stands at the place moves down by one.
+    /// Each bound that is at the place moves down by one.
     /// O(log bounds) and the bounds at that place.
     pub fn lower_at(&mut self, position: usize)
         requires { All (λ m. m.position ≡ position → 0 < position) self.old.marks }
@@ -234,8 +234,8 @@ impl CrackerIndex {
         }
     }
 
-    /// Each bound at or above this one that stands where it stands moves up by one, and the answer is the first bound
-    /// that stood after that place. O(log bounds) and the bounds at that place.
+    /// Each bound at or above this one that is at its place moves up by one; returns the first bound
+    /// that was after that place. O(log bounds) and the bounds at that place.
     pub fn raise_past(&mut self, mark: Mark) -> Option<Mark>
         requires there { Contains self.old.marks mark }
         requires small { mark.position < usize.MAX }
@@ -251,8 +251,8 @@ impl CrackerIndex {
         next
     }
 
-    /// Each bound at or below this one that stands where it stands moves down by one, and the answer is the last bound
-    /// that stood before that place. O(log bounds) and the bounds at that place.
+    /// Each bound at or below this one that is at its place moves down by one; returns the last bound
+    /// that was before that place. O(log bounds) and the bounds at that place.
     pub fn lower_past(&mut self, mark: Mark) -> Option<Mark>
         requires there { Contains self.old.marks mark }
         requires above_zero { 0 < mark.position }
@@ -268,9 +268,9 @@ impl CrackerIndex {
         next
     }
 
-    /// Walks up from the least bound above the key: the visitor is given the place of the bound, and where it says so,
-    /// that bound and those above it that stand there move up by one, and the walk goes on to the next place. The bound
-    /// at which it ended, if one is left. O(log bounds) and the bounds at the places on its way. Takes no memory.
+    /// Walks up from the least bound above the key: the visitor is given the place of the bound, and if it says so,
+    /// that bound and those above it that are there move up by one, and the walk goes on to the next place. Returns the
+    /// bound at which it ended, if one is left. O(log bounds) and the bounds at the places on its way. Takes no memory.
     #[inline(always)]
     pub fn climb<V: Visitor>(&mut self, key: Key, visitor: &mut V) -> Option<Mark>
         requires small { All (λ m. m.position < usize.MAX) self.old.marks }
@@ -286,9 +286,9 @@ impl CrackerIndex {
     }
 
     /// Walks down from the greatest bound at or below the key: the visitor is given the last place before the bound,
-    /// and where it says so, that bound and those below it that stand where it stands move down by one, and the walk
-    /// goes on to the next place. The bound at which it ended, if one is left; a bound at the column's front has no
-    /// place before it, and ends it. O(log bounds) and the bounds at the places on its way. Takes no memory.
+    /// and if it says so, that bound and those below it that are at its place move down by one, and the walk goes on to
+    /// the next place. Returns the bound at which it ended, if one is left; a bound at the column's front has no place
+    /// before it, and ends it. O(log bounds) and the bounds at the places on its way. Takes no memory.
     #[inline(always)]
     pub fn descend<V: Visitor>(&mut self, key: Key, visitor: &mut V) -> Option<Mark>
         requires ready { V.is_ready visitor.old }
@@ -303,7 +303,7 @@ impl CrackerIndex {
     }
 
     /// Walks over the bounds from the highest down: the visitor is given each, and says how far it rises. No bound
-    /// rises further than the one above it, and none further than `most`; where one doesn't rise, none below it is
+    /// rises further than the one above it, and none further than `most`; if one doesn't rise, none below it is
     /// looked at. How far the lowest rose. O(bounds that rise + log bounds). Takes no memory.
     pub fn raise_each<V: Raiser>(&mut self, most: usize, visitor: &mut V) -> usize
         requires small { All (λ m. m.position + most ≤ usize.MAX) self.old.marks }
@@ -316,8 +316,8 @@ impl CrackerIndex {
     {
         raising::raise_down(&mut self.root, most, visitor)
     }
-    /// Walks over the bounds from the lowest up: the visitor is given each, and says at which place it stands then.
-    /// None goes before the one below it. The place of the last, or 0 where there is none. O(bounds). Takes no memory.
+    /// Walks over the bounds from the lowest up: the visitor is given each, and says at which place it is then.
+    /// None goes before the one below it. The place of the last, or 0 if there is none. O(bounds). Takes no memory.
     pub fn place_each<V: Placer>(&mut self, visitor: &mut V) -> usize
         requires { V.is_ready visitor.old }
         ensures places { Places V.places 0 self.old.marks visitor.old self.new.marks visitor.new result }

@@ -32,7 +32,7 @@ pub(crate) fn place_up<V: Placer>(link: &mut Link, least: usize, visitor: &mut V
     place_up(right, here, visitor)
 }
 
-/// Places one mark where the visitor says, but not before `least`. Where it stands then.
+/// Places one mark where the visitor says, but not before `least`. Where it is then.
 fn place_mark<V: Placer>(mark: &mut Mark, least: usize, visitor: &mut V) -> usize
     requires ready { V.is_ready visitor.old }
     ensures places { Places V.places least (mark.old ∷ []) visitor.old (mark.new ∷ []) visitor.new result }

@@ -2,7 +2,7 @@
 
 use crack_row::InnerBound;
 
-/// A bound, and the place at which it divides the column: as many rows are below the bound, and they stand first.
+/// A bound, and the place at which it divides the column: as many rows are below the bound, and they are first.
 #[derive(Clone, Copy, PartialEq, Eq, Debug)]
 pub struct Mark {
     pub bound: InnerBound,

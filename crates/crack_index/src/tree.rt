@@ -16,7 +16,7 @@ use std::alloc::Global;
 use std::marker::Model;
 use std::mem;
 
-/// A tree of marks; none where there is no mark.
+/// A tree of marks; none if there are no marks.
 pub(crate) type Link = Option<Box<Node>>;
 
 /// A mark between the trees of those before and after it. Contracts see all marks in rising order, and the height.
@@ -45,7 +45,7 @@ impl Model for Node {
     ghost size_decreases = { λ n h. Prim.grind (arith, length-append) };
 }
 
-/// What a node is made of.
+/// The parts of a node.
 #[derive(Drop)]
 struct Parts {
     left: Link,
@@ -83,7 +83,7 @@ impl Node {
     }
 }
 
-/// The height of a tree: 0 for no mark. O(1).
+/// The height of a tree: 0 if there are no marks. O(1).
 pub(crate) fn height(link: &Link) -> u32
     ensures value { result ≡ height_of link.now }
     ensures tall { IsTall (length (marks_of link.now)) (height_of link.now) }
@@ -94,7 +94,7 @@ pub(crate) fn height(link: &Link) -> u32
     }
 }
 
-/// The last mark whose bound is at or below the number. O(log marks), one comparison a level.
+/// The last mark whose bound is at or below the number. O(log marks), one comparison per level.
 pub(crate) fn last_at(link: &Link, number: KeyNumber) -> Option<Mark>
     ensures { result ≡ last_mark number (marks_of link.now) }
 {
@@ -117,7 +117,7 @@ pub(crate) fn last_at(link: &Link, number: KeyNumber) -> Option<Mark>
     found
 }
 
-/// The first mark whose bound is above the number. O(log marks), one comparison a level.
+/// The first mark whose bound is above the number. O(log marks), one comparison per level.
 pub(crate) fn next_above(link: &Link, number: KeyNumber) -> Option<Mark>
     ensures { result ≡ next_mark number (marks_of link.now) }
 {
@@ -140,7 +140,7 @@ pub(crate) fn next_above(link: &Link, number: KeyNumber) -> Option<Mark>
     found
 }
 
-/// The last mark whose bound is at or below the number, and the first above it. O(log marks), one comparison a level.
+/// The last mark whose bound is at or below the number, and the first above it. O(log marks), one comparison per level.
 pub(crate) fn neighbours(link: &Link, number: KeyNumber) -> (Option<Mark>, Option<Mark>)
     ensures below { result.0 ≡ last_mark number (marks_of link.now) }
     ensures above { result.1 ≡ next_mark number (marks_of link.now) }
@@ -166,7 +166,7 @@ pub(crate) fn neighbours(link: &Link, number: KeyNumber) -> (Option<Mark>, Optio
     (below, above)
 }
 
-/// The first mark that stands after the place. O(log marks), one comparison a level.
+/// The first mark that is after the place. O(log marks), one comparison per level.
 pub(crate) fn first_behind(link: &Link, place: usize) -> Option<Mark>
     ensures { result ≡ first_behind place (marks_of link.now) }
 {
@@ -189,7 +189,7 @@ pub(crate) fn first_behind(link: &Link, place: usize) -> Option<Mark>
     found
 }
 
-/// The last mark that stands before the place. O(log marks), one comparison a level.
+/// The last mark that is before the place. O(log marks), one comparison per level.
 pub(crate) fn last_before(link: &Link, place: usize) -> Option<Mark>
     ensures { result ≡ last_before place (marks_of link.now) }
 {
@@ -212,7 +212,7 @@ pub(crate) fn last_before(link: &Link, place: usize) -> Option<Mark>
     found
 }
 
-/// The tree with one more mark, kept in the node that is handed in. O(log marks), takes no memory.
+/// The tree with one more mark, in the node that is passed in. O(log marks), takes no memory.
 pub(crate) fn insert(link: Link, mark: Mark, mut node: Box<Node>) -> Box<Node>
     requires rising { Rising (added mark (marks_of link)) }
     requires few { length (marks_of link) < 2 ^ 64 }
@@ -251,7 +251,7 @@ fn join(left: Link, mark: Mark, right: Link, node: Box<Node>) -> Box<Node>
     }
 }
 
-/// The tree of both sides and the mark between them, in this node, where neither side is more than a level higher.
+/// The tree of both sides and the mark between them, in this node, if neither side is more than a level higher.
 /// O(1).
 fn settle(left: Link, mark: Mark, right: Link, mut node: Box<Node>) -> Box<Node>
     requires rising { Rising (marks_of left ++ mark ∷ marks_of right) }
@@ -270,7 +270,7 @@ fn settle(left: Link, mark: Mark, right: Link, mut node: Box<Node>) -> Box<Node>
     node
 }
 
-/// Rotates where the left side is two levels higher: `spare` becomes a node below the top.
+/// Rotates if the left side is two levels higher: `spare` becomes a node below the top.
 fn lean_left(mut top: Box<Node>, mark: Mark, right: Link, spare: Box<Node>) -> Box<Node>
     requires rising { Rising (top.value.marks ++ mark ∷ marks_of right) }
     requires two_higher { top.value.height ≡ height_of right + 2 }
@@ -297,7 +297,7 @@ fn lean_left(mut top: Box<Node>, mark: Mark, right: Link, spare: Box<Node>) -> B
     settle(Some(before), parts.mark, Some(behind), middle)
 }
 
-/// Rotates where the right side is two levels higher: `spare` becomes a node below the top.
+/// Rotates if the right side is two levels higher: `spare` becomes a node below the top.
 fn lean_right(left: Link, mark: Mark, mut top: Box<Node>, spare: Box<Node>) -> Box<Node>
     requires rising { Rising (marks_of left ++ mark ∷ top.value.marks) }
     requires two_higher { top.value.height ≡ height_of left + 2 }
@@ -324,7 +324,7 @@ fn lean_right(left: Link, mark: Mark, mut top: Box<Node>, spare: Box<Node>) -> B
     settle(Some(before), parts.mark, Some(behind), middle)
 }
 
-/// Each bound at or above `low` that stands at the place moves up by one. O(log marks) and the marks at that place.
+/// Each bound at or above `low` that is at the place moves up by one. O(log marks) and the marks at that place.
 pub(crate) fn raise(link: &mut Link, low: KeyNumber, place: usize)
     requires { place < usize.MAX }
     ensures marks { marks_of link.new ≡ map (raised low place) (marks_of link.old) }
@@ -350,7 +350,7 @@ pub(crate) fn raise(link: &mut Link, low: KeyNumber, place: usize)
     }
 }
 
-/// Each bound at or below `high` that stands at the place moves down by one. O(log marks) and the marks at that place.
+/// Each bound at or below `high` that is at the place moves down by one. O(log marks) and the marks at that place.
 pub(crate) fn lower(link: &mut Link, high: KeyNumber, place: usize)
     requires { 0 < place }
     ensures marks { marks_of link.new ≡ map (lowered high place) (marks_of link.old) }
@@ -376,7 +376,7 @@ pub(crate) fn lower(link: &mut Link, high: KeyNumber, place: usize)
     }
 }
 
-/// Each bound that stands at the place moves down by one. O(log marks) and the marks at that place.
+/// Each bound that is at the place moves down by one. O(log marks) and the marks at that place.
 pub(crate) fn lower_at(link: &mut Link, place: usize)
     requires { 0 < place }
     ensures marks { marks_of link.new ≡ map (lowered_at place) (marks_of link.old) }
@@ -409,8 +409,8 @@ struct Edge {
     position: usize,
 }
 
-/// Adds the sizes of the pieces that end at the marks of the tree, in order. The first begins at `last`, which is the
-/// last mark then. O(marks), takes no memory.
+/// Adds the sizes of the pieces that end at the marks of the tree, in order. The first begins at `last`, which is then
+/// the last mark. O(marks), takes no memory.
 fn append_pieces(link: &Link, last: &mut Edge, pieces: &mut Vec<PieceSize>)
     requires room { vec_len pieces.old + length (marks_of link.now) ≤ vec_capacity pieces.old }
     ensures made { (rest : List Mark) (high : Bound) (to : ℕ)
@@ -435,7 +435,7 @@ fn append_pieces(link: &Link, last: &mut Edge, pieces: &mut Vec<PieceSize>)
     append_pieces(right, last, pieces);
 }
 
-/// The sizes of the pieces between the marks of a tree, so many, and at both ends; refused with 8 where it finds no
+/// The sizes of the pieces between the marks of a tree, this many, and at both ends; refused with 8 if it finds no
 /// memory. O(marks).
 pub(crate) fn piece_sizes(
     alloc: Global,
@@ -474,7 +474,7 @@ fn edge_at(mark: Mark) -> Edge
     }
 }
 
-/// The size of the piece between two edges: 0 where the second stands before the first.
+/// The size of the piece between two edges: 0 if the second is before the first.
 fn piece_between(low: Edge, high: Edge) -> PieceSize
     ensures { result ≡ size_between low.bound low.position high.bound high.position }
 {
@@ -485,7 +485,7 @@ fn piece_between(low: Edge, high: Edge) -> PieceSize
     }
 }
 
-/// Fills the stock up to so many spare nodes, one box at a time; refused with 8 where it finds no memory: then it keeps
+/// Fills the stock up to this many spare nodes, one box at a time; refused with 8 if it finds no memory: then it keeps
 /// those that it made.
 pub(crate) fn fill(spare: &mut Vec<Box<Node>>, nodes: usize) -> Result<(), Refusal>
     requires { vec_len spare.old ≤ nodes }

@@ -1,52 +1,52 @@
-//! Who is given the places of a walk.
+//! What is given the places of a walk.
 ghost use Rattle.std.specs.Prelude.{ℕ, Bool};
 ghost use Rattle.crack_index.specs.declared.mark.Mark.{Mark};
 
 use crate::Mark;
 
-/// What goes along on a walk over the bounds of an index. At each place where bounds stand it does what a step does
+/// The visitor of a walk over the bounds of an index. At each place where bounds are it does what a step does
 /// there, and says whether the walk goes on. It has no part of the index, and so calls none. A walk calls it once for
 /// each place, and its body is a part of the walk's loop: mark `visit` with `#[inline(always)]`.
 pub trait Visitor {
     /// When it may be given a place.
     ghost is_ready: { Self → Type 0 };
 
-    /// What a visit leaves: from the first state, at this place, with this answer, the second.
+    /// The effect of a visit: from the first state, at this place, with this answer, to the second.
     ghost visits: { Self → ℕ → Bool → Self → Type 0 };
 
-    /// Does what is to be done at the place, and says whether the walk goes on.
+    /// Does the work at the place, and says whether the walk goes on.
     fn visit(&mut self, place: usize) -> bool
         requires { is_ready self.old }
         ensures visits { visits self.old place result self.new }
         ensures ready { is_ready self.new };
 }
 
-/// What goes along on a walk over the bounds of an index from the highest down, and says how far each of them rises. It
+/// The visitor of a walk over the bounds of an index from the highest down, which says how far each of them rises. It
 /// has no part of the index, and so calls none.
 pub trait Raiser {
     /// When it may be given a bound.
     ghost is_ready: { Self → Type 0 };
 
-    /// What it leaves that is given a bound: from the first state, at this mark, with this rise, the second.
+    /// The effect of a visit: from the first state, at this mark, with this rise, to the second.
     ghost rises: { Self → Mark → ℕ → Self → Type 0 };
 
-    /// Does what is to be done at the bound, and says how many places further up it goes.
+    /// Does the work at the bound, and says how many places further up it goes.
     fn rise(&mut self, mark: Mark) -> usize
         requires { is_ready self.old }
         ensures rises { rises self.old mark result self.new }
         ensures ready { is_ready self.new };
 }
 
-/// What goes along on a walk over the bounds of an index from the lowest up, and says where each of them stands then.
+/// The visitor of a walk over the bounds of an index from the lowest up, which says where each of them is then.
 /// It has no part of the index, and so calls none.
 pub trait Placer {
     /// When it may be given a bound.
     ghost is_ready: { Self → Type 0 };
 
-    /// What it leaves that is given a bound: from the first state, at this mark, with this place, the second.
+    /// The effect of a visit: from the first state, at this mark, with this place, to the second.
     ghost places: { Self → Mark → ℕ → Self → Type 0 };
 
-    /// Does what is to be done at the bound, and says at which place it stands then.
+    /// Does the work at the bound, and says at which place it is then.
     fn place(&mut self, mark: Mark) -> usize
         requires { is_ready self.old }
         ensures places { places self.old mark result self.new }

@@ -10,17 +10,17 @@ use crate::tree::{Link, Node};
 use crate::{Mark, Visitor};
 use crack_row::KeyNumber;
 
-/// How far a walk has come.
+/// The progress of a walk.
 #[derive(Clone, Copy)]
 struct Way {
-    /// Where the bounds stood that moved last; before any did a place at which none can move.
+    /// Where the bounds were that moved last; before any moved, a place at which none can move.
     last: usize,
-    /// The bound at which the walk ended, once it has.
+    /// The bound at which the walk ended, if it has.
     ended: Option<Mark>,
 }
 
-/// Walks up from the first mark above the number. The mark at which it ended. O(log marks) and the marks at the places
-/// on its way.
+/// Walks up from the first mark above the number. Returns the mark at which it ended. O(log marks) and the marks at the
+/// places on its way.
 #[inline(always)]
 pub(crate) fn climb<V: Visitor>(link: &mut Link, number: KeyNumber, visitor: &mut V) -> Option<Mark>
     requires rising { Rising (marks_of link.old) }
@@ -43,8 +43,8 @@ pub(crate) fn climb<V: Visitor>(link: &mut Link, number: KeyNumber, visitor: &mu
     way.ended
 }
 
-/// Walks down from the last mark at or below the number. The mark at which it ended. O(log marks) and the marks at the
-/// places on its way.
+/// Walks down from the last mark at or below the number. Returns the mark at which it ended. O(log marks) and the marks
+/// at the places on its way.
 #[inline(always)]
 pub(crate) fn descend<V: Visitor>(
     link: &mut Link,
@@ -70,7 +70,7 @@ pub(crate) fn descend<V: Visitor>(
     way.ended
 }
 
-/// The part of a walk up that is in this tree. Whether the walk has ended.
+/// The part of a walk up that is in this tree. Returns whether the walk has ended.
 fn raise_along<V: Visitor>(
     node: &mut Node,
     number: KeyNumber,
@@ -112,8 +112,8 @@ fn raise_along<V: Visitor>(
     }
 }
 
-/// The part of a walk up that is in this tree, where all bounds are above the number from which it began: so it
-/// compares none with it. Whether the walk has ended.
+/// The part of a walk up that is in this tree, if all bounds are above the number from which it began: so it
+/// compares none with it. Returns whether the walk has ended.
 fn raise_all<V: Visitor>(node: &mut Node, way: &mut Way, visitor: &mut V) -> bool
     requires going { way.old.ended ≡ None }
     requires above { (number : ℕ) × All (λ m. number < m.bound.0) node.old.marks }
@@ -145,7 +145,7 @@ fn raise_all<V: Visitor>(node: &mut Node, way: &mut Way, visitor: &mut V) -> boo
     }
 }
 
-/// The part of a walk down that is in this tree. Whether the walk has ended.
+/// The part of a walk down that is in this tree. Returns whether the walk has ended.
 fn lower_along<V: Visitor>(
     node: &mut Node,
     number: KeyNumber,
@@ -186,8 +186,8 @@ fn lower_along<V: Visitor>(
     }
 }
 
-/// The part of a walk down that is in this tree, where no bound is above the number from which it began: so it compares
-/// none with it. Whether the walk has ended.
+/// The part of a walk down that is in this tree, if no bound is above the number from which it began: so it compares
+/// none with it. Returns whether the walk has ended.
 fn lower_all<V: Visitor>(node: &mut Node, way: &mut Way, visitor: &mut V) -> bool
     requires going { way.old.ended ≡ None }
     requires below { (number : ℕ) × All (λ m. m.bound.0 ≤ number) node.old.marks }
@@ -219,7 +219,7 @@ fn lower_all<V: Visitor>(node: &mut Node, way: &mut Way, visitor: &mut V) -> boo
     }
 }
 
-/// What a walk up does at a bound above the number from which it began. Whether the walk has ended.
+/// What a walk up does at a bound above the number from which it began. Returns whether the walk has ended.
 #[inline(always)]
 fn step_up<V: Visitor>(mark: &mut Mark, way: &mut Way, visitor: &mut V) -> bool
     requires going { way.old.ended ≡ None }
@@ -244,7 +244,7 @@ fn step_up<V: Visitor>(mark: &mut Mark, way: &mut Way, visitor: &mut V) -> bool
     }
 }
 
-/// What a walk down does at a bound at or below the number where it began. Whether the walk has ended.
+/// What a walk down does at a bound at or below the number where it began. Returns whether the walk has ended.
 #[inline(always)]
 fn step_down<V: Visitor>(mark: &mut Mark, way: &mut Way, visitor: &mut V) -> bool
     requires going { way.old.ended ≡ None }

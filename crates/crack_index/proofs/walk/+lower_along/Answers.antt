@@ -74,7 +74,7 @@ returns-then-step_down-clause-goes g t c =
     let near = nearer g t (goal.at.returns-then-step_down-clause-goes g t c).Joined-right in
     rw (← ap (λ (n : Grown). n.marks) c.node.view_is) (down-middle g.V.Visitor.visits c.args.number c.node.inside.left c.node.inside.left c.node.inside.mark c.step_down.new.mark c.node.inside.right c.match-right.node-inside.1.1.1.1.0 c.args.way.now c.match-right.way' c.step_down.new.way c.args.visitor.now c.match-right.visitor c.step_down.new.visitor near (c.step_down.ensures.steps c.args.number (rw c.number.ensures at c.if-number.false)) (sym c.step_down.ensures.ended ∙ c.if-step_down.true))
 
--- the bounds on the farther side are all on the number's side, too
+-- the bounds on the farther side are all on the number's side as well
 
 pub lower_all-requires-clause-below : goal.lower_all-requires-clause-below
 lower_all-requires-clause-below g t c = (c.args.number, All-some (λ m. m.bound.0 ≤ c.args.number) c.node.inside.left c.in-Some-left.left c.deref_mut-in-Some-left.result.now c.in-Some-left.is c.deref_mut-in-Some-left.ensures.value (below-left c.args.number (marks_of c.node.inside.left) c.node.inside.mark (marks_of c.node.inside.right) c.node.invariant.rising (rw c.number.ensures at c.if-number.false)))

@@ -77,7 +77,7 @@ returns-then-step_up-clause-goes g t c =
     let near = nearer g t (goal.at.returns-then-step_up-clause-goes g t c).Joined-left in
     rw (← ap (λ (n : Grown). n.marks) c.node.view_is) (up-middle g.V.Visitor.visits c.args.number c.node.inside.left c.match-left.node-inside.1.1.1.0 c.node.inside.mark c.step_up.new.mark c.node.inside.right c.node.inside.right c.args.way.now c.match-left.way' c.step_up.new.way c.args.visitor.now c.match-left.visitor c.step_up.new.visitor near (c.step_up.ensures.steps c.args.number (rw c.number.ensures at c.if-number.false)) (sym c.step_up.ensures.ended ∙ c.if-step_up.true))
 
--- the bounds on the farther side are all on the number's side, too
+-- the bounds on the farther side are all on the number's side as well
 
 pub raise_all-requires-clause-above : goal.raise_all-requires-clause-above
 raise_all-requires-clause-above g t c = (c.args.number, All-some (λ m. c.args.number < m.bound.0) c.node.inside.right c.in-Some-right.right c.deref_mut-in-Some-right.result.now c.in-Some-right.is c.deref_mut-in-Some-right.ensures.value (above-right c.args.number (marks_of c.node.inside.left) c.node.inside.mark (marks_of c.node.inside.right) c.node.invariant.rising (rw c.number.ensures at c.if-number.false)))
