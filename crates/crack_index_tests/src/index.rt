@@ -10,7 +10,7 @@ use crack_row::{
 use std::alloc::Global;
 use std::process::Abort;
 
-/// The bound of this number, which stands between two keys.
+/// The bound with this number, which is between two keys.
 pub fn bound_at(number: KeyNumber) -> InnerBound
     requires { 0 < number }
     ensures { result.0 ≡ number }
@@ -34,7 +34,7 @@ fn tens(rt: &impl Abort, alloc: Global) -> CrackerIndex
     index
 }
 
-/// Where the bounds 10, 20 and 30 stand.
+/// Where the bounds 10, 20 and 30 are.
 fn places(index: &CrackerIndex) -> [Option<usize>; 3] {
     [
         index.position(bound_at(10)),
@@ -128,7 +128,7 @@ fn bounds_are_as_wide_as_keys(rt: HostRuntime) {
     drop(index);
 }
 
-/// Where the bounds stand once those from this one on that stand where it stands moved up.
+/// Where the bounds are after this one and those above it that are at its place moved up.
 fn raised(rt: &impl Abort, alloc: Global, bound: InnerBound) -> [Option<usize>; 3] {
     let mut index = tens(rt, alloc);
     match index.position(bound) {
@@ -141,7 +141,7 @@ fn raised(rt: &impl Abort, alloc: Global, bound: InnerBound) -> [Option<usize>; 
     places(&index)
 }
 
-/// Where the bounds stand once those up to this one that stand where it stands moved down.
+/// Where the bounds are after this one and those below it that are at its place moved down.
 fn lowered(rt: &impl Abort, alloc: Global, bound: InnerBound) -> [Option<usize>; 3] {
     let mut index = tens(rt, alloc);
     match index.position(bound) {
@@ -154,7 +154,7 @@ fn lowered(rt: &impl Abort, alloc: Global, bound: InnerBound) -> [Option<usize>;
     places(&index)
 }
 
-/// Where the bounds stand once those at place 1 moved down.
+/// Where the bounds are after those at place 1 moved down.
 fn lowered_at_one(rt: &impl Abort, alloc: Global) -> [Option<usize>; 3] {
     let mut index = tens(rt, alloc);
     index.lower_at(1);
@@ -221,7 +221,7 @@ fn steps_up_go_from_place_to_place(rt: HostRuntime) {
     drop(index);
 }
 
-/// A step down: past the place of the bounds 20 and 30.
+/// One step down: past the place of the bounds 20 and 30.
 #[test]
 fn a_step_down_goes_to_the_place_before(rt: HostRuntime) {
     let mut index = tens(&rt, rt.alloc());
@@ -234,7 +234,7 @@ fn a_step_down_goes_to_the_place_before(rt: HostRuntime) {
     drop(index);
 }
 
-/// Keeps the sum of the places that it is given, and goes on as long as it was given fewer than so many.
+/// Keeps the sum of the places that it is given, and goes on as long as it was given fewer than this many.
 #[derive(Clone, Copy)]
 struct Sums {
     told: u32,
@@ -256,7 +256,7 @@ impl Visitor for Sums {
     }
 }
 
-/// A visitor that ends the walk at the place of this number, counted from 1.
+/// A visitor that ends the walk at the place with this number, counted from 1.
 fn ending_at(at_most: u32) -> Sums {
     Sums {
         told: 0,

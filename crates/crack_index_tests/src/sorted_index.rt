@@ -23,7 +23,7 @@ fn up_to(marks: &[Mark], number: KeyNumber) -> usize {
     count
 }
 
-/// Where the bound stands, if it is there.
+/// The position of the bound, if it is in the index.
 fn place_of(marks: &[Mark], number: KeyNumber) -> Option<usize> {
     'marks: for i in 0..marks.len() {
         if marks[i].0 == number {
@@ -33,7 +33,7 @@ fn place_of(marks: &[Mark], number: KeyNumber) -> Option<usize> {
     None
 }
 
-/// Adds the bound at the place to both, where it isn't there.
+/// Adds the bound at the place to both, if it isn't there.
 fn add(
     rt: &impl Abort,
     index: &mut CrackerIndex,
@@ -56,7 +56,7 @@ fn add(
     Ok(())
 }
 
-/// The bound and those above it that stand at its place move up, in both.
+/// The bound and those above it that are at its place move up, in both.
 fn raise(rt: &impl Abort, index: &mut CrackerIndex, marks: &mut [Mark], bound: InnerBound) {
     let Some(place) = index.position(bound) else {
         return;
@@ -70,7 +70,7 @@ fn raise(rt: &impl Abort, index: &mut CrackerIndex, marks: &mut [Mark], bound: I
     }
 }
 
-/// The bound and those below it that stand at its place move down, in both.
+/// The bound and those below it that are at its place move down, in both.
 fn lower(index: &mut CrackerIndex, marks: &mut [Mark], bound: InnerBound) {
     let Some(place) = index.position(bound) else {
         return;
@@ -86,7 +86,7 @@ fn lower(index: &mut CrackerIndex, marks: &mut [Mark], bound: InnerBound) {
     }
 }
 
-/// Goes along on a walk for so many places.
+/// Goes along on a walk for this many places.
 #[derive(Clone, Copy)]
 struct Places {
     left: u64,
@@ -108,7 +108,7 @@ impl Visitor for Places {
     }
 }
 
-/// A walk down from the number over so many places, in both.
+/// A walk down from the number over this many places, in both.
 fn descend(index: &mut CrackerIndex, marks: &mut [Mark], key: KeyNumber, places: u64) {
     let mut visitor = Places { left: places };
     index.descend(Key::from_number(key), &mut visitor);
@@ -135,7 +135,7 @@ fn descend(index: &mut CrackerIndex, marks: &mut [Mark], key: KeyNumber, places:
     }
 }
 
-/// Asserts that the bounds up to 64 stand at the same places in both.
+/// Asserts that the bounds up to 64 are at the same places in both.
 fn assert_same(rt: &impl Abort, index: &CrackerIndex, marks: &[Mark]) {
     assert!(rt; index.len() == marks.len());
     'bounds: for number in 1..65 {
@@ -150,7 +150,7 @@ fn next(seed: u64) -> u64 {
         .wrapping_add(1442695040888963407)
 }
 
-/// So many calls, after each of which both are the same.
+/// This many calls, after each of which both are the same.
 fn call(rt: &impl Abort, alloc: Global, seed: u64, calls: usize) -> Result<(), Fail> {
     let mut index = CrackerIndex::new(alloc);
     let mut marks: Vec<Mark> = Vec::new(alloc);
@@ -188,7 +188,7 @@ fn seven_bounds_in_rising_order_stand_three_high(rt: HostRuntime) -> Result<(), 
     Ok(())
 }
 
-/// Adds the bound at a place that rises with it, to both, where it isn't there.
+/// Adds the bound at a place that rises with it, to both, if it isn't there.
 fn add_rising(
     rt: &impl Abort,
     index: &mut CrackerIndex,
@@ -214,7 +214,7 @@ fn add_rising(
     Ok(())
 }
 
-/// A walk up from the number over so many places, in both.
+/// A walk up from the number over this many places, in both.
 fn climb(index: &mut CrackerIndex, marks: &mut [Mark], key: KeyNumber, places: u64)
     requires { All (λ m. m.position < usize.MAX) index.old.marks }
 {
