@@ -1,4 +1,4 @@
--- Where no bound stands, all pending insertions at once: what carry after carry leaves.
+-- If there is no bound, all pending insertions at once: the same as one carry after another.
 use Rattle.std.proofs.Common.{◌≡◌, ℕ, ◌+◌, ◌<◌, ◌≤◌, List, [], ◌∷◌, length, get_or, Option, None, Some, refl, sym, ap, ◌∙◌, arith}
 use Rattle.std.specs.List.{All}
 use Rattle.std.proofs.lemmas.List.{get_or-map, length-map}
@@ -34,11 +34,11 @@ below : (ceiling : Option ℕ) (r : Range) (key : ℕ) → IsCeiling ceiling r �
 below None r key high less = tt
 below (Some bound) r key high less = omega (arith, high, less)
 
--- room for it was made, so many places and so many more pending insertions are left, and the first was carried
+-- room for it was made, this many places and this many more pending insertions are left, and the first was carried
 abbrev pub next_of : ℕ → ℕ → State → State
 next_of column_room in_room t = first_appended (record t { column_room = column_room + 1; in_room = in_room })
 
--- where a range has all keys of a store, it has those of its pending insertions
+-- if a range has all keys of a store, it has those of its pending insertions
 key_inside : (t : State) → IsIntact t [] → 0 < length t.pending_in → IsIn t.keys (key_at t.cells (get_or t.pending_in 0 no_handle))
 key_inside t intact some = key_within t.keys t.cells (get_or t.pending_in 0 no_handle) intact.within (intact.owned.pending_reads 0 no_handle some)
 
@@ -84,7 +84,7 @@ module _ (ceiling : Option ℕ) (r : Range) (column_room in_room : ℕ) (t : Sta
         intact = IsIntact-first u has.uncracked some made;
       }
 
--- so many are left, and room for them
+-- this many are left, and room for them
 carries_on : (ceiling : Option ℕ) (r : Range) (s : State) (column_room in_room : ℕ) (hs : List Handle) (t : State) → t.pending_in ≡ hs → t.column_room ≡ column_room → t.in_room ≡ in_room → HasAll ceiling r t → CarriesIn ceiling r s 0 t → CarriesIn ceiling r s 0 (all_appended t)
 carries_on ceiling r s column_room in_room [] t none column pending has before = rw (all-none t none has.intact) before
 carries_on ceiling r s column_room in_room (h ∷ hs) t first column pending has before =

@@ -104,7 +104,7 @@ module _ (ceiling : Option ℕ) (r : Range) (high : IsCeiling ceiling r) where
   Finds-ended Evicts c from found intact over finds = rw (pending_keys-returned c) (Finds-push r (pending_keys c.store) (hand_key c) from found (not_inside ceiling r (hand_key c) high over) finds)
   Finds-ended Appends c from found intact over finds = finds
 
--- where room is made while a row is in hand, its carry ends by the same rule, in the same way
+-- if room is made while a row is in hand, its carry ends by the same rule, in the same way
 pub record EndsAlike (rule : CarryEnd) (c d : Carried) : Type 0 where
   pub same : SameButRoom (ended rule c) (ended rule d)
   pub may : MayEnd rule c → MayEnd rule d

@@ -1,4 +1,4 @@
--- All pending insertions of a range in bulk: what carry after carry leaves.
+-- All pending insertions of a range in bulk: the same as one carry after another.
 use Rattle.std.proofs.Common.{ℕ, [], Option, Some, None, refl, inl, inr, arith}
 use Rattle.std.proofs.lemmas.Bool.{cases_lt, lt-leb}
 use Rattle.crack_row.specs.Ranges.{Range}
@@ -11,7 +11,7 @@ use Rattle.crack_bulk.proofs.Carried.{Leads}
 use Rattle.crack_bulk.proofs.AllLaws.{IsUnder, in_bulk-through}
 use Rattle.crack_merge.specs.Merges.{IsCeiling, Carries, buries, evicts, ends, goes_on, CarriesIn, CarriesAll, begins, carries}
 
--- where a carry leads, it leads by its rules
+-- if a carry leads, it leads by its rules
 Carries-Leads : (ceiling : Option ℕ) (c : Carried) (t : State) → Leads ceiling c t → Carries ceiling c t
 Carries-Leads ceiling c t (Leads.buries d doomed) = buries d doomed
 Carries-Leads None c t (Leads.evicts d lasting over) = absurd (over tt)
@@ -25,7 +25,7 @@ under : (ceiling : Option ℕ) (r : Range) → IsCeiling ceiling r → IsUnder c
 under None r high key inside = refl
 under (Some bound) r high key inside = lt-leb bound key (omega (arith, inside.1, high))
 
--- all pending insertions of a range in bulk: what carry after carry leaves
+-- all pending insertions of a range in bulk: the same as one carry after another
 pub CarriesAll-in_bulk : (ceiling : Option ℕ) (r : Range) (s u : State) (first : ℕ) → IsCeiling ceiling r → IsIntact s [] → Finds r (keys_at s.cells s.pending_in) 0 (Some first) → SameButRoom (carried_in_bulk ceiling r s) u → CarriesAll ceiling r s u
 CarriesAll-in_bulk ceiling r s u first high intact found room =
     let all = in_bulk-through ceiling r (CarriesIn ceiling r s) s u first (under ceiling r high) (λ from place t v w before whole finds made leads. carries from place t v w before finds made (Carries-Leads ceiling _ w leads)) begins intact found room in

@@ -33,7 +33,7 @@ pub record PullsAt (c : Carried) (t : State) (place : ℕ) : Type 0 where
   pub column_room : t.column_room ≡ c.store.column_room
   pub moved : t.tally.moved ≡ c.store.tally.moved
 
--- what stands at a place of the column comes into hand by an exchange
+-- what is at a place of the column comes into hand by an exchange
 pub exchanged_hand : (c : Carried) (place : ℕ) (h : Handle) → StandsAt c.store.column place h → (exchanged place c).hand ≡ h
 exchanged_hand c place h stands = get_or_default c.store.column place c.hand h stands.within ∙ sym stands.is
 
@@ -182,7 +182,7 @@ TakesInside-PullsOut policy r fillers s from seen t intact (pulls before place a
       first = FillsFirst-Begins fillers s u v (keys_still s.cells u.cells u.pending_in was.advances.reads was.intact.owned.pending_reads) fewer at next c was.first begun one.pending_in;
     }
 
--- a doomed row stands before the end of the own piece of the column's last row, once that is in hand
+-- a doomed row is before the end of the own piece of the column's last row, once that is in hand
 pub ahead_of_last : (t : State) (k : ℕ) (doomed : Handle) → IsIntact t [] → StandsAt t.pending_out k doomed → (place : ℕ) → StandsAt (lifted_last t).store.column place doomed → place < piece_end (lifted_last t).store (hand_key (lifted_last t))
 ahead_of_last t k doomed intact pending place stands =
     let some = column_some t (omega (arith, pending.within)) intact in
@@ -192,7 +192,7 @@ ahead_of_last t k doomed intact pending place stands =
 pub found_key : (r : Range) (s : State) (hs : List Handle) (from place : ℕ) (h : Handle) → Finds r (keys_at s.cells hs) from (Some place) → StandsAt hs place h → IsIn r (key_at s.cells h)
 found_key r s hs from place h found stands = rw (keys_at-StandsAt s.cells hs place h stands) at found.holds
 
--- a doomed row of the range stands before the end of the own piece of the hand with which its pull begins
+-- a doomed row of the range is before the end of the own piece of the hand with which its pull begins
 pub ahead_of_begun : (r fillers : Range) (t : State) (from k seen next : ℕ) (doomed : Handle) (c : Carried) → (fillers.low < fillers.high → r.high ≤ fillers.low) → IsIntact t [] → Finds r (keys_at t.cells t.pending_out) from (Some k) → StandsAt t.pending_out k doomed → Begins fillers t seen next c → (place : ℕ) → StandsAt c.store.column place doomed → place < piece_end c.store (hand_key c)
 ahead_of_begun r fillers t from k seen next doomed c behind intact finds pending (takes_last none) place stands = ahead_of_last t k doomed intact pending place stands
 ahead_of_begun r fillers t from k seen next doomed c behind intact finds pending (fills i found) place stands =

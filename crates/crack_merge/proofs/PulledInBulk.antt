@@ -1,4 +1,4 @@
--- All pending deletions of a range in bulk: what pull after pull leaves.
+-- All pending deletions of a range in bulk: the same as one pull after another.
 use Rattle.std.proofs.Common.{◌≡◌, ℕ, ◌<◌, ◌≤◌, [], length, get_or, None, refl, ap, arith}
 use Rattle.std.proofs.lemmas.List.{length-map}
 use Rattle.crack_row.specs.Ranges.{Range}
@@ -13,7 +13,7 @@ use Rattle.crack_bulk.proofs.AllPulledLaws.{DrawsOn, pulled_in_bulk-through}
 use Rattle.crack_bulk.proofs.Draws.{Draws}
 use Rattle.crack_merge.specs.Merges.{takes_last, Pulls, reaches, exchanges, draws, PullsOut, PullsAll, begins, pulls}
 
--- where a pull leads, it leads by its rules
+-- if a pull leads, it leads by its rules
 Pulls-Draws : (d : Handle) (c : Carried) (t : State) → Draws d c t → Pulls d c t
 Pulls-Draws d c t (Draws.reaches e is) = reaches e is
 Pulls-Draws d c t (Draws.exchanges e j other at from to) = exchanges e j other at from to
@@ -26,7 +26,7 @@ pending-Draws d c t (Draws.exchanges e j other at from to) = refl
 pending-Draws d c t (Draws.draws e j u other at before rest) = pending-Draws d (pulled_back e) u rest
 
 module _ (r fillers : Range) (s : State) where
-  -- so many were pulled, and no filler is found from the place on
+  -- this many were pulled, and no filler is found from the place on
   record ArePulledOut (from : ℕ) (t : State) : Type 0 where
     seen : ℕ
     out : PullsOut r fillers s from seen t

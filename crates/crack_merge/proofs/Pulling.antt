@@ -54,7 +54,7 @@ module _ (r fillers : Range) (s : State) (from seen : ℕ) (c : Carried) (on : I
     stands_before : StandsAt on.store.pending_out from doomed
     stands_before = rw begun_at.pending_out at stands
 
-    -- it stands before the end of the own piece of the hand
+    -- it is before the end of the own piece of the hand
     pub pulling_ahead : (fillers.low < fillers.high → r.high ≤ fillers.low) → (place : ℕ) → StandsAt c.store.column place doomed → place < piece_end c.store (hand_key c)
     pulling_ahead behind = ahead_of_begun r fillers on.store on.before from on.at seen doomed c behind on.intact on.finds stands_before on.begun
 
@@ -80,7 +80,7 @@ module _ (r fillers : Range) (s : State) (from seen : ℕ) (c : Carried) (on : I
       keys_out =
           keys_still d.store.cells (buried d).cells (buried d).pending_out (StillReads-buried d intact) one.intact.owned.doomed_reads ∙ ap (keys_at d.store.cells) one.pending_out
 
-      -- each that stood after it stands one place before
+      -- each that was after it is one place before
       key_behind : (k : ℕ) → from ≤ k → k + 1 < length d.store.pending_out → slice_index (keys_at (buried d).cells (buried d).pending_out) k ≡ slice_index (keys_at d.store.cells d.store.pending_out) (k + 1)
       key_behind k after within =
           let less : k < length (remove d.store.pending_out from) = omega (arith, within, one.fewer, ap length one.pending_out) in

@@ -34,7 +34,7 @@ module _ (cells : List (Cell Row)) (r : Range) (before left : List Handle) (from
   pub LacksFirst-missed : Finds r (keys_at cells left) from None → left ≡ outside_of cells r before
   LacksFirst-missed none = LacksFirst-all cells r before left from lacks (none_inside (length left) (omega arith) (rw (length-map left (key_at cells)) at none))
 
--- keys after the range change nothing where they stand last
+-- keys after the range change nothing if they are last
 pub Finds-front : (r : Range) (keys more : List ℕ) (from : ℕ) (found : Option ℕ) → All (λ key. r.high ≤ key) more → Finds r (keys ++ more) from found → Finds r keys from found
 Finds-front r keys more from (Some place) behind first =
     let within : place < length keys = elim (cases_lt place (length keys)) [
@@ -51,7 +51,7 @@ Finds-front r keys more from (Some place) behind first =
     }
 Finds-front r keys more from None behind none = λ k from_on up_to. rw (get_or_append_left keys more 0 k up_to) at (none k from_on (omega (arith, length-append keys more)))
 
--- a search finds none where every row's key is outside the range
+-- a search finds none if every row's key is outside the range
 found_inside : (r : Range) (cells : List (Cell Row)) (hs : List Handle) (from place : ℕ) → Finds r (keys_at cells hs) from (Some place) → All (ReadsOutside cells r) hs → ⊥
 found_inside r cells hs from place found outside =
     let within : place < length hs = omega (arith, found.within, length-map hs (key_at cells)) in
@@ -89,7 +89,7 @@ pulled_none r fillers s from seen t (pulls before at was next doomed u v c rest 
 pub PullsAll-outside : (r fillers : Range) (s t : State) → PullsAll r fillers s t → All (ReadsOutside s.cells r) s.pending_out → t ≡ s
 PullsAll-outside r fillers s t all outside = pulled_none r fillers s all.from all.seen t all.pulls outside
 
--- no row of the range stands before a place from which a search is to begin
+-- no row of the range is before a place from which a search is to begin
 pub LacksFirst-begins : (cells : List (Cell Row)) (r : Range) (hs : List Handle) (from : ℕ) → from ≤ length hs → NoneIn r (keys_at cells hs) 0 from → LacksFirst cells r hs hs from
 LacksFirst-begins cells r hs from within none =
     let long : length (take from hs) ≡ from = length-take-le from hs within in
@@ -98,7 +98,7 @@ LacksFirst-begins cells r hs from within none =
     rw (get_or-take from hs k d less) (is_in-false r (key_at cells (get_or hs k d)) (rw (get_or-map (key_at cells) hs k d 0 (omega arith)) at (none k (omega arith) less)))) in
     record { passed = from; within = within; left_are = rw front (sym (take-append-drop from hs)); from_is = rw front (sym long) }
 
--- none is left, and so no search has to look at any
+-- none is left, and so no search must look at any
 pub LacksFirst-ends : (cells : List (Cell Row)) (r : Range) (before left : List Handle) → left ≡ outside_of cells r before → LacksFirst cells r before left (length left)
 LacksFirst-ends cells r before left all =
     let front = take_all (length before) before (omega arith) in
@@ -117,7 +117,7 @@ LacksFirst-empty cells r before left from empty lacks =
     is_in-false r (key_at cells (get_or (take lacks.passed before) k d)) (λ is. omega (arith, is.0, is.1, empty))) in
     lacks.left_are ∙ ap (λ hs. hs ++ drop lacks.passed before) front ∙ take-append-drop lacks.passed before
 
--- where all keys of cells are in the range, no row that reads is outside it
+-- if all keys of cells are in the range, no row that reads is outside it
 pub outside_of-keys : (r : Range) (cells : List (Cell Row)) (hs : List Handle) → HaveKeysIn r cells → All (Reads cells) hs → outside_of cells r hs ≡ []
 outside_of-keys r cells [] within reads = refl
 outside_of-keys r cells (h ∷ hs) within reads =

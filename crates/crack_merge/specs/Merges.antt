@@ -1,4 +1,4 @@
--- What a carry, a pull and a merge have done to a store, where they end.
+-- What a carry, a pull and a merge have done to a store when they end.
 use Rattle.std.specs.Prelude.{◌≡◌, ◌≢◌, ◌<◌, ◌≤◌, ⊤, ℕ, ◌+◌, ◌++◌, take, drop, length, List, [], Option, Some, None}
 use Rattle.crack_row.specs.Ranges.{Range}
 use Rattle.crack_row.specs.declared.command.Policy.{Policy}
@@ -15,7 +15,7 @@ abbrev pub IsCeiling : Option ℕ → Range → Type 0
 IsCeiling None r = ⊤
 IsCeiling (Some bound) r = r.high ≤ bound
 
--- a carry, step by step, each by the first rule that holds
+-- a carry, step by step, each by the first rule that applies
 pub data Carries (ceiling : Option ℕ) : Carried → State → Type 0 where
   -- the hand is doomed: it is buried, and the carry ends
   buries : (c : Carried) → IsDoomed c → Carries ceiling c (buried c)
@@ -26,7 +26,7 @@ pub data Carries (ceiling : Option ℕ) : Carried → State → Type 0 where
   -- else, it ends before that: the hand takes the place of the row there, and the carry goes on with that row in hand
   goes_on : (c : Carried) (t : State) → ¬ IsDoomed c → IsBelow ceiling (hand_key c) → piece_end c.store (hand_key c) < length c.store.column → Carries ceiling (pushed_on c) t → Carries ceiling c t
 
--- pending insertions of a range were carried, in the order of arrival: each was lifted where the search found it that went on from the
+-- pending insertions of a range were carried, in order of arrival: each was lifted where the search found it that continued from the
 -- place of the one before, the last of all at this place
 pub data CarriesIn (ceiling : Option ℕ) (r : Range) (s : State) : ℕ → State → Type 0 where
   -- none was
@@ -53,16 +53,16 @@ pub record CarriesSome (ceiling : Option ℕ) (r : Range) (s t : State) : Type 0
 abbrev pub BuriesFew : State → State → Type 0
 BuriesFew s t = length s.pending_out + length t.pending_in ≤ length t.pending_out + length s.pending_in
 
--- the pull of a doomed row, step by step, each by the first rule that holds
+-- the pull of a doomed row, step by step, each by the first rule that applies
 pub data Pulls (doomed : Handle) : Carried → State → Type 0 where
   -- the hand is that row: it is buried, and the pull ends
   reaches : (c : Carried) → c.hand ≡ doomed → Pulls doomed c (buried c)
-  -- else, that row stands in the own piece of the hand: the hand takes its place, it is buried, and the pull ends
+  -- else, that row is in the own piece of the hand: the hand takes its place, it is buried, and the pull ends
   exchanges : (c : Carried) (place : ℕ) → c.hand ≢ doomed → StandsAt c.store.column place doomed → piece_start c.store (hand_key c) ≤ place → place < piece_end c.store (hand_key c) → Pulls doomed c (buried (exchanged place c))
-  -- else, it stands before that piece: the hand takes the last place before its piece, and the pull goes on with the row that stood there in hand
+  -- else, it is before that piece: the hand takes the last place before its piece, and the pull goes on with the row that was there in hand
   draws : (c : Carried) (place : ℕ) (t : State) → c.hand ≢ doomed → StandsAt c.store.column place doomed → place < piece_start c.store (hand_key c) → Pulls doomed (pulled_back c) t → Pulls doomed c t
 
--- a pull begins with the pending insertion of these keys that a search finds from a place on, and the next search goes on from there; where
+-- a pull begins with the pending insertion of these keys that a search finds from a place on, and the next search continues from there; if
 -- it finds none, with the column's last row
 pub data Begins (fillers : Range) (s : State) (seen : ℕ) : ℕ → Carried → Type 0 where
   -- a filler
@@ -70,10 +70,10 @@ pub data Begins (fillers : Range) (s : State) (seen : ℕ) : ℕ → Carried →
   -- no filler is left, and the next search looks at none
   takes_last : Finds fillers (keys_at s.cells s.pending_in) seen None → Begins fillers s seen (length s.pending_in) (lifted_last s)
 
--- pending deletions of a range were pulled, in the order of arrival: each where the search found it that went on from the place of the
--- one before, the last of all at the first of the two places; the search for fillers goes on from the second
+-- pending deletions of a range were pulled, in order of arrival: each where the search found it that continued from the place of the
+-- one before, the last of all at the first of the two places; the search for fillers continues from the second
 pub data PullsOut (r fillers : Range) (s : State) : ℕ → ℕ → State → Type 0 where
-  -- none was, and no filler stands before the place
+  -- none was, and no filler is before the place
   begins : (seen : ℕ) → seen ≤ length s.pending_in → NoneIn fillers (keys_at s.cells s.pending_in) 0 seen → PullsOut r fillers s 0 seen s
   -- one more was
   pulls : (from place seen next : ℕ) (doomed : Handle) (t u : State) (c : Carried) → PullsOut r fillers s from seen t → Finds r (keys_at t.cells t.pending_out) from (Some place) → StandsAt t.pending_out place doomed → Begins fillers t seen next c → Pulls doomed c u → PullsOut r fillers s place next u
@@ -85,8 +85,8 @@ pub record PullsAll (r fillers : Range) (s t : State) : Type 0 where
   pub pulls : PullsOut r fillers s from seen t
   pub none : Finds r (keys_at t.cells t.pending_out) from None
 
--- the pending insertions of a store where the first ones, so many, were put in under ripple, as far as they are of the range: those are gone,
--- and after the others stand the evicted, at most as many
+-- the pending insertions of a store after the first ones, this many, were put in under ripple, as far as they are of the range: those are gone,
+-- and after the others are the evicted ones, at most as many
 pub record EvictsFirst (s : State) (r : Range) (left : List Handle) : Type 0 where
   pub passed : ℕ
   pub within : passed ≤ length s.pending_in
@@ -95,16 +95,16 @@ pub record EvictsFirst (s : State) (r : Range) (left : List Handle) : Type 0 whe
   pub some : SomeOf evicted (drop (edge s r.high) s.column)
   pub few : length evicted ≤ count_inside s.cells r (take passed s.pending_in)
 
--- which pending insertions are left by a merge of this policy that found no memory: the first ones, so many, are gone; complete
--- takes all from the front, in the order of arrival, gradual and ripple those of the range; under ripple fillers may be gone
+-- which pending insertions are left by a merge of this policy that found no memory: the first ones, this many, are gone; complete
+-- takes all from the front, in order of arrival, gradual and ripple those of the range; under ripple fillers may be gone
 abbrev pub LeavesRest : Policy → State → State → Range → Type 0
 LeavesRest Complete s t r = (k : ℕ) × (k ≤ length s.pending_in) × (t.pending_in ≡ drop k s.pending_in)
 LeavesRest Gradual s t r = (k : ℕ) × (k ≤ length s.pending_in) × (t.pending_in ≡ outside_of s.cells r (take k s.pending_in) ++ drop k s.pending_in)
 LeavesRest Ripple s t r = (hs : List Handle) × EvictsFirst s r hs × Fills s t r hs
 LeavesRest Auto s t r = ⊥
 
--- a merge that found no memory on the way: what it had done stands, and commands see the same rows as before; of the pending
--- deletions some are left, in the order of arrival
+-- a merge that found no memory on the way: what it had done stays, and commands see the same rows as before; of the pending
+-- deletions some are left, in order of arrival
 pub record Stops (policy : Policy) (s t : State) (r : Range) : Type 0 where
   pub follows : Follows s t
   pub intact : IsIntact t []

@@ -12,10 +12,10 @@ ghost use Rattle.crack_merge.specs.Loops.{MayEnd, EvictsOver, ended};
 use crack_row::{Bound, KeyRange, Refusal};
 use crack_store::{CarryEnd, Carrying, Store};
 
-/// Carries the pending insertions of a range, each as far as to the ceiling, in the order of arrival; passes over the
+/// Carries the pending insertions of a range, each as far as to the ceiling, in order of arrival; passes over the
 /// others once. The ceiling lies at or above the range's high end, so no row that is evicted is one of these again.
 /// O(1) for each pending row that it passes, and O(log bounds) and the pieces on its way for each that it carries.
-/// Where no bound stands and the range has all keys, it is one loop, with room made once for all; where there is no
+/// If there is no bound and the range has all keys, it is one loop, with room made once for all; if there is no
 /// ceiling, or no row is doomed, the rows are carried in bulk, which goes once through the pieces for all of them.
 /// Refused with 8 where it finds no memory; the rows that it had carried stay where they are.
 pub fn carry_range(
@@ -50,8 +50,8 @@ pub fn carry_range(
     }
 }
 
-/// The first pending insertion of a range, with which carries of one after the other begin; none where all are carried:
-/// since there was none, or all were carried at once. O(pending insertions).
+/// The first pending insertion of a range, with which carries of one after the other begin; none if all are carried:
+/// either there was none, or all were carried at once. O(pending insertions).
 fn first_to_carry(store: &mut Store, range: KeyRange, ceiling: Option<Bound>) -> Option<usize>
     requires { IsCeiling (ceiling_of ceiling) range }
     ensures carried { IfNone result (CarriesAll (ceiling_of ceiling) range store.old store.new) }
@@ -109,7 +109,7 @@ fn carry_under(store: &mut Store, range: KeyRange, first: usize, ceiling: Bound)
     store.carry_under(range, first, ceiling)
 }
 
-/// Whether no bound stands and the range has all keys. O(1).
+/// Whether there is no bound and the range has all keys. O(1).
 fn is_appendable(store: &Store, range: KeyRange) -> bool
     ensures intact { IsIntact store.now [] }
     ensures uncracked { IsTrue result → store.now.marks ≡ [] }
@@ -122,7 +122,7 @@ fn is_appendable(store: &Store, range: KeyRange) -> bool
     has_all && store.is_uncracked()
 }
 
-/// Puts all pending insertions after the column's last row; whether it found memory for them.
+/// Puts all pending insertions after the column's last row; returns whether it found memory for them.
 fn append_at_once(store: &mut Store) -> bool
     requires { store.old.marks ≡ [] }
     ensures all { IsTrue result → SameButRoom (all_appended store.old) store.new }
@@ -132,7 +132,7 @@ fn append_at_once(store: &mut Store) -> bool
 }
 
 /// Carries the hand up through the pieces until a rule holds that ends the carry, and returns which. As long as none
-/// does, the hand takes the place where its own piece ends, and the row that stood there is in hand. O(log bounds) and
+/// does, the hand takes the place where its own piece ends, and the row that was there is in hand. O(log bounds) and
 /// O(1) for each piece, and the bounds at its place; takes no memory.
 pub(crate) fn carry(carrying: &mut Carrying, ceiling: Option<Bound>) -> CarryEnd
     ensures ends { MayEnd result carrying.new }

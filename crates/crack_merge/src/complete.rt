@@ -15,8 +15,8 @@ use crack_store::{MergeReport, Store};
 
 /// Merges every pending row, if one of them has its key in the range, else none; the range was cracked before.
 /// O(pieces) for each pending row, which takes O(1) to take, and one search for the place of each doomed row. Refused
-/// with 8 where it finds no memory for a pending insertion; the rows that it had put in stay where they are, and no
-/// doomed row is gone but those that they met.
+/// with 8 if it finds no memory for a pending insertion; the rows that it had put in stay where they are, and no
+/// doomed row is gone except those that they met.
 pub fn merge_complete(
     store: Store,
     range: KeyRange,
@@ -58,7 +58,7 @@ fn is_touched(store: &Store, range: KeyRange) -> bool
     store.first_in(range).is_some() || store.first_out(range).is_some()
 }
 
-/// Puts in every pending insertion, in the order of arrival.
+/// Puts in every pending insertion, in order of arrival.
 fn put_in_all(mut store: Store) -> Result<Store, (Store, Refusal)>
     ensures ok { IfOk result (λ t. PutsIn Complete store t) }
     ensures all { IfOk result (λ t. t.pending_in ≡ []) }
@@ -91,7 +91,7 @@ fn put_in_all(mut store: Store) -> Result<Store, (Store, Refusal)>
     Ok(end(carrying, rule))
 }
 
-/// Puts in every pending insertion at once, where that is done and memory is found for all; whether none is left.
+/// Puts in every pending insertion at once, if that is done and memory is found for all; returns whether none is left.
 /// O(pending insertions), and O(pieces) for each.
 fn put_in_at_once(store: &mut Store) -> bool
     ensures puts { IsTrue result → PutsIn Complete store.old store.new }
@@ -107,7 +107,7 @@ fn put_in_at_once(store: &mut Store) -> bool
     carry_at_once(store, keys, 0)
 }
 
-/// Takes out every pending deletion, in the order of arrival, each by the column's last row.
+/// Takes out every pending deletion, in order of arrival, each by the column's last row.
 fn take_out_all(store: Store) -> Store
     ensures takes { TakesOut Complete store result }
     ensures all { result.pending_out ≡ [] }

@@ -10,11 +10,11 @@ use crack_arena::Handle;
 use crack_row::{KeyRange, Row};
 use crack_store::{Carrying, Store};
 
-/// Takes the pending deletions of a range out, in the order of arrival; passes over the others once. A pending
-/// insertion whose key is one of `fillers` fills the place of each, the first from the place `seen` on, and where there
-/// is none left the column's last row. No filler stands before `seen`; pending insertions are passed over once. O(1)
+/// Takes the pending deletions of a range out, in order of arrival; passes over the others once. A pending
+/// insertion whose key is one of `fillers` fills the place of each, the first from the place `seen` on, and if there
+/// is none left the column's last row. No filler is before `seen`; pending insertions are passed over once. O(1)
 /// for each pending row that it passes; for each that it takes out O(log bounds) and the pieces on its way, and one
-/// search for its place. Where no filler is found it takes them out in bulk, if that is worth it and there is memory
+/// search for its place. If no filler is found it takes them out in bulk, if that is worth it and there is memory
 /// for a list of them; else takes none.
 pub fn pull_range(mut store: Store, range: KeyRange, fillers: KeyRange, seen: usize) -> Store
     requires behind { fillers.low < fillers.high → range.high ≤ fillers.low }
@@ -65,7 +65,7 @@ fn pull_each(mut store: Store, range: KeyRange, fillers: KeyRange, seen: usize) 
     }
 }
 
-/// Takes the first filler from the place `seen` on into the hand, and where there is none the column's last row;
+/// Takes the first filler from the place `seen` on into the hand, and if there is none the column's last row;
 /// returns from where the next filler is to be searched for. O(1) for each pending insertion that it passes. Takes no
 /// memory.
 fn begin(store: Store, fillers: KeyRange, seen: usize) -> (Carrying, usize)
@@ -82,7 +82,7 @@ fn begin(store: Store, fillers: KeyRange, seen: usize) -> (Carrying, usize)
     }
 }
 
-/// Buries the hand, and begins the next pull as `begin` does, with the store where it is.
+/// Buries the hand, and begins the next pull as `begin` does, with the store in its place.
 fn bury_and_begin(carrying: &mut Carrying, fillers: KeyRange, seen: usize) -> usize
     requires doomed { IsDoomed carrying.old }
     requires some { 0 < length carrying.old.store.column }
@@ -103,7 +103,7 @@ fn bury_and_begin(carrying: &mut Carrying, fillers: KeyRange, seen: usize) -> us
 }
 
 /// Draws a doomed row into the hand: the cell in hand goes down through the pieces to fill its place, takes the last
-/// place before its own piece, and the row that stood there is in hand. Another doomed row that comes into hand is
+/// place before its own piece, and the row that was there is in hand. Another doomed row that comes into hand is
 /// drawn on like any other. The cell in hand may come from anywhere after the doomed row; where the pull ends, the
 /// doomed row is in hand, and is to be buried. O(log bounds) and O(1) for each piece, and the bounds at its place; one
 /// search for the doomed row's place. Takes no memory.

@@ -18,7 +18,7 @@ use Rattle.crack_merge.proofs.pulls.draw.Goals.{After-pull_down}
 hand_absent : (c : Carried) (doomed : Handle) → IsIntact c.store (c.hand ∷ []) → Contains c.store.pending_out doomed → IsAbsent c.store.column doomed → c.hand ≡ doomed
 hand_absent c doomed intact pending absent = doomed_is_hand c pending.0 doomed intact (contained_stands c.store.pending_out doomed pending) absent
 
--- it stands before the own piece of the hand
+-- it is before the own piece of the hand
 stands_before : (c : Carried) (place : ℕ) (doomed : Handle) → place < piece_start c.store (hand_key c) → IsIntact c.store (c.hand ∷ []) → IsAhead c place doomed → StandsAt c.store.column place doomed × (c.hand ≢ doomed)
 stands_before c place doomed before intact ahead = elim ahead [
   | inl is ↦ absurd (omega (arith, before, is.1))
@@ -82,7 +82,7 @@ returns-then-holds-clause-hand c = same_handle-true c.pull_down.new.self.hand c.
 pub returns-then-holds-clause-pending_out : goal.returns-then-holds-clause-pending_out
 returns-then-holds-clause-pending_out c = (way (goal.at.returns-then-holds-clause-pending_out c).After-pull_down).same
 
--- the doomed row stands in the own piece of the hand
+-- the doomed row is in the own piece of the hand
 apart : (c : After-pull_down) → same_handle c.pull_down.new.self.hand c.args.doomed ≡ false → (c.pull_down.new.self.hand ≢ c.args.doomed) × StandsAt c.pull_down.new.self.store.column c.in-Some.place c.args.doomed × (c.in-Some.place < piece_end c.pull_down.new.self.store (hand_key c.pull_down.new.self))
 apart c differ = stands_ahead c.pull_down.new.self c.in-Some.place c.args.doomed differ (way c).ahead
 
