@@ -64,8 +64,8 @@ fn hand_of(carrying: &Carrying) -> [u64; 3] {
     [row.serial.0, handle.slot() as u64, handle.generation()]
 }
 
-/// Takes the last row of the column out, and puts it after the pending insertions, or frees it where it is doomed; what
-/// it was.
+/// Takes the last row of the column out, and puts it after the pending insertions, or frees it if it is doomed; returns
+/// what it was.
 pub(crate) fn take_last(rt: &impl Abort, store: Store) -> (Store, [u64; 3]) {
     let mut store = store;
     let len = store.column_len();
@@ -82,7 +82,7 @@ pub(crate) fn take_last(rt: &impl Abort, store: Store) -> (Store, [u64; 3]) {
     }
 }
 
-/// Takes the first pending insertion out, and puts it after the others; what it was.
+/// Takes the first pending insertion out, and puts it after the others; returns what it was.
 pub(crate) fn take_first(rt: &impl Abort, store: Store) -> (Store, [u64; 3]) {
     let mut store = store;
     let len = store.pending_in();
@@ -97,7 +97,7 @@ pub(crate) fn take_first(rt: &impl Abort, store: Store) -> (Store, [u64; 3]) {
     (carrying.put_back(), row)
 }
 
-/// Notes one row more.
+/// Notes one more row.
 fn note(rt: &impl Abort, rows: &mut Vec<u64>, row: [u64; 3]) {
     for i in 0..3 {
         assert!(rt; rows.push(row[i]).is_ok());
@@ -131,8 +131,8 @@ pub(crate) fn contents_of(rt: &impl Abort, alloc: Global, store: Store) -> Conte
     contents
 }
 
-/// Merges up to twelve rows of random keys into a store of random rows: all at once, or one after the other. What it
-/// contains then, and what was counted.
+/// Merges up to twelve rows of random keys into a store of random rows: all at once, or one after the other. Returns
+/// what it contains then, and what was counted.
 fn merged(rt: &impl Abort, alloc: Global, seed: u64, at_once: bool) -> (Contents, MergeReport) {
     let mut numbers = Numbers(seed);
     let keys = numbers.below(60) + 1;

@@ -1,4 +1,4 @@
-//! Carries of a range leave what the carry of each of its rows leaves, where doomed rows are in the way too: each row
+//! Carries of a range leave what the carry of each of its rows leaves, even if doomed rows are in the way: each row
 //! in its cell, and the free cells in their order.
 //!
 //! The test `sweep_..` holds whichever one of its allocations is refused, so it may be run with each of them refused in
@@ -41,7 +41,7 @@ fn doom_some(rt: &impl Abort, store: &mut Store, numbers: &mut Numbers)
     }
 }
 
-/// Inserts up to twelve rows whose keys differ: these, in the order of arrival.
+/// Inserts up to twelve rows whose keys differ: these, in order of arrival.
 fn insert_some(
     rt: &impl Abort,
     alloc: Global,
@@ -146,7 +146,7 @@ fn carried_each(
     store
 }
 
-/// Puts a row of this serial and this key among the pending insertions, at the second time where memory was refused
+/// Puts a row with this serial and this key among the pending insertions, at the second time if memory was refused
 /// once.
 fn admit(rt: &impl Abort, store: &mut Store, serial: u64, key: KeyNumber) {
     assert_all_keys(rt, store);
@@ -248,7 +248,7 @@ fn carries_under_a_ceiling_leave_what_one_after_the_other_leaves(rt: HostRuntime
     assert!(rt; evicted > 100);
 }
 
-/// Cracks at the ends of a range, at the second time where memory was refused once.
+/// Cracks at the ends of a range, at the second time if memory was refused once.
 fn crack_at_last(rt: &impl Abort, store: &mut Store, range: KeyRange)
     ensures keys { store.new.keys ≡ store.old.keys }
     ensures cracked { IsCracked store.new range }
@@ -260,7 +260,7 @@ fn crack_at_last(rt: &impl Abort, store: &mut Store, range: KeyRange)
     assert!(rt; again.is_ok());
 }
 
-/// Merges all rows, at the second time where memory was refused once.
+/// Merges all rows, at the second time if memory was refused once.
 fn merge_at_last(rt: &impl Abort, store: Store) -> Store {
     let mut store = store;
     assert_all_keys(rt, &store);

@@ -158,7 +158,7 @@ fn four(rt: &impl Abort, alloc: Global) -> Store
     store
 }
 
-/// Asserts how many rows stand in the column and in the pending insertions, and the sizes of the pieces, in rising
+/// Asserts how many rows are in the column and in the pending insertions, and the sizes of the pieces, in rising
 /// order.
 fn assert_layout(rt: &impl Abort, store: &Store, rows: [u64; 2], sizes: &[u64]) {
     let layout = store.layout().expect(rt, "a layout");
@@ -170,7 +170,7 @@ fn assert_layout(rt: &impl Abort, store: &Store, rows: [u64; 2], sizes: &[u64]) 
     }
 }
 
-/// What a merge at keys from 15 up to 25 counts, of two more rows of these keys, and how many rows then stand between
+/// What a merge at keys from 15 up to 25 counts, of two more rows of these keys, and how many rows then are between
 /// these ends.
 fn merge_two(
     rt: &impl Abort,
@@ -404,7 +404,7 @@ fn ripple_fills_the_place_of_a_doomed_row(rt: HostRuntime) {
     drop(store);
 }
 
-/// Asserts what a merge counts of two more rows over four, how many rows stand where then, and the sizes of the pieces.
+/// Asserts what a merge counts of two more rows over four, where the rows are then, and the sizes of the pieces.
 fn assert_two_more(
     rt: &impl Abort,
     alloc: Global,
