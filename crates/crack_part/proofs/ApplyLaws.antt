@@ -1,4 +1,4 @@
--- What comes of a command at a partition, by how it comes to its end.
+-- The outcome of a command at a partition, by how it ends.
 use Rattle.std.specs.Prelude.{◌≡◌, ℕ, ◌<◌, true, false, length, Option, None, Some, Result, Ok, Err, IfErr, OnOk, OnErr}
 use Rattle.std.proofs.Common.{ap, refl, subst, sym, ◌∙◌, inl, inr}
 use Rattle.std.proofs.lemmas.Bool.{and_parts}
@@ -17,7 +17,7 @@ use Rattle.crack_part.specs.Inside.{early_refusal_of, Frees, FreesNone, AppliesB
 use Rattle.crack_part.proofs.RefusalLaws.{refused-late-none, refused-late-cell}
 use Rattle.crack_part.proofs.ClearLaws.{has-cell, cleared-first, not-without, not-without-cell, uncleared, served-upkept, spared-upkept, refused-upkept, Spares-unchanged}
 
--- what comes of it where no cell lacks, whatever came before
+-- the outcome of it if no cell is missing, whatever came before
 abbrev pub AppliesCleared : Policy → ℕ → Command → Part → Result (Reply × Reply) Refusal → Part → Type 0
 AppliesCleared policy worker command old result new = AppliesBy worker command (early_refusal_of old command) (ServesCleared policy old.keys old.next command old.store) (SparesCleared policy old.keys (range_of command) old.store) old result new
 
@@ -51,7 +51,7 @@ applies-short Served Spared worker command cause p q r e is short none same spar
   memory = λ _. short;
 })
 
--- cells are freed where that is due, or none
+-- cells are freed if that is due, or none
 pub frees-none-due : (p : Part) (command : Command) → lacks_cell p.limits.cells p.store (change_of command) ≡ false → Frees p command p
 frees-none-due p command has = (has, not-without-cell p.limits p.store (change_of command) has, inl (uncleared p.limits p.store (change_of command) has, refl))
 
@@ -75,7 +75,7 @@ applies-without policy worker command p q r e is none frees same = elim frees [
       applies-short (Serves policy p command) (Spares policy p command) worker command (refusal_of p command) p q r e is short.0 late same (inl (short.1, short.2))
 ]
 
--- it goes on once cells were freed where that is due
+-- it goes on after cells were freed if that is due
 pub applies-upkept : (policy : Policy) (worker : ℕ) (command : Command) (p q t : Part) (r : Result (Reply × Reply) Refusal) → early_refusal_of p command ≡ None → Frees p command q → q ≡ record p { store = q.store } → AppliesCleared policy worker command q r t → Applies policy worker command p r t
 applies-upkept policy worker command p q t r none frees same done =
     let early : early_refusal_of q command ≡ None = refused-upkept p q command same ∙ none in

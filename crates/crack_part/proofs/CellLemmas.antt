@@ -37,12 +37,12 @@ rows-le-cells s plain same =
     let numbers = range_with_len 0 (length s.cells) in
     omega (arith, length_permutation (live_rows s) plain same, length-filter_map (live_at s.cells (slots s.pending_out)) numbers, length-range_with_len 0 (length s.cells))
 
--- a row more takes a free cell, where there is one
+-- one more row takes a free cell, if there is one
 length-cells_with : (row : Row) (cells : List (Cell Row)) (free : List ℕ) (most : ℕ) → length cells ≤ most → (length free ≡ 0 → length cells < most) → length (cells_with row cells free) ≤ most
 length-cells_with row cells [] most few room = omega (arith, room refl, length_push cells (record { generation = 0; value = Some row }))
 length-cells_with row cells (n ∷ ns) most few room = omega (arith, length-set cells n (record { generation = (cell_at cells n).generation; value = Some row }))
 
--- where a change doesn't lack a cell, there is room for one that it takes
+-- if a change doesn't lack a cell, there is room for one that it takes
 room : (most : ℕ) (s : State) (change : Option Change) → lacks_cell most s change ≡ false → takes_cell s change ≡ true → length s.free ≡ 0 → length s.cells < most
 room most s change not takes none = elim (cases_lt (length s.cells) most) [
   | inl less ↦ less

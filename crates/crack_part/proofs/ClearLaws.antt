@@ -1,4 +1,4 @@
--- What follows of doomed rows that are taken out for their cells.
+-- What follows from doomed rows that are taken out for their cells.
 use Rattle.std.specs.Prelude.{◌≡◌, ℕ, ◌<◌, ◌≤◌, ◌+◌, Bool, true, false, ◌&&◌, ◌==◌, not, All, List, [], ◌∷◌, length, nat_le, Option, Result, Ok, Err, OnOk, OnErr}
 use Rattle.std.proofs.Common.{zero, suc, arith, ap, refl, sym, ◌∙◌, inl, inr}
 use Rattle.std.proofs.lemmas.Bool.{true≢false, and_parts, and_from, ne_eqb, leb-true, eqb-true}
@@ -24,7 +24,7 @@ use Rattle.crack_part.specs.Inside.{early_refusal_of}
 use Rattle.crack_part.proofs.KeepLemmas.{Keeps-merged, Keeps-stopped, IsIntact-stopped, Spares-same}
 use Rattle.crack_part.proofs.SoundLemmas.{IsSound-kept}
 
--- no row stands outside of the keys
+-- no row is outside of the keys
 none-outside : (s : State) (hs : List Handle) → All (Reads s.cells) hs → HaveKeysIn s.keys s.cells → All (ReadsOutside s.cells s.keys) hs → hs ≡ []
 none-outside s [] reads within outside = refl
 none-outside s (h ∷ hs) reads within outside = absurd (nowhere (outside 0 h (omega arith)))
@@ -50,7 +50,7 @@ frees s t intact done =
 pub has-free : (s t : State) → IsIntact s [] → 0 < length s.pending_out → CracksAndMerges Complete s t s.keys → 0 < length t.free
 has-free s t intact waits done = omega (arith, waits, frees s t intact done)
 
--- so that no cell lacks
+-- so that no cell is missing
 none-lacks : (full free takes : Bool) → free ≡ false → (full && (free && takes)) ≡ false
 none-lacks true free takes some = rw some refl
 none-lacks false free takes some = refl
@@ -66,7 +66,7 @@ some-waits (suc n) is = omega arith
 pub waits : (limits : Limits) (s : State) → may_clear limits s ≡ true → 0 < length s.pending_out
 waits limits s may = some-waits (length s.pending_out) (and_parts (is_automatic limits.upkeep) (not (length s.pending_out == 0)) may).1
 
--- where a cell lacks, one is freed first where that may be, and else the change is without one
+-- if a cell is missing, one is freed first where that may be, and else the change is without one
 freed-else : (a b : Bool) → b ≡ true → (a && not b) ≡ false
 freed-else true b is = rw is refl
 freed-else false b is = refl
@@ -83,7 +83,7 @@ not-without limits s change may = freed-else (lacks_cell limits.cells s change) 
 pub is-without : (limits : Limits) (s : State) (change : Option Change) → lacks_cell limits.cells s change ≡ true → may_clear limits s ≡ false → is_without_cell limits s change ≡ true
 is-without limits s change lacks none = without-else (lacks_cell limits.cells s change) (may_clear limits s) lacks none
 
--- where no cell lacks, none is freed first
+-- if no cell is missing, none is freed first
 pub uncleared : (limits : Limits) (s : State) (change : Option Change) → lacks_cell limits.cells s change ≡ false → is_cleared_first limits s change ≡ false
 uncleared limits s change has = ap (λ (b : Bool). b && may_clear limits s) has
 
@@ -111,7 +111,7 @@ spared-upkept p q policy command t r same clears done =
     let keys : p.keys ≡ q.keys = sym (ap (λ (x : Part). x.keys) same) in
     on_err_weaker r (λ spared. inr (record { cleared = q.store; clears = clears; spared = rw keys spared })) done
 
--- what refuses a command besides the want of a cell is told by keys, limits and past alone
+-- keys, limits and past alone determine what refuses a command apart from the lack of a cell
 pub refused-upkept : (p q : Part) (command : Command) → q ≡ record p { store = q.store } → early_refusal_of q command ≡ early_refusal_of p command
 refused-upkept p q command same = ap (λ (x : Part). early_refusal_of x command) same
 
@@ -123,7 +123,7 @@ Spares-unchanged policy p command = by_test (is_cleared_first p.limits p.store (
     by_test true due = inl (due, inl (record { same = refl }))
     by_test false undue = inr (record { cleared = p.store; clears = inl (undue, refl); spared = Spares-same policy p.keys (range_of command) p.store })
 
--- a row that waits stands between the keys' ends
+-- a row that waits is between the keys' ends
 filled-by : (s : State) (hs : List Handle) → All (Reads s.cells) hs → HaveKeysIn s.keys s.cells → 0 < length hs → s.keys.low < s.keys.high
 filled-by s [] reads within some = absurd (omega (arith, some))
 filled-by s (h ∷ hs) reads within some = let inside = key_within s.keys s.cells h within (reads 0 h (omega arith)) in omega (arith, inside.0, inside.1)
@@ -136,7 +136,7 @@ pub IsSound-cleared : (p : Part) (t : State) (r : Result (Unit {0}) Refusal) →
 IsSound-cleared p t (Ok x) sound done stopped = IsSound-kept p t sound (Keeps-merged Complete p.store t p.keys done) done.merges.intact
 IsSound-cleared p t (Err e) sound done stopped = IsSound-kept p t sound (Keeps-stopped Complete p.store t p.keys stopped) (IsIntact-stopped Complete p.store t p.keys stopped sound.intact)
 
--- where upkeep is automatic, a partition that is without a cell is full of the rows that there are
+-- if upkeep is automatic, a partition that is without a cell is full of the rows that there are
 none-waits : (automatic none : Bool) → automatic ≡ true → not (automatic && not none) ≡ true → none ≡ true
 none-waits true true is not = refl
 none-waits true false is not = not

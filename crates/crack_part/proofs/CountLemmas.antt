@@ -43,7 +43,7 @@ count-empty r (row ∷ rows) empty =
 plain-within : (s : State) (plain : List Row) → IsIntact s [] → IsPermutation (live_rows s) plain → All (λ (r : Row). IsIn s.keys r.key.0) plain
 plain-within s plain intact same = All-permutation (λ (r : Row). IsIn s.keys r.key.0) (live_rows s) plain same (live_rows-within s intact)
 
--- where no key is in the range, no row is
+-- if no key is in the range, no row is
 pub count-none : (s : State) (r : Range) (plain : List Row) → IsCommon r s.keys None → IsIntact s [] → IsPermutation (live_rows s) plain → 0 ≡ count_by (in_range r) plain
 count-none s r plain empty intact same = sym (count-empty (clipped r s.keys) plain empty) ∙ count-clipped r s.keys plain (plain-within s plain intact same)
 
@@ -66,7 +66,7 @@ rows-empty : (r : Range) (rows : List Row) → r.high ≤ r.low → rows_in r ro
 rows-empty r [] empty = refl
 rows-empty r (row ∷ rows) empty = step row (in_range r row) false (rows_in r rows) [] (is_in-empty r row.key.0 empty) (rows-empty r rows empty)
 
--- where no key is in the range, no row is listed
+-- if no key is in the range, no row is listed
 pub rows-none : (s : State) (r : Range) (plain : List Row) → IsCommon r s.keys None → IsIntact s [] → IsPermutation (live_rows s) plain → rows_in r plain ≡ []
 rows-none s r plain empty intact same = sym (rows-clipped r s.keys plain (plain-within s plain intact same)) ∙ rows-empty (clipped r s.keys) plain empty
 
@@ -76,7 +76,7 @@ sum-places s r common plain is intact settled same =
     let clips = rows-clipped r s.keys plain (plain-within s plain intact same) in
     sum-settled s common plain settled same ∙ ap (λ (c : Range). sum_of (rows_in c plain)) is.0 ∙ ap sum_of clips
 
--- and, in rising serial, they are the plain rows
+-- and, by rising serial, they are the plain rows
 rows-places : (s : State) (r common : Range) (plain : PlainState) (listed : List Row) → IsCommon r s.keys (Some common) → IsIntact s [] → IsSettled s common → IsNumbered plain → IsPermutation (live_rows s) plain.rows → IsPermutation (stretch_rows s common) listed → IsNonDecreasingBy serial_of listed → listed ≡ rows_in r plain.rows
 rows-places s r common plain listed is intact settled numbered same holds rising =
     let clips = rows-clipped r s.keys plain.rows (plain-within s plain.rows intact same) in

@@ -11,13 +11,13 @@ use Rattle.crack_state.proofs.StretchLaws.{sorted_is}
 use Rattle.crack_part.specs.Parts.{Part, IsSound, state_of}
 use Rattle.crack_part.specs.Inside.{base_of}
 
--- the live rows, in rising serial, are the plain rows
+-- the live rows, by rising serial, are the plain rows
 pub rows-folded : (p : Part) (rows : List Row) → IsSound p → IsPermutation (live_rows p.store) rows → IsNonDecreasingBy serial_of rows → rows ≡ (state_of p).rows
 rows-folded p rows sound same rising =
     let plain = (state_of p).rows in
     sorted_is rows plain rising (IsNumbered-after_past p.past sound.legal.base).rising (IsPermutation-trans plain (live_rows p.store) rows (IsPermutation-sym (live_rows p.store) plain sound.faithful.rows) same)
 
--- the next serial is the number of rows that were placed, and those gone are the placed, less those left
+-- the next serial is the number of rows that were placed, and those gone are the placed minus the remaining ones
 pub placed-folded : (p : Part) → IsSound p → p.next ≡ inserted_in p.past
 placed-folded p sound = sound.faithful.serial ∙ next-after_past p.past sound.legal.base sound.legal.replies
 

@@ -1,4 +1,4 @@
--- What deletes and updates make of the live rows, said of a list of them.
+-- What deletes and updates make of the live rows, stated for a list of them.
 use Rattle.std.proofs.Common.{◌≡◌, ◌≢◌, ℕ, Bool, true, false, List, [], ◌∷◌, filter, map, Option, Some, None, Result, Ok, Err, refl, sym, ap}
 use Rattle.std.specs.Prelude.{IfSome, IfNone, OnErr, is_some, nat_lt}
 use Rattle.std.specs.List.{All}
@@ -18,7 +18,7 @@ use Rattle.crack_state.proofs.LookUpLaws.{row_by-is, row_by-none, gone-cancels, 
 plain-apart : (s : State) (serial : ℕ) (plain : List Row) → handle_of s.serials serial ≡ None → IsIntact s [] → IsPermutation (live_rows s) plain → All (λ (r : Row). r.serial.0 ≢ serial) plain
 plain-apart s serial plain none intact same = All-permutation (λ (r : Row). r.serial.0 ≢ serial) (live_rows s) plain same (row_by-none s serial none intact)
 
--- the serial of a row that was removed is in the map no more
+-- the serial of a row that was removed is no longer in the map
 pub gone-removes : (s t : State) (serial : ℕ) (o : Option Bool) → pending_by s serial ≡ o → Removes o serial s t → handle_of t.serials serial ≡ None
 gone-removes s t serial None none same = rw same (by_handle (handle_of s.serials serial) refl none)
   where
@@ -43,7 +43,7 @@ live-put s t row None changed none rewrites intact = λ plain same.
     let still : t ≡ s = rw none at rewrites in
     rw (still, replaced-same row plain (plain-apart s row.serial.0 plain none intact same)) same
 
--- what follows of an answer
+-- what follows from an answer
 pub on_err : {T E P : Type 0} (r : Result T E) → P → OnErr r P
 on_err (Ok x) p = tt
 on_err (Err e) p = p

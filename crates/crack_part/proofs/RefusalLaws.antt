@@ -17,14 +17,14 @@ use Rattle.crack_part.specs.Inside.{early_refusal_of}
 use Rattle.crack_part.specs.Cells.{lacks_cell, may_clear, is_without_cell}
 use Rattle.crack_part.specs.Upkeep.{is_full}
 
--- whether a command brings a key of others, by the test
+-- whether a command has a key of others, by the test
 pub within-true : (keys : Range) (key : Option Key) → is_key_in keys key ≡ true → IfSome key (λ (k : Key). IsIn keys k.0)
 within-true keys None is = tt
 within-true keys (Some key) is =
     let parts = and_parts (nat_le keys.low key.0) (nat_lt key.0 keys.high) is in
     (leb-true keys.low key.0 parts.0, ltb-true key.0 keys.high parts.1)
 
--- what is so where a partition refuses a command for no cause
+-- what holds if a partition refuses a command for no cause
 pub record MayKeep (p : Part) (command : Command) : Type 0 where
   pub within : IsWithin p.keys command
   pub goes_on : is_full p.limits (length p.past.tail) ≡ false
@@ -48,7 +48,7 @@ may-keep p command none =
     passed true true over is = cc is
     passed false full over is = cc is
 
--- the first cause, by whether the key is the partition's, what stops it, and whether a cell lacks
+-- the first cause, by whether the key is the partition's, what stops it, and whether a cell is missing
 abbrev cause : Bool → Option Refusal → Bool → Option Refusal
 cause own stop lacks = if own then option_or stop (if lacks then Some NoCell else None) else Some KeyOutside
 
@@ -61,7 +61,7 @@ cause-early false stop lacks e is = is
 pub refused-early : (p : Part) (command : Command) (e : Refusal) → early_refusal_of p command ≡ Some e → refusal_of p command ≡ Some e
 refused-early p command e is = cause-early (is_key_in p.keys (key_of command)) (stopped_by p.limits (table_of p.past)) (is_without_cell p.limits p.store (change_of command)) e is
 
--- where nothing else refuses it, it is refused where it is without a cell, and nowhere else
+-- if nothing else refuses it, it is refused if it is without a cell, and nowhere else
 cause-late : (own : Bool) (stop : Option Refusal) (lacks : Bool) → cause own stop false ≡ None → cause own stop lacks ≡ (if lacks then Some NoCell else None)
 cause-late true (Some x) lacks none = cc none
 cause-late true None lacks none = refl
@@ -73,11 +73,11 @@ refused-late-none p command none has = cause-late (is_key_in p.keys (key_of comm
 pub refused-late-cell : (p : Part) (command : Command) → early_refusal_of p command ≡ None → is_without_cell p.limits p.store (change_of command) ≡ true → refusal_of p command ≡ Some NoCell
 refused-late-cell p command none lacks = cause-late (is_key_in p.keys (key_of command)) (stopped_by p.limits (table_of p.past)) (is_without_cell p.limits p.store (change_of command)) none ∙ ap (λ (b : Bool). if b then Some NoCell else None) lacks
 
--- where no cell lacks, no other cause is tested
+-- if no cell is missing, no other cause is tested
 pub refused-with_cell : (p : Part) (command : Command) → lacks_cell p.limits.cells p.store (change_of command) ≡ false → refusal_of p command ≡ early_refusal_of p command
 refused-with_cell p command has = ap (λ (b : Bool). cause (is_key_in p.keys (key_of command)) (stopped_by p.limits (table_of p.past)) (b && not (may_clear p.limits p.store))) has
 
--- what follows of a refusal, if there is one
+-- what follows from a refusal, if there is one
 pub if_refused : (o : Option Refusal) (P Q : Refusal → Type 0) → ((e : Refusal) → P e → Q e) → IfSome o P → IfSome o Q
 if_refused None P Q f is = tt
 if_refused (Some e) P Q f is = f e is

@@ -1,4 +1,4 @@
--- A partition's fact, and what follows from it.
+-- A partition's invariant, and what follows from it.
 use Rattle.std.proofs.Common.{◌≡◌, ℕ, ◌+◌, ◌-◌, ◌^◌, ◌<◌, ◌≤◌, List, [], ◌∷◌, ◌++◌, length, Bool, true, false, if◌then◌else◌, Option, Some, None, IfSome, IsSome, option_and_then, arith, refl, sym, ap, subst, ◌∙◌}
 use Rattle.std.specs.List.{All}
 use Rattle.std.specs.List.Sorted.{IsPermutation}
@@ -41,7 +41,7 @@ use Rattle.crack_part.specs.Inside.{MayPerform}
 use Rattle.crack_part.proofs.CellLemmas.{rows-le-cells}
 use Rattle.crack_part.proofs.KeepLemmas.{Keeps, Keeps-room, Keeps-prepared, IsIntact-prepared}
 
--- what a partition lived through, by its fields
+-- a partition's past, by its fields
 abbrev pub lived : List Row → ℕ → ℕ → ℕ → List Entry → Past
 lived rows folded placed gone tail = record { base = record { state = record { rows = rows; next = placed }; folded = folded; placed = placed; gone = gone }; tail = tail }
 
@@ -79,7 +79,7 @@ IsAdmissible-placed p key payload sound within = record {
   cell = few_cells p sound;
 }
 
--- the key that a change brings, if any, is one of these
+-- the key that a change has, if any, is one of these
 abbrev BringsWithin : Range → Option Change → Type 0
 BringsWithin keys change = IfSome (option_and_then brought_key change) (λ (key : Key). IsIn keys key.0)
 
@@ -143,7 +143,7 @@ spent reply = (if is_gone reply then 1 else 0) + (if is_changed reply then 1 els
 Spends-same : (m n : ℕ) (s t : State) → t ≡ s → Spends m n s t
 Spends-same m n s t same = rw same (record { keys = refl; cells = omega arith; freed = omega arith })
 
--- a row of this serial stands in the plain rows where the store finds one
+-- a row with this serial is in the plain rows where the store finds one
 is_some-row_in : (s : State) (plain : List Row) (serial : Serial) (pending : Bool) → IsIntact s [] → IsPermutation (live_rows s) plain → pending_by s serial.0 ≡ Some pending → IsSome (row_in plain serial)
 is_some-row_in s plain serial pending intact faithful is = subst (λ (o : Option Row). IsSome o) (row_by-find s serial.0 plain intact faithful) (row_by-pending s serial.0 pending is intact)
 

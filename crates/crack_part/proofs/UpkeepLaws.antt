@@ -1,4 +1,4 @@
--- What follows of a checkpoint that is made where it is due.
+-- What follows from a checkpoint that is made when it is due.
 use Rattle.std.specs.Prelude.{◌≡◌, ◌<◌, ◌≤◌, Bool, true, false, cond, ◌&&◌, not, List, [], ◌∷◌, length, nat_le, if◌then◌else◌}
 use Rattle.std.proofs.Common.{arith, ap, refl, sym, ◌∙◌}
 use Rattle.std.proofs.lemmas.Bool.{true≢false, le-leb, lt-leb}
@@ -10,15 +10,15 @@ use Rattle.crack_plain.proofs.PastLaws.{state_after-push}
 use Rattle.crack_part.specs.Refusals.{table_of}
 use Rattle.crack_part.specs.Upkeep.{is_automatic, is_full, is_due, upkept}
 
--- the plain table to which the next command is added: checkpointed, where a checkpoint is due
+-- the plain table to which the next command is added: checkpointed, if a checkpoint is due
 abbrev pub upkept_table : Limits → PlainView → PlainView
 upkept_table limits table = if is_due limits table.since then checkpointed table else table
 
--- where there is room, none is due
+-- if there is room, none is due
 pub upkept-room : (limits : Limits) (past : Past) → length past.tail < limits.history → upkept limits past ≡ past
 upkept-room limits past room = ap (λ (b : Bool). cond (b && is_automatic limits.upkeep) (folded past) past) (lt-leb limits.history (length past.tail) room)
 
--- where there is none, and nothing is refused, one is due
+-- if there is none, and nothing is refused, one is due
 due-tested : (full automatic : Bool) → full ≡ true → (full && not automatic) ≡ false → (full && automatic) ≡ true
 due-tested true true is unshut = refl
 due-tested true false is unshut = absurd (true≢false unshut)
@@ -29,7 +29,7 @@ upkept-full limits past full unshut =
     let due = due-tested (nat_le limits.history (length past.tail)) (is_automatic limits.upkeep) (le-leb limits.history (length past.tail) full) unshut in
     ap (λ (b : Bool). cond b (folded past) past) due
 
--- a history that begins anew, from the base that a past comes to
+-- a history that begins again, from the base that a past comes to
 pub past-anew : (past : Past) (base : Base) (tail : List Entry) (e : Entry) → base ≡ base_after past → tail ≡ e ∷ [] → record { base = base; tail = tail } ≡ with_entry (folded past) e
 past-anew past base tail e from alone = rw (from, alone) refl
 

@@ -1,4 +1,4 @@
--- Which changes lack a cell, and what is done for it.
+-- Which changes lack a cell, and what is done about it.
 use Rattle.std.specs.Prelude.{ℕ, Bool, true, false, ◌&&◌, ◌==◌, not, length, Option, Some, None, nat_le, unwrap_or, option_map}
 use Rattle.crack_row.specs.declared.command.Change.{Change}
 use Rattle.crack_row.specs.declared.command.Change.TheVariants.{Place, Rewrite}
@@ -7,13 +7,13 @@ use Rattle.crack_state.specs.State.{State}
 use Rattle.crack_state.specs.Points.{pending_by}
 use Rattle.crack_part.specs.Upkeep.{is_automatic}
 
--- whether a change needs a cell more for a row: for one that is placed, and for one that takes the place of a row of the column
+-- whether a change needs one more cell for a row: for one that is placed, and for one that replaces a row of the column
 abbrev pub takes_cell : State → Option Change → Bool
 takes_cell s (Some (Place key payload)) = true
 takes_cell s (Some (Rewrite serial key payload)) = unwrap_or (option_map not (pending_by s serial.0)) false
 takes_cell s _ = false
 
--- whether a change needs a cell where none is free, and there are as many as may be
+-- whether a change needs a cell while none is free, and there are as many as there may be
 abbrev pub lacks_cell : ℕ → State → Option Change → Bool
 lacks_cell most s change = nat_le most (length s.cells) && ((length s.free == 0) && takes_cell s change)
 

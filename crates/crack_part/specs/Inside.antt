@@ -21,17 +21,17 @@ use Rattle.crack_part.specs.Cells.{lacks_cell, is_without_cell, is_cleared_first
 use Rattle.crack_part.specs.Refusals.{table_of, stopped_by, first_cause, refusal_of}
 use Rattle.crack_part.specs.Upkeep.{upkept}
 
--- what a range has in common with the keys, if anything
+-- the intersection of a range with the keys, if any
 abbrev pub IsCommon : Range → Range → Option Range → Type 0
 IsCommon range keys None = (clipped range keys).high ≤ (clipped range keys).low
 IsCommon range keys (Some common) = (common ≡ clipped range keys) × (common.low < common.high)
 
--- the same of the range that a command reads, if any
+-- the same for the range that a command reads, if any
 abbrev pub AreCommon : Option Range → Range → Option Range → Type 0
 AreCommon None keys common = common ≡ None
 AreCommon (Some range) keys common = IsCommon range keys common
 
--- when a change may be made, where the next row gets this serial
+-- when a change may be made, in which the next row gets this serial
 abbrev pub MayPerform : ℕ → Option Change → State → Type 0
 MayPerform next None s = Unit {0}
 MayPerform next (Some (Place key payload)) s = IsAdmissible (placed next key payload) s
@@ -42,20 +42,20 @@ MayPerform next (Some (Rewrite serial key payload)) s = IsIn s.keys key.0 × IsR
 abbrev pub base_of : List Row → ℕ → ℕ → ℕ → Base
 base_of rows folded placed gone = record { state = record { rows = rows; next = placed }; folded = folded; placed = placed; gone = gone }
 
--- what a partition refuses a command with, if anything, whatever cells there are
+-- the refusal of a command by a partition, if any, whatever cells there are
 abbrev pub early_refusal_of : Part → Command → Option Refusal
 early_refusal_of part command = first_cause part.keys (stopped_by part.limits (table_of part.past)) false command
 
--- cells are freed where that is due, so that a command lacks none
+-- cells are freed if that is due, so that a command lacks none
 abbrev pub Frees : Part → Command → Part → Type 0
 Frees p command q = (lacks_cell q.limits.cells q.store (change_of command) ≡ false) × (is_without_cell p.limits p.store (change_of command) ≡ false) × Clears p command q.store
 
--- none is freed: that isn't due, or there is no memory for it
+-- none is freed: either it isn't due, or there is no memory for it
 abbrev pub FreesNone : Part → Command → Refusal → Part → Type 0
 FreesNone p command e q = ((e ≡ NoCell) × (is_without_cell p.limits p.store (change_of command) ≡ true) × (q ≡ p)) ⊎ ((e ≡ OutOfMemory) × (is_cleared_first p.limits p.store (change_of command) ≡ true) × StopsAt Complete p.store q.store p.store.keys)
 
--- What comes of a worker's command at a partition that refuses it for this cause, if any, and serves or spares its store so: the reply of its
--- plain rows, and an entry more; or a refusal, which leaves its past.
+-- The outcome of a worker's command at a partition that refuses it for this cause, if any, and serves or spares its store like this: the reply of its
+-- plain rows, and one more entry; or a refusal, which leaves its past.
 pub record AppliesBy (worker : ℕ) (command : Command) (cause : Option Refusal) (Served Spared : State → Type 0) (old : Part) (result : Result (Reply × Reply) Refusal) (new : Part) : Type 0 where
   pub replies : IfOk result (λ replies. (replies.0 ≡ reply_to (state_of old) command) × (replies.1 ≡ replies.0))
   pub small : IfOk result (λ replies. IsSmall replies.0)
@@ -68,6 +68,6 @@ pub record AppliesBy (worker : ℕ) (command : Command) (cause : Option Refusal)
   pub refused : IfSome cause (λ e. (result ≡ Err e) × (new ≡ old))
   pub memory : cause ≡ None → IfErr result (λ e. e ≡ OutOfMemory)
 
--- what comes of it in all
+-- the whole outcome
 abbrev pub Applies : Policy → ℕ → Command → Part → Result (Reply × Reply) Refusal → Part → Type 0
 Applies policy worker command old result new = AppliesBy worker command (refusal_of old command) (Serves policy old command) (Spares policy old command) old result new

@@ -1,4 +1,4 @@
--- What contracts see of a partition, and what holds of each.
+-- What contracts see of a partition, and the invariant of each.
 use Rattle.std.specs.Prelude.{◌≡◌, ◌⊎◌, ℕ, Bool, ◌+◌, ◌*◌, ◌<◌, ◌≤◌, nat_le, true, false, [], length, Option, Some, None}
 use Rattle.std.specs.List.Sorted.{IsPermutation}
 use Rattle.crack_row.specs.Commands.{change_of, range_of}
@@ -26,7 +26,7 @@ use Rattle.crack_merge.specs.Merges.{Stops}
 use Rattle.crack_ripple.specs.Near.{MergesNear}
 use Rattle.crack_part.specs.Cells.{is_cleared_first}
 
--- its keys, its limits, what it lived through, the serial of the next row, and the store of its rows
+-- its keys, its limits, its past, the serial of the next row, and the store of its rows
 pub record Part : Type 0 where
   pub keys : Range
   pub limits : Limits
@@ -34,11 +34,11 @@ pub record Part : Type 0 where
   pub next : ℕ
   pub store : State
 
--- the plain rows that it stands for
+-- the plain rows that it represents
 abbrev pub state_of : Part → PlainState
 state_of part = state_after part.past
 
--- a history may be limited to so many entries
+-- a history may be limited to this many entries
 abbrev pub IsLimit : ℕ → Type 0
 IsLimit limit = (1 ≤ limit) × (limit ≤ GREATEST_LIMIT)
 
@@ -47,9 +47,9 @@ pub record IsFaithful (store : State) (next : ℕ) (plain : PlainState) : Type 0
   pub rows : IsPermutation (live_rows store) plain.rows
   pub serial : next ≡ plain.next
 
--- the partition's fact: each kept reply is that of the plain rows, every cell stands in one place and every bound is obeyed, the live rows
+-- the partition's invariant: each kept reply is that of the plain rows, every cell is in one place and every bound is obeyed, the live rows
 -- are the plain rows, and there are no more cells than their limit, nor than commands checkpointed and rows placed and changed since, nor more
--- freed or doomed than commands checkpointed and rows gone and changed since
+-- freed or doomed than commands checkpointed and rows removed and changed since
 pub record IsSound (part : Part) : Type 0 where
   pub limited : AreLimits part.limits
   pub legal : IsLegal part.keys part.limits part.past
@@ -68,11 +68,11 @@ folded_part part = record part { past = folded part.past }
 abbrev pub placed : ℕ → Key → Payload → Row
 placed serial key payload = row_with (record { 0 = serial }) key payload
 
--- 64 times the pending insertions are at least the column's rows times its pieces, as always where the column is empty
+-- 64 times the pending insertions are at least the column's rows times its pieces; this always holds if the column is empty
 abbrev pub has_many_pending : State → Bool
 has_many_pending s = nat_le (length s.column * (length s.marks + 1)) (64 * length s.pending_in)
 
--- whether all pending rows are merged before a range is read: under auto, where many insertions are pending
+-- whether all pending rows are merged before a range is read: under auto, if many insertions are pending
 abbrev pub is_merged_first : Policy → State → Bool
 is_merged_first Auto s = has_many_pending s
 is_merged_first policy s = false
@@ -87,7 +87,7 @@ abbrev pub LeavesNear : Policy → State → State → Range → Type 0
 LeavesNear Ripple s t r = MergesNear s t r
 LeavesNear _ s t r = Unit {0}
 
--- a store is cracked at the ends of a range, where it is intact, and then merged
+-- a store is cracked at the ends of a range, if it is intact, and then merged
 pub record CracksAndMerges (policy : Policy) (s t : State) (r : Range) : Type 0 where
   pub cracked : State
   pub refines : Refines s cracked r
@@ -96,22 +96,22 @@ pub record CracksAndMerges (policy : Policy) (s t : State) (r : Range) : Type 0 
   pub near : LeavesNear policy cracked t r
   pub tallies : Tallies policy cracked t
 
--- where all pending rows are merged first, that is done by a read of all keys under complete
+-- if all pending rows are merged first, this is done by a read of all keys under complete
 abbrev pub Readies : Policy → State → State → Type 0
 Readies policy s t = ((is_merged_first policy s ≡ false) × (t ≡ s)) ⊎ ((is_merged_first policy s ≡ true) × CracksAndMerges Complete s t s.keys)
 
--- a store is ready for a range, and the range is then read
+-- a store is prepared for a range, and the range is then read
 pub record Settles (policy : Policy) (s t : State) (r : Range) : Type 0 where
   pub ready : State
   pub readies : Readies policy s ready
   pub reads : CracksAndMerges (read_by policy) ready t r
 
--- what a read of a range does to a store: nothing where the range is empty
+-- what a read of a range does to a store: nothing if the range is empty
 pub record ReadsRange (policy : Policy) (s t : State) (r : Range) : Type 0 where
   pub empty : r.high ≤ r.low → t ≡ s
   pub settled : r.low < r.high → Settles policy s t r
 
--- a store is cracked at the ends of a range, where it is intact, and its merge found no memory on the way
+-- a store is cracked at the ends of a range, if it is intact, and its merge found no memory on the way
 pub record CracksAndStops (policy : Policy) (s t : State) (r : Range) : Type 0 where
   pub filled : r.low < r.high
   pub cracked : State
@@ -120,11 +120,11 @@ pub record CracksAndStops (policy : Policy) (s t : State) (r : Range) : Type 0 w
   pub stops : Stops policy cracked t r
 
 -- what a read of a range under one policy that found no memory did to a store: nothing, or the store is cracked at the ends of the range, no
--- bound else is new, and the merge went as far as it came
+-- other bound is new, and the merge went as far as it came
 abbrev pub StopsAt : Policy → State → State → Range → Type 0
 StopsAt policy s t r = SameButRoom s t ⊎ CracksAndStops policy s t r
 
--- a store is ready for a range, and the read of that found no memory
+-- a store is prepared for a range, and the read of the range found no memory
 pub record ReadiesAndStops (policy : Policy) (s t : State) (r : Range) : Type 0 where
   pub ready : State
   pub readies : Readies policy s ready
@@ -139,37 +139,37 @@ abbrev pub Prepares : Policy → Range → Option Range → State → State → 
 Prepares policy keys None s t = t ≡ s
 Prepares policy keys (Some range) s t = ReadsRange policy s t (clipped range keys)
 
--- what a command that found no memory did to a store once cells were freed where that is due: its range, if it reads one, may have been read
+-- what a command that found no memory did to a store after cells were freed if that is due: its range, if it reads one, may have been read
 -- in part
 abbrev pub SparesCleared : Policy → Range → Option Range → State → State → Type 0
 SparesCleared policy keys None s t = SameButRoom s t
 SparesCleared policy keys (Some range) s t = StopsRead policy s t (clipped range keys)
 
--- what is done to a store once a command is replied: the change that it makes, if any, is made
+-- what is done to a store after a command is replied: the change that it makes, if any, is made
 abbrev pub Performs : ℕ → Option Change → State → State → Type 0
 Performs next None s t = t ≡ s
 Performs next (Some (Place key payload)) s t = SameButRoom (admitted (placed next key payload) s) t
 Performs next (Some (Remove serial)) s t = Removes (pending_by s serial.0) serial.0 s t
 Performs next (Some (Rewrite serial key payload)) s t = Rewrites (pending_by s serial.0) (row_with serial key payload) s t
 
--- what an answered command does to a store of these keys once cells were freed where that is due: the store is prepared, and then the change
+-- what an answered command does to a store of these keys after cells were freed if that is due: the store is prepared, and then the change
 -- is made
 pub record ServesCleared (policy : Policy) (keys : Range) (next : ℕ) (command : Command) (s t : State) : Type 0 where
   pub ready : State
   pub prepared : Prepares policy keys (range_of command) s ready
   pub performed : Performs next (change_of command) ready t
 
--- what is done to a partition's store before a command: where cells are freed first, that is done by a read of all keys under complete
+-- what is done to a partition's store before a command: if cells are freed first, this is done by a read of all keys under complete
 abbrev pub Clears : Part → Command → State → Type 0
 Clears p command t = ((is_cleared_first p.limits p.store (change_of command) ≡ false) × (t ≡ p.store)) ⊎ ((is_cleared_first p.limits p.store (change_of command) ≡ true) × CracksAndMerges Complete p.store t p.store.keys)
 
--- what an answered command does to a partition's store: cells are freed where that is due, and then it is served
+-- what an answered command does to a partition's store: cells are freed if that is due, and then it is served
 pub record Serves (policy : Policy) (p : Part) (command : Command) (t : State) : Type 0 where
   pub cleared : State
   pub clears : Clears p command cleared
   pub served : ServesCleared policy p.keys p.next command cleared t
 
--- cells are freed where that is due, and the command found no memory
+-- cells are freed if that is due, and the command found no memory
 pub record ClearsAndSpares (policy : Policy) (p : Part) (command : Command) (t : State) : Type 0 where
   pub cleared : State
   pub clears : Clears p command cleared

@@ -24,7 +24,7 @@ is_key_in keys None = true
 is_key_in keys (Some key) = is_in keys key.0
 
 -- why a partition of these limits accepts no command more: as many were accepted since its last checkpoint as its history may have, and it
--- makes none by itself, or as many since its opening as it may accept in all
+-- makes none by itself, or as many since its opening as it may accept in total
 abbrev pub stopped_by : Limits → PlainView → Option Refusal
 stopped_by limits table = if is_full limits table.since then Some (HistoryFull limits.history) else (if nat_le limits.life (accepted_of table) then Some LifeOver else None)
 

@@ -15,7 +15,7 @@ use crate::replies::{gone, rewritten};
 use crack_row::{Command, Key, Payload, Refusal, Reply, Row, Serial};
 use crack_store::Store;
 
-/// Puts in a row, which gets this serial; the reply. O(1), amortised.
+/// Inserts a row, which gets this serial; returns the reply. O(1), amortised.
 #[inline(always)]
 pub(crate) fn place(
     store: &mut Store,
@@ -45,7 +45,7 @@ pub(crate) fn place(
     Ok(Reply::Placed(row.serial))
 }
 
-/// Takes out the row of a serial, if there is one; the reply. O(1), amortised.
+/// Removes the row with a serial, if there is one; returns the reply. O(1), amortised.
 #[inline(never)]
 pub(crate) fn remove(store: &mut Store, serial: Serial) -> Result<Reply, Refusal>
     requires few { MayFree store.old }
@@ -66,7 +66,7 @@ pub(crate) fn remove(store: &mut Store, serial: Serial) -> Result<Reply, Refusal
     Ok(gone(row))
 }
 
-/// Puts a row in the place of the one of its serial, if there is one; the reply. O(1), amortised.
+/// Replaces the row with the same serial, if there is one; returns the reply. O(1), amortised.
 #[inline(never)]
 pub(crate) fn rewrite(store: &mut Store, row: Row) -> Result<Reply, Refusal>
     requires within { IsIn store.old.keys row.key.0 }

@@ -4,15 +4,15 @@ ghost use Rattle.std.specs.Prelude.{◌≡◌, ◌<◌, ◌++◌, [], ◌∷◌,
 use crack_row::{Entry, Refusal, Row};
 use std::alloc::Global;
 
-/// How many entries a history has room for at first: so large a block of memory is mapped by itself, so that it grows
-/// without being copied, and what isn't used of it takes no memory.
+/// How many entries a history has room for at first: a block of memory of this size is mapped separately, so that it
+/// grows without being copied, and its unused part takes no memory.
 const FIRST_ENTRIES: usize = 2048;
 
-/// For how many entries a history that was checkpointed keeps its room.
+/// For how many entries a checkpointed history keeps its room.
 const KEPT_ENTRIES: usize = 4096;
 
-/// What commands that are kept no more left: the rows, in rising serial (24 bytes each), how many commands these were,
-/// and how many rows they placed and took out.
+/// What commands that are no longer kept left: the rows, by rising serial (24 bytes each), how many commands there
+/// were, and how many rows they placed and removed.
 #[derive(Drop)]
 pub(crate) struct Base {
     pub(crate) rows: Vec<Row>,
@@ -25,11 +25,11 @@ pub(crate) struct Base {
 #[derive(Drop)]
 pub(crate) struct Fold {
     pub(crate) base: Base,
-    /// The list of the history that begins anew; `None` where the present one is emptied.
+    /// The list of the history that starts again; `None` if the present one is emptied.
     pub(crate) fresh: Option<Vec<Entry>>,
 }
 
-/// Makes room for one entry: O(1), amortised. Takes no memory where there is room.
+/// Makes room for one entry: O(1), amortised. Takes no memory if there is room.
 #[inline(always)]
 pub(crate) fn make_room(history: &mut Vec<Entry>) -> Result<(), Refusal>
     ensures same { history.new.items ≡ history.old.items }
@@ -53,7 +53,7 @@ fn lengthen(history: &mut Vec<Entry>) -> Result<(), Refusal>
     Ok(())
 }
 
-/// Where a history has more room than `KEPT_ENTRIES` entries, an empty list with room for these.
+/// If a history has more room than `KEPT_ENTRIES` entries, an empty list with room for these.
 #[inline(never)]
 pub(crate) fn fresh_list(history: &Vec<Entry>, alloc: Global) -> Result<Option<Vec<Entry>>, Refusal>
     ensures ok { IfOk result (λ fresh. IfSome fresh (λ list. (list.items ≡ []) × (0 < vec_capacity list))) }
@@ -66,7 +66,7 @@ pub(crate) fn fresh_list(history: &Vec<Entry>, alloc: Global) -> Result<Option<V
     Ok(Some(fresh))
 }
 
-/// Adds an element where there is room.
+/// Adds an element if there is room.
 #[inline(always)]
 pub(crate) fn push_reserved<T: Drop>(items: &mut Vec<T>, item: T)
     requires { vec_len items.old < vec_capacity items.old }
@@ -75,7 +75,7 @@ pub(crate) fn push_reserved<T: Drop>(items: &mut Vec<T>, item: T)
     items.push_reserved(item);
 }
 
-/// Puts a base in the place of what was kept, and empties the history, which has room if it had. Takes no memory.
+/// Replaces what was kept by a base, and empties the history, which has room if it had. Takes no memory.
 pub(crate) fn begin_anew(base: &mut Base, history: &mut Vec<Entry>, fold: Fold)
     requires fresh { IfSome fold.fresh (λ list. (list.items ≡ []) × (0 < vec_capacity list)) }
     ensures base { base.new ≡ fold.base }

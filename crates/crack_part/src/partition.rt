@@ -32,7 +32,7 @@ use std::alloc::Global;
 use std::marker::Model;
 
 /// The rows whose keys lie in one range, and every command that was answered since the last checkpoint, with the worker
-/// who asked and the reply, after a base: what the commands before it left. Contracts see besides what stands where in
+/// that asked and the reply, after a base: what the commands before it left. Contracts also see the layout of
 /// the store of its rows; the plain rows are those after the history, from the base on.
 #[derive(Drop)]
 pub struct Partition {
@@ -85,7 +85,7 @@ impl Model for Partition {
 
 impl Partition {
     /// A partition without rows, for these keys and a history of at most `limit` entries. Takes no memory.
-    /// Refused with 14 where the limit isn't 1 to `GREATEST_LIMIT`.
+    /// Refused with 14 if the limit isn't 1 to `GREATEST_LIMIT`.
     pub fn open(alloc: Global, keys: KeyRange, limit: u64) -> Result<Partition, Refusal>
         ensures ok { IfOk result (λ p. (p.keys ≡ keys) × (p.limits ≡ of_history limit) × (p.past ≡ no_past)) }
         ensures empty { IfOk result (λ p. p.store ≡ no_cells keys p.store.column_room p.store.in_room) }
@@ -99,7 +99,7 @@ impl Partition {
     }
 
     /// A partition without rows, for these keys, within these limits. Takes no memory.
-    /// Refused with 14 where a limit isn't 1 to the greatest of its kind.
+    /// Refused with 14 if a limit isn't 1 to the greatest of its kind.
     pub fn open_with(alloc: Global, keys: KeyRange, limits: Limits) -> Result<Partition, Refusal>
         ensures ok { IfOk result (λ p. (p.keys ≡ keys) × (p.limits ≡ limits) × (p.past ≡ no_past)) }
         ensures empty { IfOk result (λ p. p.store ≡ no_cells keys p.store.column_room p.store.in_room) }
@@ -127,15 +127,15 @@ impl Partition {
         })
     }
 
-    /// States what is true of every partition, and does nothing.
+    /// States the invariants of every partition, and does nothing.
     pub fn facts(&self)
         ensures { IsSound self.now }
     {
         let _ = &self.store;
     }
 
-    /// Every command that was answered since the last checkpoint, in order: reads and commands that found no row among
-    /// them.
+    /// Every command that was answered since the last checkpoint, in order, including reads and commands that found no
+    /// row.
     pub fn history(&self) -> &[Entry]
         ensures value { result.now ≡ self.now.past.tail }
         ensures legal { IsLegal self.now.keys self.now.limits self.now.past }
@@ -143,7 +143,7 @@ impl Partition {
         self.history.as_slice()
     }
 
-    /// The rows at the last checkpoint, in rising serial.
+    /// The rows at the last checkpoint, by rising serial.
     pub fn base_rows(&self) -> &[Row]
         ensures { result.now ≡ self.now.past.base.state.rows }
     {
@@ -164,7 +164,7 @@ impl Partition {
         self.base.placed
     }
 
-    /// How many rows went up to the last checkpoint.
+    /// How many rows were removed up to the last checkpoint.
     pub fn folded_deletions(&self) -> u64
         ensures { result ≡ self.now.past.base.gone }
     {
@@ -179,10 +179,10 @@ impl Partition {
         self.base.folded + self.history.len() as u64
     }
 
-    /// Makes its rows the base, and empties its history: how many entries went. It cracks and merges nothing, and
-    /// changes no reply to come. Refused with 8 where it finds no memory; all is then as it was. As `Store::live_rows`
-    /// it is O(cells), and O(n log n) for n rows where serials don't rise with the cells; what the history took is
-    /// given back, but for the room of `KEPT_ENTRIES` entries.
+    /// Makes its rows the base, and empties its history; returns how many entries it had. It cracks and merges nothing,
+    /// and changes no later reply. Refused with 8 if it finds no memory; then all is as it was. Like `Store::live_rows`
+    /// it is O(cells), and O(n log n) for n rows if serials don't rise with the cells; the history's memory is
+    /// freed, except the room of `KEPT_ENTRIES` entries.
     pub fn checkpoint(&mut self) -> Result<u64, Refusal>
         ensures ok { IfOk result (λ count. count ≡ length self.old.past.tail) }
         ensures folded { OnOk result (self.new ≡ folded_part self.old) }
@@ -196,7 +196,7 @@ impl Partition {
         Ok(count)
     }
 
-    /// Takes what a checkpoint needs of memory: the base that it comes to, and the list of a history that begins anew.
+    /// Allocates what a checkpoint needs: the base that results from it, and the list of a history that starts again.
     fn fold(&self) -> Result<Fold, Refusal>
         ensures base { IfOk result (λ fold. base_of fold.base.rows.items fold.base.folded fold.base.placed
             fold.base.gone ≡ base_after self.now.past) }
@@ -242,15 +242,15 @@ impl Partition {
         self.limits
     }
 
-    /// What its merges did since it was opened. Takes no memory.
+    /// The counts of its merges since it was opened. Takes no memory.
     pub fn tally(&self) -> MergeReport
         ensures { result ≡ self.now.store.tally }
     {
         self.store.tally()
     }
 
-    /// What stands where, as numbers, and the pieces of the column. It cracks and merges nothing, and isn't kept in the
-    /// history. Refused with 8 where it finds no memory. O(pieces).
+    /// The layout, as numbers, and the pieces of the column. It cracks and merges nothing, and isn't kept in the
+    /// history. Refused with 8 if it finds no memory. O(pieces).
     pub fn layout(&self) -> Result<Layout, Refusal>
         ensures ok { IfOk result (λ layout. IsLayoutOf self.now.store layout) }
         ensures equations { IfOk result (λ layout. IsLayout self.now.keys layout) }
@@ -260,13 +260,13 @@ impl Partition {
         self.store.layout()
     }
 
-    /// Answers one command of a worker and keeps it in the history. The second reply is a copy, for a receipt. Where
+    /// Answers one command of a worker and keeps it in the history. The second reply is a copy, for a receipt. If
     /// upkeep is automatic, it makes a checkpoint first, as `checkpoint` does, if the history is full; and if an
     /// insert, or an update of a row of the column, finds no free cell and as many cells as their limit, while doomed
     /// rows wait, it merges all pending rows first, as a count of all keys does under `Policy::Complete`. Refused, in
-    /// this order: with 4 where the command brings a key that isn't the partition's, with 6 where the history is full
-    /// and upkeep is on request, with 10 where it has accepted as many commands as its life, with 9 where no cell is
-    /// free and upkeep frees none, with 8 where no memory is found. After 4, 6, 10 and 9 nothing has changed. After 8
+    /// this order: with 4 if the command has a key that isn't the partition's, with 6 if the history is full
+    /// and upkeep is on request, with 10 if it has accepted as many commands as its life, with 9 if no cell is
+    /// free and upkeep frees none, with 8 if no memory is found. After 4, 6, 10 and 9 nothing has changed. After 8
     /// no checkpoint is made; that merge may be made in part, or in whole; else a command that reads no range has
     /// changed nothing, and one that reads a range has at most cracked the column at its ends and merged in part, or in
     /// whole. An insert, a delete and an update are O(1), amortised, without upkeep. A command that reads a range
@@ -300,7 +300,7 @@ impl Partition {
         self.apply_with_room(worker, command, policy)
     }
 
-    /// Answers a command where the history has room and no cell is missing, as `apply` does.
+    /// Answers a command if the history has room and no cell is missing, as `apply` does.
     #[inline(always)]
     fn apply_with_room(
         &mut self,
@@ -336,7 +336,7 @@ impl Partition {
             &command,
             policy,
         )?;
-        // only a list may find no memory here, and a command that is replied with one makes no change
+        // only a list may find no memory here, and a command whose reply is a list makes no change
         let copies = copied(reply, self.alloc)?;
         let entry = Entry {
             worker,
@@ -347,7 +347,7 @@ impl Partition {
         Ok((copies.reply, copies.receipt))
     }
 
-    /// Answers a command that may need upkeep. What comes of it has its place in memory here, so that where `apply`
+    /// Answers a command that may need upkeep. Its outcome has its place in memory here, so that where `apply`
     /// begins none is cleared for it.
     #[inline(always)]
     fn apply_apart(
@@ -379,7 +379,7 @@ impl Partition {
         self.apply_with_room(worker, command, policy)
     }
 
-    /// Answers a command where the history is full, as `apply` does. What a checkpoint needs of memory is taken before
+    /// Answers a command if the history is full, as `apply` does. The memory that a checkpoint needs is taken before
     /// the command is answered.
     #[inline(never)]
     fn apply_when_full(
@@ -429,7 +429,7 @@ impl Partition {
         Ok((copies.reply, copies.receipt))
     }
 
-    /// Whether the history has as many entries as it may, or a command lacks a cell.
+    /// Whether the history has as many entries as it may have, or a command lacks a cell.
     #[inline(always)]
     fn may_need_upkeep(&self, command: &Command) -> bool
         ensures { IsFalse result → (length self.now.past.tail < self.now.limits.history) ×
@@ -438,7 +438,7 @@ impl Partition {
         self.is_at_limit() || self.wants_cell(command)
     }
 
-    /// Whether the history has as many entries as it may.
+    /// Whether the history has as many entries as it may have.
     #[inline(always)]
     fn is_at_limit(&self) -> bool
         ensures { IsTrue result ↔ self.now.limits.history ≤ length self.now.past.tail }
@@ -446,7 +446,7 @@ impl Partition {
         self.history.len() as u64 >= self.limits.history
     }
 
-    /// Whether a command needs a cell where none is free and there are as many as may be. O(1).
+    /// Whether a command needs a cell while none is free and there are as many as there may be. O(1).
     #[inline(always)]
     fn wants_cell(&self, command: &Command) -> bool
         ensures { result ≡ lacks_cell self.now.limits.cells self.now.store (change_of command.now) }
@@ -461,8 +461,8 @@ impl Partition {
         is_automatic(self.limits.upkeep) && self.store.pending_out() != 0
     }
 
-    /// Frees cells where a command lacks one: the doomed rows that wait are taken out, by a merge of all pending rows.
-    /// Refused with 9 where upkeep is on request or none wait, and with 8 where no memory is found.
+    /// Frees cells if a command lacks one: the doomed rows that wait are taken out, by a merge of all pending rows.
+    /// Refused with 9 if upkeep is on request or none wait, and with 8 if no memory is found.
     fn make_cell(&mut self, command: &Command) -> Result<(), Refusal>
         ensures frees { OnOk result (Frees self.old command.now self.new) }
         ensures err { IfErr result (λ e. FreesNone self.old command.now e self.new) }
@@ -504,7 +504,7 @@ impl Partition {
         self.history.len() as u64 >= self.limits.history && !is_automatic(self.limits.upkeep)
     }
 
-    /// Refuses a command for the first cause but want of a cell, before any memory is looked for.
+    /// Refuses a command for the first cause except lack of a cell, before any memory is looked for.
     #[inline(always)]
     fn may_keep(&self, command: &Command) -> Result<(), Refusal>
         ensures ok { OnOk result (early_refusal_of self.now command.now ≡ None) }
@@ -525,7 +525,7 @@ impl Partition {
     }
 }
 
-/// Whether checkpoints are made where they are due, unasked.
+/// Whether checkpoints are made when they are due, unasked.
 #[inline(always)]
 fn is_automatic(upkeep: Upkeep) -> bool
     ensures { result ≡ is_automatic upkeep }
@@ -536,7 +536,7 @@ fn is_automatic(upkeep: Upkeep) -> bool
     }
 }
 
-/// Whether a command needs a cell where none is free and there are as many as may be. O(1).
+/// Whether a command needs a cell while none is free and there are as many as there may be. O(1).
 #[inline(always)]
 fn lacks_cell(store: &Store, most: u64, command: &Command) -> bool
     ensures { result ≡ lacks_cell most store.now (change_of command.now) }
@@ -544,7 +544,7 @@ fn lacks_cell(store: &Store, most: u64, command: &Command) -> bool
     store.cells() as u64 >= most && store.free_cells() == 0 && takes_cell(store, command)
 }
 
-/// Whether a command needs a cell more: an insert, or an update of a row of the column. O(1).
+/// Whether a command needs one more cell: an insert, or an update of a row of the column. O(1).
 #[inline(always)]
 fn takes_cell(store: &Store, command: &Command) -> bool
     ensures { result ≡ takes_cell store.now (change_of command.now) }
@@ -556,7 +556,7 @@ fn takes_cell(store: &Store, command: &Command) -> bool
     }
 }
 
-/// Whether the key that a command brings, if any, is one of these.
+/// Whether the key that a command has, if any, is one of these.
 #[inline(always)]
 fn allows(keys: KeyRange, command: &Command) -> bool
     ensures { result ≡ is_key_in keys (key_of command.now) }
@@ -600,8 +600,8 @@ fn answer(
     carry_out(store, next, alloc, command, common)
 }
 
-/// Reads a range, if there is one, as far as it is within the keys: where none of them is in it, nothing is cracked or
-/// merged. What the range has in common with the keys, if anything.
+/// Reads a range, if there is one, as far as it is within the keys: if none of them is in it, nothing is cracked or
+/// merged. Returns the intersection of the range with the keys, if any.
 #[inline(always)]
 fn prepare(
     store: &mut Store,
@@ -630,8 +630,8 @@ fn prepare(
     }
 }
 
-/// Replies to a command where the store is settled for what its range has in common with the keys, and makes its
-/// change, where the next row gets this serial. Refused with 8 where no memory is found: for a list, or for a row that
+/// Replies to a command if the store is settled for the intersection of its range with the keys, and makes its
+/// change, in which the next row gets this serial. Refused with 8 if no memory is found: for a list, or for a row that
 /// is placed, removed or rewritten.
 #[inline(always)]
 fn carry_out(
@@ -683,7 +683,7 @@ fn carry_out(
     }
 }
 
-/// What came of a command, piece by piece: where it isn't asked for, it stands in no memory.
+/// The outcome of a command, part by part: if it isn't asked for, it isn't stored in memory.
 #[inline(always)]
 fn handed_on(answered: Result<(Reply, Reply), Refusal>) -> Result<(Reply, Reply), Refusal>
     ensures { result ≡ answered }

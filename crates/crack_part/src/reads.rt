@@ -12,8 +12,8 @@ use crack_row::{KeyRange, Refusal, Row};
 use crack_store::Store;
 use std::alloc::Global;
 
-/// How many rows have their key in a range: the difference of two places of the column, which is settled for what is
-/// common to the range and the keys.
+/// How many rows have their key in a range: the difference of two places of the column, which is settled for the
+/// intersection of the range and the keys.
 #[inline(never)]
 pub(crate) fn count(store: &Store, common: Option<KeyRange>) -> u64
     requires settled { IfSome common (λ r. IsSettled store.now r) }
@@ -43,8 +43,8 @@ pub(crate) fn sum(store: &Store, common: Option<KeyRange>) -> i128
     }
 }
 
-/// The rows whose key is in a range, in rising serial: those between two places of the column, as for a count.
-/// Refused with 8 where it finds no memory.
+/// The rows whose key is in a range, by rising serial: those between two places of the column, as for a count.
+/// Refused with 8 if it finds no memory.
 #[inline(never)]
 pub(crate) fn select(
     store: &Store,

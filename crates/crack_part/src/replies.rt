@@ -10,7 +10,7 @@ use std::alloc::Global;
 /// A reply with its copies.
 #[derive(Drop)]
 pub(crate) struct Copies {
-    /// For the worker who asked.
+    /// For the asking worker.
     pub(crate) reply: Reply,
     /// For the worker's receipt.
     pub(crate) receipt: Reply,
@@ -18,7 +18,7 @@ pub(crate) struct Copies {
     pub(crate) kept: Reply,
 }
 
-/// What a delete is replied where this is the row of its serial.
+/// The reply to a delete if this is the row with its serial.
 pub(crate) fn gone(row: Option<Row>) -> Reply
     ensures is { result ≡ gone row }
     ensures flat { IsFlat result }
@@ -30,7 +30,7 @@ pub(crate) fn gone(row: Option<Row>) -> Reply
     }
 }
 
-/// What an update is replied where this is the row of its serial.
+/// The reply to an update if this is the row with its serial.
 pub(crate) fn rewritten(row: Option<Row>) -> Reply
     ensures is { result ≡ rewritten row }
     ensures flat { IsFlat result }
@@ -58,7 +58,7 @@ pub(crate) fn copied(reply: Reply, alloc: Global) -> Result<Copies, Refusal>
     })
 }
 
-/// A copy of a reply. That of a placed row, which is met most, is made in place.
+/// A copy of a reply. That of a placed row, the most frequent one, is made in place.
 #[inline(always)]
 fn copy_of(reply: &Reply, alloc: Global) -> Result<Reply, Refusal>
     ensures ok { IfOk result (λ copy. copy ≡ reply.now) }

@@ -12,7 +12,7 @@ use crack_store::{MergeReport, Store};
 use std::alloc::Global;
 use std::mem;
 
-/// Settles the store for a range. Under `Policy::Auto` all pending rows are merged first where many insertions are
+/// Settles the store for a range. Under `Policy::Auto` all pending rows are merged first if many insertions are
 /// pending, as a count of all keys under `Policy::Complete` does, and the range is then read under `Policy::Ripple`.
 #[inline(never)]
 pub(crate) fn settle(
@@ -34,7 +34,7 @@ pub(crate) fn settle(
     crack_and_merge(store, alloc, keys, range, policy)
 }
 
-/// Merges all pending rows, where that is due before a range is read.
+/// Merges all pending rows, if that is due before a range is read.
 #[inline(always)]
 fn make_ready(
     store: &mut Store,
@@ -102,7 +102,7 @@ pub(crate) fn crack_and_merge(
     }
 }
 
-/// Merges by the policy what a range needs by whose ends the store was cracked; `Policy::Auto` merges as
+/// Merges by the policy what a range needs, by whose ends the store was cracked; `Policy::Auto` merges as
 /// `Policy::Ripple` here.
 fn merge(
     store: Store,
@@ -128,7 +128,7 @@ fn merge(
 }
 
 /// Whether so many insertions are pending that merging all of them is expected to cost less than passing over them
-/// again and again. O(1).
+/// repeatedly. O(1).
 fn has_many_pending(store: &Store) -> bool
     ensures { result ≡ has_many_pending store.now }
 {

@@ -1,4 +1,4 @@
-//! What a partition came to.
+//! The totals of a partition.
 ghost use Rattle.std.specs.Prelude.{◌≡◌, length};
 ghost use Rattle.crack_plain.specs.Past.{inserted_in};
 ghost use Rattle.crack_state.specs.State.{live_rows};
