@@ -1,4 +1,4 @@
-//! Cells that run out where upkeep is automatic: the doomed rows that wait are taken out for them.
+//! Cells that run out if upkeep is automatic: the doomed rows that wait are taken out for them.
 //!
 //! The tests `sweep_..` hold whichever one of their allocations is refused, so they may be run with each of them
 //! refused in turn.
@@ -50,8 +50,8 @@ fn assert_counts(rt: &impl Abort, partition: &Partition, rows: u64, waiting: u64
     assert_eq!(rt; layout.pending_out, doomed);
 }
 
-/// Has a command answered. Where no memory is found at first, the history is as it was, and so are the rows, of which
-/// there are so many; then memory is found.
+/// Has a command answered. If no memory is found at first, the history is as it was, and so are the rows, of which
+/// there are this many; then memory is found.
 fn answer(rt: &impl Abort, partition: &mut Partition, command: &Command, rows: u64) -> Reply {
     let kept = partition.history().len();
     let reply = match ask(partition, *command) {

@@ -1,4 +1,4 @@
-//! Partitions whose rows go, change, are added up and listed, and what stands where after a merge.
+//! Partitions whose rows go, change, are added up and listed, and the layout after a merge.
 use crack_part::Partition;
 use crack_row::{
     BoundNumber, Command, Key, KeyNumber, KeyRange, Layout, Payload, PayloadNumber, Policy,
@@ -6,7 +6,7 @@ use crack_row::{
 };
 use std::process::Abort;
 
-/// What worker 3 is answered under a policy.
+/// The answers that worker 3 gets under a policy.
 fn ask(partition: &mut Partition, command: Command, policy: Policy) -> Result<Reply, Refusal> {
     let (reply, _receipt) = partition.apply(3, command, policy)?;
     Ok(reply)
@@ -24,7 +24,7 @@ fn fill(partition: &mut Partition, keys: &[u32]) -> Result<(), Refusal> {
     Ok(())
 }
 
-/// Counts a range under a policy, in which there are so many rows.
+/// Counts a range under a policy, in which there are this many rows.
 fn assert_count(
     rt: &impl Abort,
     partition: &mut Partition,
@@ -168,7 +168,7 @@ fn a_complete_merge_takes_all_out(rt: HostRuntime) -> Result<(), Refusal> {
     told
 }
 
-/// Puts a row where a doomed row stands in the way.
+/// Puts a row where a doomed row is in the way.
 fn carry_into_doomed(rt: &impl Abort, partition: &mut Partition) -> Result<(), Refusal> {
     fill_three(rt, partition)?;
     assert_gone(rt, partition, 2, 30)?;
@@ -176,7 +176,7 @@ fn carry_into_doomed(rt: &impl Abort, partition: &mut Partition) -> Result<(), R
     assert_count(rt, partition, KeyRange::new(15, 25)?, Policy::Gradual, 2)
 }
 
-/// A doomed row that stands in the way is buried, and its cell is used again.
+/// A doomed row that is in the way is buried, and its cell is used again.
 fn bury_on_the_way(rt: &impl Abort, partition: &mut Partition) -> Result<(), Refusal> {
     carry_into_doomed(rt, partition)?;
     assert_layout(
@@ -313,7 +313,7 @@ fn select_all(rt: &impl Abort, partition: &mut Partition) -> Result<(), Refusal>
     Ok(())
 }
 
-/// A pending row is written in place, one of the column anew: it keeps its serial.
+/// A pending row is written in place, one of the column again: it keeps its serial.
 fn update_twice(rt: &impl Abort, partition: &mut Partition) -> Result<(), Refusal> {
     fill(partition, &[5])?;
     assert!(rt; matches!(update(partition, 6)?, Reply::Changed));

@@ -45,7 +45,7 @@ fn count_all() -> Job {
     perform(Command::Count(KeyRange::all()))
 }
 
-/// Writes what came of a job.
+/// Writes the outcome of a job.
 fn tell<W: Write>(done: &Result<Done, Refusal>, writer: &mut Watched<W>) -> Result<(), Refusal> {
     match done {
         Ok(done) => match done {
@@ -56,7 +56,7 @@ fn tell<W: Write>(done: &Result<Done, Refusal>, writer: &mut Watched<W>) -> Resu
     }
 }
 
-/// Writes what came of jobs, a line each.
+/// Writes the outcome of jobs, a line each.
 fn tell_all<W: Write>(
     all: &[Result<Done, Refusal>],
     writer: &mut Watched<W>,
@@ -67,12 +67,12 @@ fn tell_all<W: Write>(
     Ok(())
 }
 
-/// What comes of jobs. It promises nothing, so that no test carries all that `run_jobs` promises.
+/// The outcome of jobs. It promises nothing, so that no test carries all that `run_jobs` promises.
 fn run(core: &mut Core, jobs: &[Job]) -> Result<Vec<Result<Done, Refusal>>, Refusal> {
     core.run_jobs(jobs)
 }
 
-/// Asserts the texts of what comes of jobs.
+/// Asserts the texts of the outcome of jobs.
 fn assert_done(
     rt: &impl Abort,
     alloc: Global,

@@ -1,4 +1,4 @@
-//! A partition: each call once, with ample memory, and each refusal but that for want of memory.
+//! A partition: each call once, with ample memory, and each refusal but that for lack of memory.
 use crack_part::Partition;
 use crack_row::{
     Command, Entry, GREATEST_BOUND, GREATEST_CELLS, GREATEST_LIFE, GREATEST_LIMIT, Key, KeyNumber,
@@ -14,7 +14,7 @@ fn insert(key: u16) -> Command {
     }
 }
 
-/// What worker 3 is answered.
+/// The answers that worker 3 gets.
 fn ask(partition: &mut Partition, command: Command) -> Result<(Reply, Reply), Refusal> {
     partition.apply(3, command, Policy::Complete)
 }
@@ -89,7 +89,7 @@ fn count_no_key(rt: &impl Abort, partition: &mut Partition) -> Result<(), Refusa
     Ok(())
 }
 
-/// A read is kept too, also one that can find nothing.
+/// A read is also kept, even one that can find nothing.
 #[test]
 fn partition_keeps_a_count_of_no_key(rt: HostRuntime) -> Result<(), Refusal> {
     let mut partition = Partition::open(rt.alloc(), KeyRange::all(), 1)?;
