@@ -1,4 +1,4 @@
--- What a block of keys without a hit says of its rows.
+-- What a block of keys without a hit says about its rows.
 use Rattle.std.proofs.Common.{◌≡◌, ◌≢◌, ℕ, ◌+◌, ◌-◌, ◌<◌, ◌≤◌, ◌%◌, Bool, true, false, List, get_or, take, drop, leb, refl, ap, ◌∙◌, inl, inr, arith, leb-false}
 use Rattle.std.specs.Prelude.{bit_or}
 use Rattle.std.proofs.lemmas.Nat.{le_or_l, le_or_r}
@@ -11,7 +11,7 @@ use Rattle.crack_arena.specs.Arena.{Cell, Handle}
 use Rattle.crack_arena.specs.Rows.{unknown}
 use Rattle.crack_pending.specs.Inside.{KnowKeys, AreKnown, Lies, IsMissed}
 
--- where no flag was set, the last wasn't
+-- if no flag was set, the last wasn't
 pub no_flag : (any : ℕ) (b : Bool) → bit_or any (bool_byte b) ≡ 0 → (any ≡ 0) × (b ≡ false)
 no_flag any true none = absurd (omega (arith, none, le_or_r any (bool_byte true)))
 no_flag any false none = (omega (arith, none, le_or_l any (bool_byte false)), refl)
@@ -22,13 +22,13 @@ apart key low last order small far lies =
     let beyond : last - low < (key + (GREATEST_BOUND - low)) % GREATEST_BOUND = leb-false _ _ far in
     absurd (omega (arith, beyond, order, small, lies.0, lies.1))
 
--- the same of codes
+-- the same for codes
 pub apart_code : (code low last : ℕ) → low ≤ last → last < 65536 → leb ((code + (65536 - low)) % 65536) (last - low) ≡ false → ¬ Lies low last code
 apart_code code low last order small far lies =
     let beyond : last - low < (code + (65536 - low)) % 65536 = leb-false _ _ far in
     absurd (omega (arith, beyond, order, small, lies.0, lies.1))
 
--- where none of a block's keys lies between the ends of the range, nor isn't known, none of its rows has its key in the range
+-- if none of a block's keys lies between the ends of the range, and none is unknown, none of its rows has its key in the range
 pub missed_block : (range : Range) (cells : List (Cell Row)) (handles : List Handle) (keys : List ℕ) (stands : List Bool) (from low last : ℕ) (some_unknown : Bool) → KnowKeys cells handles keys stands → (some_unknown ≡ false → AreKnown keys stands) → range.low ≡ low → range.high ≡ last + 1 → ((k : ℕ) → k < 16 → ¬ Lies low last (get_or (take (from + 16 - from) (drop from keys)) k 0)) → (some_unknown ≡ true → (k : ℕ) → k < 16 → get_or (take (from + 16 - from) (drop from keys)) k 0 ≢ unknown) → IsMissed range cells handles stands from (from + 16)
 missed_block range cells handles keys stands from low last some_unknown known all_known is_low is_high none none_unknown spot after before at inside =
     let k = spot - from in

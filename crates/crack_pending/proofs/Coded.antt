@@ -1,4 +1,4 @@
--- Laws of codes: what they say of keys, and how each step keeps them.
+-- Laws of codes: what they say about keys, and how each step keeps them.
 use Rattle.std.proofs.Common.{◌≡◌, ◌≢◌, ℕ, zero, suc, ◌+◌, ◌-◌, ◌/◌, ◌^◌, ◌<◌, ◌≤◌, Bool, true, false, Option, None, Some, List, [], ◌∷◌, ◌++◌, length, get_or, set, take, drop, refl, sym, ap, ◌∙◌, inl, inr, arith, length-set, length-append}
 use Rattle.std.specs.Prelude.{MatchOption}
 use Rattle.std.proofs.lemmas.Bool.{cases_eq, cases_lt, true≢false}
@@ -48,7 +48,7 @@ window_last base shift range first last beyond w = rw (w.last_is) (code_of-small
 pub window_beyond : (base shift : ℕ) (range : Range) (first last beyond : ℕ) → IsWindow base shift range first last beyond → beyond < 65535
 window_beyond base shift range first last beyond w = rw (w.beyond_is) (code_of-small base shift unknown)
 
--- where there is no code, all are right
+-- if there is no code, all are right
 pub coded_none : (keys : List ℕ) (stands : List Bool) (coding : Coding) → coding.codes ≡ [] → AreCoded keys stands coding
 coded_none keys stands coding none = record {
   few = omega (arith, ap length none);
@@ -171,7 +171,7 @@ module _ (keys : List ℕ) (stands : List Bool) (coding : Coding) (coded : AreCo
           | inr e ↦ (omega (arith, e, above), omega (arith, e, below))
         ]
 
-    -- where no code of a block is looked for, none of its rows has its key in the range
+    -- if no code of a block is looked for, none of its rows has its key in the range
     pub missed_codes : (some_unknown : Bool) → (some_unknown ≡ false → AreKnown keys stands) → (from : ℕ) → from + 32 ≤ length coding.codes → ((k : ℕ) → k < 32 → ¬ Lies first last (get_or (take (from + 32 - from) (drop from coding.codes)) k 0)) → (some_unknown ≡ true → (k : ℕ) → k < 32 → ¬ Lies beyond beyond (get_or (take (from + 32 - from) (drop from coding.codes)) k 0)) → IsMissed range cells handles stands from (from + 32)
     missed_codes some_unknown all_known from short apart elsewhere spot after before at =
         let k = spot - from in

@@ -1,4 +1,4 @@
--- Laws of what stands at spots that are no holes.
+-- Laws of what is at spots that aren't holes.
 use Rattle.std.proofs.Common.{◌≡◌, ℕ, zero, suc, ◌+◌, ◌-◌, ◌<◌, ◌≤◌, Bool, true, false, cond, List, [], ◌∷◌, ◌++◌, length, get_or, set, take, drop, zero-add, refl, sym, ap, inl, inr, length-drop, arith}
 use Rattle.std.specs.List.{remove}
 use Rattle.std.proofs.lemmas.List.{length-take-le}
@@ -7,7 +7,7 @@ use Rattle.std.proofs.lemmas.Bool.{true≢false, cases_lt}
 use Rattle.crack_pending.specs.Spots.{kept}
 use Rattle.crack_pending.specs.Keeps.{place_at, HasRow}
 
--- one spot more: a row there is one place more
+-- one more spot: a row there is one more place
 pub place_at-more : (bs : List Bool) (spot : ℕ) → spot < length bs → place_at bs (spot + 1) ≡ place_at bs spot + cond (get_or bs spot false) 1 0
 place_at-more [] spot within = absurd (omega (arith, within))
 place_at-more (b ∷ bs) zero within = omega arith
@@ -15,7 +15,7 @@ place_at-more (b ∷ bs) (suc n) within =
     let one : suc n + 1 ≡ suc (n + 1) = omega arith in
     rw one (omega (arith, place_at-more bs n (omega (arith, within))))
 
--- the same where a mark is added as a number
+-- the same if a mark is added as a number
 pub place_at-counted : (bs : List Bool) (spot : ℕ) → spot < length bs → place_at bs (spot + 1) ≡ place_at bs spot + bool_byte (get_or bs spot false)
 place_at-counted bs spot within = by_mark (get_or bs spot false) (place_at-more bs spot within)
   where
@@ -48,14 +48,14 @@ place_at-take bs zero (suc n) order = absurd (omega (arith, order))
 place_at-take [] (suc m) (suc n) order = refl
 place_at-take (b ∷ bs) (suc m) (suc n) order = omega (arith, place_at-take bs m n (omega (arith, order)))
 
--- a spot before which no more rows stand than at a place that is there
+-- a spot before which no more rows are than at a place that is there
 pub spot-there : (bs : List Bool) (spot place : ℕ) → place_at bs spot ≤ place → place < place_at bs (length bs) → spot < length bs
 spot-there bs spot place before within = elim (cases_lt spot (length bs)) [
   | inl l ↦ l
   | inr past ↦ absurd (omega (arith, place_at-past bs spot past, before, within))
 ]
 
--- a row stands at a spot that is there
+-- a row is at a spot that is there
 pub Stands-within : (bs : List Bool) (spot : ℕ) → HasRow bs spot → spot < length bs
 Stands-within [] spot stands = absurd (true≢false (sym stands))
 Stands-within (b ∷ bs) zero stands = omega arith
@@ -68,7 +68,7 @@ place_at-before bs spot n stands before =
     let one : place_at bs (spot + 1) ≡ place_at bs spot + 1 = rw stands at more in
     omega (arith, one, place_at-le bs (spot + 1) n (omega (arith, before)))
 
--- a hole more
+-- one more hole
 pub place_at-hole_behind : (bs : List Bool) (spot n : ℕ) → n ≤ spot → place_at (set bs spot false) n ≡ place_at bs n
 place_at-hole_behind bs spot zero order = refl
 place_at-hole_behind [] spot (suc n) order = refl
@@ -82,13 +82,13 @@ place_at-hole_before (true ∷ bs) zero (suc n) stands order = omega arith
 place_at-hole_before (false ∷ bs) zero (suc n) stands order = absurd (true≢false (sym stands))
 place_at-hole_before (b ∷ bs) (suc s) (suc n) stands order = omega (arith, place_at-hole_before bs s n stands (omega (arith, order)))
 
--- a spot more
+-- one more spot
 pub place_at-push : (bs : List Bool) (b : Bool) (n : ℕ) → n ≤ length bs → place_at (bs ++ b ∷ []) n ≡ place_at bs n
 place_at-push bs b zero within = refl
 place_at-push [] b (suc n) within = absurd (omega (arith, within))
 place_at-push (c ∷ bs) b (suc n) within = omega (arith, place_at-push bs b n (omega (arith, within)))
 
--- where there are as many rows as spots, no spot is a hole
+-- if there are as many rows as spots, no spot is a hole
 pub full-Stands : (bs : List Bool) (n : ℕ) → place_at bs (length bs) ≡ length bs → n < length bs → HasRow bs n
 full-Stands [] n full within = absurd (omega (arith, within))
 full-Stands (true ∷ bs) zero full within = refl
@@ -106,7 +106,7 @@ full-from [] all = refl
 full-from (true ∷ bs) all = omega (arith, full-from bs (λ n within. all (suc n) (omega (arith, within))))
 full-from (false ∷ bs) all = absurd (true≢false (sym (all 0 (omega arith))))
 
--- the rows at so many spots from one on
+-- the rows at this many spots from one on
 pub place_at-between : (bs : List Bool) (from n : ℕ) → from + n ≤ length bs → place_at bs (from + n) ≡ place_at bs from + place_at (take n (drop from bs)) n
 place_at-between bs zero n within = rw (zero-add n) (omega (arith, place_at-take bs n n (omega arith)))
 place_at-between [] (suc m) n within = absurd (omega (arith, within))
@@ -114,7 +114,7 @@ place_at-between (b ∷ bs) (suc m) n within =
     let split : suc m + n ≡ suc (m + n) = omega arith in
     rw split (omega (arith, place_at-between bs m n (omega (arith, within))))
 
--- the same where they are counted in the slice
+-- the same if they are counted in the slice
 pub rows_in_slice : (bs : List Bool) (from to n : ℕ) → from ≤ to → to ≤ length bs → n ≡ place_at (take (to - from) (drop from bs)) (length (take (to - from) (drop from bs))) → place_at bs to ≡ place_at bs from + n
 rows_in_slice bs from to n order within counted =
     let size : from + (to - from) ≡ to = omega (arith, order) in
@@ -131,7 +131,7 @@ module _ {X : Type 0} where
   length-kept (true ∷ bs) (x ∷ xs) beside = omega (arith, length-kept bs xs (omega (arith, beside)))
   length-kept (false ∷ bs) (x ∷ xs) beside = omega (arith, length-kept bs xs (omega (arith, beside)))
 
-  -- what stands at a spot is what is kept at its place
+  -- what is at a spot is what is kept at its place
   pub kept-at : (bs : List Bool) (xs : List X) (spot : ℕ) (d : X) → length bs ≡ length xs → HasRow bs spot → get_or (kept bs xs) (place_at bs spot) d ≡ get_or xs spot d
   kept-at [] xs spot d beside stands = absurd (true≢false (sym stands))
   kept-at (b ∷ bs) [] spot d beside stands = absurd (omega (arith, beside))
@@ -144,7 +144,7 @@ module _ {X : Type 0} where
       let none : 0 + place_at bs n ≡ place_at bs n = omega arith in
       rw none (kept-at bs xs n d (omega (arith, beside)) stands)
 
-  -- a hole more takes out what stood there
+  -- one more hole takes out what was there
   pub kept-hole : (bs : List Bool) (xs : List X) (spot : ℕ) → length bs ≡ length xs → HasRow bs spot → kept (set bs spot false) xs ≡ remove (kept bs xs) (place_at bs spot)
   kept-hole [] xs spot beside stands = absurd (true≢false (sym stands))
   kept-hole (b ∷ bs) [] spot beside stands = absurd (omega (arith, beside))
@@ -202,7 +202,7 @@ spot_of (false ∷ bs) place within =
     let rest = spot_of bs place (omega (arith, within)) in
     record { spot = suc rest.spot; stands = rest.stands; is = omega (arith, rest.is) }
 
--- no two rows stand at one place
+-- no two rows are at one place
 pub spot-once : (bs : List Bool) (s t : ℕ) → HasRow bs s → HasRow bs t → place_at bs s ≡ place_at bs t → s ≡ t
 spot-once bs s t at_s at_t same = elim (cases_lt s t) [
   | inl l ↦ absurd (omega (arith, place_at-before bs s t at_s l, same))
@@ -213,6 +213,6 @@ spot-once bs s t at_s at_t same = elim (cases_lt s t) [
 ]
 
 module _ {X : Type 0} where
-  -- what is kept at a place stands at its spot
+  -- what is kept at a place is at its spot
   pub kept-at_place : (bs : List Bool) (xs : List X) (place : ℕ) (d : X) → length bs ≡ length xs → (s : IsSpotOf bs place) → get_or (kept bs xs) place d ≡ get_or xs s.spot d
   kept-at_place bs xs place d beside s = rw (s.is) at (kept-at bs xs s.spot d beside s.stands)

@@ -63,7 +63,7 @@ module _ (codes : List ℕ) (first last from to : ℕ) (candidates : List ℕ) (
     rising = are.rising;
   }
 
-  -- more codes behind
+  -- more codes after them
   pub ahead_longer : (codes' : List ℕ) → length codes ≤ length codes' → take (length codes) codes' ≡ codes → AreAhead codes' first last from to candidates next
   ahead_longer codes' longer same =
       let alike : (k : ℕ) → k < length codes → get_or codes' k 0 ≡ get_or codes k 0 = λ k l.
@@ -78,7 +78,7 @@ module _ (codes : List ℕ) (first last from to : ℕ) (candidates : List ℕ) (
         rising = are.rising;
       }
 
-  -- where no candidate is left, none lies there
+  -- if no candidate is left, none lies there
   pub ahead_end : length candidates ≤ next → (spot : ℕ) → from ≤ spot → spot < to → ¬ Lies first last (get_or codes spot 0)
   ahead_end none spot behind ahead lies =
       let one = are.found spot behind ahead lies in
@@ -113,7 +113,7 @@ module _ (codes : List ℕ) (first last from to : ℕ) (candidates : List ℕ) (
     passed = ahead_end none;
   }
 
--- a candidate from a spot on is one from an earlier spot on, where none lies between
+-- a candidate from a spot on is one from an earlier spot on, if none lies between
 pub next_from : (codes : List ℕ) (first last start from near : ℕ) → start ≤ from → ((spot : ℕ) → start ≤ spot → spot < from → ¬ Lies first last (get_or codes spot 0)) → IsNext codes first last from near → IsNext codes first last start near
 next_from codes first last start from near order none next = record {
   after = omega (arith, order, next.after);
@@ -125,7 +125,7 @@ next_from codes first last start from near order none next = record {
 }
 
 module _ (codes : List ℕ) (first last from to : ℕ) (candidates : List ℕ) (are : AreAhead codes first last from to candidates 0) where
-  -- a candidate more
+  -- one more candidate
   pub gathered_hit : to < length codes → AreAhead codes first last from (to + 1) (candidates ++ to ∷ []) 0
   gathered_hit within =
       let long = length-append candidates (to ∷ []) in
@@ -172,7 +172,7 @@ module _ (codes : List ℕ) (first last from to : ℕ) (candidates : List ℕ) (
       below : (j : ℕ) → j < length candidates → get_or candidates j 0 < to
       below j l = (are.inside j (omega arith) l).1
 
-  -- some codes more, none of which lies between the two
+  -- some more codes, none of which lies between the two
   pub gathered_more : (more : ℕ) → to + more ≤ length codes → ((spot : ℕ) → to ≤ spot → spot < to + more → ¬ Lies first last (get_or codes spot 0)) → AreAhead codes first last from (to + more) candidates 0
   gathered_more more within none = record {
     order = are.order;
@@ -187,12 +187,12 @@ module _ (codes : List ℕ) (first last from to : ℕ) (candidates : List ℕ) (
     rising = are.rising;
   }
 
-  -- a code more
+  -- one more code
   pub gathered_miss : to < length codes → ¬ Lies first last (get_or codes to 0) → AreAhead codes first last from (to + 1) candidates 0
   gathered_miss within apart = gathered_more 1 (omega (arith, within)) (λ spot behind before lies.
       let e : spot ≡ to = omega (arith, behind, before) in apart (rw e at lies))
 
-  -- a block more
+  -- one more block
   pub gathered_block : to + 32 ≤ length codes → ((k : ℕ) → k < 32 → ¬ Lies first last (get_or (take (to + 32 - to) (drop to codes)) k 0)) → AreAhead codes first last from (to + 32) candidates 0
   gathered_block within apart = gathered_more 32 within (λ spot behind before lies.
       let k = spot - to in

@@ -83,7 +83,7 @@ marked_none = record {
 }
 
 module _ (words words' : List ℕ) (handles : List Handle) (covered : ℕ) (marked : AreMarked words handles covered) where
-  -- a handle more
+  -- one more handle
   pub marked_more : (h : Handle) → length words' ≡ length words → Has words' h.slot → ((other : ℕ) → other ≢ h.slot → Has words' other ↔ Has words other) → AreMarked words' (handles ++ h ∷ []) covered
   marked_more h long there others = record {
     within = omega (arith, marked.within, long);
@@ -101,7 +101,7 @@ module _ (words words' : List ℕ) (handles : List Handle) (covered : ℕ) (mark
         ];
   }
 
-  -- a handle less
+  -- one handle less
   pub marked_less : (place slot : ℕ) → place < length handles → (get_or handles place no_handle).slot ≡ slot → ((n : ℕ) → times n (slots handles) ≤ 1) → length words' ≡ length words → ¬ Has words' slot → ((other : ℕ) → other ≢ slot → Has words' other ↔ Has words other) → AreMarked words' (remove handles place) covered
   marked_less place slot inside at once long gone others = record {
     within = omega (arith, marked.within, long);

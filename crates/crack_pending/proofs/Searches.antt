@@ -11,12 +11,12 @@ use Rattle.crack_arena.specs.Arena.{Cell, Handle, StandsAt, no_handle}
 use Rattle.crack_arena.specs.Rows.{key_at, keys_at}
 use Rattle.crack_pending.specs.Pending.{NoneIn, IsFirstIn}
 
--- what stands at a place, whatever is read where there is none
+-- what is at a place, whatever is read if there is none
 pub StandsAt-get_or : (handles : List Handle) (i : ℕ) (d : Handle) → i < length handles → StandsAt handles i (get_or handles i d)
 StandsAt-get_or handles i d within = record { within = within; is = get_or_default handles i d (get_or handles i d) within }
 
 module _ (cells : List (Cell Row)) where
-  -- the key that stands at a handle's place is its row's
+  -- the key that is at a handle's place is its row's
   pub keys_at-StandsAt : (handles : List Handle) (i : ℕ) (h : Handle) → StandsAt handles i h → slice_index (keys_at cells handles) i ≡ key_at cells h
   keys_at-StandsAt handles i h stands =
       get_or-map (key_at cells) handles i h 0 stands.within ∙ ap (key_at cells) (sym stands.is)

@@ -10,7 +10,7 @@ use Rattle.crack_pending.specs.Keeps.{place_at, HasRow}
 use Rattle.crack_pending.specs.Inside.{AreKnown}
 use Rattle.crack_pending.proofs.Kept.{length-kept, kept-at, kept-hole, kept-set, kept-push, place_at-few, place_at-before, Stands-within}
 
--- a key more, as it is counted
+-- one more key, as it is counted
 pub counted_one : (key : ℕ) → bool_byte (eqb key unknown) ≡ times unknown (key ∷ [])
 counted_one key = byte (eqb key unknown) ∙ sym (times_one unknown key)
   where
@@ -41,7 +41,7 @@ module _ (keys : List ℕ) (stands : List Bool) (beside : length stands ≡ leng
   counted_set spot key at =
       rw (kept-set stands keys spot key beside at, ← kept-at stands keys spot 0 beside at) (times-set unknown (kept stands keys) (place_at stands spot) key 0 (place_within spot at))
 
-  -- where one isn't known, some are counted
+  -- if one isn't known, some are counted
   pub counted_some : (spot : ℕ) → HasRow stands spot → get_or keys spot 0 ≡ unknown → 0 < times unknown (kept stands keys)
   counted_some spot at is =
       let hole = rw is at (counted_hole spot at) in
@@ -54,6 +54,6 @@ module _ (keys : List ℕ) (stands : List Bool) (beside : length stands ≡ leng
   counted_few =
       omega (arith, times-le-length unknown (kept stands keys), length-kept stands keys beside, place_at-few stands (length stands), beside)
 
--- the row at a spot goes: where its key isn't known there is one less
+-- the row at a spot goes: if its key isn't known there is one less
 pub one_less : (unknowns key : ℕ) → key ≡ unknown → 0 < unknowns → unknowns - 1 + times unknown (key ∷ []) ≡ unknowns
 one_less unknowns key is some = rw is (omega (arith, some, times_head unknown [], times-nil unknown))

@@ -26,7 +26,7 @@ module _ (handles : List Handle) (stands : List Bool) (beside : length stands �
       let within = Stands-within stands spot at in
       omega (arith, length-kept stands handles beside, place_at-before stands spot (length stands) at within)
 
-  -- and it stands there
+  -- and it is there
   pub place-StandsAt : (spot : ℕ) (h : Handle) → HasRow stands spot → h ≡ get_or handles spot h → StandsAt (kept stands handles) (place_at stands spot) h
   place-StandsAt spot h at is = record { within = place-within spot at; is = is ∙ sym (kept-at stands handles spot h beside at) }
 
@@ -70,7 +70,7 @@ module _ (handles : List Handle) (stands : List Bool) (beside : length stands �
               absurd (omega (arith, one, less));
         }
 
-  -- where a handle stands, so does its slot
+  -- where a handle is, its slot is as well
   pub stands-spot : (h : Handle) (place : ℕ) → StandsAt (kept stands handles) place h → (spot : ℕ) × (IsSpotWith handles stands h.slot spot × (h ≡ get_or handles spot h))
   stands-spot h place there =
       let s = spot_of stands place (omega (arith, there.within, length-kept stands handles beside)) in
@@ -89,7 +89,7 @@ module _ (handles : List Handle) (stands : List Bool) (beside : length stands �
       let here : h ≡ get_or handles spot h = rw same at found.1.1 in
       differs (is ∙ get_or_default handles spot other h (omega (arith, within, beside)) ∙ sym here)
 
--- a spot that a cell leads to, where no row of it stands
+-- a spot that a cell leads to, where no row of it is
 pub elsewhere-unnoted : (handles : List Handle) (stands : List Bool) (spots : List ℕ) (slot spot : ℕ) → get_or spots slot 0 ≡ spot → (IsSpotWith handles stands slot spot → ⊥) → IsUnnoted handles stands spots slot
 elsewhere-unnoted handles stands spots slot spot at none other with leads =
     let same : other ≡ spot = sym leads.is ∙ at in
@@ -100,12 +100,12 @@ pub uncovered-unnoted : (handles : List Handle) (stands : List Bool) (spots : Li
 uncovered-unnoted handles stands spots slot past other with leads = absurd (omega (arith, leads.covered, past))
 
 module _ (handles : List Handle) (stands : List Bool) (spots : List ℕ) (slot : ℕ) (unnoted : IsUnnoted handles stands spots slot) (noted : ℕ) (led : LeadBack handles stands spots noted) where
-  -- where all spots are noted, no row of the cell stands anywhere
+  -- if all spots are noted, no row of the cell is anywhere
   pub unnoted-nowhere : length stands ≤ noted → IsNowhere handles stands slot
   unnoted-nowhere all spot with =
       unnoted spot with (rw (with.of) at (led spot (omega (arith, all, Stands-within stands spot with.stands_there)) with.stands_there))
 
-  -- nor where none stands at the others
+  -- nor where none is at the others
   pub behind-nowhere : IsNotBehind handles stands slot noted → IsNowhere handles stands slot
   behind-nowhere behind spot with = elim (cases_lt spot noted) [
     | inl l ↦ unnoted spot with (rw (with.of) at (led spot l with.stands_there))
@@ -128,7 +128,7 @@ module _ (handles : List Handle) (keys : List ℕ) (stands : List Bool) (beside 
       let at_k : (get_or rows k no_handle).slot ≡ slot = ap (λ (h : Handle). h.slot) (get_or_default rows k no_handle d k_within) ∙ same in
       ne (kept-apart handles stands beside apart k place k_within within (at_k ∙ sym (place_in-slot rows slot no_handle within))))) r)
 
-  -- a hole where it stood
+  -- a hole where it was
   pub struck : {X : Type 0} (xs : List X) → length stands ≡ length xs → kept (set stands spot false) xs ≡ remove (kept stands xs) (place_in (kept stands handles) slot)
   struck xs xs_beside =
       kept-hole stands xs spot xs_beside with.stands_there ∙ ap (λ p. remove (kept stands xs) p) (sym (spot-place_in handles stands beside apart slot spot with))
@@ -189,7 +189,7 @@ kept_none spots = record {
 }
 
 module _ (handles : List Handle) (keys : List ℕ) (stands : List Bool) (spots : List ℕ) (rows noted hint_place hint_spot : ℕ) (are : AreKept handles keys stands spots rows noted hint_place hint_spot) where
-  -- a hole more
+  -- one more hole
   pub kept_hole : (spot hint_place' hint_spot' : ℕ) → HasRow stands spot → hint_spot' ≤ length handles → hint_place' ≡ place_at (set stands spot false) hint_spot' → AreKept handles keys (set stands spot false) spots (rows - 1) noted hint_place' hint_spot'
   kept_hole spot hint_place' hint_spot' at near hinted =
       let within = Stands-within stands spot at in
@@ -213,7 +213,7 @@ module _ (handles : List Handle) (keys : List ℕ) (stands : List Bool) (spots :
         hinted = hinted;
       }
 
-  -- a row more, after all spots
+  -- one more row, after all spots
   pub kept_more : (h : Handle) (key : ℕ) → length handles < 2 ^ 32 → h.slot < length spots → times h.slot (slots (kept stands handles)) ≡ 0 → AreKept (handles ++ h ∷ []) (keys ++ key ∷ []) (stands ++ true ∷ []) spots (rows + 1) noted hint_place hint_spot
   kept_more h key few covered absent =
       let long = length-append handles (h ∷ []) in
@@ -336,7 +336,7 @@ room-within n more h k s some within = (omega (arith, some, within), omega (arit
 pub memory-sure : (n rows sure wanted cap cap' : ℕ) → rows ≤ n → sure ≤ wanted → n + sure ≤ cap → min (rows + wanted) cap ≤ cap' → rows + sure ≤ cap'
 memory-sure n rows sure wanted cap cap' few less within kept = omega (arith, few, less, within, kept)
 
--- what is sure to need no memory needs none then, either
+-- what is sure to need no memory needs none then either
 pub room-sure : (n rows sure wanted h k s h' k' s' : ℕ) → rows ≤ n → sure ≤ wanted → sure ≤ spot_room n h k s → min (rows + wanted) h ≤ h' → min (rows + wanted) k ≤ k' → min (rows + wanted) s ≤ s' → sure ≤ spot_room rows h' k' s'
 room-sure n rows sure wanted h k s h' k' s' few less within kept_h kept_k kept_s = elim (cases_eq sure 0) [
   | inl e ↦ rw e (omega arith)
@@ -351,7 +351,7 @@ room-less n h k s = omega arith
 pub room-some : (n h k s : ℕ) → 0 < spot_room n h k s → (n < 2 ^ 32) × (n < h) × (n < k) × (n < s)
 room-some n h k s some = (omega (arith, some), omega (arith, some), omega (arith, some), omega (arith, some))
 
--- what follows from three things, where all is well
+-- what follows from three things, if all is well
 pub OnOk_three : {A E : Type 0} (r : Result A E) (P Q R S : Type 0) → OnOk r P → OnOk r Q → OnOk r R → (P → Q → R → S) → OnOk r S
 OnOk_three (Ok x) P Q R S p q s f = f p q s
 OnOk_three (Err e) P Q R S p q s f = tt

@@ -32,19 +32,19 @@ pub record IsHit (range : Range) (cells : List (Cell Row)) (handles : List Handl
   pub holds : IsIn range (key_at cells (slice_index_or handles spot no_handle))
   pub before : IsMissed range cells handles stands from spot
 
--- the row at the spot has the handle of this slot
+-- the row at the spot has the handle with this slot
 pub record IsSpotWith (handles : List Handle) (stands : List Bool) (slot spot : ℕ) : Type 0 where
   pub stands_there : HasRow stands spot
   pub of : (slice_index_or handles spot no_handle).slot ≡ slot
 
--- no row has the handle of this slot
+-- no row has the handle with this slot
 abbrev pub IsNowhere : List Handle → List Bool → ℕ → Type 0
 IsNowhere handles stands slot = (spot : ℕ) → ¬ IsSpotWith handles stands slot spot
 
--- no row has the handle of this slot and stands where its cell leads
+-- no row has the handle with this slot and is where its cell leads
 abbrev pub IsUnnoted : List Handle → List Bool → List ℕ → ℕ → Type 0
 IsUnnoted handles stands spots slot = (spot : ℕ) → IsSpotWith handles stands slot spot → ¬ LeadsTo spots slot spot
 
--- no row from one spot on has the handle of this slot
+-- no row from one spot on has the handle with this slot
 abbrev pub IsNotBehind : List Handle → List Bool → ℕ → ℕ → Type 0
 IsNotBehind handles stands slot from = (spot : ℕ) → from ≤ spot → ¬ IsSpotWith handles stands slot spot

@@ -8,27 +8,27 @@ use Rattle.crack_arena.specs.Arena.{Handle, times, slots, no_handle}
 unfoldable pub Has : List ℕ → ℕ → Type 0
 Has words number = bit_at (slice_index words (number / 64)) (number % 64) ≡ 1
 
--- there is a bit for each of so many cells, and set are those of the cells that have a handle in the list
+-- there is a bit for each of this many cells, and those of the cells that have a handle in the list are set
 pub record AreMarked (words : List ℕ) (handles : List Handle) (covered : ℕ) : Type 0 where
   pub within : covered ≤ 64 * length words
   pub right : (slot : ℕ) → Has words slot ↔ (0 < times slot (slots handles))
 
--- how many of the first spots are no holes: the place of what stands at the next
+-- how many of the first spots aren't holes: the place of what is at the next
 abbrev pub place_at : List Bool → ℕ → ℕ
 place_at bs zero = 0
 place_at [] (suc n) = 0
 place_at (b ∷ bs) (suc n) = cond b 1 0 + place_at bs n
 
--- a row stands at the spot
+-- a row is at the spot
 abbrev pub HasRow : List Bool → ℕ → Type 0
 HasRow stands spot = slice_index_or stands spot false ≡ true
 
--- the spot of the cell of this slot is known to be this one
+-- the spot of the cell with this slot is known to be this one
 pub record LeadsTo (spots : List ℕ) (slot spot : ℕ) : Type 0 where
   pub covered : slot < length spots
   pub is : slice_index_or spots slot 0 ≡ spot
 
--- the cell of each row at so many of the first spots leads to its spot
+-- the cell of each row at this many of the first spots leads to its spot
 abbrev pub LeadBack : List Handle → List Bool → List ℕ → ℕ → Type 0
 LeadBack handles stands spots noted = (spot : ℕ) → spot < noted → HasRow stands spot → LeadsTo spots (slice_index_or handles spot no_handle).slot spot
 
@@ -37,12 +37,12 @@ abbrev pub StandApart : List Handle → List Bool → Type 0
 StandApart handles stands =
     (j k : ℕ) → HasRow stands j → HasRow stands k → (slice_index_or handles j no_handle).slot ≡ (slice_index_or handles k no_handle).slot → j ≡ k
 
--- each row has a handle of one of so many cells
+-- each row has a handle of one of this many cells
 abbrev pub AreCovered : List Handle → List Bool → ℕ → Type 0
 AreCovered handles stands cells = (spot : ℕ) → HasRow stands spot → (slice_index_or handles spot no_handle).slot < cells
 
--- a key and a mark stand beside each handle, the rows are counted, no two are of one cell, the cells of those at the first spots lead to
--- their spots, and so many rows stand before the spot at which the last row was taken
+-- each handle has a key and a mark beside it, the rows are counted, no two are of one cell, the cells of those at the first spots lead to
+-- their spots, and this many rows are before the spot at which the last row was taken
 pub record AreKept (handles : List Handle) (keys : List ℕ) (stands : List Bool) (spots : List ℕ) (rows noted hint_place hint_spot : ℕ) : Type 0 where
   pub keys_beside : length keys ≡ length handles
   pub stands_beside : length stands ≡ length handles

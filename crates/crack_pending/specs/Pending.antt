@@ -5,7 +5,7 @@ use Rattle.crack_row.specs.declared.Row.{Row}
 use Rattle.crack_arena.specs.Arena.{Cell, Handle, place_in, no_handle}
 use Rattle.crack_arena.specs.Rows.{key_at, RemembersKeys}
 
--- the handles in the order of their arrival, what is remembered of their keys, how many more need no memory, and how many
+-- the handles in order of arrival, what is remembered of their keys, how many more need no memory, and how many
 -- cells, from the first, may have a handle here
 pub record Pending : Type 0 where
   pub handles : List Handle
@@ -18,12 +18,12 @@ abbrev pub StillRemembersKeys : Pending → Pending → Type 0
 StillRemembersKeys old new =
     (cells : List (Cell Row)) → RemembersKeys cells old.handles old.keys → RemembersKeys cells new.handles new.keys
 
--- so does the second where it has one handle more, whose row has this key
+-- so does the second if it has one more handle, whose row has this key
 abbrev pub RemembersOneMore : Handle → ℕ → Pending → Pending → Type 0
 RemembersOneMore handle key old new =
     (cells : List (Cell Row)) → key ≡ key_at cells handle → RemembersKeys cells old.handles old.keys → RemembersKeys cells new.handles new.keys
 
--- once the row of this slot has this key, and all others read as before, the second list remembers its keys rightly
+-- once the row with this slot has this key, and all others read as before, the second list remembers its keys rightly
 abbrev pub RemembersAnew : ℕ → ℕ → Pending → Pending → Type 0
 RemembersAnew slot key old new =
     (cells cells' : List (Cell Row)) → key ≡ key_at cells' (slice_index_or old.handles (place_in old.handles slot) no_handle) → ((h : Handle) → h.slot ≢ slot → key_at cells' h ≡ key_at cells h) → RemembersKeys cells old.handles old.keys → RemembersKeys cells' new.handles new.keys

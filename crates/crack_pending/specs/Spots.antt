@@ -1,7 +1,7 @@
 -- What contracts see of a list of pending rows, which keeps its handles at spots; those of rows that went are holes.
 use Rattle.std.specs.Prelude.{ℕ, ◌-◌, ◌^◌, Bool, cond, List, [], ◌∷◌, min}
 
--- what stands at the spots that are no holes, in order
+-- what is at the spots that aren't holes, in order
 abbrev pub kept : {X : Type 0} → List Bool → List X → List X
 kept (b ∷ bs) (x ∷ xs) = cond b (x ∷ kept bs xs) (kept bs xs)
 kept _ _ = []

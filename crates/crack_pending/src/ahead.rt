@@ -1,4 +1,4 @@
-//! Rows that a pass over codes found ahead of the one that was asked for, so that the next is at hand.
+//! Rows that a pass over codes found ahead of the one that was asked for, so that the next is ready.
 ghost use Rattle.std.specs.Prelude.{◌≡◌, ◌+◌, ◌-◌, ◌<◌, ◌≤◌, ℕ, length, List, [], slice_index};
 ghost use Rattle.std.specs.Prelude.{vec_len, vec_capacity};
 ghost use Rattle.crack_pending.specs.Inside.{Lies};
@@ -12,10 +12,10 @@ use std::alloc::Global;
 /// Read at once, without a branch for each.
 const BLOCK: usize = 32;
 
-/// For how many candidates there is place.
+/// For how many candidates there is room.
 const MOST_AHEAD: usize = 1024;
 
-/// The candidates from one spot up to another: the spots whose codes lie between the two that are sought. Those of the
+/// The candidates from one spot up to another: the spots whose codes lie between the two searched for. Those of the
 /// list before `next` were passed; a row that goes leaves its spot there.
 #[derive(Drop)]
 pub(crate) struct Ahead {
@@ -25,9 +25,9 @@ pub(crate) struct Ahead {
     to: usize,
     candidates: Vec<usize>,
     next: usize,
-    /// Whether the cells of the candidates were read, and how many of them have a row. Nobody asks for the number: it
-    /// is that they are read at once, so that whoever takes the rows doesn't wait for the memory of one cell after the
-    /// other.
+    /// Whether the cells of the candidates were read, and how many of them have a row. Nobody asks for the number: the
+    /// point is that they are read together, so that whoever takes the rows doesn't wait for the memory of one cell
+    /// after the other.
     is_warm: bool,
     live: usize,
 }
@@ -49,7 +49,7 @@ impl Ahead {
         }
     }
 
-    /// Lets all candidates go, and keeps their memory.
+    /// Drops all candidates, and keeps their memory.
     pub(crate) fn forget(&mut self)
         ensures { (codes : List ℕ) → IsAhead codes self.new }
     {
@@ -61,7 +61,7 @@ impl Ahead {
         self.next = 0;
     }
 
-    /// Lets all candidates and their memory go.
+    /// Drops all candidates and their memory.
     pub(crate) fn give_back(&mut self)
         ensures { (codes : List ℕ) → IsAhead codes self.new }
     {
@@ -74,7 +74,7 @@ impl Ahead {
         self.candidates.shrink_to(0);
     }
 
-    /// The first candidate from a spot on; where there is none up to a spot, that one. Where it finds no memory it
+    /// The first candidate from a spot on; if there is none up to a spot, that one. If it finds no memory it
     /// looks no further.
     pub(crate) fn seek(&mut self, codes: &[u16], first: u16, last: u16, start: usize) -> usize
         requires order { first ≤ last }
@@ -90,7 +90,7 @@ impl Ahead {
         self.near()
     }
 
-    /// Begins at a spot where something else is sought, or elsewhere.
+    /// Starts at a spot if something else is searched for, or elsewhere.
     fn turn_to(&mut self, first: u16, last: u16, start: usize)
         requires order { first ≤ last }
         requires low { last < 65535 }
@@ -124,7 +124,7 @@ impl Ahead {
         self.next = first_behind(&self.candidates, self.next, start);
     }
 
-    /// Goes on to the next candidates if all were passed. Where it finds no memory it finds none.
+    /// Goes on to the next candidates if all were passed. If it finds no memory it finds none.
     fn look_on(&mut self, codes: &[u16])
         requires ahead { IsAhead codes.now self.old }
         ensures ahead { IsAhead codes.now self.new }
@@ -165,7 +165,7 @@ impl Ahead {
         self.is_warm = true;
     }
 
-    /// The next candidate; where there is none, the spot up to which there is none.
+    /// The next candidate; if there is none, the spot up to which there is none.
     fn near(&self) -> usize
         ensures { (codes : List ℕ) → IsAhead codes self.now → IsNext codes self.now.first self.now.last
             self.now.from result }
@@ -203,7 +203,7 @@ fn live_cells(candidates: &[usize], handles: &[Handle<Row>], arena: &Arena<Row>)
     live
 }
 
-/// Puts the candidates from one spot up to another behind the others.
+/// Puts the candidates from one spot up to another after the others.
 fn gather_between(
     candidates: &mut Vec<usize>,
     codes: &[u16],

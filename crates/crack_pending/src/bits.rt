@@ -1,4 +1,4 @@
-//! A set of numbers, a bit for each: that of half a million cells stays in the first caches.
+//! A set of numbers, a bit for each: that of half a million cells fits into the first caches.
 ghost use Rattle.std.specs.Prelude.{◌≡◌, ◌≢◌, ◌*◌, ◌<◌, ◌≤◌, ◌↔◌, [], ℕ, length, vec_len, slice_index, IsTrue, IfErr};
 ghost use Rattle.std.specs.Prelude.{OnOk};
 ghost use Rattle.crack_pending.specs.Keeps.{Has};
@@ -10,7 +10,7 @@ use std::marker::Model;
 /// How many numbers have their bits in one word.
 const WORD: usize = 64;
 
-/// For how many words there is place at least, each time that a set grows.
+/// For how many words there is room at least, each time that a set grows.
 const MORE_WORDS: usize = 32;
 
 /// Numbers up to an end that `make_places` moves, each in the set or not.
@@ -37,8 +37,8 @@ impl BitSet {
         }
     }
 
-    /// Makes place for the bits of so many numbers, counted from 0; amortised O(1) for each 64 that are new. Refused
-    /// with 8 alone.
+    /// Makes room for the bits of this many numbers, counted from 0; amortised O(1) for each 64 that are new. Refused
+    /// only with 8.
     pub(crate) fn make_places(&mut self, numbers: usize) -> Result<(), Refusal>
         ensures same { (number : ℕ) → Has self.new number ↔ Has self.old number }
         ensures covered { OnOk result (numbers ≤ 64 * length self.new) }
@@ -75,7 +75,7 @@ impl BitSet {
         self.words[number as usize / WORD] |= 1u64 << (number as usize % WORD);
     }
 
-    /// Takes the number out of the set. O(1).
+    /// Removes the number from the set. O(1).
     #[inline]
     pub(crate) fn strike(&mut self, number: u32)
         requires { number < 64 * length self.old }
@@ -87,7 +87,7 @@ impl BitSet {
     }
 }
 
-/// Puts words without a bit at the end until there are so many, and as many more as their memory holds.
+/// Puts words without bits at the end until there are this many, and as many more as their memory holds.
 #[inline(never)]
 fn lengthen_words(words: &mut Vec<u64>, wanted: usize) -> Result<(), Refusal>
     requires { vec_len words.old < wanted }

@@ -7,8 +7,8 @@ use crate::spots::StoredKey;
 use crack_arena::Handle;
 use crack_row::Row;
 
-/// Closes all holes up: the rows stand in their order without any. No cell leads to the new spots until they are noted.
-/// O(spots), and O(1) where there is no hole.
+/// Closes all holes up: the rows are in their order without any. No cell leads to the new spots until they are noted.
+/// O(spots), and O(1) if there are no holes.
 pub(crate) fn close_up(
     handles: &mut Vec<Handle<Row>>,
     keys: &mut Vec<StoredKey>,
@@ -66,7 +66,7 @@ fn close_up_keys(keys: &mut Vec<StoredKey>, stands: &[bool])
     keys.truncate(low);
 }
 
-/// Marks so many spots, and no more, as those of rows.
+/// Marks this many spots, and no more, as those of rows.
 fn close_up_marks(stands: &mut Vec<bool>, rows: usize)
     requires { rows ≤ vec_len stands.old }
     ensures length { vec_len stands.new ≡ rows }

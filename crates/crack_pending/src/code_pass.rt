@@ -44,7 +44,7 @@ impl Window {
         }
     }
 
-    /// Whether a row of this code may have its key in the range.
+    /// Whether a row with this code may have its key in the range.
     fn may_hold(self, code: u16) -> bool
         requires order { self.first ≤ self.last }
         requires last { self.last < 65535 }
@@ -57,7 +57,7 @@ impl Window {
             || (self.some_unknown && code == self.beyond)
     }
 
-    /// Whether each row of this code has its key in the range.
+    /// Whether each row with this code has its key in the range.
     fn is_inside(self, code: u16) -> bool
         ensures { IsTrue result ↔ ((self.first < code) × (code < self.last)) }
     {
@@ -65,7 +65,7 @@ impl Window {
     }
 }
 
-/// Whether one of a block's codes lies between the two. Found out by one comparison for each code, without a branch.
+/// Whether one of a block's codes lies between the two. Determined by one comparison for each code, without a branch.
 pub(crate) fn any_lies(codes: &[u16], low: u16, last: u16) -> bool
     requires block { length codes.now ≡ 32 }
     requires order { low ≤ last }
@@ -93,7 +93,7 @@ fn may_hit(codes: &[u16], window: Window) -> bool
     window.some_unknown && any_lies(codes, window.beyond, window.beyond)
 }
 
-/// Whether a row stands at the spot and has its key in the range. Reads its key only where the code is that of one of
+/// Whether a row is at the spot and has its key in the range. Reads its key only if the code is that of one of
 /// the range's ends, or of keys that aren't known.
 #[inline(always)]
 pub(crate) fn is_hit(
@@ -128,7 +128,7 @@ pub(crate) fn is_hit(
     range.contains(key_beside(keys[spot], handles[spot], arena))
 }
 
-/// The first spot, of those from one up to another, whose row has its key in the range. Looks at the code of each.
+/// The first spot, from one up to another, whose row has its key in the range. Looks at the code of each.
 fn hit_between(
     handles: &[Handle<Row>],
     keys: &[StoredKey],
@@ -159,8 +159,8 @@ fn hit_between(
     None
 }
 
-/// The first spot of a block, from the one that is given on, whose row has its key in the range.
-/// Looks at each only where one may have it, by the codes alone.
+/// The first spot of a block, from the given one on, whose row has its key in the range.
+/// Looks at each only if one may have it, by the codes alone.
 fn hit_in_block(
     handles: &[Handle<Row>],
     keys: &[StoredKey],
@@ -198,7 +198,7 @@ fn hit_in_block(
     )
 }
 
-/// The first spot at or after `from`, of those that have a code, whose row has its key in a range that isn't empty.
+/// The first spot at or after `from`, among those that have a code, whose row has its key in a non-empty range.
 pub(crate) fn hit_in_codes(
     handles: &[Handle<Row>],
     keys: &[StoredKey],

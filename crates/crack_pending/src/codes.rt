@@ -10,7 +10,7 @@ use crack_row::Row;
 use std::alloc::Global;
 use std::marker::Model;
 
-/// Stands where no row does. It is above all codes.
+/// The code of a spot without a row. It is above all codes.
 pub(crate) const HOLE: u16 = 65535;
 
 /// The code of all keys that are too high for one of their own.
@@ -19,7 +19,7 @@ const GREATEST_CODE: u64 = 65534;
 /// How many bits a code has.
 const CODE_BITS: u32 = 16;
 
-/// How a key is coded: by so many bits fewer of what it is above the base.
+/// How a key is coded: by this many bits fewer of what it is above the base.
 #[derive(Clone, Copy)]
 struct Scale {
     base: StoredKey,
@@ -37,7 +37,7 @@ impl Scale {
 }
 
 /// The codes of the rows at the first spots, and what a pass found ahead. Whatever the scale is, they rise with the
-/// keys. It is chosen by the keys that are there when the first of them is coded.
+/// keys. It is chosen by the keys that exist when the first of them is coded.
 #[derive(Drop)]
 pub(crate) struct Codes {
     codes: Vec<u16>,
@@ -90,7 +90,7 @@ impl Codes {
         self.scale.code(key)
     }
 
-    /// Lets all codes go, and keeps their memory.
+    /// Drops all codes, and keeps their memory.
     pub(crate) fn clear(&mut self)
         ensures { self.new.codes ≡ [] }
     {
@@ -98,7 +98,7 @@ impl Codes {
         self.ahead.forget();
     }
 
-    /// Lets all codes and their memory go.
+    /// Drops all codes and their memory.
     pub(crate) fn give_back(&mut self)
         ensures { self.new.codes ≡ [] }
     {
@@ -107,7 +107,7 @@ impl Codes {
         self.ahead.give_back();
     }
 
-    /// Says that the row at the spot went.
+    /// Notes that the row at the spot went.
     pub(crate) fn leave_hole(&mut self, spot: usize)
         ensures { self.new ≡ record self.old { codes = slice_set self.old.codes spot 65535 } }
     {
@@ -116,7 +116,7 @@ impl Codes {
         }
     }
 
-    /// Says that the row at the spot has another key.
+    /// Notes that the row at the spot has another key.
     pub(crate) fn recode(&mut self, spot: usize, key: StoredKey)
         ensures { self.new ≡ record self.old {
           codes = slice_set self.old.codes spot (code_of self.old.base
@@ -129,8 +129,8 @@ impl Codes {
         }
     }
 
-    /// The first spot, from one on, whose code lies between two; where there is none up to a spot, that one. It passes
-    /// over the codes once for all that are sought one after the other, and looks ahead; where it finds no memory for
+    /// The first spot, from one on, whose code lies between two; if there is none up to a spot, that one. It passes
+    /// over the codes once for all that are searched for in order, and looks ahead; if it finds no memory for
     /// that, it looks no further.
     pub(crate) fn seek(&mut self, first: u16, last: u16, start: usize) -> usize
         requires order { first ≤ last }
@@ -149,7 +149,7 @@ impl Codes {
         self.ahead.warm(handles, arena);
     }
 
-    /// Codes the rows at all spots that have no code yet. O(1) for each of them. Where it finds no memory it codes
+    /// Codes the rows at all spots that have no code yet. O(1) for each of them. If it finds no memory it codes
     /// none.
     #[inline(never)]
     pub(crate) fn catch_up(&mut self, keys: &[StoredKey], stands: &[bool])

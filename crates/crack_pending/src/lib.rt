@@ -1,4 +1,4 @@
-//! The pending insertions and the pending deletions of a partition: handles in the order of their arrival.
+//! The pending insertions and the pending deletions of a partition: handles in order of arrival.
 #![tactic(auto)]
 
 mod ahead;

@@ -16,11 +16,11 @@ use crack_row::{Key, KeyRange, Refusal, Row};
 use std::alloc::Global;
 use std::marker::{Model, PhantomData};
 
-/// Says of a list that its rows are to be inserted.
+/// Marks a list whose rows are to be inserted.
 #[derive(Drop)]
 pub struct Insertions;
 
-/// Says of a list that its rows are to be deleted.
+/// Marks a list whose rows are to be deleted.
 #[derive(Drop)]
 pub struct Deletions;
 
@@ -30,8 +30,8 @@ pub type PendingIn = PendingList<Insertions>;
 /// The rows that wait for a command to take them out of the cracker column.
 pub type PendingOut = PendingList<Deletions>;
 
-/// The handles of pending rows in the order of their arrival (the pending columns of "Updating a Cracked Database",
-/// SIGMOD 2007), each beside the key of its row where that is remembered. No cell has two handles in a list.
+/// The handles of pending rows in order of arrival (the pending columns of "Updating a Cracked Database",
+/// SIGMOD 2007), each beside the key of its row if that is remembered. No cell has two handles in a list.
 /// A row that goes leaves a hole; holes are closed up once there are as many as rows. Places count rows, never holes.
 #[derive(Drop)]
 pub struct PendingList<Kind> {
@@ -65,7 +65,7 @@ impl<Kind> PendingList<Kind> {
         }
     }
 
-    /// States what is true of every list, and does nothing.
+    /// States the invariants of every list, and does nothing.
     pub fn facts(&self)
         ensures once { (slot : ℕ) → times slot (slots self.now.handles) ≤ 1 }
         ensures covered { All (λ h. h.slot < self.now.covered) self.now.handles }
@@ -74,7 +74,7 @@ impl<Kind> PendingList<Kind> {
         self.list.facts();
     }
 
-    /// Makes room for as many pushes; amortised O(1) for each of them. Refused with 8 alone.
+    /// Makes room for as many pushes; amortised O(1) for each of them. Refused only with 8.
     pub fn reserve(&mut self, additional: usize) -> Result<(), Refusal>
         requires { length self.old.handles + additional ≤ 2 ^ 32 }
         ensures same { self.new ≡ record self.old { room = self.new.room } }
@@ -87,9 +87,9 @@ impl<Kind> PendingList<Kind> {
         self.list.reserve(additional)
     }
 
-    /// Gives back memory that holds no row: what is kept is room for half as many rows again as there are, for 8,192 at
-    /// least, and for `room` pushes. O(1) where there are no holes, else O(len). It can't fail: what the allocator
-    /// doesn't take back stays room.
+    /// Frees memory that holds no row: what is kept is room for half as many rows again as there are, for at least
+    /// 8,192, and for `room` pushes. O(1) if there are no holes, else O(len). It can't fail: what the allocator doesn't
+    /// take back remains room.
     pub fn shrink(&mut self, room: usize)
         requires { room ≤ self.old.room }
         ensures same { self.new ≡ record self.old { room = self.new.room } }
@@ -99,7 +99,7 @@ impl<Kind> PendingList<Kind> {
         self.list.shrink(room);
     }
 
-    /// As `shrink` where there is no handle, so that a list that was emptied gives its memory back; else it does
+    /// As `shrink` if there is no handle, so that a list that was emptied frees its memory; else it does
     /// nothing. O(1).
     #[inline(always)]
     pub fn shrink_if_empty(&mut self, room: usize)
@@ -113,8 +113,8 @@ impl<Kind> PendingList<Kind> {
         }
     }
 
-    /// Makes place for the handles of as many cells, counted from the first; amortised O(1) for each that is new.
-    /// Refused with 8 alone.
+    /// Makes room for the handles of as many cells, counted from the first; amortised O(1) for each that is new.
+    /// Refused only with 8.
     pub fn make_places(&mut self, cells: usize) -> Result<(), Refusal>
         ensures same { self.new ≡ record self.old { covered = self.new.covered } }
         ensures covered { OnOk result (cells ≤ self.new.covered) }
@@ -158,7 +158,7 @@ impl<Kind> PendingList<Kind> {
         self.add(handle, key.number());
     }
 
-    /// Puts the handle after all others, with what stands beside it, and marks its cell.
+    /// Puts the handle after all others, with what is beside it, and marks its cell.
     #[inline(always)]
     fn add(&mut self, handle: Handle<Row>, key: StoredKey)
         requires room { 0 < self.old.room }
@@ -176,7 +176,7 @@ impl<Kind> PendingList<Kind> {
         self.list.push(handle, key);
     }
 
-    /// The handle at the place, counted from the first arrival. O(1) where there are no holes, and else one pass over
+    /// The handle at the place, counted from the first arrival. O(1) if there are no holes, and else one pass over
     /// the marks of the spots from where the last row was taken.
     pub fn at(&self, place: usize) -> Handle<Row>
         requires { place < length self.now.handles }
@@ -185,8 +185,8 @@ impl<Kind> PendingList<Kind> {
         self.list.at(place)
     }
 
-    /// Goes on from this place when one is looked for next, so that taking k of i rows at rising places, wherever they
-    /// are struck, costs O(i + k) in all. Contracts see no change.
+    /// Goes on from this place when one is next looked up, so that taking k of i rows at rising places, wherever they
+    /// are struck, costs O(i + k) in total. Contracts see no change.
     pub fn seek(&mut self, place: usize)
         requires { place < length self.old.handles }
         ensures { self.new ≡ self.old }
@@ -194,8 +194,8 @@ impl<Kind> PendingList<Kind> {
         self.list.seek(place);
     }
 
-    /// Takes the handle at the place. It takes no memory; what room there was stays.
-    /// Taking k of i rows at rising places costs O(i + k) in all, and at the first place amortised O(1) each.
+    /// Takes the handle at the place. It takes no memory; the room stays.
+    /// Taking k of i rows at rising places costs O(i + k) in total, and at the first place amortised O(1) each.
     pub fn take(&mut self, place: usize) -> Handle<Row>
         requires { place < length self.old.handles }
         ensures value { StandsAt self.old.handles place result }
@@ -211,8 +211,8 @@ impl<Kind> PendingList<Kind> {
         handle
     }
 
-    /// Takes all rows of a range out, in the order of arrival, and puts their handles after the others of a list that
-    /// has room for them. It takes no memory but for codes; what room there was stays. One pass over the codes or keys,
+    /// Takes all rows of a range out, in order of arrival, and puts their handles after the others of a list that
+    /// has room for them. It takes memory only for codes; the room stays. One pass over the codes or keys,
     /// and O(1) for each row that it takes: no row's place is counted.
     pub fn take_in(&mut self, range: KeyRange, arena: &Arena<Row>, taken: &mut Vec<Handle<Row>>)
         requires keys { RemembersKeys arena.now.cells self.old.handles self.old.keys }
@@ -231,7 +231,7 @@ impl<Kind> PendingList<Kind> {
         strike_from(&mut self.marks, taken, from);
     }
 
-    /// Closes all holes up, so that `at` is O(1) at each place. O(rows and holes); O(1) where there is no hole.
+    /// Closes all holes up, so that `at` is O(1) at each place. O(rows and holes); O(1) if there are no holes.
     pub fn close_up(&mut self)
         ensures same { self.new ≡ record self.old { room = self.new.room } }
         ensures kept { self.old.room ≤ self.new.room }
@@ -240,7 +240,7 @@ impl<Kind> PendingList<Kind> {
         self.list.close_up();
     }
 
-    /// Takes all handles out. It takes no memory; what room there was stays. O(rows and holes).
+    /// Takes all handles out. It takes no memory; the room stays. O(rows and holes).
     pub fn clear(&mut self)
         ensures handles { self.new.handles ≡ [] }
         ensures keys { self.new.keys ≡ [] }
@@ -252,7 +252,7 @@ impl<Kind> PendingList<Kind> {
         self.list.clear();
     }
 
-    /// Whether a handle of the cell of this number is in the list. O(1): it reads the cell's bit alone.
+    /// Whether a handle of the cell with this number is in the list. O(1): it reads only the cell's bit.
     #[inline]
     pub fn contains(&self, slot: u32) -> bool
         ensures { IsTrue result ↔ (0 < times slot (slots self.now.handles)) }
@@ -260,8 +260,8 @@ impl<Kind> PendingList<Kind> {
         self.marks.has(slot)
     }
 
-    /// Takes out the handle of the cell that this one names, wherever it stands. It takes no memory; what room there
-    /// was stays. Amortised O(1), however many rows there are.
+    /// Takes out the handle of the cell that this one names, wherever it is. It takes no memory; the room
+    /// stays. Amortised O(1), however many rows there are.
     pub fn strike(&mut self, handle: Handle<Row>)
         requires { 0 < times handle.slot (slots self.old.handles) }
         ensures handles { self.new.handles ≡ remove self.old.handles (place_in self.old.handles handle.slot) }
@@ -296,7 +296,7 @@ impl<Kind> PendingList<Kind> {
     }
 
     /// The first place at or after `from` whose row has its key in the range; O(1) for each place that it passes,
-    /// without a branch for each key. It looks at a handle only where a key lies in the range, or isn't remembered. A
+    /// without a branch for each key. It looks at a handle only if a key lies in the range, or isn't remembered. A
     /// command that takes rows goes on from where it took the last one, and so passes over the list once.
     pub fn next_in(&self, range: KeyRange, from: usize, arena: &Arena<Row>) -> Option<usize>
         requires { RemembersKeys arena.now.cells self.now.handles self.now.keys }
@@ -305,8 +305,8 @@ impl<Kind> PendingList<Kind> {
         self.list.next_in(range, from, arena)
     }
 
-    /// As `next_in`, and goes on from the place that it finds when one is looked for next: to find a row and then to
-    /// take it is one pass.
+    /// Like `next_in`, but goes on from the place that it finds when one is next looked up: finding a row and then
+    /// taking it is one pass.
     pub fn seek_in(&mut self, range: KeyRange, from: usize, arena: &Arena<Row>) -> Option<usize>
         requires { RemembersKeys arena.now.cells self.old.handles self.old.keys }
         ensures finds { Finds range (keys_at arena.now.cells self.old.handles) from result }
@@ -316,7 +316,7 @@ impl<Kind> PendingList<Kind> {
         self.list.seek_in(range, from, arena)
     }
 
-    /// Codes the keys that have no code yet, where these are many, so that the next passes read 16 bits for each.
+    /// Codes the keys that have no code yet, if these are many, so that the next passes read 16 bits for each.
     /// Amortised O(1) for each push. It can't fail: without memory for codes, passes read keys. Contracts see no
     /// change.
     #[inline]
@@ -326,7 +326,7 @@ impl<Kind> PendingList<Kind> {
         self.list.code_keys();
     }
 
-    /// The first place where the handle stands; none where it stands nowhere. O(1) where there are no holes, else
+    /// The first place where the handle is; none if it is nowhere. O(1) if there are no holes, else
     /// O(len).
     pub fn place_of(&self, handle: Handle<Row>) -> Option<usize>
         ensures { MatchOption result (IsAbsent self.now.handles handle) (IsFirstAt self.now.handles handle) }
@@ -341,7 +341,7 @@ impl<Kind> PendingList<Kind> {
         self.list.len()
     }
 
-    /// Whether there is no handle. O(1).
+    /// Whether there are no handles. O(1).
     pub fn is_empty(&self) -> bool
         ensures { IsTrue result ↔ (length self.now.handles ≡ 0) }
     {
@@ -349,7 +349,7 @@ impl<Kind> PendingList<Kind> {
     }
 }
 
-/// Takes the cells of all handles out of the set. O(rows), where there are no holes.
+/// Removes the cells of all handles from the set. O(rows), if there are no holes.
 fn strike_all(marks: &mut BitSet, list: &SpotList)
     requires { AreMarked marks.old list.now.handles list.now.covered }
     ensures none { (slot : ℕ) → ¬ Has marks.new slot }

@@ -14,7 +14,7 @@ use crack_row::{Key, KeyRange, Row};
 /// Read at once, without a branch for each.
 const BLOCK: usize = 16;
 
-/// What a pass looks for: a key between the two; and whether it has to ask for keys that aren't known.
+/// What a pass looks for: a key between the two; and whether it must ask for keys that aren't known.
 #[derive(Clone, Copy)]
 pub(crate) struct Wanted {
     pub(crate) low: StoredKey,
@@ -22,7 +22,7 @@ pub(crate) struct Wanted {
     pub(crate) some_unknown: bool,
 }
 
-/// Whether one of a block's keys lies between the two. Found out by one comparison for each key, without a branch.
+/// Whether one of a block's keys lies between the two. Determined by one comparison for each key, without a branch.
 fn any_lies(keys: &[StoredKey], low: StoredKey, last: StoredKey) -> bool
     requires block { length keys.now ≡ 16 }
     requires order { low ≤ last }
@@ -62,7 +62,7 @@ fn may_hit(keys: &[StoredKey], wanted: Wanted) -> bool
     wanted.some_unknown && any_unknown(keys)
 }
 
-/// The key of the handle's row, which stands beside it where it is known.
+/// The key of the handle's row, which is beside it if it is known.
 pub(crate) fn key_beside(key: StoredKey, handle: Handle<Row>, arena: &Arena<Row>) -> Key
     requires { (key ≡ unknown) ⊎ (key ≡ key_at arena.now.cells handle) }
     ensures { result.0 ≡ key_at arena.now.cells handle }
@@ -74,7 +74,7 @@ pub(crate) fn key_beside(key: StoredKey, handle: Handle<Row>, arena: &Arena<Row>
     }
 }
 
-/// The first spot, of those from one up to another, whose row has its key in the range. Looks at each.
+/// The first spot, from one up to another, whose row has its key in the range. Looks at each.
 fn hit_between(
     handles: &[Handle<Row>],
     keys: &[StoredKey],
@@ -100,8 +100,8 @@ fn hit_between(
     None
 }
 
-/// The first spot of a block, from the one that is given on, whose row has its key in the range.
-/// Looks at each only where one may have it, by the keys alone.
+/// The first spot of a block, from the given one on, whose row has its key in the range.
+/// Looks at each only if one may have it, by the keys alone.
 fn hit_in_block(
     handles: &[Handle<Row>],
     keys: &[StoredKey],
@@ -129,7 +129,7 @@ fn hit_in_block(
     hit_between(handles, keys, stands, from, from + BLOCK, range, arena)
 }
 
-/// The first spot at or after `from` whose row has its key in a range that isn't empty.
+/// The first spot at or after `from` whose row has its key in a non-empty range.
 fn hit_in_blocks(
     handles: &[Handle<Row>],
     keys: &[StoredKey],
@@ -161,7 +161,7 @@ fn hit_in_blocks(
     hit_between(handles, keys, stands, spot, keys.len(), range, arena)
 }
 
-/// The first spot at or after `from` whose row has its key in the range; whether a key isn't known is asked only where
+/// The first spot at or after `from` whose row has its key in the range; it tests whether a key isn't known only if
 /// some aren't. Reads the codes of the spots that have one, and the keys at the others.
 pub(crate) fn first_hit(
     handles: &[Handle<Row>],
@@ -202,8 +202,8 @@ pub(crate) fn first_hit(
     }
 }
 
-/// As `first_hit`. Where all keys are known it looks ahead in the codes, so that hits that are sought one after the
-/// other cost one pass.
+/// Like `first_hit`. If all keys are known it looks ahead in the codes, so that hits that are searched for one after
+/// the other cost one pass.
 pub(crate) fn next_hit(
     handles: &[Handle<Row>],
     keys: &[StoredKey],

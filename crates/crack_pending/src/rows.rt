@@ -1,11 +1,11 @@
-//! Spots at which a row stands, counted: the place of a row is how many stand before it.
+//! Spots at which a row is, counted: the place of a row is how many are before it.
 ghost use Rattle.std.specs.Prelude.{◌≡◌, ◌+◌, ◌<◌, ◌≤◌, length};
 ghost use Rattle.crack_pending.specs.Keeps.{place_at, HasRow};
 
-/// Counted at once, in 8 bits.
+/// How many are counted at once, in 8 bits.
 const BLOCK: usize = 64;
 
-/// How many rows stand at a few spots.
+/// How many rows are at a few spots.
 fn rows_in_block(stands: &[bool]) -> u8
     requires { length stands.now < 256 }
     ensures { result ≡ place_at stands.now (length stands.now) }
@@ -17,7 +17,7 @@ fn rows_in_block(stands: &[bool]) -> u8
     rows
 }
 
-/// How many rows stand from one spot up to another.
+/// How many rows are from one spot up to another.
 pub(crate) fn rows_between(stands: &[bool], from: usize, to: usize) -> usize
     requires order { from ≤ to }
     requires within { to ≤ length stands.now }
@@ -32,7 +32,7 @@ pub(crate) fn rows_between(stands: &[bool], from: usize, to: usize) -> usize
     rows + rows_in_block(&stands[spot..to]) as usize
 }
 
-/// A spot with so many rows before it, from which it is less than a block to the row at the place; and how many these
+/// A spot with this many rows before it, from which it is less than a block to the row at the place; and how many these
 /// are.
 fn skip_blocks(stands: &[bool], before: usize, from: usize, place: usize) -> (usize, usize)
     requires before { before ≡ place_at stands.now from }
@@ -54,7 +54,7 @@ fn skip_blocks(stands: &[bool], before: usize, from: usize, place: usize) -> (us
     (spot, rows)
 }
 
-/// The spot of the row at the place, from a spot on that has so many rows before it.
+/// The spot of the row at the place, from a spot on that has this many rows before it.
 fn spot_from(stands: &[bool], before: usize, from: usize, place: usize) -> usize
     requires before { before ≡ place_at stands.now from }
     requires order { before ≤ place }
@@ -75,8 +75,8 @@ fn spot_from(stands: &[bool], before: usize, from: usize, place: usize) -> usize
     }
 }
 
-/// The spot of the row at the place. O(1) where there are no holes; else the rows are counted, from the spot that is
-/// given if the place isn't before it.
+/// The spot of the row at the place. O(1) if there are no holes; else the rows are counted, from the given spot
+/// on if the place isn't before it.
 pub(crate) fn spot_of(
     stands: &[bool],
     rows: usize,
@@ -101,8 +101,8 @@ pub(crate) fn spot_of(
     }
 }
 
-/// A spot before which as many rows stand as before the place: the one after the spot that is given, or that spot, if
-/// so many stand before it; else that of the row itself.
+/// A spot with as many rows before it as the place: the one after the given spot, or that spot, if
+/// this many are before it; else that of the row itself.
 pub(crate) fn spot_before(
     stands: &[bool],
     rows: usize,

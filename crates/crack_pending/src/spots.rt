@@ -20,35 +20,35 @@ use crack_row::{GREATEST_KEY, KeyNumber, KeyRange, Refusal, Row};
 use std::alloc::Global;
 use std::marker::Model;
 
-/// What stands beside a handle.
+/// What is beside a handle.
 pub(crate) type StoredKey = KeyNumber;
 
-/// Stands for a key that isn't remembered. A row with this very key is always looked up.
+/// Marks a key that isn't remembered. A row with this very key is always looked up.
 pub(crate) const UNKNOWN: StoredKey = GREATEST_KEY;
 
 /// A spot is numbered by 32 bits.
 const MOST_SPOTS: usize = 4294967296;
 
-/// For how many rows there is room at first, and at least each time that it grows: so large a block of memory is mapped
-/// by itself, so that it grows without being copied, and what isn't used of it takes no memory.
+/// For how many rows there is room at first, and at least each time that it grows: a block of memory of this size is
+/// mapped separately, so that it grows without being copied, and its unused part takes no memory.
 const FIRST_SPOTS: usize = 8192;
 
-/// For how many cells more there is place at least, each time that it grows.
+/// For how many more cells there is room at least, each time that it grows.
 const MORE_PLACES: usize = 2048;
 
-/// At how many spots a pass reads keys, since making codes for so few gains nothing.
+/// For up to this many spots a pass reads keys, since making codes for so few gains nothing.
 const MOST_UNCODED: usize = 64;
 
-/// Handles in the order of their arrival, each at a spot of its own, and holes where rows went. A hole keeps its handle
+/// Handles in order of arrival, each at a spot of its own, and holes where rows went. A hole keeps its handle
 /// and its key, which nobody reads; a mark beside it distinguishes it from a row.
 #[derive(Drop)]
 pub(crate) struct SpotList {
     handles: Vec<Handle<Row>>,
     keys: Vec<StoredKey>,
     codes: Codes,
-    /// Whether a row stands at the spot.
+    /// Whether a row is at the spot.
     stands: Vec<bool>,
-    /// How many rows stand.
+    /// How many rows there are.
     rows: usize,
     /// Of how many of them the key isn't known.
     unknowns: usize,
@@ -56,7 +56,7 @@ pub(crate) struct SpotList {
     spots: Vec<u32>,
     /// How many of the first spots are noted. A push notes none; what needs the spot of a cell first notes all.
     noted: usize,
-    /// How many rows stand before `hint_spot`, from which the next look for a place goes on.
+    /// How many rows are before `hint_spot`, from which the next look-up of a place goes on.
     hint_place: usize,
     hint_spot: usize,
 }
@@ -130,7 +130,7 @@ impl SpotList {
             .saturating_sub(self.handles.len())
     }
 
-    /// Makes room for so many more; where there is room, it looks at no more than that.
+    /// Makes room for this many more; if there is room, it does nothing else.
     #[inline(always)]
     pub(crate) fn reserve(&mut self, additional: usize) -> Result<(), Refusal>
         requires { length self.old.handles + additional ≤ 2 ^ 32 }
@@ -172,7 +172,7 @@ impl SpotList {
         grow(&mut self.handles, &mut self.keys, &mut self.stands, wanted)
     }
 
-    /// Gives back the memory of more spots than a growth would leave room for; so many more rows still need none.
+    /// Frees the memory of more spots than a growth would leave room for; this many more rows still need none.
     #[inline(never)]
     pub(crate) fn shrink(&mut self, room: usize)
         requires { room ≤ self.old.room }
@@ -197,7 +197,7 @@ impl SpotList {
         self.stands.shrink_to(spots);
     }
 
-    /// Makes place for so many cells, and for a mark of each; where there is place, it looks at no more than that.
+    /// Makes room for this many cells, and for a mark of each; if there is room, it does nothing else.
     #[inline(always)]
     pub(crate) fn make_places(&mut self, cells: usize, marks: &mut BitSet) -> Result<(), Refusal>
         requires { self.old.covered ≤ 64 * length marks.old }
@@ -250,7 +250,7 @@ impl SpotList {
         )]
     }
 
-    /// The next look for a place goes on from this one.
+    /// The next look-up of a place goes on from this one.
     pub(crate) fn seek(&mut self, place: usize)
         requires { place < length self.old.handles }
         ensures { self.new ≡ self.old }
@@ -317,7 +317,7 @@ impl SpotList {
         self.close_up_if_sparse();
     }
 
-    /// Takes the rows of a range out, in the order of arrival, and puts their handles after the others of a list.
+    /// Takes the rows of a range out, in order of arrival, and puts their handles after the others of a list.
     pub(crate) fn take_in(
         &mut self,
         range: KeyRange,
@@ -361,7 +361,7 @@ impl SpotList {
         self.close_up();
     }
 
-    /// Closes all holes up. Where there is none, the spots that are noted stay so.
+    /// Closes all holes up. If there are none, the spots that are noted stay so.
     pub(crate) fn close_up(&mut self)
         ensures same { self.new ≡ record self.old { room = self.new.room } }
         ensures kept { self.old.room ≤ self.new.room }
@@ -471,7 +471,7 @@ impl SpotList {
         }
     }
 
-    /// Codes the rows at the spots that have no code yet, where these are many.
+    /// Codes the rows at the spots that have no code yet, if these are many.
     pub(crate) fn code_keys(&mut self)
         ensures { self.new ≡ self.old }
     {
@@ -481,7 +481,7 @@ impl SpotList {
         self.codes.catch_up(&self.keys, &self.stands);
     }
 
-    /// As `next_in`; the next look for a place goes on from the one that is found.
+    /// Like `next_in`; the next look-up of a place goes on from the one that is found.
     pub(crate) fn seek_in(
         &mut self,
         range: KeyRange,
@@ -524,7 +524,7 @@ impl SpotList {
     }
 }
 
-/// Makes room for so many spots more.
+/// Makes room for this many more spots.
 fn grow(
     handles: &mut Vec<Handle<Row>>,
     keys: &mut Vec<StoredKey>,
@@ -548,7 +548,7 @@ fn grow(
     Ok(())
 }
 
-/// Puts zeros at the end until there are so many numbers, and as many more as their memory holds; makes place for a
+/// Puts zeros at the end until there are this many numbers, and as many more as their memory holds; makes room for a
 /// mark of each before.
 #[inline(never)]
 fn lengthen(spots: &mut Vec<u32>, marks: &mut BitSet, cells: usize) -> Result<(), Refusal>
@@ -583,7 +583,7 @@ fn place_of_spot(stands: &[bool], rows: usize, spot: usize) -> usize
     }
 }
 
-/// Of how many rows the key isn't known once the row at the spot has gone. Where all are known, no key is looked at.
+/// Of how many rows the key isn't known after the row at the spot has gone. If all are known, no key is looked at.
 pub(crate) fn unknowns_without(keys: &[StoredKey], unknowns: usize, spot: usize) -> usize
     requires within { spot < length keys.now }
     requires counted { slice_index keys.now spot ≡ unknown → 0 < unknowns }
@@ -599,7 +599,7 @@ pub(crate) fn unknowns_without(keys: &[StoredKey], unknowns: usize, spot: usize)
     }
 }
 
-/// How many rows stand before the hint once the row at the spot has gone.
+/// How many rows are before the hint after the row at the spot has gone.
 fn hint_without(stands: &[bool], hint_place: usize, hint_spot: usize, spot: usize) -> usize
     requires hinted { hint_place ≡ place_at stands.now hint_spot }
     requires stands { HasRow stands.now spot }

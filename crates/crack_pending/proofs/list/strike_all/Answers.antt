@@ -8,7 +8,7 @@ use Rattle.crack_pending.proofs.Members.{Has-within}
 use Rattle.crack_pending.proofs.list.strike_all.Goals as goal
 use Rattle.crack_pending.proofs.list.strike_all.Goals.{After-slot}
 
--- a number that isn't that of the next handle stands after it
+-- a number that isn't that of the next handle is after it
 stands_behind : (n : ℕ) (hs : List Handle) (place : ℕ) → place < length hs → n ≢ (get_or hs place no_handle).slot → 0 < times n (slots (drop place hs)) → 0 < times n (slots (drop (place + 1) hs))
 stands_behind n hs place within apart listed =
     let h = get_or hs place no_handle in
