@@ -39,7 +39,7 @@ AreReplies-push s (x ∷ es) e replies reply = (replies.0, AreReplies-push (afte
 pub BringWithin-push : (keys : Range) (es : List Entry) (e : Entry) → BringWithin keys es → IsWithin keys e.command → BringWithin keys (es ++ e ∷ [])
 BringWithin-push keys es e within new = All-push (λ (x : Entry). IsWithin keys x.command) es e within new
 
--- no row
+-- no rows
 pub IsNumbered-no_rows : IsNumbered no_rows
 IsNumbered-no_rows = record { rising = λ i j d i_lt_j j_lt. omega arith; below = All-nil _ }
 
@@ -86,7 +86,7 @@ pub IsNumbered-replay_from : (s : PlainState) (es : List Entry) → IsNumbered s
 IsNumbered-replay_from s [] numbered = numbered
 IsNumbered-replay_from s (e ∷ es) numbered = IsNumbered-replay_from (after s e.command) es (IsNumbered-after s e.command numbered)
 
--- a reply says that a row was placed where the command places one
+-- a reply says that a row was placed exactly if the command places one
 pub is_placed-reply_to : (s : PlainState) (command : Command) → is_placed (reply_to s command) ≡ places_row (change_of command)
 is_placed-reply_to s (Insert key payload) = refl
 is_placed-reply_to s (Delete serial) = by_row (row_in s.rows serial)
@@ -110,7 +110,7 @@ next-changed s (Some (Place key payload)) = refl
 next-changed s (Some (Remove serial)) = omega arith
 next-changed s (Some (Rewrite serial key payload)) = omega arith
 
--- a change makes at most one row more, and raises the next serial by at most one
+-- a change makes at most one more row, and raises the next serial by at most one
 pub length_rows-changed-le : (s : PlainState) (change : Option Change) → length (changed s change).rows ≤ length s.rows + 1
 length_rows-changed-le s None = omega arith
 length_rows-changed-le s (Some (Place key payload)) = omega (arith, length-append s.rows (record { serial = record { 0 = s.next }; key = key; payload = payload } ∷ []))
@@ -135,7 +135,7 @@ next-replay_from s (e ∷ es) replies =
     let first : inserted (e ∷ es) ≡ (if is_placed (reply_to s e.command) then 1 else 0) + inserted es = inserted-cons e es ∙ ap (λ reply. (if is_placed reply then 1 else 0) + inserted es) replies.0 in
     omega (arith, later, now, first)
 
--- where all rows have another serial, none is taken out and none is found
+-- if all rows have another serial, none is taken out and none is found
 others-all : (serial : ℕ) (rows : List Row) → All (λ (r : Row). serial < r.serial.0) rows → length (filter (is_other serial) rows) ≡ length rows
 others-all serial [] above = refl
 others-all serial (row ∷ rows) above =
@@ -147,7 +147,7 @@ others-all serial (row ∷ rows) above =
     by_test true same above later = absurd (omega (arith, same.0 refl))
     by_test false other above later = ap suc later
 
--- where no row has the serial, a delete and an update of it change nothing
+-- if no row has the serial, a delete and an update of it change nothing
 pub others-same : (serial : ℕ) (rows : List Row) → All (λ (r : Row). r.serial.0 ≢ serial) rows → filter (is_other serial) rows ≡ rows
 others-same serial [] apart = refl
 others-same serial (row ∷ rows) apart =
@@ -166,7 +166,7 @@ replaced-same new (row ∷ rows) apart =
     by_test true same differs later = absurd (differs (same.0 refl))
     by_test false other differs later = ap (λ (rs : List Row). row ∷ rs) later
 
--- one row is taken out where one of the serial is found
+-- one row is taken out if one with the serial is found
 others-length : (serial : Serial) (rows : List Row) → AllPairs (λ (earlier later : Row). earlier.serial.0 < later.serial.0) rows → length (filter (is_other serial.0) rows) + (if is_gone (gone (row_in rows serial)) then 1 else 0) ≡ length rows
 others-length serial [] rising = refl
 others-length serial (row ∷ rows) rising =
@@ -178,7 +178,7 @@ others-length serial (row ∷ rows) rising =
     by_test true same above later = omega (arith, others-all serial.0 rows (subst (λ (n : ℕ). All (λ (r : Row). n < r.serial.0) rows) (same.0 refl) above))
     by_test false other above later = omega (arith, later)
 
--- a row more where one was placed, a row fewer where one went
+-- one more row where one was placed, one row less where one went
 pub length_rows-after : (s : PlainState) (command : Command) → IsNumbered s → length (after s command).rows + (if is_gone (reply_to s command) then 1 else 0) ≡ length s.rows + (if is_placed (reply_to s command) then 1 else 0)
 length_rows-after s (Insert key payload) numbered = omega (arith, length-append s.rows (record { serial = record { 0 = s.next }; key = key; payload = payload } ∷ []))
 length_rows-after s (Delete serial) numbered =

@@ -1,4 +1,4 @@
--- What follows of what a partition lived through, from any base on.
+-- What follows from a partition's past, from any base on.
 use Rattle.std.specs.Prelude.{◌≡◌, ℕ, ◌+◌, ◌<◌, ◌≤◌, List, [], ◌∷◌, length, if◌then◌else◌, pos, ◌-ℤ◌}
 use Rattle.std.proofs.Common.{arith, length-append, ap, refl, sym, ◌∙◌}
 use Rattle.std.proofs.Math.IntN.{+ℤ-neg_ℤ_cancel}
@@ -46,7 +46,7 @@ IsNumbered-after_past past base = IsNumbered-replay_from past.base.state past.ta
 pub next-after_past : (past : Past) → IsBase past.base → AreReplies past.base.state past.tail → (state_after past).next ≡ inserted_in past
 next-after_past past base replies = omega (arith, next-replay_from past.base.state past.tail replies, base.serial)
 
--- the rows are those that were placed, less those that went
+-- the rows are those that were placed, minus those that went
 pub length_rows-after_past : (past : Past) → IsBase past.base → AreReplies past.base.state past.tail → length (state_after past).rows + deleted_in past ≡ inserted_in past
 length_rows-after_past past base replies = omega (arith, length_rows-replay_from past.base.state past.tail base.numbered replies, base.held)
 
@@ -70,7 +70,7 @@ changes-le-accepted (e ∷ es) = by_reply e.reply (inserted-cons e es) (deleted-
     by_reply (Summed sum) placed gone changed later = omega (arith, placed, gone, changed, later)
     by_reply (Rows rows) placed gone changed later = omega (arith, placed, gone, changed, later)
 
--- what a past comes to is a base, and with it in place of its history the past is legal
+-- the result of a past is a base, and with it in place of its history the past is legal
 pub IsBase-after : (past : Past) → IsBase past.base → AreReplies past.base.state past.tail → IsBase (base_after past)
 IsBase-after past base replies = record {
   numbered = IsNumbered-after_past past base;

@@ -1,4 +1,4 @@
--- What a partition lived through: the base that it begins at, and the commands that it answered since.
+-- A partition's past: the base that it begins with, and the commands that it answered since.
 use Rattle.std.specs.Prelude.{◌≡◌, ℕ, ◌+◌, ◌≤◌, List, [], ◌∷◌, ◌++◌, length, All}
 use Rattle.crack_row.specs.Ranges.{Range, IsIn}
 use Rattle.crack_row.specs.declared.Row.{Row}
@@ -7,14 +7,14 @@ use Rattle.crack_row.specs.declared.limit.Limits.{Limits}
 use Rattle.crack_plain.specs.Plain.{PlainState, no_rows, IsNumbered, replay_from, AreReplies, BringWithin}
 use Rattle.crack_plain.specs.Totals.{accepted, inserted, deleted}
 
--- what commands that are kept no more left: the plain rows, how many commands these were, and how many rows they placed and took out
+-- what commands that are no longer kept left: the plain rows, how many commands there were, and how many rows they placed and removed
 pub record Base : Type 0 where
   pub state : PlainState
   pub folded : ℕ
   pub placed : ℕ
   pub gone : ℕ
 
--- a base that commands may leave: its next serial is the number of rows placed, and its rows are those placed, less those gone
+-- a base that commands may leave: its next serial is the number of rows placed, and its rows are those placed, minus those gone
 pub record IsBase (base : Base) : Type 0 where
   pub numbered : IsNumbered base.state
   pub serial : base.state.next ≡ base.placed
@@ -34,7 +34,7 @@ pub record Past : Type 0 where
 abbrev pub no_past : Past
 no_past = record { base = no_base; tail = [] }
 
--- the past with one entry more
+-- the past with one more entry
 abbrev pub with_entry : Past → Entry → Past
 with_entry past entry = record past { tail = past.tail ++ entry ∷ [] }
 
@@ -42,7 +42,7 @@ with_entry past entry = record past { tail = past.tail ++ entry ∷ [] }
 abbrev pub state_after : Past → PlainState
 state_after past = replay_from past.base.state past.tail
 
--- how many commands were accepted since the opening, how many rows were placed, and how many went
+-- how many commands were accepted since the opening, how many rows were placed, and how many were removed
 abbrev pub accepted_in : Past → ℕ
 accepted_in past = past.base.folded + accepted past.tail
 
@@ -52,7 +52,7 @@ inserted_in past = past.base.placed + inserted past.tail
 abbrev pub deleted_in : Past → ℕ
 deleted_in past = past.base.gone + deleted past.tail
 
--- the base that a past comes to: the plain rows that it left, and its totals
+-- the base that results from a past: the plain rows that it left, and its totals
 abbrev pub base_after : Past → Base
 base_after past = record { state = state_after past; folded = accepted_in past; placed = inserted_in past; gone = deleted_in past }
 
@@ -64,7 +64,7 @@ folded past = record { base = base_after past; tail = [] }
 abbrev pub StandWithin : Range → List Row → Type 0
 StandWithin keys rows = All (λ (row : Row). IsIn keys row.key.0) rows
 
--- what a partition of these keys and limits may have lived through: the history's limit is that of the entries since the base, and the life's is that of base
+-- what a partition with these keys and limits may have as its past: the history's limit bounds the entries since the base, and the life's bounds base
 -- and history
 pub record IsLegal (keys : Range) (limits : Limits) (past : Past) : Type 0 where
   pub base : IsBase past.base

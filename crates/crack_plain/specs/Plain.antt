@@ -1,4 +1,4 @@
--- The plain table: rows changed by commands and filtered by ranges, with no piece, handle, pending row, policy or lock.
+-- The plain table: rows changed by commands and filtered by ranges, without pieces, handles, pending rows, policies or locks.
 use Rattle.std.specs.Prelude.{◌≡◌, ℕ, pos, neg_ℤ, ◌<ℤ◌, ◌+◌, ◌<◌, ◌^◌, List, [], ◌∷◌, ◌++◌, length, map, filter, find, fold, count_by, unwrap_or, option_map, All, AllPairs, Option, Some, None, IfSome, Bool, true, false}
 use Rattle.crack_row.specs.Ranges.{Range, IsIn, in_range}
 use Rattle.crack_row.specs.Commands.{change_of, key_of}
@@ -17,12 +17,12 @@ use Rattle.crack_row.specs.declared.command.Reply.{Reply}
 use Rattle.crack_row.specs.declared.command.Reply.TheVariants.{Placed, Gone, Changed, NoRow, Counted, Summed, Rows}
 use Rattle.crack_row.specs.declared.command.Entry.{Entry}
 
--- the rows, in rising serial, and the serial of the next row
+-- the rows, by rising serial, and the serial of the next row
 pub record PlainState : Type 0 where
   pub rows : List Row
   pub next : ℕ
 
--- the start: no row
+-- the start: no rows
 abbrev pub no_rows : PlainState
 no_rows = record { rows = []; next = 0 }
 
@@ -31,7 +31,7 @@ pub record IsNumbered (s : PlainState) : Type 0 where
   pub rising : AllPairs (λ (earlier later : Row). earlier.serial.0 < later.serial.0) s.rows
   pub below : All (λ (row : Row). row.serial.0 < s.next) s.rows
 
--- the row of a serial, if there is one
+-- the row with a serial, if there is one
 abbrev pub row_in : List Row → Serial → Option Row
 row_in rows serial = find (has_serial serial.0) rows
 
@@ -39,7 +39,7 @@ row_in rows serial = find (has_serial serial.0) rows
 abbrev pub rows_in : Range → List Row → List Row
 rows_in range rows = filter (in_range range) rows
 
--- what a command is replied
+-- the reply to a command
 abbrev pub reply_to : PlainState → Command → Reply
 reply_to s (Insert key payload) = Placed (record { 0 = s.next })
 reply_to s (Delete serial) = unwrap_or (option_map Gone (row_in s.rows serial)) NoRow
@@ -48,14 +48,14 @@ reply_to s (Count range) = Counted (count_by (in_range range) s.rows)
 reply_to s (Sum range) = Summed (sum_of (rows_in range s.rows))
 reply_to s (Select range) = Rows (rows_in range s.rows)
 
--- a count is below 2^32, a sum between 2^96 and its opposite, and a list has fewer rows than 2^32
+-- a count is below 2^32, a sum between -2^96 and 2^96, and a list has fewer rows than 2^32
 abbrev pub IsSmall : Reply → Type 0
 IsSmall (Counted count) = count < 2 ^ 32
 IsSmall (Summed sum) = (neg_ℤ (pos (2 ^ 96)) <ℤ sum) × (sum <ℤ pos (2 ^ 96))
 IsSmall (Rows rows) = length rows < 2 ^ 32
 IsSmall _ = Unit {0}
 
--- the state that a change leaves: a row that is placed gets the next serial; the row of a serial goes, or keeps its serial and its
+-- the state that a change leaves: a row that is placed gets the next serial; the row with a serial goes, or keeps its serial and its
 -- place and gets another key and another payload
 abbrev pub changed : PlainState → Option Change → PlainState
 changed s None = s
@@ -72,12 +72,12 @@ abbrev pub places_row : Option Change → Bool
 places_row (Some (Place key payload)) = true
 places_row _ = false
 
--- the command is answered from what is there: no row is placed, and the reply has no list
+-- the command is answered from what exists: no row is placed, and the reply has no list
 pub record TakesNoMemory (s : PlainState) (command : Command) : Type 0 where
   pub places : places_row (change_of command) ≡ false
   pub flat : IsFlat (reply_to s command)
 
--- the reply, and the state afterwards; the policy is no argument
+-- the reply, and the state afterwards; the policy isn't an argument
 abbrev pub answer : PlainState → Command → Reply × PlainState
 answer s command = (reply_to s command, after s command)
 
@@ -90,11 +90,11 @@ abbrev pub AreReplies : PlainState → List Entry → Type 0
 AreReplies s [] = Unit {0}
 AreReplies s (e ∷ es) = (e.reply ≡ reply_to s e.command) × AreReplies (after s e.command) es
 
--- the key that a command brings, if any, is one of these
+-- the key that a command has, if any, is one of these
 abbrev pub IsWithin : Range → Command → Type 0
 IsWithin keys command = IfSome (key_of command) (λ (key : Key). IsIn keys key.0)
 
--- each key that an entry brings is one of these
+-- each key that an entry has is one of these
 abbrev pub BringWithin : Range → List Entry → Type 0
 BringWithin keys entries = All (λ (e : Entry). IsWithin keys e.command) entries
 
@@ -116,6 +116,6 @@ checkpointed table = record { state = table.state; folded = accepted_of table; s
 abbrev pub all_keys : Range
 all_keys = record { low = 0; high = GREATEST_BOUND }
 
--- what stands where, if the rows are taken as a column of one piece: each has a cell, and nothing is pending or free
+-- the layout of the rows as a column of one piece: each has a cell, and nothing is pending or free
 abbrev pub whole_layout : PlainState → Layout
 whole_layout s = record { rows = length s.rows; column = length s.rows; pending_out = 0; pending_in = 0; cells = length s.rows; free = 0; pieces = record { low = record { 0 = 0 }; high = record { 0 = GREATEST_BOUND }; size = length s.rows } ∷ [] }

@@ -9,7 +9,7 @@ abbrev pub is_placed : Reply → Bool
 is_placed (Placed serial) = true
 is_placed _ = false
 
--- whether a row went
+-- whether a row was removed
 abbrev pub is_gone : Reply → Bool
 is_gone (Gone row) = true
 is_gone _ = false
@@ -27,7 +27,7 @@ accepted es = length es
 abbrev pub inserted : List Entry → ℕ
 inserted es = count_by (λ (e : Entry). is_placed e.reply) es
 
--- how many rows went
+-- how many rows were removed
 abbrev pub deleted : List Entry → ℕ
 deleted es = count_by (λ (e : Entry). is_gone e.reply) es
 

@@ -1,4 +1,4 @@
-//! The plain table: what commands mean, by one list of rows, and a slow table that is this list.
+//! The plain table: what commands mean, defined by one list of rows, and a slow table that is this list.
 #![tactic(auto)]
 
 mod list;

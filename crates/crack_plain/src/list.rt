@@ -8,7 +8,7 @@ ghost use Rattle.crack_plain.specs.Inside.{amount_in};
 use crack_row::{KeyRange, Refusal, Row, Serial};
 use std::alloc::Global;
 
-/// The row of this serial, if there is one: O(rows).
+/// The row with this serial, if there is one: O(rows).
 pub(crate) fn row_in(rows: &[Row], serial: Serial) -> Option<Row>
     ensures { result ≡ row_in rows.now serial }
 {
@@ -20,14 +20,14 @@ pub(crate) fn row_in(rows: &[Row], serial: Serial) -> Option<Row>
     None
 }
 
-/// Takes out the row of this serial, if there is one: O(rows).
+/// Removes the row with this serial, if there is one: O(rows).
 pub(crate) fn take_out(rows: &mut Vec<Row>, serial: Serial)
     ensures { rows.new.items ≡ filter (is_other serial.0) rows.old.items }
 {
     rows.retain(|row| row.serial != serial);
 }
 
-/// Puts a row in the place of the one of its serial, if there is one: O(rows).
+/// Replaces the row with the same serial, if there is one, by this row: O(rows).
 pub(crate) fn replace(rows: &mut [Row], new: Row)
     ensures { rows.new ≡ map (replaced new) rows.old }
 {
@@ -36,7 +36,7 @@ pub(crate) fn replace(rows: &mut [Row], new: Row)
     }
 }
 
-/// A row, unless it has the serial of the first: that stands in its place.
+/// A row, or the new one if both have the same serial.
 fn replaced(new: Row, row: Row) -> Row
     ensures { result ≡ replaced new row }
 {
@@ -64,7 +64,7 @@ pub(crate) fn sum_in(rows: &[Row], range: KeyRange) -> i128
     sum
 }
 
-/// What a row adds to the sum of a range: its payload, where its key is in the range.
+/// What a row adds to the sum of a range: its payload, if its key is in the range.
 fn amount_in(range: KeyRange, row: Row) -> i128
     ensures value { result ≡ amount_in range row }
     ensures least { neg_ℤ (pos farthest_amount) ≤ℤ result }
@@ -77,7 +77,7 @@ fn amount_in(range: KeyRange, row: Row) -> i128
     }
 }
 
-/// The rows whose key is in the range: O(rows). Refused with 8 where it finds no memory.
+/// The rows whose key is in the range: O(rows). Refused with 8 if it finds no memory.
 pub(crate) fn rows_in(alloc: Global, rows: &[Row], range: KeyRange) -> Result<Vec<Row>, Refusal>
     ensures ok { IfOk result (λ listed. listed.items ≡ rows_in range rows.now) }
     ensures small { IfOk result (λ listed. length listed.items ≤ length rows.now) }

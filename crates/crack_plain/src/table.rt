@@ -14,7 +14,7 @@ use crack_row::{
 use std::alloc::Global;
 use std::marker::Model;
 
-/// A slow table: a list of rows, and no more. Contracts see its plain state, how many commands it accepted up to its
+/// A slow table: only a list of rows. Contracts see its plain state, how many commands it accepted up to its
 /// last checkpoint, and how many since.
 #[derive(Drop)]
 pub struct PlainTable {
@@ -56,7 +56,7 @@ impl PlainTable {
         }
     }
 
-    /// The rows, in rising serial.
+    /// The rows, by rising serial.
     pub fn rows(&self) -> &[Row]
         ensures value { result.now ≡ self.now.state.rows }
         ensures numbered { IsNumbered self.now.state }
@@ -65,7 +65,7 @@ impl PlainTable {
         self.rows.as_slice()
     }
 
-    /// How many commands it accepted since it was made, whatever checkpoints came between.
+    /// How many commands it accepted since it was made, whatever checkpoints were made in between.
     pub fn accepted(&self) -> u64
         ensures value { result ≡ accepted_of self.now }
         ensures bounded { accepted_of self.now ≤ 4294967295 }
@@ -73,7 +73,7 @@ impl PlainTable {
         self.folded + self.since
     }
 
-    /// How many commands it accepted since its last checkpoint, which this one is from now on. O(1); no row changes.
+    /// How many commands it accepted since its last checkpoint. The next count starts here. O(1); no row changes.
     pub fn checkpoint(&mut self) -> u64
         ensures since { result ≡ self.old.since }
         ensures folded { self.new ≡ checkpointed self.old }
@@ -84,7 +84,7 @@ impl PlainTable {
         since
     }
 
-    /// What stands where, if the rows are taken as a column of one piece: O(1). Refused with 8 where it finds no
+    /// The layout of a column of one piece that has these rows: O(1). Refused with 8 if it finds no
     /// memory.
     pub fn whole_layout(&self) -> Result<Layout, Refusal>
         ensures ok { IfOk result (λ layout. layout ≡ whole_layout self.now.state) }
@@ -110,7 +110,7 @@ impl PlainTable {
     }
 
     /// Answers one command. An insert is O(1), all else O(rows).
-    /// Refused with 8 where an insert or a select finds no memory, and with 6 once `MOST_ACCEPTED` commands were
+    /// Refused with 8 if an insert or a select finds no memory, and with 6 once `MOST_ACCEPTED` commands were
     /// accepted.
     pub fn apply(&mut self, command: &Command) -> Result<Reply, Refusal>
         ensures reply { IfOk result (λ reply. reply ≡ (answer self.old.state command.now).0) }
@@ -133,7 +133,7 @@ impl PlainTable {
         Ok(reply)
     }
 
-    /// What the command is replied: O(rows). Refused with 8 where a list finds no memory.
+    /// The reply to the command: O(rows). Refused with 8 if a list finds no memory.
     fn reply_to(&self, command: &Command) -> Result<Reply, Refusal>
         ensures reply { IfOk result (λ reply. reply ≡ reply_to self.now.state command.now) }
         ensures small { IfOk result IsSmall }
@@ -161,7 +161,7 @@ impl PlainTable {
     }
 }
 
-/// Makes a change of the rows, if there is one: O(rows), and O(1) for a row more. Refused with 8 where a row more
+/// Makes a change of the rows, if there is one: O(rows), and O(1) for one more row. Refused with 8 if one more row
 /// finds no memory.
 fn change_rows(rows: &mut Vec<Row>, next: &mut u64, change: Option<Change>) -> Result<(), Refusal>
     requires small { next.old + 1 < 2 ^ 64 }
