@@ -23,7 +23,7 @@ use Rattle.crack_ripple.specs.Near.{pieces_of, MovesNear}
 use Rattle.crack_ripple.proofs.EdgeLaws.{IsRangeOf, IsRangeOf-follows, high_within, StaysOutside, StaysOutside-same, StaysOutside-trans, StaysOutside-appended}
 use Rattle.crack_ripple.proofs.Rippling.{pieces_ahead-few, Ripples, Ripples-refl, Ripples-pushed_on}
 
--- the row that stood first after the range was evicted, and the range's end has moved up
+-- the row that was first after the range was evicted, and the range's end has moved up
 pub record EvictsOne (s t : State) (r : Range) (i : ℕ) : Type 0 where
   pub evicted : Handle
   pub pending_in : t.pending_in ≡ remove s.pending_in i ++ evicted ∷ []

@@ -1,4 +1,4 @@
--- Where the ends of a range stand, and what stands where it stood, while rows of the range are put in.
+-- Where the ends of a range are, and what stays in its place, while rows of the range are put in.
 use Rattle.std.proofs.Common.{◌≡◌, ◌⊎◌, ℕ, ◌+◌, ◌<◌, ◌≤◌, List, length, get_or, set, Option, Some, None, refl, ap, inl, inr, arith, ◌-◌, [], ◌∷◌, ◌++◌, take, drop, sym, ◌∙◌, length-append, length-set}
 use Rattle.std.proofs.lemmas.Bool.{cases_lt, lt-leb, le-leb}
 use Rattle.std.proofs.lemmas.List.{length-map, map-set, map-append, get_or-map, get_or-drop, take-append-le, take-set-le, drop-set-lt, drop-drop, drop_all}
@@ -21,7 +21,7 @@ use Rattle.crack_state.proofs.SettledLaws.{edge-divides}
 use Rattle.crack_state.proofs.FollowLaws.{Follows-pushed_on, Follows-appended}
 use Rattle.crack_state.proofs.StepLaws.{IsIntact-pushed_on, IsIntact-appended}
 
--- the range lies in the store's keys, isn't empty, and both of its ends stand
+-- the range lies in the store's keys, isn't empty, and both of its ends are in the index or lie outside
 pub record IsRangeOf (s : State) (r : Range) : Type 0 where
   pub some : r.low < r.high
   pub low : s.keys.low ≤ r.low
@@ -43,7 +43,7 @@ low_divides s hand r of intact = edge-divides s hand r.low intact of.low (omega 
 pub high_divides : (s : State) (hand : List Handle) (r : Range) → IsRangeOf s r → IsIntact s hand → IsDividedAt r.high (column_keys s) (edge s r.high)
 high_divides s hand r of intact = edge-divides s hand r.high intact (omega (arith, of.some, of.low)) of.high of.cracked.1
 
--- both stand in the column, or at its end
+-- both are in the column, or at its end
 pub low_within : (s : State) (hand : List Handle) (r : Range) → IsRangeOf s r → IsIntact s hand → edge s r.low ≤ length s.column
 low_within s hand r of intact = omega (arith, (low_divides s hand r of intact).within, length-map s.column (key_at s.cells))
 
@@ -95,7 +95,7 @@ set_between low high keys e e' f f' p x within above below behind before low_was
 }
 
 -- the column is the same before the place of the range's low end, which stays, and from that of its high end on, which doesn't fall; it
--- grows only where the range ends it
+-- grows only if the range ends it
 pub record StaysOutside (s t : State) (r : Range) : Type 0 where
   pub low : edge t r.low ≡ edge s r.low
   pub rises : edge s r.high ≤ edge t r.high
@@ -105,7 +105,7 @@ pub record StaysOutside (s t : State) (r : Range) : Type 0 where
   pub before : take (edge s r.low) t.column ≡ take (edge s r.low) s.column
   pub behind : drop (edge t r.high) t.column ≡ drop (edge t r.high) s.column
 
--- where keys, column and marks are the same
+-- if keys, column and marks are the same
 pub StaysOutside-same : (s t : State) (r : Range) → t ≡ record t { keys = s.keys; column = s.column; marks = s.marks } → edge s r.high ≤ length s.column → StaysOutside s t r
 StaysOutside-same s t r same within = rw same (record { low = refl; rises = omega arith; within = within; grows = omega arith; long = λ _. refl; before = refl; behind = refl })
 
@@ -126,7 +126,7 @@ StaysOutside-trans s t u r a b = record {
   behind = b.behind ∙ drop_later t.column s.column (edge t r.high) (edge u r.high) b.rises a.behind;
 }
 
--- a `push_on` puts the hand inside the range, and where it meets a row after it, the range's end moves up
+-- a `push_on` puts the hand inside the range, and if it meets a row after it, the range's end moves up
 pub record PushesInside (c : Carried) (r : Range) : Type 0 where
   pub stays : StaysOutside c.store (pushed_on c).store r
   pub same : hand_key (pushed_on c) < r.high → edge (pushed_on c).store r.high ≡ edge c.store r.high
@@ -161,7 +161,7 @@ module _ (c : Carried) (r : Range) (of : IsRangeOf c.store r) (intact : IsIntact
         met = λ more. elim moved.high [ inl is ↦ absurd (omega (arith, more, there, high.below p is.0)) | inr is ↦ (is.0, is.1) ];
       }
 
-  -- an `append` comes where the range ends the column, and its end moves up
+  -- an `append` comes if the range ends the column, and its end moves up
   pub StaysOutside-appended : piece_end c.store (hand_key c) ≡ length c.store.column → StaysOutside c.store (appended c) r
   StaysOutside-appended ends =
       let s = c.store in
@@ -193,7 +193,7 @@ length-StaysOutside s t r stays = elim (cases_lt (edge t r.high) (length t.colum
   | inr l ↦ omega (arith, l, stays.within) ∙ sym (max-eq_right (omega (arith, l, stays.within, stays.grows)))
 ]
 
--- the row at the place of the range's end stood there before
+-- the row at the place of the range's end was there before
 pub row_at_end : (s t : State) (r : Range) (d : Handle) → StaysOutside s t r → get_or t.column (edge t r.high) d ≡ get_or s.column (edge t r.high) d
 row_at_end s t r d stays = first_of t.column (edge t r.high) ∙ ap (λ hs. get_or hs 0 d) stays.behind ∙ sym (first_of s.column (edge t r.high))
   where

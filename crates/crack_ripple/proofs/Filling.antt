@@ -1,4 +1,4 @@
--- What the pulls of a range do whose places fillers take.
+-- What the pulls of a range do if fillers take its places.
 use Rattle.std.proofs.Common.{◌≡◌, ℕ, ◌+◌, ◌-◌, ◌<◌, ◌≤◌, List, [], ◌∷◌, ◌++◌, length, get_or, take, drop, Some, refl, sym, ap, ◌∙◌, inl, inr, arith, length-append}
 use Rattle.std.specs.Prelude.{not}
 use Rattle.std.proofs.Math.Nat.{min-le_left, min-le_right, le-min}
@@ -46,7 +46,7 @@ module _ (s : State) (r : Range) (of : IsRangeOf s r) (intact : IsIntact s []) w
       let was : get_or (column_keys s) k 0 ≡ key_at s.cells (get_or s.column k d) = get_or-map (key_at s.cells) s.column k d 0 less in
       omega (arith, high, was, key, ap (key_at s.cells) there)
 
-  -- a bound at or below the key of a filler stands at that place or before it
+  -- a bound at or below the key of a filler is at that place or before it
   stands_before : (t : State) → IsIntact t [] → Follows s t → StaysBehind t → (key : ℕ) → key < bound_above s r.high → (k : ℕ) (d : Mark) → k < length t.marks → (get_or t.marks k d).bound.0 ≤ key → (get_or t.marks k d).position ≤ edge s r.high
   stands_before t now follows stays key below k d listed at_or_below =
       let m = get_or t.marks k d in

@@ -1,4 +1,4 @@
--- What a ripple merge has done where it ends.
+-- What a ripple merge has done when it ends.
 use Rattle.std.proofs.Common.{◌≡◌, ℕ, ◌+◌, ◌*◌, ◌<◌, ◌≤◌, cond, List, [], ◌++◌, length, get_or, take, drop, Some, ap, ◌∙◌, inl, inr, arith, mul-le-mul_right}
 use Rattle.std.proofs.Math.Nat.{min-le_right, le-min}
 use Rattle.std.specs.List.{All}
@@ -29,7 +29,7 @@ use Rattle.crack_ripple.proofs.EdgeLaws.{IsRangeOf, IsRangeOf-follows}
 use Rattle.crack_ripple.proofs.Filling.{LosesFirst-pulled, long-pulled, HadEach-pulled, StaysBehind-PullsOut}
 use Rattle.crack_ripple.proofs.Putting.{StopsIn, StopsIn-PutsNear, Fills-none, SomeOf-without, All-SomeOf, behind_range, PutsNear-CarriesIn, PutsNear-room, PutsInNear-all}
 
--- all that a call that puts in has to say
+-- all that a call that puts in must say
 pub record PutIn (s t : State) (r : Range) : Type 0 where
   pub near : PutsInNear s t r
   pub tallies : Tallies Ripple s t
@@ -41,14 +41,14 @@ PutIn-carried s t r of intact all =
     let was = PutsNear-CarriesIn s r of intact all.from t all.carries in
     record { near = PutsInNear-all s r of intact all.from t was all.none; tallies = was.puts.advances.tallies; moves = was.moves; few = was.puts.few }
 
--- all that it has to say where it is refused
+-- all that it must say if it is refused
 pub StopsIn-carried : (s t : State) (r : Range) → IsRangeOf s r → IsIntact s [] → CarriesSome (Some r.high) r s t → StopsIn s t r
 StopsIn-carried s t r of intact part =
     let was = PutsNear-CarriesIn s r of intact part.from part.last part.carries in
     let now = PutsNear-room s part.last t r part.from part.room was in
     StopsIn-PutsNear s r of intact part.from t now
 
--- all that the whole has to say where no memory is found for a filler: what was put in stays
+-- all that the whole must say if no memory is found for a filler: what was put in stays
 pub StopsIn-filled : (s m t : State) (r : Range) → PutIn s m r → SameButRoom m t → StopsIn s t r
 StopsIn-filled s m t r was room =
     let puts = was.near in
@@ -77,7 +77,7 @@ StopsIn-filled s m t r was room =
       few = omega (arith, was.few, ap length same_in, ap length same_out);
     }
 
--- all that a call that takes out has to say
+-- all that a call that takes out must say
 pub record TakenOut (s t : State) (r : Range) : Type 0 where
   pub near : TakesOutNear s t r
   pub tallies : Tallies Ripple s t
@@ -130,7 +130,7 @@ TakenOut-made s v t r of intact room all =
     let follows = Follows-room s v room in
     TakenOut-room s v t r room (TakenOut-pulled v t r (IsRangeOf-follows s v r follows of) (IsIntact-room s v [] room intact) (rw (beyond-follows s v r follows) all))
 
--- where a search finds a row of the range, not all are outside it, and some are in it
+-- if a search finds a row of the range, not all are outside it, and some are in it
 module _ (s : State) (r : Range) (hs : List Handle) (from place : ℕ) (found : Finds r (keys_at s.cells hs) from (Some place)) where
   found_there : place < length hs
   found_there = omega (arith, found.within, length-map hs (key_at s.cells))

@@ -92,13 +92,13 @@ MovesNear-trans s t u r same before a b = λ exact.
     let second = rw same at (b exact) in
     omega arith
 
--- of the rows that were evicted, which are of those after the range, none stands after where the range's end has moved to
+-- of the rows that were evicted, which are of those after the range, none is after where the range's end has moved to
 pub record EvictsUpTo (s t : State) (r : Range) (evicted : List Handle) : Type 0 where
   pub count : ℕ
   pub before : edge s r.high + count ≤ edge t r.high
   pub some : SomeOf evicted (take count (drop (edge s r.high) s.column))
 
--- all that a call has to say that puts in, where it is refused
+-- all that a call must say that puts in, if it is refused
 pub record StopsIn (s t : State) (r : Range) : Type 0 where
   pub stops : Stops Ripple s t r
   pub unfilled : EvictsFirst s r t.pending_in

@@ -24,7 +24,7 @@ use Rattle.crack_ripple.proofs.EdgeLaws.{IsRangeOf, StaysOutside, StaysOutside-s
 abbrev pub bounds_between : ℕ → ℕ → List ℕ → ℕ
 bounds_between low high bounds = count_by (λ bound. ltb low bound && ltb bound high) bounds
 
--- how many of the pieces up to an end a key has still to leave: none where it is after the end
+-- how many of the pieces up to an end a key has still to leave: none if it is after the end
 abbrev pub pieces_ahead : ℕ → ℕ → List ℕ → ℕ
 pieces_ahead key high bounds = cond (ltb key high) (bounds_between key high bounds + 1) 0
 
@@ -60,7 +60,7 @@ pieces_ahead-few low key high bounds order = elim (cases_lt key high) [
   | inr l ↦ rw (le-ltb key high l) (omega arith)
 ]
 
--- the hand is the row that stood first after the range, whose end has moved up
+-- the hand is the row that was first after the range, whose end has moved up
 pub record MetBehind (b c : Carried) (r : Range) : Type 0 where
   pub within : edge b.store r.high < length b.store.column
   pub up : edge b.store r.high < edge c.store r.high

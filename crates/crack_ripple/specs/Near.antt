@@ -1,4 +1,4 @@
--- What ripple leaves where it stands, and what it counts.
+-- What ripple leaves unchanged, and what it counts.
 use Rattle.std.specs.Prelude.{◌≡◌, ℕ, ◌+◌, ◌*◌, ◌≤◌, ◌&&◌, nat_lt, max, min, length, take, drop, count_by, []}
 use Rattle.crack_row.specs.Ranges.{Range}
 use Rattle.crack_index.specs.Marks.{bounds_of}
@@ -6,7 +6,7 @@ use Rattle.crack_state.specs.State.{State, IsIntact}
 use Rattle.crack_state.specs.Merge.{Follows, StillReads, SomeOf, Evicts, LosesFirst, IsExact, beyond, edge, outside_of, count_inside}
 
 -- the pending insertions of a range are put in, near it: the column is the same before the range's low end, and from the place of its high
--- end on, where that place is after the rows were put in; the rows that made way after the range are evicted, or buried where they were
+-- end on, where that place is after the rows were put in; the rows that made way after the range are evicted, or buried if they were
 -- doomed, of which there are no more than pending insertions in the range; and the column is no longer than it was, unless the range ends it
 pub record PutsInNear (s t : State) (r : Range) : Type 0 where
   pub follows : Follows s t
@@ -23,8 +23,8 @@ pub record PutsInNear (s t : State) (r : Range) : Type 0 where
 abbrev pub fillers_of : State → Range → ℕ
 fillers_of s r = min (count_inside s.cells (beyond s r) s.pending_in) (count_inside s.cells r s.pending_out)
 
--- the pending deletions of a range are taken out, and no other; the fillers, which are the first, go from the pending insertions, and the column
--- is shorter by one for each row that had none; where each had one, the column is the same from the place of the range's high end on
+-- the pending deletions of a range are taken out, and no others; the fillers, which are the first, leave the pending insertions, and the column
+-- is shorter by one for each row that had none; if each had one, the column is the same from the place of the range's high end on
 pub record TakesOutNear (s t : State) (r : Range) : Type 0 where
   pub follows : Follows s t
   pub intact : IsIntact t []
@@ -34,7 +34,7 @@ pub record TakesOutNear (s t : State) (r : Range) : Type 0 where
   pub long : length t.column + length s.pending_out ≡ length s.column + length t.pending_out + fillers_of s r
   pub behind : fillers_of s r ≡ count_inside s.cells r s.pending_out → drop (edge s r.high) t.column ≡ drop (edge s r.high) s.column
 
--- near: first the pending insertions of the range are put in, and then the pending deletions of the range that are left are taken out
+-- near: first the pending insertions of the range are put in, and then the remaining pending deletions of the range are taken out
 pub record MergesNear (s t : State) (r : Range) : Type 0 where
   pub filled : State
   pub puts_in : PutsInNear s filled r
@@ -44,6 +44,6 @@ pub record MergesNear (s t : State) (r : Range) : Type 0 where
 abbrev pub pieces_of : State → Range → ℕ
 pieces_of s r = count_by (λ bound. nat_lt r.low bound && nat_lt bound r.high) (bounds_of s.marks) + 1
 
--- where every counter is exact, each row that was put in has moved at most as many rows as the range has pieces
+-- if every counter is exact, each row that was put in has moved at most as many rows as the range has pieces
 abbrev pub MovesNear : State → State → Range → Type 0
 MovesNear s t r = IsExact t.tally → t.tally.moved + s.tally.put_in * pieces_of s r ≤ s.tally.moved + t.tally.put_in * pieces_of s r
