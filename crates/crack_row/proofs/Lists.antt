@@ -52,7 +52,7 @@ filter_is : {X : Type 0} (test : X → Bool) (xs : List X) → filter test xs �
 filter_is test [] = refl
 filter_is test (x ∷ xs) = rw (← filter_is test xs) (kept_first (test x) x (filter test xs))
 
--- where all elements pass, none goes
+-- if all elements pass, none goes
 pub filter_all : {X : Type 0} (test : X → Bool) (xs : List X) → All (λ x. test x ≡ true) xs → filter test xs ≡ xs
 filter_all test [] all = refl
 filter_all test (x ∷ xs) all = rw (All-head (λ y. test y ≡ true) x xs all, filter_all test xs (All-tail (λ y. test y ≡ true) x xs all)) refl
@@ -84,7 +84,7 @@ Contains-either {X} x xs y there = by_place there.0 there.1 there.2
     by_place zero within is = inl (sym is)
     by_place (suc k) within is = inr (k, omega (arith, within), is)
 
--- a list in which one element alone passes has it found
+-- a search of a list in which one element alone passes finds it
 pub find_only : {X : Type 0} (test : X → Bool) (x : X) (xs : List X) → Contains xs x → test x ≡ true → All (λ y. test y ≡ true → y ≡ x) xs → find test xs ≡ Some x
 find_only test x [] there passes only = absurd (omega (arith, there.1))
 find_only {X} test x (y ∷ ys) there passes only =
@@ -110,7 +110,7 @@ length-removed [] i = omega arith
 length-removed (x ∷ xs) zero = omega arith
 length-removed (x ∷ xs) (suc i) = omega (arith, length-removed xs i)
 
--- one number more
+-- one more number
 pub range_with_len-more : (a n : ℕ) → range_with_len a (suc n) ≡ range_with_len a n ++ (a + n) ∷ []
 range_with_len-more a zero = rw add-zero refl
 range_with_len-more a (suc n) =
@@ -142,7 +142,7 @@ module _ {X Y : Type 0} (f : X → Option Y) where
   exchanged (x ∷ xs) (suc i) zero d i_in j_in = exchanged_first x xs i d (omega arith)
   exchanged (x ∷ xs) (suc i) (suc j) d i_in j_in = behind (f x) _ _ (exchanged xs i j d (omega arith) (omega arith))
 
-  -- what is given of permutations are permutations
+  -- mapped permutations are permutations
   pub IsPermutation-filter_map : (xs ys : List X) → IsPermutation xs ys → IsPermutation (filter_map f xs) (filter_map f ys)
   IsPermutation-filter_map [] [] same = IsPermutation-refl []
   IsPermutation-filter_map [] (y ∷ ys) same = absurd (omega (arith, length_permutation [] (y ∷ ys) same))

@@ -1,4 +1,4 @@
--- Laws of the whole numbers that the elements of lists come to.
+-- Laws of the sums of integers that the elements of lists give.
 use Rattle.std.proofs.Common.{◌≡◌, ℕ, ◌+◌, ◌*◌, ℤ, pos, negsuc, ◌+ℤ◌, neg_ℤ, ◌≤ℤ◌, map, List, [], ◌∷◌, ◌++◌, length, fold, refl, ◌∙◌, arith, Bool, filter, cond, inl, inr}
 use Rattle.std.specs.List.{All, sum_by}
 use Rattle.std.specs.List.Sorted.{IsPermutation}
@@ -18,14 +18,14 @@ module _ {X : Type 0} (number : X → ℤ) where
   total_from first [] = omega (arith, ints)
   total_from first (x ∷ xs) = omega (arith, ints, total_from (first +ℤ number x) xs, total_from (pos 0 +ℤ number x) xs)
 
-  -- of one element more, before the others and after them
+  -- with one more element, before the others and after them
   pub total_by-cons : (x : X) (xs : List X) → total_by number (x ∷ xs) ≡ number x +ℤ total_by number xs
   total_by-cons x xs = omega (arith, ints, total_from (pos 0 +ℤ number x) xs)
 
   pub total_by-append : (xs ys : List X) → total_by number (xs ++ ys) ≡ total_by number xs +ℤ total_by number ys
   total_by-append xs ys = fold-append adding (pos 0) xs ys ∙ total_from (total_by number xs) ys
 
-  -- where each is between a number and its opposite, so is the total between as many of them
+  -- if each is between a number and its negative, so is the total between as many of them
   pub total_by-least : (greatest : ℕ) (xs : List X) → All (λ x. neg_ℤ (pos greatest) ≤ℤ number x) xs → neg_ℤ (pos (length xs * greatest)) ≤ℤ total_by number xs
   total_by-least greatest [] all = omega (arith, ints)
   total_by-least greatest (x ∷ xs) all =
@@ -40,7 +40,7 @@ module _ {X : Type 0} (number : X → ℤ) where
       let rest = total_by-most greatest xs (All-tail (λ y. number y ≤ℤ pos greatest) x xs all) in
       omega (arith, ints, first, rest, total_by-cons x xs)
 
--- what a whole number adds, and what it takes away
+-- what an integer adds, and what it takes away
 abbrev gained : ℤ → ℕ
 gained (pos n) = n
 gained (negsuc n) = 0
@@ -63,17 +63,17 @@ module _ {X : Type 0} (number : X → ℤ) where
   total_by-parts (x ∷ xs) =
       omega (arith, ints, total_by-cons number x xs, total_by-parts xs, gained-lost (number x), sum_by-cons (λ y. gained (number y)) x xs, sum_by-cons (λ y. lost (number y)) x xs)
 
-  -- the order of the elements is nothing to it
+  -- the order of the elements doesn't matter
   pub total_by-permutation : (xs ys : List X) → IsPermutation xs ys → total_by number ys ≡ total_by number xs
   total_by-permutation xs ys same =
       omega (arith, ints, total_by-parts xs, total_by-parts ys, sum_by-IsPermutation (λ x. gained (number x)) xs ys same, sum_by-IsPermutation (λ x. lost (number x)) xs ys same)
 
--- what is read off one list comes to what is read off the other
+-- what is read from one list has the total of what is read from the other
 pub total_by-map : {X Y : Type 0} (number : Y → ℤ) (g : X → Y) (xs : List X) → total_by number (map g xs) ≡ total_by (λ x. number (g x)) xs
 total_by-map number g [] = refl
 total_by-map number g (x ∷ xs) = omega (arith, ints, total_by-cons number (g x) (map g xs), total_by-cons (λ y. number (g y)) x xs, total_by-map number g xs)
 
--- functions that agree at a list's elements come to the same
+-- functions that agree at a list's elements have the same total
 pub total_by-agree : {X : Type 0} (f g : X → ℤ) (xs : List X) → All (λ x. f x ≡ g x) xs → total_by f xs ≡ total_by g xs
 total_by-agree f g [] all = refl
 total_by-agree f g (x ∷ xs) all =

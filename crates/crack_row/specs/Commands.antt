@@ -21,12 +21,12 @@ range_of (Sum range) = Some range
 range_of (Select range) = Some range
 range_of _ = None
 
--- the key that a change brings, if any
+-- the key that a change has, if any
 abbrev pub brought_key : Change → Option Key
 brought_key (Place key payload) = Some key
 brought_key (Remove serial) = None
 brought_key (Rewrite serial key payload) = Some key
 
--- the key that a command brings, if any
+-- the key that a command has, if any
 abbrev pub key_of : Command → Option Key
 key_of command = option_and_then brought_key (change_of command)

@@ -8,11 +8,11 @@ use Rattle.crack_row.specs.declared.TheConstants.{GREATEST_BOUND}
 abbrev pub past_all : ℕ → Bool
 past_all end = nat_le GREATEST_BOUND end
 
--- the number that is kept of an end
+-- the number that is stored for an end
 abbrev pub end_number : ℕ → ℕ
 end_number end = cond (past_all end) 0 end
 
--- both are read off an end that is kept so
+-- both are read from an end that is stored like this
 pub past_back : (past : Bool) (number : ℕ) → cond past (number ≡ 0) (number < GREATEST_BOUND) → past_all (cond past GREATEST_BOUND number) ≡ past
 past_back true number is = refl
 past_back false number is = lt-leb GREATEST_BOUND number is

@@ -1,10 +1,10 @@
--- What every layout of a partition meets.
+-- What every layout of a partition satisfies.
 use Rattle.std.specs.Prelude.{◌≡◌, ℕ, ◌+◌, ◌≤◌, List, [], ◌∷◌, sum_by}
 use Rattle.crack_row.specs.Ranges.{Range}
 use Rattle.crack_row.specs.declared.layout.PieceSize.{PieceSize}
 use Rattle.crack_row.specs.declared.layout.Layout.{Layout}
 
--- the pieces, if there are any, lead from one end to the other, each from where the one before it ends, and none ends before it begins
+-- the pieces, if there are any, lead from one end to the other: each begins where the previous one ends, and none ends before it begins
 abbrev pub LeadTo : ℕ → ℕ → List PieceSize → Type 0
 LeadTo low high [] = low ≡ high
 LeadTo low high (p ∷ ps) = (p.low.0 ≡ low) × (p.low.0 ≤ p.high.0) × LeadTo p.high.0 high ps

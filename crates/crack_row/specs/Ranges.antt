@@ -2,7 +2,7 @@
 use Rattle.std.specs.Prelude.{ℕ, ◌<◌, ◌≤◌, Bool, ◌&&◌, nat_lt, nat_le, min, max, cond}
 use Rattle.crack_row.specs.declared.Row.{Row}
 
--- from `low` on, up to and without `high`
+-- from `low` on, up to but not including `high`
 pub record Range : Type 0 where
   pub low : ℕ
   pub high : ℕ
@@ -19,7 +19,7 @@ is_in r key = nat_le r.low key && nat_lt key r.high
 abbrev pub in_range : Range → Row → Bool
 in_range r row = is_in r row.key.0
 
--- the keys that lie in both ranges; where there is none, the empty range at the low end of the second
+-- the keys that lie in both ranges; if there is none, the empty range at the low end of the second
 abbrev pub clipped : Range → Range → Range
 clipped r s =
     let low = max r.low s.low in

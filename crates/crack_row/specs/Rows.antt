@@ -1,11 +1,11 @@
--- Rows of one serial, and sums of payloads.
+-- Rows with one serial, and sums of payloads.
 use Rattle.std.specs.Prelude.{ℕ, ℤ, pos, ◌+ℤ◌, ◌^◌, ◌==◌, Bool, not, List, fold, if◌then◌else◌}
 use Rattle.crack_row.specs.declared.Key.{Key}
 use Rattle.crack_row.specs.declared.Payload.{Payload}
 use Rattle.crack_row.specs.declared.Row.{Row}
 use Rattle.crack_row.specs.declared.Serial.{Serial}
 
--- the row of this serial, key and payload
+-- the row with this serial, key and payload
 abbrev pub row_with : Serial → Key → Payload → Row
 row_with serial key payload = record { serial = serial; key = key; payload = payload }
 
@@ -17,7 +17,7 @@ has_serial serial row = row.serial.0 == serial
 abbrev pub is_other : ℕ → Row → Bool
 is_other serial row = not (row.serial.0 == serial)
 
--- a row, unless it has the serial of the first: that stands in its place
+-- a row, or the first one if both have the same serial
 abbrev pub replaced : Row → Row → Row
 replaced new row = if row.serial.0 == new.serial.0 then new else row
 
@@ -29,7 +29,7 @@ amount payload = payload.0
 abbrev pub farthest_amount : ℕ
 farthest_amount = 2 ^ 63
 
--- what the numbers of a list's elements come to
+-- the sum of the numbers of a list's elements
 abbrev pub total_by : {X : Type 0} → (X → ℤ) → List X → ℤ
 total_by number xs = fold (λ total x. total +ℤ number x) (pos 0) xs
 

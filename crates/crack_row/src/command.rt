@@ -1,4 +1,4 @@
-//! What is asked of a partition, and what it answers.
+//! What a partition is asked, and what it answers.
 ghost use Rattle.std.specs.Prelude.{◌≡◌, ◌↔◌, IfOk, IfErr, IsOk, IsTrue};
 ghost use Rattle.crack_row.specs.Commands.{change_of, range_of, key_of};
 ghost use Rattle.crack_row.specs.Replies.{IsFlat};
@@ -14,7 +14,7 @@ pub enum Command {
         key: Key,
         payload: Payload,
     },
-    /// Takes a row out.
+    /// Removes a row.
     Delete {
         serial: Serial,
     },
@@ -32,19 +32,19 @@ pub enum Command {
     Select(KeyRange),
 }
 
-/// What a command is to change in the rows.
+/// What a command changes in the rows.
 #[derive(Clone, Copy, Debug)]
 pub enum Change {
-    /// A row more, which gets the next serial.
+    /// One more row, which gets the next serial.
     Place {
         key: Key,
         payload: Payload,
     },
-    /// The row of this serial less, if there is one.
+    /// The row with this serial is removed, if there is one.
     Remove {
         serial: Serial,
     },
-    /// Another key and another payload for the row of this serial, if there is one.
+    /// The row with this serial gets another key and payload, if there is one.
     Rewrite {
         serial: Serial,
         key: Key,
@@ -83,7 +83,7 @@ impl Command {
         }
     }
 
-    /// The key that it brings, if any.
+    /// The key that it has, if any.
     pub fn key(&self) -> Option<Key>
         ensures { result ≡ key_of self.now }
     {
@@ -99,13 +99,13 @@ impl Command {
 pub enum Policy {
     /// All of them, once the range needs one.
     Complete,
-    /// Those alone whose key is in the range.
+    /// Only those whose key is in the range.
     Gradual,
-    /// Those alone whose key is in the range, with room made near it: a row that stands in the way after the range is
-    /// evicted, and is a pending insertion again.
+    /// Only those whose key is in the range, with room made near it: a row that is in the way after the range is
+    /// evicted, and becomes a pending insertion again.
     Ripple,
-    /// As `Complete` where many insertions are pending beside the rows of the column, else as `Ripple`; chosen anew at
-    /// each range command.
+    /// Like `Complete` if many insertions are pending compared with the rows of the column, else like `Ripple`; chosen
+    /// again for each range command.
     Auto,
 }
 
@@ -114,23 +114,23 @@ pub enum Policy {
 pub enum Reply {
     /// The serial of the row that was placed.
     Placed(Serial),
-    /// The row that was taken out, as it was.
+    /// The row that was removed, as it was.
     Gone(Row),
     /// The row was changed.
     Changed,
-    /// There is no row of this serial.
+    /// There is no row with this serial.
     NoRow,
     /// The number of rows in the range.
     Counted(u64),
     /// The sum of the payloads in the range.
     Summed(i128),
-    /// The rows in the range, in rising serial.
+    /// The rows in the range, by rising serial.
     Rows(RowList),
 }
 
 impl Reply {
-    /// A copy, as for a receipt: O(rows of its list). Refused with 8 where it finds no memory; a reply without a list
-    /// wants none.
+    /// A copy, for example for a receipt: O(rows of its list). Refused with 8 if it finds no memory; a reply without a
+    /// list needs none.
     pub fn copy(&self, alloc: Global) -> Result<Reply, Refusal>
         ensures ok { IfOk result (λ r. r ≡ self.now) }
         ensures err { IfErr result (λ e. e ≡ Refusal.OutOfMemory) }
@@ -174,7 +174,7 @@ fn same_rows(one: &[Row], two: &[Row]) -> bool
     one == two
 }
 
-/// One answered command of a history: who asked, what, and what was replied.
+/// One answered command of a history: who asked, what, and the reply.
 #[derive(Drop, Debug)]
 pub struct Entry {
     pub worker: u32,

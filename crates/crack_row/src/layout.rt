@@ -1,10 +1,10 @@
-//! What stands where in a partition, as numbers.
+//! The layout of a partition, as numbers.
 ghost use Rattle.std.specs.Prelude.{◌≡◌};
 
 use crate::Bound;
 use std::marker::Model;
 
-/// A piece of the column: its bounds, and how many rows stand in it.
+/// A piece of the column: its bounds, and how many rows are in it.
 #[derive(Clone, Copy, PartialEq, Eq, Debug)]
 pub struct PieceSize {
     pub low: Bound,

@@ -1,4 +1,4 @@
-//! The values that the crates of the cracked table speak of: numbers, ranges, commands, replies, refusals and layouts.
+//! The values that the crates of the cracked table share: numbers, ranges, commands, replies, refusals and layouts.
 #![tactic(auto)]
 
 pub mod command;
@@ -37,27 +37,27 @@ pub const GREATEST_LIMIT: u64 = 1000000;
 /// The greatest number of cells that a partition's rows may be limited to.
 pub const GREATEST_CELLS: u64 = 1048576;
 
-/// The greatest number of commands that a partition may be limited to accept in all.
+/// The greatest number of commands that a partition may be limited to accept in total.
 pub const GREATEST_LIFE: u64 = 1099511627776;
 
-/// What a row is found by: 0 to `GREATEST_KEY`.
+/// What rows are looked up by: 0 to `GREATEST_KEY`.
 #[derive(Clone, Copy, PartialEq, Eq, PartialOrd, Ord, Hash, Debug)]
 pub struct Key(KeyNumber);
 
-/// What a row carries: a whole number with a sign, `LEAST_PAYLOAD` to `GREATEST_PAYLOAD`.
+/// The value of a row: a signed integer, `LEAST_PAYLOAD` to `GREATEST_PAYLOAD`.
 #[derive(Clone, Copy, PartialEq, Eq, PartialOrd, Ord, Hash, Debug)]
 pub struct Payload(PayloadNumber);
 
-/// The count of insertions that a partition accepted before a row. It is never given twice.
+/// The number of insertions that a partition accepted before a row. It is never reused.
 #[derive(Clone, Copy, PartialEq, Eq, PartialOrd, Ord, Hash, Debug)]
 pub struct Serial(pub u64);
 
-/// An end of a range: it stands between the keys below it and the keys at or above it.
+/// An end of a range: it lies between the keys below it and the keys at or above it.
 #[derive(Clone, Copy, PartialEq, Eq, PartialOrd, Ord, Hash, Debug)]
 pub struct Bound(BoundNumber);
 
-/// A bound that stands between two keys: 1 to `GREATEST_KEY`. It is as wide as a key, and a cracker index has no
-/// others.
+/// A bound between two keys: 1 to `GREATEST_KEY`. It is as wide as a key, and a cracker index has no other
+/// bounds.
 #[derive(Clone, Copy, PartialEq, Eq, PartialOrd, Ord, Hash, Debug)]
 pub struct InnerBound(KeyNumber);
 

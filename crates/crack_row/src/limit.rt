@@ -7,14 +7,14 @@ use crate::{GREATEST_CELLS, GREATEST_LIFE, GREATEST_LIMIT};
 /// What a partition does at its limits.
 #[derive(Clone, Copy, PartialEq, Eq, Hash, Debug)]
 pub enum Upkeep {
-    /// It refuses the command: checkpoints are made where they are asked for.
+    /// It refuses the command: checkpoints are made on request.
     OnRequest,
-    /// Where its history is full it makes a checkpoint, and then answers the command.
+    /// If its history is full it makes a checkpoint, and then answers the command.
     Automatic,
 }
 
 /// What bounds a partition: how many entries its history may have (1 to `GREATEST_LIMIT`), how many cells its rows may
-/// take (1 to `GREATEST_CELLS`), and how many commands it may accept in all (1 to `GREATEST_LIFE`); and what it does
+/// take (1 to `GREATEST_CELLS`), and how many commands it may accept in total (1 to `GREATEST_LIFE`); and what it does
 /// at these limits.
 #[derive(Clone, Copy, PartialEq, Eq, Hash, Debug)]
 pub struct Limits {
@@ -25,7 +25,7 @@ pub struct Limits {
 }
 
 impl Limits {
-    /// This limit of a history, which isn't tested, and the greatest of the others. Upkeep is on request.
+    /// This limit of a history, which isn't tested, with the greatest of the others. Upkeep is on request.
     pub fn of_history(history: u64) -> Limits
         ensures { result ≡ of_history history }
     {
@@ -48,7 +48,7 @@ impl Limits {
     }
 }
 
-/// Whether a limit is at least 1 and at most this.
+/// Whether a limit is 1 to this maximum.
 fn is_limit(greatest: u64, limit: u64) -> bool
     ensures { result ≡ is_limit greatest limit }
 {

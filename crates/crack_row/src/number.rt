@@ -1,4 +1,4 @@
-//! How wide the numbers of keys, payloads and bounds are, which stands here alone, and how they are compared.
+//! The widths of keys, payloads and bounds, which are defined only here, and how they are compared.
 ghost use Rattle.std.specs.Prelude.{pos, neg_ℤ, ◌≤ℤ◌, ◌≡◌, ◌<◌, ◌≤◌, ◌+◌, ◌↔◌, IsTrue, IsSome, IfSome, MatchOption};
 ghost use Rattle.crack_row.specs.Rows.{amount, farthest_amount};
 ghost use Rattle.crack_row.specs.declared.TheConstants.{GREATEST_KEY};
@@ -11,11 +11,11 @@ pub type KeyNumber = u64;
 /// The number of a payload.
 pub type PayloadNumber = i64;
 
-/// The number of a bound, which has one value more than that of a key.
+/// The number of a bound, which has one more value than a key.
 pub type BoundNumber = u128;
 
 impl Key {
-    /// The key of this number.
+    /// The key with this number.
     #[inline]
     pub fn from_number(number: KeyNumber) -> Key
         ensures { result.0 ≡ number }
@@ -41,7 +41,7 @@ impl Key {
 }
 
 impl Payload {
-    /// The payload of this number.
+    /// The payload with this number.
     #[inline]
     pub fn from_number(number: PayloadNumber) -> Payload
         ensures { result.0 ≡ number }
@@ -69,7 +69,7 @@ impl Payload {
 }
 
 impl Bound {
-    /// The bound of this number.
+    /// The bound with this number.
     #[inline]
     pub fn from_number(number: BoundNumber) -> Bound
         ensures { result.0 ≡ number }
@@ -104,7 +104,7 @@ impl Bound {
         Some(Key(self.0 as KeyNumber))
     }
 
-    /// The bound, if it stands between two keys.
+    /// The bound, if it lies between two keys.
     #[inline]
     pub fn inner(self) -> Option<InnerBound>
         ensures value { IfSome result (λ inner. inner.0 ≡ self.0) }
@@ -118,7 +118,7 @@ impl Bound {
 }
 
 impl InnerBound {
-    /// The least bound that stands between two keys.
+    /// The least bound between two keys.
     pub fn least() -> InnerBound
         ensures { result.0 ≡ 1 }
     {

@@ -7,7 +7,7 @@ ghost use Rattle.crack_row.specs.Ranges.{IsIn, clipped};
 use crate::{Bound, BoundNumber, GREATEST_BOUND, GREATEST_KEY, Key, KeyNumber, Refusal};
 use std::marker::Model;
 
-/// A half open range of keys: from its low end on, up to and without its high end.
+/// A half open range of keys: from its low end on, up to but not including its high end.
 /// Its ends are in order and at most `GREATEST_BOUND`.
 #[derive(Clone, Copy, PartialEq, Eq, Debug)]
 pub struct KeyRange {
@@ -45,7 +45,7 @@ impl Default for KeyRange {
 }
 
 impl KeyRange {
-    /// The range between two numbers; refused with 2 where they are no ends of one.
+    /// The range between two numbers; refused with 2 if they aren't the ends of one.
     pub fn new(low: BoundNumber, high: BoundNumber) -> Result<KeyRange, Refusal>
         ensures ok { IfOk result (λ r. (r.low ≡ low) × (r.high ≡ high) × (low ≤ high) × (high ≤ GREATEST_BOUND)) }
         ensures err { IfErr result (λ e. (e ≡ Refusal.BadRange) × ((low ≤ high) × (high ≤ GREATEST_BOUND) → ⊥)) }
@@ -57,7 +57,7 @@ impl KeyRange {
         }
     }
 
-    /// The range between two bounds; refused with 2 where they are no ends of one.
+    /// The range between two bounds; refused with 2 if they aren't the ends of one.
     pub fn between(low: Bound, high: Bound) -> Result<KeyRange, Refusal>
         ensures ok { IfOk result (λ r. (r.low ≡ low.0) × (r.high ≡ high.0) × (low.0 ≤ high.0) ×
             (high.0 ≤ GREATEST_BOUND)) }
@@ -97,7 +97,7 @@ impl KeyRange {
         self.high() <= self.low()
     }
 
-    /// The least key in the range and the greatest; none where it has no key.
+    /// The least and the greatest key in the range; none if it has no key.
     #[inline]
     pub fn first_and_last(&self) -> Option<(Key, Key)>
         ensures value { MatchOption result (self.now.high ≤ self.now.low) (λ ends. (ends.0.0 ≡ self.now.low) ×
@@ -117,7 +117,7 @@ impl KeyRange {
         !self.low().is_above(key) && self.high().is_above(key)
     }
 
-    /// The common part of two ranges; where there is none, the empty range at the low end of `other`.
+    /// The intersection of two ranges; if there is none, the empty range at the low end of `other`.
     pub fn clip(&self, other: KeyRange) -> KeyRange
         ensures value { result ≡ clipped self.now other }
         ensures keys { (k : ℕ) → IsIn result k ↔ (IsIn self.now k × IsIn other k) }
@@ -145,8 +145,8 @@ impl KeyRange {
     }
 }
 
-/// An end of a range: its number, or 0 where it is the one past all keys, and whether it is. Unlike a number of 128
-/// bits it may stand where one of 64 may, so that what holds ranges is smaller.
+/// An end of a range: its number, or 0 if it is the one past all keys, and whether it is. Unlike a number of 128
+/// bits it is aligned like one of 64, so that values that hold ranges are smaller.
 #[derive(Clone, Copy, Debug)]
 struct End {
     number: KeyNumber,
@@ -203,7 +203,7 @@ impl End {
         }
     }
 
-    /// Where it is.
+    /// Its position.
     #[inline]
     fn bound(self) -> Bound
         ensures value { result.0 ≡ self }

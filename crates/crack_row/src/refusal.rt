@@ -6,10 +6,10 @@ use std::alloc::{AllocError, AllocFailed};
 use std::fmt;
 use thiserror::Error;
 
-/// Why a call was refused, with what it carries. Its text is that of the reply line, without the line feed.
+/// Why a call was refused, with the numbers that it carries. Its text is the reply line, without the line feed.
 #[derive(Clone, Copy, PartialEq, Eq, Debug, Drop, Error)]
 pub enum Refusal {
-    /// The line is no statement.
+    /// The line isn't a statement.
     #[error("refused 1")]
     BadStatement,
     /// The ends of a range are out of order, or the high end is above `GREATEST_BOUND`.
@@ -18,22 +18,22 @@ pub enum Refusal {
     /// An insert or an update names a key outside the partition.
     #[error("refused 4")]
     KeyOutside,
-    /// There is no partition of this number.
+    /// There is no partition with this number.
     #[error("refused 5")]
     NoSuchPartition,
     /// The history has as many entries as its limit.
     #[error("refused 6 {length}")]
     HistoryFull { length: u64 },
-    /// A gate said no as often in one call as it is asked.
+    /// A gate refused as often in one call as it is asked.
     #[error("refused 7")]
     GateGaveUp,
-    /// A growth was really refused.
+    /// An allocation was refused.
     #[error("refused 8")]
     OutOfMemory,
-    /// No cell is free for a row, and there are as many cells as their limit.
+    /// No cell is free for a row, and there are as many cells as the limit allows.
     #[error("refused 9")]
     NoCell,
-    /// As many commands were accepted in all as their limit.
+    /// As many commands were accepted in total as the limit allows.
     #[error("refused 10")]
     LifeOver,
     /// The splits don't rise strictly, or one isn't 1 to `GREATEST_KEY`.
@@ -42,26 +42,26 @@ pub enum Refusal {
     /// There are more splits than partitions may have.
     #[error("refused 12")]
     TooManyPartitions,
-    /// The number of workers isn't 1 to the most that a table may have.
+    /// The number of workers isn't 1 to the greatest number that a table may have.
     #[error("refused 13")]
     BadWorkerCount,
     /// A limit isn't 1 to the greatest of its kind.
     #[error("refused 14")]
     BadLimit,
-    /// Workers of the table weren't handed to a gathering: one bit for each missing number.
+    /// Workers of the table are missing from a gathering: one bit for each missing number.
     #[error("refused 15{}", Numbers(*missing))]
     WorkersMissing { missing: u64 },
     /// Receipts and histories don't cover each other at this place, or a partition isn't the table's.
     #[error("refused 16 {part} {position}")]
     StrangeReceipt { part: u32, position: u64 },
-    /// The reader failed, or passed its stated bound.
+    /// The reader failed, or exceeded its stated bound.
     #[error("refused 17")]
     ReadFault,
     /// The writer failed.
     #[error("refused 18")]
     WriteFault,
-    /// A record of CSV hasn't just two fields, or one of them is no number in range: the record's number from 1, a
-    /// header counted.
+    /// A CSV record doesn't have exactly two fields, or one of them isn't a number in range: the record's number from
+    /// 1, with a header counted.
     #[error("refused 19 {number}")]
     BadRecord { number: u64 },
 }

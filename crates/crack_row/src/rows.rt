@@ -42,7 +42,7 @@ impl RowList {
         self.rows.as_slice()
     }
 
-    /// A copy: O(rows). Refused with 8 where it finds no memory.
+    /// A copy: O(rows). Refused with 8 if it finds no memory.
     pub fn copy(&self, alloc: Global) -> Result<RowList, Refusal>
         ensures ok { IfOk result (λ copy. copy ≡ self.now) }
         ensures err { IfErr result (λ e. e ≡ Refusal.OutOfMemory) }
