@@ -17,7 +17,7 @@ use std::sync::Wait;
 use std::thread;
 use std::thread::Threads;
 
-/// A worker that has served its lines, and what its session wrote.
+/// A worker that has served its lines, and the output of its session.
 #[derive(Drop)]
 struct Served {
     worker: Worker,
@@ -25,7 +25,7 @@ struct Served {
     fault: Option<Refusal>,
 }
 
-/// The workers that have served, and what their sessions wrote.
+/// The workers that have served, and the output of their sessions.
 #[derive(Drop)]
 struct Crew {
     workers: Vec<Worker>,
@@ -33,12 +33,12 @@ struct Crew {
 }
 
 /// Answers the lines of an input over a table of its own. Each line that isn't blank is a number, one space and a
-/// statement for the worker of that number, counted around the workers; each worker serves its own lines as a session,
-/// at the same time as the others. Then `writer` gets the line `worker w` and what its session wrote for each worker,
-/// and last the totals. Refused, in this order: as `Table::open_with` is; with 17 where the reader fails or gives more
-/// than `MOST_INPUT_BYTES`; with 1 where a line has no number; as the session of the least worker whose session is cut
-/// off; as `gather` is; with 18 where the writer fails. It is 8 wherever no memory is found for the batch's own
-/// buffers, or a thread can't be started. Nothing is written before the workers are gathered.
+/// statement for the worker with that number, modulo the number of workers; each worker serves its own lines as a
+/// session, in parallel with the others. Then `writer` gets the line `worker w` and the session's output for each
+/// worker, and finally the totals. Refused, in this order: as `Table::open_with` is; with 17 if the reader fails or
+/// gives more than `MOST_INPUT_BYTES`; with 1 if a line has no number; as the session of the lowest worker whose
+/// session is cut off; as `gather` is; with 18 if the writer fails. It is 8 wherever no memory is found for the batch's
+/// own buffers, or a thread can't be started. Nothing is written before the workers are gathered.
 pub fn run_batch<Rt: Threads + Wait + Sync, G: Gate + Sync, R: Read, W: Write>(
     rt: &Rt,
     alloc: Global,
@@ -57,7 +57,7 @@ pub fn run_batch<Rt: Threads + Wait + Sync, G: Gate + Sync, R: Read, W: Write>(
     }
 }
 
-/// Reads an input, and has the workers serve it.
+/// Reads an input, and lets the workers serve it.
 fn serve_input<Rt: Threads + Wait + Sync, G: Gate + Sync, R: Read>(
     rt: &Rt,
     alloc: Global,
@@ -76,7 +76,7 @@ fn serve_input<Rt: Threads + Wait + Sync, G: Gate + Sync, R: Read>(
     crew_of(alloc, served)
 }
 
-/// Has each worker serve its share on a thread of its own. Refused with 8 where one can't be started, once the others
+/// Lets each worker serve its share on a thread of its own. Refused with 8 if one can't be started, once the others
 /// have ended.
 fn serve_all<Rt: Threads + Wait + Sync, G: Gate + Sync>(
     rt: &Rt,
@@ -105,7 +105,7 @@ fn serve_all<Rt: Threads + Wait + Sync, G: Gate + Sync>(
     all.ok_or(Refusal::OutOfMemory)
 }
 
-/// Serves a worker's lines. What it writes stands in memory, so its writer fails only where no memory is found.
+/// Serves a worker's lines. Its output is in memory, so its writer fails only if no memory is found.
 fn serve_share<Rt: Wait, G: Gate>(
     rt: &Rt,
     alloc: Global,
@@ -115,8 +115,8 @@ fn serve_share<Rt: Wait, G: Gate>(
     policy: Policy,
     gate: &G,
 ) -> Served
-    // Where the session wasn't cut off, its part of the output is the texts of answers to all statements of its share,
-    // made of just the calls that these fix, by the policy in force; they led the worker to what it is now.
+    // If the session wasn't cut off, its part of the output is the texts of answers to all statements of its share,
+    // made of exactly the calls that these require, by the current policy; they led the worker to its present state.
     ensures { IfNone result.fault ((short : Option ℕ) × AreWritten (AreAnswersOf (worker_leads table.now
         (G.may_refuse gate.now)) table.now.splits policy worker result.worker) (statements share.items) [] short
         (Some result.output.items)) }
@@ -138,7 +138,7 @@ fn serve_share<Rt: Wait, G: Gate>(
     }
 }
 
-/// The workers and what they wrote, where none was cut off. Refused as the first that was.
+/// The workers and their output, if none was cut off. Refused as the first that was.
 fn crew_of(alloc: Global, served: Vec<Served>) -> Result<Crew, Refusal> {
     let mut crew = Crew {
         workers: Vec::new(alloc),
@@ -154,7 +154,7 @@ fn crew_of(alloc: Global, served: Vec<Served>) -> Result<Crew, Refusal> {
     Ok(crew)
 }
 
-/// Gathers the workers, and writes what they wrote and the totals.
+/// Gathers the workers, and writes their output and the totals.
 fn report<W: Write>(
     alloc: Global,
     table: Table,
@@ -167,7 +167,7 @@ fn report<W: Write>(
     totals.write(writer)
 }
 
-/// Writes what each worker's session wrote, after a line with its number.
+/// Writes the output of each worker's session, after a line with its number.
 fn write_outputs<W: Write>(outputs: &Vec<Vec<u8>>, writer: &mut W) -> Result<(), Refusal> {
     'workers: for (worker, output) in outputs.iter().enumerate() {
         let head = writeln!(writer, "worker {worker}");

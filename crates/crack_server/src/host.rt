@@ -1,4 +1,4 @@
-//! What a server says of itself, and what it asks of the program that runs it.
+//! What a server reports, and what it asks of the program that runs it.
 use crack_row::Refusal;
 use std::fmt;
 use std::fmt::{Display, Formatter, Write};
@@ -9,11 +9,11 @@ pub enum Notice {
     /// The server listens on this port of 127.0.0.1.
     Listening { port: u16 },
     /// Partitions made checkpoints by themselves, since their histories were full: how many since the last such notice,
-    /// 1 at least, and of the last one its partition, and how many entries it took.
+    /// at least 1, and for the last one its partition, and how many entries its history had.
     Checkpoints { count: u64, part: u32, entries: u64 },
     /// A session was cut off: a read or a write of its connection failed or waited too long, or no memory was found.
     CutOff { worker: usize, refusal: Refusal },
-    /// The server has served its last session: how many there were, those that were cut off among them.
+    /// The server has served its last session: how many there were, including those that were cut off.
     Ended { sessions: u64, cut_off: u64 },
 }
 
@@ -59,11 +59,11 @@ pub trait Host {
     /// Takes note of something that happened.
     fn note(&self, notice: Notice);
 
-    /// Connects to the server's own listener and lets go at once, so that one worker that waits for a connection goes
-    /// on. Whether it could.
+    /// Connects to the server's own listener and closes the connection at once, so that one worker that waits for a
+    /// connection goes on. Returns whether it could.
     fn knock(&self) -> bool;
 
-    /// Waits for a moment, after a call of the system that failed and is to be tried again.
+    /// Waits for a moment, after a system call that failed and is to be repeated.
     fn pause(&self);
 }
 

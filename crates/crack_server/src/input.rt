@@ -1,4 +1,4 @@
-//! The input of a batch: read whole, judged, and divided among its workers.
+//! The input of a batch: read whole, checked, and divided among its workers.
 ghost use Rattle.std.specs.Prelude.{◌≡◌, ◌<◌, length, vec_len, IfOk};
 
 use crate::MOST_INPUT_BYTES;
@@ -8,7 +8,7 @@ use memchr::memchr;
 use std::alloc::{AllocError, Global};
 use std::io::Read;
 
-/// The whole input. Refused with 17 where the reader fails, or gives more than `MOST_INPUT_BYTES`, and with 8 where it
+/// The whole input. Refused with 17 if the reader fails, or gives more than `MOST_INPUT_BYTES`, and with 8 if it
 /// finds no memory.
 pub(crate) fn read_input<R: Read>(alloc: Global, reader: &mut R) -> Result<Vec<u8>, Refusal> {
     let mut bytes = Vec::new(alloc);
@@ -23,8 +23,8 @@ pub(crate) fn read_input<R: Read>(alloc: Global, reader: &mut R) -> Result<Vec<u
     }
 }
 
-/// Each worker's statements, in order, each with a line feed. The number in front of a line that isn't blank says whose
-/// it is, counted around the workers. Refused with 1 where a line has none, and with 8 where it finds no memory.
+/// Each worker's statements, in order, each with a line feed. The number in front of a line that isn't blank names its
+/// worker, modulo the number of workers. Refused with 1 if a line has none, and with 8 if it finds no memory.
 pub(crate) fn divide(alloc: Global, input: &[u8], workers: usize) -> Result<Vec<Vec<u8>>, Refusal>
     requires { 0 < workers }
 {
@@ -40,7 +40,7 @@ pub(crate) fn divide(alloc: Global, input: &[u8], workers: usize) -> Result<Vec<
     Ok(shares)
 }
 
-/// Shares of nothing, so many.
+/// Empty shares, this many.
 fn empty_shares(alloc: Global, workers: usize) -> Result<Vec<Vec<u8>>, AllocError>
     ensures { IfOk result (λ shares. vec_len shares ≡ workers) }
 {
@@ -62,7 +62,7 @@ fn first_line(bytes: &[u8]) -> (&[u8], &[u8])
     }
 }
 
-/// Whether a line has nothing but spaces, and one carriage return at its end.
+/// Whether a line has only spaces, and one carriage return at its end.
 fn is_blank(line: &[u8]) -> bool {
     line.strip_suffix(b"\r")
         .unwrap_or(line)

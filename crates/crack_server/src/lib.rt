@@ -19,14 +19,14 @@ pub use witnessed::run_witnessed_service;
 /// How many bytes the input of a batch may have.
 pub const MOST_INPUT_BYTES: u64 = 67108864;
 
-/// How many bytes of replies are kept before they are written: room for the replies to one whole read, where none of
+/// How many bytes of replies are kept before they are written: room for the replies to one whole read, if none of
 /// them lists rows or pieces. Its 4096 bytes end at most one line that was begun before, which gets at most 27 bytes,
-/// as `gone` with the greatest numbers, and hold at most 2048 more statements; a line of 2 bytes gets the most for its
-/// length, the 10 of `refused 1`. The rows of a select and the pieces of a layout may be more: then what is kept is
+/// as for `gone` with the greatest numbers, and hold at most 2048 more statements; a line of 2 bytes gets the most for
+/// its length, the 10 of `refused 1`. The rows of a select and the pieces of a layout may be more: then what is kept is
 /// written, and the rest kept.
 pub const REPLY_BYTES: usize = 24576;
 
-/// How many entries are checkpointed between two notices of checkpoints that were due, at least: where a history may
-/// have so many, each checkpoint has a notice of its own, and else one notice is of several, so that there is none for
-/// each statement.
+/// How many entries are checkpointed between two notices of checkpoints that were due, at least: if a history may
+/// have this many, each checkpoint has a notice of its own; otherwise one notice is of several, so that not each
+/// statement has one.
 pub const ENTRIES_PER_NOTICE: u64 = 1000;

@@ -4,19 +4,19 @@ use crate::host::{Host, Notice};
 use crack_table::Gate;
 use std::sync::atomic::{AtomicU64, Ordering};
 
-/// The gate of all workers of a server, with what wasn't reported yet.
+/// The gate of all workers of a server, with what hasn't been reported yet.
 #[derive(Drop)]
 pub(crate) struct Reporting<'a, G: Gate, H: Host> {
     gate: &'a G,
     host: &'a H,
     /// How many checkpoints were made since the last notice.
     count: AtomicU64,
-    /// How many entries have to be checkpointed before the next one.
+    /// How many entries must be checkpointed before the next one.
     entries_left: AtomicU64,
 }
 
 impl<'a, G: Gate, H: Host> Reporting<'a, G, H> {
-    /// A gate that lets in whom this one does.
+    /// A gate that consents when this one does.
     pub(crate) fn new(gate: &'a G, host: &'a H) -> Reporting<'a, G, H> {
         Reporting {
             gate,
@@ -26,7 +26,7 @@ impl<'a, G: Gate, H: Host> Reporting<'a, G, H> {
         }
     }
 
-    /// Whether there is to be a notice of a checkpoint that took so many entries.
+    /// Whether a checkpoint of this many entries gets a notice.
     fn is_notice_due(&self, entries: u64) -> bool {
         let left = self.entries_left.load(Ordering::SeqCst);
         let is_due = entries >= left;

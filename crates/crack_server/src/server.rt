@@ -16,23 +16,23 @@ use std::thread::Threads;
 use std::time::Duration;
 use std::{io, thread};
 
-/// How a server serves.
+/// The options of a server.
 #[derive(Clone, Copy, Drop)]
 pub struct Terms {
-    /// The policy that each session begins with.
+    /// The policy with which each session begins.
     pub policy: Policy,
     /// When the server ends.
     pub ending: Ending,
-    /// How long one read or write of a connection may wait, in seconds, 1 at least; without it, for ever.
+    /// How long one read or write of a connection may wait, in seconds, at least 1; without it, forever.
     pub idle: Option<u32>,
     /// Whether the host takes note of checkpoints that were due.
     pub notes_checkpoints: bool,
 }
 
-/// Serves so many connections of a listener, one at a time for each worker, then gathers the workers and writes the
+/// Serves this many connections of a listener, one at a time for each worker, then gathers the workers and writes the
 /// totals. An accept that fails, and a session that is cut off, count as sessions. A client that sends nothing, or
-/// reads no reply, holds its own worker alone. Refused with 8 where a thread can't be started, before a connection is
-/// accepted; as `gather` is; with 18 where the writer fails.
+/// reads no reply, holds only its own worker. Refused with 8 if a thread can't be started, before a connection is
+/// accepted; as `gather` is; with 18 if the writer fails.
 pub fn run_server<Rt: Threads + Wait + Sync, G: Gate + Sync, W: Write>(
     rt: &Rt,
     alloc: Global,
@@ -56,11 +56,11 @@ pub fn run_server<Rt: Threads + Wait + Sync, G: Gate + Sync, W: Write>(
     )
 }
 
-/// Serves connections as `run_server` does, on these terms: with `Ending::AtEndOfInput` until `input` ends or fails.
-/// Then the workers that wait for a connection are woken by `host.knock()`, and those that have one serve it to its
-/// end. A read or a write of a connection that waits longer than `terms.idle` fails, so its session is cut off. The
-/// host is given a notice of each session that was cut off, of the end, and where the terms say so of checkpoints that
-/// were due. Refused as `run_server` is.
+/// Serves connections as `run_server` does, with these options: under `Ending::AtEndOfInput` until `input` ends or
+/// fails. Then the workers that wait for a connection are woken by `host.knock()`, and those that have one serve it to
+/// its end. A read or a write of a connection that waits longer than `terms.idle` fails, so its session is cut off. The
+/// host is notified of each session that was cut off, of the end, and, if the options say so, of checkpoints that were
+/// due. Refused as `run_server` is.
 pub fn run_service<Rt: Threads + Wait + Sync, G: Gate + Sync, H: Host + Sync, I: Read, W: Write>(
     rt: &Rt,
     alloc: Global,
@@ -89,7 +89,7 @@ pub fn run_service<Rt: Threads + Wait + Sync, G: Gate + Sync, H: Host + Sync, I:
     }
 }
 
-/// Has each worker of a table serve sessions, at a desk of its own.
+/// Lets each worker of a table serve sessions, at a desk of its own.
 fn serve_table<Rt: Threads + Wait + Sync, G: Gate + Sync, H: Host + Sync, I: Read>(
     rt: &Rt,
     alloc: Global,
@@ -125,8 +125,8 @@ fn desks_of<'a, Rt: Wait, G: Gate>(
     Ok(desks)
 }
 
-/// Has a worker at each desk serve sessions on a thread of its own. No ticket is given out before all threads are
-/// started: where one can't be, there are none, and the others end at once.
+/// Lets a worker at each desk serve sessions on a thread of its own. No ticket is given out before all threads are
+/// started: if one can't be, there are none, and the others end at once.
 pub(crate) fn serve_desks<
     Rt: Threads + Wait + Sync,
     D: Desk + Send + Drop,
@@ -172,7 +172,7 @@ pub(crate) fn serve_desks<
     Ok(ended)
 }
 
-/// Waits until the input of a server ends that ends with it. Then no further ticket is given out, and each worker that
+/// Waits until the input of a server ends that ends with it. Then no more tickets are given out, and each worker that
 /// waits for a connection is woken by one of the host's own: as many as wait then, since none begins to wait
 /// afterwards.
 fn await_end<Rt: Wait, H: Host, I: Read>(
@@ -204,8 +204,8 @@ fn read_out<I: Read>(input: &mut I) {
     }
 }
 
-/// Wakes one worker that waits for a connection. A knock that fails, as for want of a descriptor, is tried again as
-/// long as a worker waits.
+/// Wakes one worker that waits for a connection. A knock that fails, for example for lack of a descriptor, is repeated
+/// as long as a worker waits.
 fn wake<Rt: Wait, H: Host>(rt: &Rt, tickets: &Tickets, host: &H) {
     'tries: for _ in 0..u64::MAX {
         if host.knock() || tickets.waiting(rt) == 0 {
@@ -252,8 +252,8 @@ fn serve_tickets<Rt: Wait, D: Desk + Drop, H: Host>(
     desk
 }
 
-/// Serves one connection as a session. Its replies are kept until it reads again, and then sent at once. Why it was cut
-/// off, if it was.
+/// Serves one connection as a session. Its replies are kept until it reads again, and then sent at once. Returns why it
+/// was cut off, if it was.
 fn serve_stream<D: Desk>(
     alloc: Global,
     desk: &mut D,
@@ -272,14 +272,14 @@ fn serve_stream<D: Desk>(
     match serve(alloc, desk, terms.policy, &mut reader, &mut writer) {
         Ok(_) => None,
         Err(fault) => {
-            // (so that the writer, which is let go now, waits for nobody once more)
+            // (so that the writer, which is released now, doesn't wait for anyone again)
             let _ = stream.shutdown(Shutdown::Both);
             Some(fault.refusal)
         }
     }
 }
 
-/// Has each read and each write of a connection fail that waits longer than so many seconds.
+/// Makes each read and each write of a connection fail that waits longer than this many seconds.
 fn limit_waits(stream: &TcpStream, idle: Option<u32>) -> io::Result<()> {
     let Some(seconds) = idle else {
         return Ok(());

@@ -4,13 +4,13 @@ use std::sync::{Mutex, Wait};
 /// When a server ends.
 #[derive(Clone, Copy, Drop)]
 pub enum Ending {
-    /// After so many connections. An accept that fails counts as one.
+    /// After this many connections. An accept that fails counts as one.
     AfterSessions(u64),
-    /// When its input ends: connections that are open then are served to their end, and no other is accepted.
+    /// When its input ends: connections that are open then are served to their end, and no others are accepted.
     AtEndOfInput,
 }
 
-/// How far a server has come.
+/// The progress of a server.
 #[derive(Drop)]
 pub(crate) struct Progress {
     taken: u64,
@@ -28,7 +28,7 @@ pub(crate) struct Tickets {
 }
 
 impl Tickets {
-    /// Tickets for a server that ends so.
+    /// Tickets for a server with this ending.
     pub(crate) fn new(ending: Ending) -> Tickets {
         let most = match ending {
             Ending::AfterSessions(sessions) => sessions,
@@ -57,7 +57,7 @@ impl Tickets {
         true
     }
 
-    /// Counts a worker as waiting no more. Whether it is to serve the connection that it accepted.
+    /// Counts a worker as no longer waiting. Returns whether it is to serve the connection that it accepted.
     pub(crate) fn arrive<Rt: Wait>(&self, rt: &Rt) -> bool {
         let mut progress = self.progress.lock(rt);
         progress.waiting = progress.waiting.saturating_sub(1);
@@ -73,7 +73,7 @@ impl Tickets {
         }
     }
 
-    /// Gives out no further ticket. How many workers wait for a connection.
+    /// Gives out no more tickets. Returns how many workers wait for a connection.
     pub(crate) fn close<Rt: Wait>(&self, rt: &Rt) -> u64 {
         let mut progress = self.progress.lock(rt);
         progress.closed = true;

@@ -6,7 +6,7 @@ use crack_witness_table::{Gathered, WitnessedTable};
 use std::alloc::Global;
 use std::io::Write;
 
-/// What a table and its workers come to.
+/// The totals of a table and its workers.
 #[derive(Clone, Copy, Drop)]
 pub(crate) struct Totals {
     accepted: u64,
@@ -70,7 +70,7 @@ pub(crate) fn witnessed_totals_of<J: Naming>(
 }
 
 impl Totals {
-    /// Writes the last line of a run, and flushes all that is written.
+    /// Writes the last line of a run, and flushes the output.
     pub(crate) fn write<W: Write>(&self, writer: &mut W) -> Result<(), Refusal> {
         let Totals {
             accepted,

@@ -15,8 +15,8 @@ use std::sync::Wait;
 use std::thread::Threads;
 
 /// Serves connections as `run_service` does, over a table that witnesses its replies. Its workers are gathered by
-/// counts, so what a server takes of memory, and the time that its end takes, don't grow with the commands that it
-/// answered. Refused as `run_service` is, but that its workers are gathered as `gather` of crack_witness_table does.
+/// counts, so a server's memory, and the time that its end takes, don't grow with the number of commands that it
+/// answered. Refused as `run_service` is, except that its workers are gathered as `gather` of crack_witness_table does.
 pub fn run_witnessed_service<
     Rt: Threads + Wait + Sync,
     G: Gate + Sync,
@@ -52,7 +52,7 @@ pub fn run_witnessed_service<
     }
 }
 
-/// Has each worker of a table serve sessions, at a desk of its own.
+/// Lets each worker of a table serve sessions, at a desk of its own.
 fn serve_table<
     Rt: Threads + Wait + Sync,
     G: Gate + Sync,
