@@ -11,7 +11,7 @@ use std::thread::Threads;
 use std::time::Duration;
 use std::{io, thread};
 
-/// What a server of so many workers and sessions writes.
+/// What a server of this many workers and sessions writes.
 fn server<H: Threads + Wait + Sync>(
     rt: &H,
     alloc: Global,
@@ -50,7 +50,7 @@ fn sender<N: Net<Listener = TcpListener, Stream = TcpStream>>(
     Ok(stream)
 }
 
-/// What a client is answered until the server ends its session.
+/// The answers that a client gets until the server ends its session.
 fn answers_of(alloc: Global, mut stream: TcpStream) -> io::Result<Vec<u8>> {
     let mut answers = Vec::new(alloc);
     stream.read_to_end(&mut answers)?;
@@ -110,8 +110,8 @@ fn ended<N: Net<Listener = TcpListener, Stream = TcpStream>>(
     Ok(stream)
 }
 
-/// What a client is answered that breaks off in a line, and one that ends without a line feed; between them one comes
-/// that says nothing, and goes.
+/// The answers that a client gets that breaks off in a line, and one that ends without a line feed; between them one
+/// comes that says nothing, and goes.
 fn clients_who_break_off<N: Net<Listener = TcpListener, Stream = TcpStream>>(
     rt: &N,
     alloc: Global,
@@ -147,8 +147,8 @@ fn clients_who_break_off_harm_nobody(rt: HostRuntime) -> Result<(), Fail> {
     Ok(())
 }
 
-/// What a client is answered after one that reads a byte of its reply and goes: what is left of the reply resets the
-/// connection, which cuts that one's session off.
+/// The answers that a client gets after one that reads a byte of its reply and goes: what is left of the reply resets
+/// the connection, which cuts that one's session off.
 fn behind_one_cut_off<N: Net<Listener = TcpListener, Stream = TcpStream>>(
     rt: &N,
     alloc: Global,
