@@ -22,7 +22,7 @@ pub Calls-then : {D : Type 0} (leads : D → Call → D → Type 0) (old : D) (c
 Calls-then leads old [] between more new were then = subst (λ d. Calls leads d more new) were then
 Calls-then leads old (call ∷ calls) between more new were then = (were.0, were.1, Calls-then leads were.0 calls between more new were.2 then)
 
--- one call more
+-- one more call
 pub Calls-push : {D : Type 0} (leads : D → Call → D → Type 0) (old : D) (calls : List Call) (between : D) (call : Call) (new : D) → Calls leads old calls between → leads between call new → Calls leads old (calls ++ call ∷ []) new
 Calls-push leads old calls between call new were led = Calls-then leads old calls between (call ∷ []) new were (Calls-one leads between call new led)
 

@@ -6,7 +6,7 @@ use Rattle.memchr.specs.Find.{Nowhere, Passes, IsFirstByte, is_byte}
 use Rattle.crack_session.specs.Lines.{lines}
 use Rattle.crack_session.specs.Input.{has_feed, first_line, after_line}
 
--- a front without a line feed belongs to the first line
+-- a prefix without a line feed belongs to the first line
 pub first_line-append : (xs ys : List ℕ) → has_feed xs ≡ false → first_line (xs ++ ys) ≡ xs ++ first_line ys
 first_line-append [] ys h = refl
 first_line-append (b ∷ bs) ys h =
@@ -28,7 +28,7 @@ has_feed-append (b ∷ bs) ys h =
     let other : eqb b 10 ≡ false = each.0 in
     rw (other, has_feed-append bs ys each.1) refl
 
--- a front with a line feed has the first line
+-- a prefix with a line feed has the first line
 pub first_line-in : (xs ys : List ℕ) → has_feed xs ≡ true → first_line (xs ++ ys) ≡ first_line xs
 first_line-in [] ys h = absurd (false≢true h)
 first_line-in (b ∷ bs) ys h = ⊎_elim
@@ -80,7 +80,7 @@ pub has_feed_at : (xs : List ℕ) (i : ℕ) → i < length xs → has_feed (take
 has_feed_at xs i below none here =
     ap has_feed (split_at_feed xs i below here) ∙ has_feed-append (take i xs) (10 ∷ drop (i + 1) xs) none
 
--- one more byte that is no feed
+-- one more byte that isn't a feed
 pub no_feed_more : (xs : List ℕ) (i : ℕ) → i < length xs → has_feed (take i xs) ≡ false → (get_or xs i 0 ≡ 10 → ⊥) → has_feed (take (i + 1) xs) ≡ false
 no_feed_more xs i below none here =
     let other : eqb (get_or xs i 0) 10 ≡ false = ne_eqb _ _ here in

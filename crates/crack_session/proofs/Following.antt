@@ -37,7 +37,7 @@ cond_cons : (q : Bool) (r : Reading) (rs : List Reading) → cond q (r ∷ []) (
 cond_cons true r rs = refl
 cond_cons false r rs = refl
 
--- a line says what all of it says, though only its begin may be there
+-- a line says what all of it says, though only its beginning may be there
 same_reading : (u line : List ℕ) → kept_of line ≡ kept_of (first_line u) → reading_of (first_line u) ≡ reading_of line
 same_reading u line k = sym (reading_kept (first_line u)) ∙ ap reading_of (sym k) ∙ reading_kept line
 

@@ -40,7 +40,7 @@ length-are bounds splits tables [] (b ∷ answers) new are = absurd are
 length-are bounds splits tables (q ∷ rs) [] new are = absurd are
 length-are bounds splits tables (q ∷ rs) (b ∷ answers) new are = omega (arith, length-are bounds splits are.0 rs answers new are.2)
 
--- the first want of room, after one more answer
+-- the first lack of room, after one more answer
 marked-last : (short : Bool) → cond short (Some 1) None ≡ marked None 1 short
 marked-last true = refl
 marked-last false = refl

@@ -40,11 +40,11 @@ rows_told-fit replies small few =
     let most = sum_by-le (λ (r : PartReply). counted r.reply) 4294967295 replies (λ i d below. counted-small _ (small i d below)) in
     omega (arith, most, few)
 
--- one list more is written
+-- one more list is written
 pub lists_more : (lists : List PartReply) (i : ℕ) (list : PartReply) → i < length lists → list ≡ get_or lists i list → flat_map list_text (take (i + 1) lists) ≡ flat_map list_text (take i lists) ++ list_text list
 lists_more lists i list below at = texts_more list_text lists i list below ∙ ap (λ (l : PartReply). flat_map list_text (take i lists) ++ list_text l) (sym at)
 
--- where the writer fails within a list
+-- if the writer fails within a list
 pub lists_within : (lists : List PartReply) (i : ℕ) (list : PartReply) (a b c : Option (List ℕ)) → i < length lists → list ≡ get_or lists i list → Appends a b (flat_map list_text (take i lists)) → AppendsFront b c (list_text list) → AppendsFront a c (flat_map list_text lists)
 lists_within lists i list a b c below at sent cut =
     front_within list_text lists i list a b c below sent (subst (λ (l : PartReply). AppendsFront b c (list_text l)) at cut)

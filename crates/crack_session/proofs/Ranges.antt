@@ -1,4 +1,4 @@
--- What stands in a range of a buffer.
+-- What is in a range of a buffer.
 use Rattle.std.proofs.Common.{◌≡◌, ℕ, ◌+◌, ◌-◌, ◌<◌, ◌≤◌, min, true, eqb, List, ◌++◌, length, take, drop, sym, ap, ◌∙◌, ⊎_elim, arith, length-take, length-drop}
 use Rattle.std.proofs.lemmas.Bool.{eqb-true, cases_lt}
 use Rattle.std.proofs.lemmas.List.{take-take, take_all, drop-drop, drop_at, length-take-le}

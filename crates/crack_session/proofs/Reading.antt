@@ -17,7 +17,7 @@ ahead_read None new xs u h e = absurd (let e' : ◌≡◌ {A = Option (List ℕ)
 ahead_read (Some v) None xs u h e = absurd h
 ahead_read (Some v) (Some w) xs u h e = let e' : ◌≡◌ {A = Option (List ℕ)} (Some v) (Some u) = e in ap Some (sym h) ∙ e'
 
--- u are the bytes that were ahead, of which a front without line feed is taken into the line
+-- u are the bytes that were ahead, of which a prefix without line feed is taken into the line
 pub record SoFar (u : List ℕ) (new : Option (List ℕ)) (line : List ℕ) : Type 0 where
   pub front : List ℕ
   pub rest : List ℕ
@@ -155,7 +155,7 @@ Keeps-then (Some x) None c h k = absurd h
 Keeps-then (Some x) (Some y) None h k = absurd k
 Keeps-then (Some x) (Some y) (Some z) h k = k ∙ h
 
--- what holds anyway holds of an error
+-- what holds in any case holds of an error
 pub if_err_anyway : {T E : Type 0} (r : Result T E) (P : Type 0) → P → IfErr r (λ _. P)
 if_err_anyway (Ok x) P h = tt
 if_err_anyway (Err e) P h = h

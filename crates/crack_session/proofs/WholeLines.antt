@@ -49,7 +49,7 @@ whole_to : (xs ys : List ℕ) → has_feed ys ≡ false → whole_lines (xs ++ 1
 whole_to [] ys h = ap (λ z. 10 ∷ z) (none_whole ys h)
 whole_to (x ∷ xs) ys h = let in_it : has_feed (x ∷ xs ++ 10 ∷ ys) ≡ true = feed_in (x ∷ xs) ys in rw in_it (ap (λ z. x ∷ z) (whole_to xs ys h))
 
--- Of some bytes a front of whole lines is used, and these are left: the statements of the front are k, and no quit.
+-- Of some bytes a prefix of whole lines is used, and these are left: the statements of the front are k, and no quit.
 pub record AreUsed (bytes left : List ℕ) (k : ℕ) : Type 0 where
   pub used : List ℕ
   pub joined : bytes ≡ used ++ left
@@ -98,7 +98,7 @@ AreUsed-more {bytes} {k} u line r n a h kept said goes more = record {
   whole = used_whole a.used u;
 }
 
--- where the input goes on after a line, the line has its feed
+-- if the input goes on after a line, the line has its feed
 pub line_feeds : (u : List ℕ) (ended : Bool) → (has_feed u ≡ false → ended ≡ true) → ended ≡ false → has_feed u ≡ true
 line_feeds u ended last goes_on = ⊎_elim
     (λ (h : has_feed u ≡ true). h)

@@ -23,12 +23,12 @@ use Rattle.crack_session.specs.Queries.{asking, joined, listed}
 use Rattle.crack_core.specs.Routes.{keys_of_part, route, parts_of}
 use Rattle.crack_core.specs.Steps.{Bounds, IsOutcomeAt, IsLayoutOutcome, IsFoldOutcome, tables_after, tables_folded}
 
--- what is answered where something comes out, or why nothing did
+-- what is answered if there is an outcome, or why there is none
 abbrev pub told : {X : Type 0} → (X → Answer) → Result X Refusal → Answer
 told answer (Ok x) = answer x
 told answer (Err e) = Refused e
 
--- One partition is asked: the answer is what comes out of it, and the partitions are new afterwards.
+-- One partition is asked: the answer is the outcome, and the partitions are new afterwards.
 pub record IsAsked (bounds : Bounds) (splits : List Bound) (tables : List PlainView) (part : ℕ) (command : Command) (answer : Answer) (new : List PlainView) : Type 0 where
   pub outcome : Result Reply Refusal
   pub comes_out : IsOutcomeAt bounds splits tables part command outcome
@@ -50,24 +50,24 @@ pub data AsksInTurn (bounds : Bounds) (splits : List Bound) (query : Query) (tab
       → IsOutcomeAt bounds splits between part.0 (asking query part.1) (Err e)
       → AsksInTurn bounds splits query tables (parts ++ part ∷ behind) (Err e) between
 
--- Several partitions are asked in turn, and what they reply is joined.
+-- Several partitions are asked in turn, and their replies are joined.
 pub record IsJoined (bounds : Bounds) (splits : List Bound) (tables : List PlainView) (query : Query) (parts : List (ℕ × Range)) (answer : Answer) (new : List PlainView) : Type 0 where
   pub outcome : Result (List PartReply) Refusal
   pub asked : AsksInTurn bounds splits query tables parts outcome new
   pub answer_is : answer ≡ told (joined query) outcome
 
--- These parts of a range are asked: one alone as by any command; several in turn, or none of them, where no memory is found for their replies.
+-- These parts of a range are asked: a single one as for any command; several in turn, or none of them, if no memory is found for their replies.
 abbrev pub AsksParts : Bounds → List Bound → List PlainView → Query → List (ℕ × Range) → Answer → List PlainView → Type 0
 AsksParts bounds splits tables query (part ∷ []) answer new = IsAsked bounds splits tables part.0 (asking query part.1) answer new
 AsksParts bounds splits tables query parts answer new = IsJoined bounds splits tables query parts answer new ⊎ ((answer ≡ Refused OutOfMemory) × (new ≡ tables))
 
--- One partition is laid out: the answer is any layout that it may have.
+-- The layout of one partition is asked for: the answer is any layout that it may have.
 pub record IsLaidOut (splits : List Bound) (tables : List PlainView) (part : ℕ) (answer : Answer) : Type 0 where
   pub outcome : Result PartLayout Refusal
   pub comes_out : IsLayoutOutcome (keys_of_part splits part) (slice_get tables part) outcome
   pub answer_is : answer ≡ told (Laid part) outcome
 
--- One partition is checkpointed: the answer says how many commands it accepted since its last checkpoint, and the partitions are new afterwards.
+-- A checkpoint of one partition is made: the answer says how many commands it accepted since its last checkpoint, and the partitions are new afterwards.
 pub record IsFolded (tables : List PlainView) (part : ℕ) (answer : Answer) (new : List PlainView) : Type 0 where
   pub outcome : Result ℕ Refusal
   pub comes_out : IsFoldOutcome (slice_get tables part) outcome
@@ -93,7 +93,7 @@ abbrev pub IsAnswer : Bounds → List Bound → List PlainView → Reading → A
 IsAnswer bounds splits tables (Err e) answer new = (answer ≡ Refused e) × (new ≡ tables)
 IsAnswer bounds splits tables (Ok statement) answer new = IsAnswerTo bounds splits tables statement answer new
 
--- a refusal for want of room: the history is full, or no memory or no cell was found, or as many commands were accepted as may be in all
+-- a refusal for lack of room: the history is full, or no memory or no cell was found, or as many commands were accepted as there may be in total
 abbrev pub is_short : Refusal → Bool
 is_short (HistoryFull entries) = true
 is_short OutOfMemory = true
@@ -101,7 +101,7 @@ is_short NoCell = true
 is_short LifeOver = true
 is_short _ = false
 
--- whether it is a refusal for want of room
+-- whether it is a refusal for lack of room
 abbrev pub is_short_answer : Answer → Bool
 is_short_answer (Refused e) = is_short e
 is_short_answer _ = false

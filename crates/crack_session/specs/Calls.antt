@@ -1,4 +1,4 @@
--- The calls that a desk is asked, and what is made of what comes of them: what a session answers, whatever is known of the rows.
+-- The calls that a desk is asked, and what is made of their outcomes: a session's answers, whatever is known of the rows.
 use Rattle.std.specs.Prelude.{◌≡◌, ℕ, List, [], ◌∷◌, ◌++◌, ◌⊎◌, length, Option, Result, Ok, Err}
 use Rattle.crack_row.specs.Ranges.{Range}
 use Rattle.crack_row.specs.declared.Bound.{Bound}
@@ -21,18 +21,18 @@ use Rattle.crack_session.specs.declared.query.Query.TheVariants.{Count as AsksCo
 use Rattle.crack_session.specs.Queries.{asking, joined}
 use Rattle.crack_session.specs.Answers.{told}
 
--- a call of a desk, and what came of it: a partition was asked a command by a policy, it was to make a checkpoint, or its layout was asked for
+-- a call of a desk, and its outcome: a partition was asked a command by a policy, it was to make a checkpoint, or its layout was asked for
 pub data Call : Type 0 where
   Asked : ℕ → Command → MergePolicy → Result Reply Refusal → Call
   Checkpointed : ℕ → Result ℕ Refusal → Call
   Looked : ℕ → Result PartLayout Refusal → Call
 
--- these calls lead from one state of a desk to another, one after the other and no other in between
+-- these calls lead from one state of a desk to another, one after the other with no others in between
 abbrev pub Calls : {D : Type 0} → (D → Call → D → Type 0) → D → List Call → D → Type 0
 Calls leads old [] new = new ≡ old
 Calls {D} leads old (call ∷ calls) new = (between : D) × leads old call between × Calls leads between calls new
 
--- one partition is asked, and the answer is what comes of that
+-- one partition is asked, and the answer is the outcome
 abbrev pub IsOneAsked : MergePolicy → ℕ → Command → Answer → List Call → Type 0
 IsOneAsked policy part command answer calls = (outcome : Result Reply Refusal) × (calls ≡ Asked part command policy outcome ∷ []) × (answer ≡ told (Replied part) outcome)
 
@@ -49,7 +49,7 @@ pub data AreAskedInTurn (policy : MergePolicy) (query : Query) : List (ℕ × Ra
       → AreAskedInTurn policy query parts (Ok said) calls
       → AreAskedInTurn policy query (parts ++ part ∷ rest) (Err e) (calls ++ Asked part.0 (asking query part.1) policy (Err e) ∷ [])
 
--- several partitions are asked in turn, and what they reply is joined; or none of them, where no memory is found for their replies
+-- several partitions are asked in turn, and their replies are joined; or none of them, if no memory is found for their replies
 pub record IsJoinedFrom (policy : MergePolicy) (query : Query) (parts : List (ℕ × Range)) (answer : Answer) (calls : List Call) : Type 0 where
   pub outcome : Result (List PartReply) Refusal
   pub asked : AreAskedInTurn policy query parts outcome calls
@@ -58,12 +58,12 @@ pub record IsJoinedFrom (policy : MergePolicy) (query : Query) (parts : List (�
 abbrev pub AreSeveralAsked : MergePolicy → Query → List (ℕ × Range) → Answer → List Call → Type 0
 AreSeveralAsked policy query parts answer calls = IsJoinedFrom policy query parts answer calls ⊎ ((answer ≡ Refused OutOfMemory) × (calls ≡ []))
 
--- these parts of a range are asked: one alone as by any command, or several in turn
+-- these parts of a range are asked: a single one as for any command, or several in turn
 abbrev pub ArePartsAsked : MergePolicy → Query → List (ℕ × Range) → Answer → List Call → Type 0
 ArePartsAsked policy query (part ∷ []) answer calls = IsOneAsked policy part.0 (asking query part.1) answer calls
 ArePartsAsked policy query parts answer calls = AreSeveralAsked policy query parts answer calls
 
--- an answer to a statement is made of what comes of just these calls: of the partition that a row's key or its number fixes, or of those that
+-- an answer to a statement is made of the outcomes of exactly these calls: of the partition that a row's key or its number determines, or of those that
 -- hold a part of a range, by this policy
 abbrev pub IsMadeOf : List Bound → MergePolicy → Statement → Answer → List Call → Type 0
 IsMadeOf splits policy (Insert key payload) answer calls = IsOneAsked policy (route splits key.0) (AskInsert key payload) answer calls
@@ -77,7 +77,7 @@ IsMadeOf splits policy (Checkpoint part) answer calls = (outcome : Result ℕ Re
 IsMadeOf splits policy (Policy other) answer calls = (answer ≡ Set other) × (calls ≡ [])
 IsMadeOf splits policy Quit answer calls = (answer ≡ Bye) × (calls ≡ [])
 
--- the same of what a line is read as
+-- the same for what a line is read as
 abbrev pub IsReadingMadeOf : List Bound → MergePolicy → Reading → Answer → List Call → Type 0
 IsReadingMadeOf splits policy (Err e) answer calls = (answer ≡ Refused e) × (calls ≡ [])
 IsReadingMadeOf splits policy (Ok statement) answer calls = IsMadeOf splits policy statement answer calls
@@ -87,7 +87,7 @@ abbrev pub policy_after : MergePolicy → Answer → MergePolicy
 policy_after policy (Set next) = next
 policy_after policy _ = policy
 
--- the answers to these statements are made of these calls: each of the next of them, by the policy in force, and none is left over
+-- the answers to these statements are made of these calls: each of the next of them, by the current policy, and none is left over
 abbrev pub AreMadeOf : List Bound → MergePolicy → List Reading → List Answer → List Call → Type 0
 AreMadeOf splits policy [] [] calls = calls ≡ []
 AreMadeOf splits policy (reading ∷ readings) (answer ∷ answers) calls = (here : List Call) × (rest : List Call) × (calls ≡ here ++ rest) × IsReadingMadeOf splits policy reading answer here × AreMadeOf splits (policy_after policy answer) readings answers rest

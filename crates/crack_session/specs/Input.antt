@@ -18,11 +18,11 @@ abbrev pub after_line : List ℕ → List ℕ
 after_line [] = []
 after_line (b ∷ bs) = if b == 10 then bs else after_line bs
 
--- a line's bytes as far as a session keeps them: more make it too long however many they are
+-- a line's bytes as far as a session keeps them: more make it too long however many there are
 abbrev pub kept_of : List ℕ → List ℕ
 kept_of line = take KEPT_BYTES line
 
--- the line that was found last, or as much of the next one as is read; whether what isn't used yet stands
+-- the line that was found last, or as much of the next one as is read; whether what isn't used yet is
 -- right after it; what is read and not yet used; how many more reads there may be; whether a read brought nothing
 pub record Input : Type 0 where
   pub line : List ℕ
@@ -31,25 +31,25 @@ pub record Input : Type 0 where
   pub reads : ℕ
   pub ended : Bool
 
--- the bytes that are still to come, where they are known
+-- the bytes that are still to come, if they are known
 abbrev pub ahead : Input → Option (List ℕ) → Option (List ℕ)
 ahead input remaining = prepend_known input.unread remaining
 
--- once a read brought nothing, nothing is left to read
+-- once a read returned nothing, nothing is left to read
 abbrev pub KnowsEnd : Input → Option (List ℕ) → Type 0
 KnowsEnd input remaining = input.ended ≡ true → (bytes : List ℕ) → remaining ≡ Some bytes → bytes ≡ []
 
--- each read brought a byte, but for one that brought nothing
+-- each read returned a byte, except for one that returned nothing
 abbrev pub IsPaid : Input → Input → Option (List ℕ) → Option (List ℕ) → Type 0
 IsPaid old new remaining remaining' = new.ended ≡ false → (old.ended ≡ false)
     × ((bytes : List ℕ) → remaining ≡ Some bytes → (rest : List ℕ) × (remaining' ≡ Some rest)
     × (length rest + old.reads ≤ length bytes + new.reads))
 
--- falls with each line
+-- decreases with each line
 abbrev pub left_of : Input → ℕ
 left_of input = (READ_BYTES + 1) * input.reads + length input.unread
 
--- From these bytes on, there was no line, or this was the next one, as far as lines are kept; what is ahead then is new.
+-- From these bytes on, there was no line, or this was the next one, as far as lines are kept; then what is ahead is new.
 abbrev pub IsNextLine : List ℕ → Bool → List ℕ → Option (List ℕ) → Type 0
 IsNextLine bytes false line new = bytes ≡ []
 IsNextLine bytes true line new = (0 < length bytes) × (kept_of line ≡ kept_of (first_line bytes))

@@ -13,7 +13,7 @@ use Rattle.crack_core.specs.Steps.{Bounds, bounds_of, IsOutcomeAt, IsLayoutOutco
 use Rattle.crack_core.specs.Jobs.{AtPart}
 use Rattle.crack_session.specs.Calls.{Call, Asked, Checkpointed, Looked}
 
--- what a call of partitions whose rows are known comes to, and their rows afterwards
+-- the outcome of a call of partitions whose rows are known, and their rows afterwards
 abbrev pub rows_lead : Bounds → List Bound → List PlainView → Call → List PlainView → Type 0
 rows_lead bounds splits old (Asked part command policy outcome) new = IsOutcomeAt bounds splits old part command outcome × (new ≡ tables_after bounds old part command outcome)
 rows_lead bounds splits old (Checkpointed part outcome) new = IsFoldOutcome (slice_get old part) outcome × (new ≡ tables_folded old part outcome)

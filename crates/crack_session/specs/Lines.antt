@@ -2,7 +2,7 @@
 use Rattle.std.specs.List.{onto_first}
 use Rattle.std.specs.Prelude.{ℕ, ◌-◌, List, [], ◌∷◌, length, take, slice_index, ◌==◌, if◌then◌else◌}
 
--- a line ends at a line feed, or at the end where bytes are left
+-- a line ends at a line feed, or at the end if bytes are left
 abbrev pub lines : List ℕ → List (List ℕ)
 lines [] = []
 lines (b ∷ bs) = if b == 10 then [] ∷ lines bs else onto_first b (lines bs)

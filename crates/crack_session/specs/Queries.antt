@@ -1,4 +1,4 @@
--- What is asked of a range, and what several partitions reply together.
+-- A question about a range, and what several partitions reply together.
 use Rattle.std.specs.Prelude.{ℕ, ℤ, pos, List, [], length, sum_by}
 use Rattle.crack_row.specs.Rows.{total_by}
 use Rattle.crack_row.specs.Ranges.{Range}

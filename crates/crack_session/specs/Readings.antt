@@ -7,7 +7,7 @@ use Rattle.crack_commands.specs.declared.statement.Statement.TheVariants.{Quit}
 use Rattle.crack_session.specs.declared.TheConstants.{LINE_BYTES}
 use Rattle.crack_session.specs.Lines.{lines, without_return}
 
--- what a line is read as, its carriage return dropped: nothing where it is blank, and no statement where it is too long
+-- what a line is read as, without its carriage return: nothing if it is blank, and no statement if it is too long
 unfoldable pub reading_of : List ℕ → Option Reading
 reading_of line = if nat_lt LINE_BYTES (length (without_return line)) then Some (Err BadStatement) else if list_all (λ b. b == 32) (without_return line) then None else Some (statement_of (without_return line))
 
@@ -16,7 +16,7 @@ abbrev pub is_quit : Reading → Bool
 is_quit (Ok Quit) = true
 is_quit _ = false
 
--- up to the first quit, itself included
+-- up to and including the first quit
 abbrev pub until_quit : List Reading → List Reading
 until_quit [] = []
 until_quit (r ∷ rs) = if is_quit r then r ∷ [] else r ∷ until_quit rs

@@ -13,7 +13,7 @@ use Rattle.crack_session.specs.Answers.{answer_text}
 use Rattle.crack_session.specs.Sessions.{AreAnswers, first_short, ending, whole_lines}
 use Rattle.crack_core.specs.Steps.{Bounds}
 
--- These statements are answered in order: the texts of the answers, the first want of room, and the partitions afterwards.
+-- These statements are answered in order: the texts of the answers, the first lack of room, and the partitions afterwards.
 pub record AreAnswered (bounds : Bounds) (splits : List Bound) (tables : List PlainView) (readings : List Reading) (texts : List (List ℕ)) (short : Option ℕ) (left : Option (List PlainView)) : Type 0 where
   pub answers : List Answer
   pub new : List PlainView
@@ -33,13 +33,13 @@ pub record CountsStatements (bytes : List ℕ) (end : End) : Type 0 where
   pub statements_are : end.statements ≡ length (statements bytes)
   pub how_is : end.how ≡ ending (statements bytes)
 
--- on a fault so many of them are done; where it is the reader's, those in the whole lines of the bytes that were taken, and no other
+-- on a fault this many of them are done; if it is the reader's, those in the whole lines of the bytes that were taken, and no others
 pub record IsDone (bytes : List ℕ) (fault : Fault) (remaining : Option (List ℕ)) : Type 0 where
   pub within : fault.done ≤ length (statements bytes)
   pub whole : fault.refusal ≡ ReadFault → (taken rest : List ℕ) → remaining ≡ Some rest → bytes ≡ taken ++ rest →
       fault.done ≡ length (statements (whole_lines taken))
 
--- where the writer failed in a text: one statement more is answered than is done, and a front of its text follows the others
+-- if the writer failed in a text: one more statement is answered than is done, and a prefix of its text follows the others
 pub record IsCutWithin (bounds : Bounds) (splits : List Bound) (tables : List PlainView) (bytes out : List ℕ) (fault : Fault) (left : Option (List PlainView)) (written : Option (List ℕ)) : Type 0 where
   pub refusal_is : fault.refusal ≡ WriteFault
   pub one_more : fault.done < length (statements bytes)
@@ -50,7 +50,7 @@ pub record IsCutWithin (bounds : Bounds) (splits : List Bound) (tables : List Pl
   pub cut : count < length text
   pub written_is : written ≡ Some (out ++ (concat texts ++ take count text))
 
--- on a fault the statements that are done are answered, and nothing follows their texts, or a front of one more
+-- on a fault the statements that are done are answered, and nothing follows their texts, or a prefix of one more
 abbrev pub IsCutOff : Bounds → List Bound → List PlainView → List ℕ → List ℕ → Fault → Option (List PlainView) → Option (List ℕ) → Type 0
 IsCutOff bounds splits tables bytes out fault left written = AreTold bounds splits tables (take fault.done (statements bytes)) out fault.first_short left written
     ⊎ IsCutWithin bounds splits tables bytes out fault left written

@@ -17,18 +17,18 @@ AreAnswers bounds splits tables [] [] new = new ≡ tables
 AreAnswers bounds splits tables (reading ∷ readings) (answer ∷ answers) new = (between : List PlainView) × IsAnswer bounds splits tables reading answer between × AreAnswers bounds splits between readings answers new
 AreAnswers bounds splits tables _ _ new = ⊥
 
--- the number, from 1, of the first answer that is a refusal for want of room
+-- the number, from 1, of the first answer that is a refusal for lack of room
 abbrev pub first_short : List Answer → Option ℕ
 first_short [] = None
 first_short (answer ∷ answers) = if is_short_answer answer then Some 1 else option_map (λ k. k + 1) (first_short answers)
 
--- how statements end: by a quit where the last of them is one
+-- how statements end: by a quit if the last of them is one
 abbrev pub ending : List Reading → How
 ending [] = InputEnded
 ending (r ∷ []) = if is_quit r then Quit else InputEnded
 ending (r ∷ q ∷ rs) = ending (q ∷ rs)
 
--- the lines that end in a line feed: the bytes up to and with the last one
+-- the lines that end in a line feed: the bytes up to and including the last one
 abbrev pub whole_lines : List ℕ → List ℕ
 whole_lines [] = []
 whole_lines (b ∷ bs) = if list_any (λ c. c == 10) (b ∷ bs) then b ∷ whole_lines bs else []

@@ -21,7 +21,7 @@ use Rattle.crack_session.specs.Answers.{IsJoined, IsAnswer, is_short_answer, ans
 use Rattle.crack_session.specs.Calls.{Call, Calls, IsReadingMadeOf, policy_after}
 use Rattle.crack_core.specs.Steps.{Bounds}
 
--- A desk is asked: its tables, where they are known, change as they may by its bounds and splits, and these stay; and such calls lead from one
+-- A desk is asked: its tables, if they are known, change as they may by its bounds and splits, and these stay; and such calls lead from one
 -- state to the other.
 pub record AsksDesk {D : Type 0} (bounds : D → Bounds) (splits : D → List Bound) (tables : D → Option (List PlainView)) (leads : D → Call → D → Type 0) (IsChange : Bounds → List Bound → List PlainView → List PlainView → Type 0) (AreSuch : List Bound → List Call → Type 0) (old new : D) : Type 0 where
   pub is : (known : List PlainView) → tables old ≡ Some known → (next : List PlainView) × IsChange (bounds old) (splits old) known next × (tables new ≡ Some next)
@@ -31,13 +31,13 @@ pub record AsksDesk {D : Type 0} (bounds : D → Bounds) (splits : D → List Bo
   pub were : Calls leads old calls new
   pub made : AreSuch (splits old) calls
 
--- the first want of room, after the n-th statement
+-- the first lack of room, after the n-th statement
 abbrev pub marked : Option ℕ → ℕ → Bool → Option ℕ
 marked (Some k) n short = Some k
 marked None n true = Some n
 marked None n false = None
 
--- An answer is written: a first want of room and another policy are noted, its text is written, and it is counted where that is whole.
+-- An answer is written: a first lack of room and another policy are noted, its text is written, and it is counted if that is whole.
 pub record Tells {W : Type 0} (contents : W → Option (List ℕ)) (answer : Answer) (old new : Progress) (result : Result (Unit {0}) Refusal) (writer writer' : Watched W) : Type 0 where
   pub count : new.statements ≡ (if is_ok result then old.statements + 1 else old.statements)
   pub short : new.first_short ≡ marked old.first_short (old.statements + 1) (is_short_answer answer)
@@ -50,11 +50,11 @@ pub record Responds {D W : Type 0} (bounds : D → Bounds) (splits : D → List 
   pub asks : AsksDesk bounds splits tables leads (λ bounds splits tables. IsAnswer bounds splits tables reading answer) (λ splits calls. IsReadingMadeOf splits old.policy reading answer calls) desk desk'
   pub tells : Tells contents answer old new result writer writer'
 
--- how many rows these count or list, all together
+-- how many rows these count or list in total
 abbrev pub rows_told : List PartReply → ℕ
 rows_told replies = sum_by (λ (r : PartReply). counted r.reply) replies
 
--- their sums, added
+-- the sum of their sums
 abbrev pub sum_told : List PartReply → ℤ
 sum_told replies = total_by (λ (r : PartReply). summed r.reply) replies
 
@@ -62,10 +62,10 @@ sum_told replies = total_by (λ (r : PartReply). summed r.reply) replies
 abbrev pub list_text : PartReply → List ℕ
 list_text r = flat_map (row_text r.part) (listed r.reply)
 
--- the lists of several partitions: how many rows there are in all, and then each row
+-- the lists of several partitions: how many rows there are in total, and then each row
 abbrev pub lists_text : ℕ → List PartReply → List ℕ
 lists_text total replies = head_text total ++ flat_map list_text replies
 
--- Several partitions are asked: in turn, or none of them, where no memory is found for their replies.
+-- Several partitions are asked: in turn, or none of them, if no memory is found for their replies.
 abbrev pub AsksSeveral : Bounds → List Bound → List PlainView → Query → List (ℕ × Range) → Answer → List PlainView → Type 0
 AsksSeveral bounds splits tables query parts answer new = IsJoined bounds splits tables query parts answer new ⊎ ((answer ≡ Refused OutOfMemory) × (new ≡ tables))

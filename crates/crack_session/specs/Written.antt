@@ -9,7 +9,7 @@ use Rattle.crack_session.specs.Answers.{answer_text}
 use Rattle.crack_session.specs.Readings.{statements}
 use Rattle.crack_session.specs.Sessions.{first_short}
 
--- There is an answer to each of these statements, the answers are such, and their texts are written, each of them whole.
+-- There is an answer to each of these statements, the answers are right, and their texts are written, each of them whole.
 pub record AreWritten (Are : List Reading → List Answer → Type 0) (readings : List Reading) (out : List ℕ) (short : Option ℕ) (written : Option (List ℕ)) : Type 0 where
   pub answers : List Answer
   pub each : length answers ≡ length readings
@@ -17,7 +17,7 @@ pub record AreWritten (Are : List Reading → List Answer → Type 0) (readings 
   pub short_is : short ≡ first_short answers
   pub written_is : written ≡ Some (out ++ concat (map answer_text answers))
 
--- Where the writer failed in a text, there is one answer more than statements are done, and a front of its text follows the others.
+-- If the writer failed in a text, there is one more answer than statements are done, and a prefix of its text follows the others.
 pub record IsLastCut (Are : List Reading → List Answer → Type 0) (bytes out : List ℕ) (fault : Fault) (written : Option (List ℕ)) : Type 0 where
   pub refusal_is : fault.refusal ≡ WriteFault
   pub one_more : fault.done < length (statements bytes)
@@ -30,7 +30,7 @@ pub record IsLastCut (Are : List Reading → List Answer → Type 0) (bytes out 
   pub cut : count < length (answer_text last)
   pub written_is : written ≡ Some (out ++ (concat (map answer_text answers) ++ take count (answer_text last)))
 
--- on a fault the statements that are done are answered, and nothing follows their texts, or a front of one more
+-- on a fault the statements that are done are answered, and nothing follows their texts, or a prefix of one more
 abbrev pub AreWrittenThen : (List Reading → List Answer → Type 0) → List ℕ → List ℕ → Fault → Option (List ℕ) → Type 0
 AreWrittenThen Are bytes out fault written = AreWritten Are (take fault.done (statements bytes)) out fault.first_short written
     ⊎ IsLastCut Are bytes out fault written

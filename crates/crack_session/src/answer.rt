@@ -24,20 +24,20 @@ use crack_row::{Command, Key, KeyRange, Layout, Policy, Refusal, Reply, Watched}
 use std::alloc::Global;
 use std::io::Write;
 
-/// What a statement is answered.
+/// The answer to a statement.
 #[derive(Drop, Debug)]
 pub enum Answer {
     /// A partition replied.
     Replied { part: u32, reply: Reply },
-    /// Several partitions counted rows: so many in all.
+    /// Several partitions counted rows: the total.
     Counted(u64),
-    /// Several partitions added up payloads: the sum of all.
+    /// Several partitions added up payloads: the total.
     Summed(i128),
-    /// Several partitions listed rows: so many in all.
+    /// Several partitions listed rows: the total number.
     Listed { total: u64, lists: ReplyList },
-    /// What stands where in a partition.
+    /// The layout of a partition.
     Laid { part: u32, layout: Layout },
-    /// So many commands of a partition were checkpointed.
+    /// This many commands of a partition were checkpointed.
     Folded(u64),
     /// The session's policy from now on.
     Set(Policy),
@@ -48,7 +48,7 @@ pub enum Answer {
 }
 
 impl Answer {
-    /// Whether it is a refusal for want of room.
+    /// Whether it is a refusal for lack of room.
     pub fn is_short(&self) -> bool
         ensures { result ≡ is_short_answer self.now }
     {
@@ -82,7 +82,7 @@ impl Answer {
     }
 }
 
-/// Writes the lists of several partitions: how many rows there are in all, and then each row.
+/// Writes the lists of several partitions: how many rows there are in total, and then each row.
 #[inline(never)]
 fn write_lists<W: Write>(
     total: u64,
@@ -129,7 +129,7 @@ pub fn answer_reading<D: Desk>(
 }
 
 /// Answers a statement: an insert by the partition that holds its key, a delete and an update by the partition that
-/// their row number names, and what is asked of a range by each partition that holds a part of it.
+/// their row number names, and a question about a range by each partition that holds a part of it.
 fn answer_statement<D: Desk>(
     alloc: Global,
     desk: &mut D,
@@ -187,7 +187,7 @@ fn ask_part<D: Desk>(desk: &mut D, policy: Policy, part: u32, command: Command) 
     }
 }
 
-/// Asks each partition that holds a part of a range. Takes no memory where that is one alone.
+/// Asks each partition that holds a part of a range. Takes no memory if that is only one.
 fn ask_range<D: Desk>(
     alloc: Global,
     desk: &mut D,
@@ -259,7 +259,7 @@ fn ask_each<D: Desk>(
     Ok(())
 }
 
-/// Says what stands where in one partition.
+/// Writes the layout of one partition.
 fn lay_out<D: Desk>(desk: &D, part: u32) -> Answer
     ensures { AsksDesk D.bounds D.splits D.tables D.leads (λ bounds splits tables new. IsLaidOut splits tables part
         result × (new ≡ tables)) (λ splits calls. (outcome : Result Layout Refusal) × (calls ≡ Looked part outcome ∷

@@ -57,7 +57,7 @@ impl Desk for Core {
     fn checkpoint(&mut self, part: u32) -> Result<u64, Refusal>
         ensures outcome { IsFoldOutcome (slice_get (tables_of self.old.parts) part) result }
         ensures after { tables_of self.new.parts ≡ tables_folded (tables_of self.old.parts) part result }
-        // The partition that is named is checkpointed, and nothing else is changed.
+        // A checkpoint of the named partition is made, and nothing else is changed.
         ensures folds { OnOk result (FoldsAt part self.old.parts self.new.parts) }
         ensures opened { (self.new.splits ≡ self.old.splits) × (self.new.limits ≡ self.old.limits) }
         ensures accepted { accepted_by self.new.parts ≡ accepted_by self.old.parts }

@@ -1,4 +1,4 @@
-//! Who answers commands.
+//! What answers commands.
 ghost use Rattle.std.specs.Prelude.{◌≡◌, ℕ, ◌+◌, List, length, All, is_ok, Some, IfOk, slice_get, if◌then◌else◌};
 ghost use Rattle.crack_plain.specs.Plain.{PlainView, IsNumbered, IsSmall};
 ghost use Rattle.crack_core.specs.Routes.{AreSplits, keys_of_part};
@@ -7,7 +7,7 @@ ghost use Rattle.crack_session.specs.Calls.{Asked, Checkpointed, Looked};
 
 use crack_row::{Bound, Command, Layout, Policy, Refusal, Reply};
 
-/// A table that is asked one command after another. Its keys are cut into partitions, numbered from 0.
+/// A table that is asked one command after another. Its keys are divided into partitions, numbered from 0.
 pub trait Desk {
     ghost use Rattle.std.specs.Prelude.{ℕ, Option, List};
     ghost use Rattle.crack_row.specs.declared.Bound.{Bound};
@@ -15,11 +15,11 @@ pub trait Desk {
     ghost use Rattle.crack_core.specs.Steps.{Bounds};
     ghost use Rattle.crack_session.specs.Calls.{Call};
 
-    /// The plain rows of each partition, and how many commands it accepted up to its last checkpoint and since, where
+    /// The plain rows of each partition, and how many commands it accepted up to its last checkpoint and since, if
     /// they are known.
     ghost tables: { Self → Option (List PlainView) };
 
-    /// Why a partition accepts no command more, if so, and how many cells its rows may take.
+    /// Why a partition accepts no more commands, if so, and how many cells its rows may take.
     ghost bounds: { Self → Bounds };
 
     /// Where one partition ends and the next begins, in rising order.
@@ -28,15 +28,15 @@ pub trait Desk {
     /// How many commands were accepted through this desk.
     ghost receipts: { Self → ℕ };
 
-    /// What a call, and what came of it, leads to: from one state to another.
+    /// What a call, and its outcome, leads to: from one state to another.
     ghost leads: { Self → Call → Self → Type 0 };
 
-    /// Asks one partition. Refused, with the rows and histories as they were, with 5 where there is no such partition,
-    /// with 4 where the command brings a key that isn't the partition's, with 6 where its history is full and no
-    /// checkpoint is due, with 10 where it accepts no command more, with 9 where no cell is free for a row, upkeep
-    /// frees none and it has as many as it may have, and with 8 where it finds no memory.
+    /// Asks one partition. Refused, with the rows and histories as they were, with 5 if there is no such partition,
+    /// with 4 if the command has a key that isn't the partition's, with 6 if its history is full and no
+    /// checkpoint is due, with 10 if it accepts no more commands, with 9 if no cell is free for a row, upkeep
+    /// frees none and it has as many as it may have, and with 8 if it finds no memory.
     fn ask(&mut self, part: u32, command: Command, policy: Policy) -> Result<Reply, Refusal>
-        // It is the reply of the plain rows, or the refusal that they call for; in place of a reply it may be 8, or 9.
+        // It is the reply of the plain rows, or the refusal that they require; in place of a reply it may be 8, or 9.
         ensures outcome { (known : List PlainView) → tables self.old ≡ Some known →
             IsOutcomeAt (bounds self.old) (splits self.old) known part command result }
         // The plain rows change as the reply says, and a refusal leaves them.
@@ -47,16 +47,16 @@ pub trait Desk {
         ensures splits { splits self.new ≡ splits self.old }
         ensures bounds { bounds self.new ≡ bounds self.old }
         ensures receipts { receipts self.new ≡ (if is_ok result then receipts self.old + 1 else receipts self.old) }
-        // The partition is asked this command by this policy, once, and this is what comes of that.
+        // The partition is asked this command by this policy, once, and this is the outcome.
         ensures leads { leads self.old (Asked part command policy result) self.new };
 
     /// Makes a checkpoint of one partition, and returns how many commands it accepted since the last one: its rows are
-    /// kept as they are, and what it was asked no more. It isn't kept itself. Refused with 5 where there is no such
-    /// partition, and with 8 where no memory is found; nothing has changed then.
+    /// kept as they are, and its commands aren't. It isn't kept itself. Refused with 5 if there is no such
+    /// partition, and with 8 if no memory is found; then nothing has changed.
     fn checkpoint(&mut self, part: u32) -> Result<u64, Refusal>
         ensures outcome { (known : List PlainView) → tables self.old ≡ Some known →
             IsFoldOutcome (slice_get known part) result }
-        // The plain rows stay, and a refusal leaves all as it was.
+        // The plain rows stay, and a refusal leaves everything as it was.
         ensures after { (known : List PlainView) → tables self.old ≡ Some known →
             tables self.new ≡ Some (tables_folded known part result) }
 
@@ -65,11 +65,11 @@ pub trait Desk {
         ensures receipts { receipts self.new ≡ receipts self.old }
         ensures leads { leads self.old (Checkpointed part result) self.new };
 
-    /// What stands where in one partition. It cracks and merges nothing, and isn't kept. Refused with 5 where there is
-    /// no such partition, and with 8 where no memory is found.
+    /// The layout of one partition. It cracks and merges nothing, and isn't kept. Refused with 5 if there is
+    /// no such partition, and with 8 if no memory is found.
     fn layout(&self, part: u32) -> Result<Layout, Refusal>
-        // Its pieces lead from the partition's one end to the other, its numbers fit, and its rows are as many as the
-        // plain rows.
+        // Its pieces lead from one end of the partition to the other, its numbers fit, and it has as many rows as there
+        // are plain rows.
         ensures outcome { (known : List PlainView) → tables self.now ≡ Some known →
             IsLayoutOutcome (keys_of_part (splits self.now) part) (slice_get known part) result }
         ensures leads { leads self.now (Looked part result) self.now };

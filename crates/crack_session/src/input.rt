@@ -1,4 +1,4 @@
-//! The lines of a reader, in the place where they were read to.
+//! The lines of a reader, in the buffer that they were read to.
 ghost use Rattle.std.specs.Prelude.{◌≡◌, ℕ, ◌+◌, ◌-◌, ◌^◌, ◌<◌, ◌≤◌, ◌++◌, ◌⊎◌, min, List, [], length, take, drop};
 ghost use Rattle.std.specs.Prelude.{slice_range, true, false, Some, MatchBool, IfOk, IfErr, OnErr, OnOk, IsTrue};
 ghost use Rattle.std.specs.Prelude.{IsFalse};
@@ -24,10 +24,10 @@ const READ_BYTES: usize = 4096;
 /// whatever the rest is.
 const KEPT_BYTES: usize = 202;
 
-/// Room for the bytes of a read, and in front of them for a line that begins before them.
+/// Room for the bytes of a read, and before them for a line that begins earlier.
 const ROOM_BYTES: usize = KEPT_BYTES + READ_BYTES;
 
-/// What is read, of which the front is the line that was found last, and the back isn't used yet.
+/// What was read; its front is the line that was found last, and its back isn't used yet.
 /// Takes no memory.
 #[derive(Drop)]
 pub struct LineReader {
@@ -38,7 +38,7 @@ pub struct LineReader {
     end: usize,
     reads: u64,
     ended: bool,
-    /// The row of the line that was found last, where it was read as an insert in passing.
+    /// The row of the line that was found last, if it was read as an insert in passing.
     insert: Option<(Key, Payload)>,
 }
 
@@ -91,7 +91,7 @@ impl LineReader {
         &self.bytes[self.line_start..self.line_end]
     }
 
-    /// What the line that was found last says, unless it is blank.
+    /// The meaning of the line that was found last, unless it is blank.
     #[inline(always)]
     pub fn reading(&self) -> Option<Result<Statement, Refusal>>
         ensures { result ≡ reading_of self.now.line }
@@ -102,7 +102,7 @@ impl LineReader {
         }
     }
 
-    /// Begins a line where the bytes begin that aren't used yet.
+    /// Begins a line at the first byte that isn't used yet.
     fn begin_line(&mut self)
         ensures line { (self.new.line ≡ []) × (self.new.joined ≡ true) }
         ensures unread { self.new.unread ≡ self.old.unread }
@@ -113,8 +113,8 @@ impl LineReader {
         self.insert = None;
     }
 
-    /// Takes the next line where it is an insert that is written as most are, and says whether it is: its end isn't
-    /// looked for before it is read.
+    /// Takes the next line if it is an insert in the usual form, and returns whether it is: its end isn't
+    /// searched for before it is read.
     #[inline(always)]
     fn take_insert(&mut self) -> bool
         ensures found { IsTrue result → has_feed self.old.unread ≡ true }
@@ -135,7 +135,7 @@ impl LineReader {
         }
     }
 
-    /// Adds to the line what is read up to a line feed, or all of it, and says whether there was one.
+    /// Adds to the line what is read up to a line feed, or all of it, and returns whether there was one.
     fn take_line(&mut self) -> bool
         requires { self.old.joined ≡ true }
         ensures found { result ≡ has_feed self.old.unread }
@@ -157,7 +157,7 @@ impl LineReader {
         }
     }
 
-    /// Reads more, where nothing is left to use; a read that brings nothing ends the input.
+    /// Reads more, if nothing is left to use; a read that brings nothing ends the input.
     fn refill<R: Read>(&mut self, reader: &mut Watched<R>) -> Result<(), Refusal>
         requires line { (self.old.joined ≡ true) × (self.old.unread ≡ []) }
         requires goes_on { self.old.ended ≡ false }
@@ -199,8 +199,8 @@ impl LineReader {
     }
 }
 
-/// Finds the next line of a reader, and says whether there is one. Nothing is read while a line is there,
-/// and what is written is flushed before each read.
+/// Finds the next line of a reader, and returns whether there is one. Nothing is read while a line is there,
+/// and output is flushed before each read.
 pub fn next_line<R: Read, W: Write>(
     input: &mut LineReader,
     reader: &mut Watched<R>,
@@ -224,11 +224,11 @@ pub fn next_line<R: Read, W: Write>(
     ensures bytes { Keeps (W.contents (device writer.old)) (W.contents (device writer.new)) }
     ensures unfailed { OnOk result ((has_failed reader.new ≡ has_failed reader.old)
         × (has_failed writer.new ≡ has_failed writer.old)) }
-    // Where there is an error, the bytes that were taken are the beginning of a line, as far as they are known.
+    // If there is an error, the bytes that were taken are the beginning of a line, as far as they are known.
     ensures begun { IfErr result (λ _. (u : List ℕ) →
         ahead input.old (R.remaining (device reader.old)) ≡ Some u →
         IsBegun u (R.remaining (device reader.new))) }
-    // A read failed, or none may be made any more.
+    // A read failed, or no more may be made.
     ensures err { IfErr result (λ e. ((e ≡ Refusal.WriteFault) × (has_failed writer.new ≡ true))
         ⊎ ((e ≡ Refusal.ReadFault)
         × ((has_failed reader.new ≡ true) ⊎ ((input.new.reads ≡ 0) × (input.new.ended ≡ false)
@@ -251,7 +251,7 @@ pub fn next_line<R: Read, W: Write>(
     }
 }
 
-/// Moves a begun line in front of the room that is read to, as far as it is kept, and says how many bytes these are.
+/// Moves an unfinished line in front of the buffer for reads, as far as it is kept, and returns how many bytes it has.
 fn move_back(bytes: &mut [u8; ROOM_BYTES], start: usize, end: usize) -> usize
     requires ordered { start ≤ end }
     requires within { end ≤ ROOM_BYTES }

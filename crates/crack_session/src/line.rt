@@ -8,7 +8,7 @@ use crate::LINE_BYTES;
 use crack_commands::{Statement, parse_statement};
 use crack_row::Refusal;
 
-/// What a line says, unless it is blank: a statement, or why it is none. Refused with 2 where the ends of a range
+/// The meaning of a line, unless it is blank: a statement, or why it isn't one. Refused with 2 if the ends of a range
 /// are out of order or too great, else with 1. Takes no memory.
 #[tactic(auto, unfolding(crate::specs::Readings::reading_of))]
 #[inline(always)]
@@ -45,7 +45,7 @@ fn without_return(line: &[u8]) -> &[u8]
     }
 }
 
-/// Whether a line has spaces alone, or nothing.
+/// Whether a line has only spaces, or nothing.
 fn is_blank(line: &[u8]) -> bool
     ensures { result ≡ list_all (λ b. b == 32) line.now }
 {

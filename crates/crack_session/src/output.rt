@@ -1,4 +1,4 @@
-//! What is written is flushed.
+//! Output is flushed.
 ghost use Rattle.std.specs.Prelude.{◌≡◌, true, IfErr, OnOk};
 ghost use Rattle.std.specs.Io.KnownBytes.{Keeps};
 ghost use Rattle.crack_row.specs.Devices.{device, has_failed};
@@ -6,7 +6,7 @@ ghost use Rattle.crack_row.specs.Devices.{device, has_failed};
 use crack_row::{Refusal, Watched};
 use std::io::Write;
 
-/// Hands on what is written.
+/// Flushes what was written.
 pub fn flush<W: Write>(writer: &mut Watched<W>) -> Result<(), Refusal>
     ensures bytes { Keeps (W.contents (device writer.old)) (W.contents (device writer.new)) }
     ensures unfailed { OnOk result (has_failed writer.new ≡ has_failed writer.old) }

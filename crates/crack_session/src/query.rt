@@ -1,4 +1,4 @@
-//! What is asked of a range, and what several partitions reply to it.
+//! Questions about a range, and what several partitions reply to them.
 ghost use Rattle.std.specs.Prelude.{◌≡◌, ◌<◌, ◌≤◌, ◌^◌, List, All, length, sum_by, vec_len, vec_capacity};
 ghost use Rattle.crack_plain.specs.Plain.{IsSmall};
 ghost use Rattle.crack_session.specs.Queries.{asking, counted, summed, listed, joined};
@@ -8,7 +8,7 @@ use crate::answer::Answer;
 use crack_row::{Command, KeyRange, Reply, Row};
 use std::marker::Model;
 
-/// What is asked of a range.
+/// A question about a range.
 #[derive(Clone, Copy, PartialEq, Eq, Debug)]
 pub enum Query {
     Count,
@@ -17,7 +17,7 @@ pub enum Query {
 }
 
 impl Query {
-    /// The command that asks it of one partition.
+    /// The command that asks one partition for it.
     pub fn over(self, range: KeyRange) -> Command
         ensures { result ≡ asking self range }
     {
@@ -117,7 +117,7 @@ pub fn joined(query: Query, replies: Vec<PartReply>) -> Answer
     }
 }
 
-/// How many rows replies count or list, all together.
+/// How many rows replies count or list in total.
 fn rows_told(replies: &[PartReply]) -> u64
     requires { rows_told replies.now < 2 ^ 64 }
     ensures { result ≡ rows_told replies.now }

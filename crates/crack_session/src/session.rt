@@ -36,7 +36,7 @@ pub struct End {
     pub how: How,
     /// How many statements were answered.
     pub statements: u64,
-    /// The number, from 1, of the first statement that was refused for want of room (6, 8, 9 or 10).
+    /// The number, from 1, of the first statement that was refused for lack of room (6, 8, 9 or 10).
     pub first_short: Option<u64>,
 }
 
@@ -47,12 +47,12 @@ pub struct Fault {
     pub refusal: Refusal,
     /// How many statements were answered by a text that was written whole.
     pub done: u64,
-    /// The number, from 1, of the first statement that was refused for want of room (6, 8, 9 or 10).
+    /// The number, from 1, of the first statement that was refused for lack of room (6, 8, 9 or 10).
     pub first_short: Option<u64>,
 }
 
-/// How far a session is: the statements answered, the first that was refused for want of room, and the policy by which
-/// it asks.
+/// The state of a session: the statements answered, the first that was refused for lack of room, and the policy that
+/// it asks by.
 #[derive(Clone, Copy, Debug)]
 struct Progress {
     statements: u64,
@@ -83,7 +83,7 @@ impl Progress {
         }
     }
 
-    /// Notes another policy, and the first want of room, at the statement after those that are answered.
+    /// Notes another policy, and the first lack of room, at the statement after those that were answered.
     fn note(&mut self, answer: &Answer)
         requires { self.old.statements + 1 < 2 ^ 64 }
         ensures { self.new ≡ record self.old {
@@ -101,7 +101,7 @@ impl Progress {
     }
 }
 
-/// Answers what a line says, and writes the text. An insert, the statement that is met most, has a path of its own.
+/// Answers a line, and writes the text. An insert, the most frequent statement, has a path of its own.
 #[inline(always)]
 fn respond<D: Desk, W: Write>(
     alloc: Global,
@@ -117,12 +117,12 @@ fn respond<D: Desk, W: Write>(
     if let Some((key, payload)) = inserted(&reading) {
         return respond_to_insert(desk, key, payload, progress, writer);
     }
-    // a copy, so that what an insert says stands in no memory
+    // a copy, so that the meaning of an insert isn't stored in memory
     let said = reading;
     respond_to_any(alloc, desk, said, progress, writer)
 }
 
-/// Answers what any line says, and writes the text.
+/// Answers any line, and writes the text.
 #[inline(never)]
 fn respond_to_any<D: Desk, W: Write>(
     alloc: Global,
@@ -139,7 +139,7 @@ fn respond_to_any<D: Desk, W: Write>(
     tell(&answer, progress, writer)
 }
 
-/// The key and the payload of the row that an insert brings; none where the line says anything else.
+/// The key and the payload of the row that an insert has; none if the line says anything else.
 #[inline(always)]
 fn inserted(reading: &Result<Statement, Refusal>) -> Option<(Key, Payload)>
     ensures { IfSome result (λ row. reading.now ≡ Ok (Statement.Insert row.0 row.1)) }
@@ -154,7 +154,7 @@ fn inserted(reading: &Result<Statement, Refusal>) -> Option<(Key, Payload)>
 }
 
 /// Answers an insert, and writes the text. It asks in place, by a command that is known to be an insert, and its reply
-/// is no `Answer` before it is written.
+/// isn't an `Answer` before it is written.
 #[inline(always)]
 fn respond_to_insert<D: Desk, W: Write>(
     desk: &mut D,
@@ -174,7 +174,7 @@ fn respond_to_insert<D: Desk, W: Write>(
     }
 }
 
-/// Writes the text of a reply, and counts it. It is no want of room, and sets no policy.
+/// Writes the text of a reply, and counts it. It isn't a lack of room, and sets no policy.
 #[inline(always)]
 #[tactic(auto, unfolding(crate::specs::Answers::answer_text))]
 fn tell_reply<W: Write>(
@@ -195,7 +195,7 @@ fn tell_reply<W: Write>(
     }
 }
 
-/// Writes a refusal. It stands apart, so that where a reply is written no room for an answer is cleared.
+/// Writes a refusal. It is a separate function, so that no room for an answer is cleared where a reply is written.
 #[inline(never)]
 fn tell_refusal<W: Write>(
     refusal: Refusal,
@@ -208,7 +208,7 @@ fn tell_refusal<W: Write>(
     tell(&Answer::Refused(refusal), progress, writer)
 }
 
-/// Tells an answer: notes it, writes its text, and counts it.
+/// Handles an answer: notes it, writes its text, and counts it.
 #[inline(always)]
 fn tell<W: Write>(
     answer: &Answer,
@@ -228,7 +228,7 @@ fn tell<W: Write>(
     }
 }
 
-/// Ends a session, once what is written is flushed.
+/// Ends a session, once the output is flushed.
 fn finish<W: Write>(writer: &mut Watched<W>, progress: Progress, how: How) -> Result<End, Fault>
     ensures end { IfOk result (λ end. end ≡ record {
       how = how;
@@ -255,10 +255,10 @@ fn finish<W: Write>(writer: &mut Watched<W>, progress: Progress, how: How) -> Re
 /// to the one that its row number names, a layout to the one that it names. A range is asked of each partition that
 /// holds a part of it, in rising order: counts and sums are added, and rows are listed partition by partition, without
 /// a copy. The first refusal is the reply. A checkpoint is of the partition that it names. The desk is asked by
-/// `policy` until a statement names another. What is written is flushed before each read and at the end: after a buffer
+/// `policy` until a statement names another. Output is flushed before each read and at the end: with a buffer
 /// that holds the replies to one read there is at most one write more than reads. Rows and pieces are written one at a
-/// time. Takes no memory but what the desk takes, and for the replies of several partitions to one statement; none for
-/// a line, so it is never cut off by 8.
+/// time. Takes only the memory that the desk takes, and that for the replies of several partitions to one statement;
+/// none for a line, so it is never cut off by 8.
 pub fn serve<D: Desk, R: Read, W: Write>(
     alloc: Global,
     desk: &mut D,
@@ -275,7 +275,7 @@ pub fn serve<D: Desk, R: Read, W: Write>(
         D.tables desk.old ≡ Some tables →
         AreTold (D.bounds desk.old) (D.splits desk.old) tables (statements bytes) out end.first_short
         (D.tables desk.new) (W.contents (device writer.new))) }
-    // How many statements are done where the session was cut off.
+    // How many statements are done if the session was cut off.
     ensures done { IfErr result (λ fault. (bytes : List ℕ) → R.remaining (device reader.old) ≡ Some bytes →
         IsDone bytes fault (R.remaining (device reader.new))) }
     // And what is answered and written then.
@@ -284,8 +284,8 @@ pub fn serve<D: Desk, R: Read, W: Write>(
         D.tables desk.old ≡ Some tables →
         IsCutOff (D.bounds desk.old) (D.splits desk.old) tables bytes out fault (D.tables desk.new)
         (W.contents (device writer.new))) }
-    // Whatever is known of the rows: each answer is made of what came of the next calls of the desk, for just the
-    // partitions and parts that its statement fixes and by the policy in force, and what is written are the texts of
+    // Whatever is known of the rows: each answer is made of the outcomes of the next calls of the desk, for exactly the
+    // partitions and parts that its statement requires and by the current policy, and what is written are the texts of
     // the answers; no call is left over.
     ensures written { IfOk result (λ end. (bytes out : List ℕ) → R.remaining (device reader.old) ≡ Some bytes →
         W.contents (device writer.old) ≡ Some out →
@@ -295,14 +295,14 @@ pub fn serve<D: Desk, R: Read, W: Write>(
         Some bytes → W.contents (device writer.old) ≡ Some out →
         AreWrittenThen (AreAnswersOf D.leads (D.splits desk.old) policy desk.old desk.new) bytes out fault
         (W.contents (device writer.new))) }
-    // Whatever came, the desk's bounds and splits are as they were, so another session, or an export, over it goes on
+    // In any case the desk's bounds and splits are as they were, so another session, or an export, over it continues
     // from there.
     ensures splits { D.splits desk.new ≡ D.splits desk.old }
     ensures bounds { D.bounds desk.new ≡ D.bounds desk.old }
-    // Where it isn't cut off, no device has failed.
+    // If it isn't cut off, no device has failed.
     ensures unfailed { OnOk result ((has_failed reader.new ≡ has_failed reader.old)
         × (has_failed writer.new ≡ has_failed writer.old)) }
-    // It is cut off only where a device failed, or after the last read that it may make, each of which brought a byte.
+    // It is cut off only if a device failed, or after the last read that it may make, each of which brought a byte.
     ensures causes { IfErr result (λ fault. ((fault.refusal ≡ Refusal.WriteFault)
         × (has_failed writer.new ≡ true))
         ⊎ ((fault.refusal ≡ Refusal.ReadFault)
