@@ -45,7 +45,7 @@ pub fn joined(alloc: Global, parts: &[&[u8]]) -> Result<Vec<u8>, Fail> {
     Ok(all)
 }
 
-/// How many of the first parts stand whole in so many bytes, and how many bytes these are.
+/// How many of the first parts are whole in this many bytes, and how many bytes these are.
 fn whole_parts(parts: &[&[u8]], bytes: usize) -> (u64, usize) {
     let mut left = bytes;
     let mut count = 0u64;
@@ -102,7 +102,7 @@ fn assert_whole(rt: &impl Abort, seen: &Seen, replies: &[u8]) {
     assert_eq!(rt; seen.result, Ok(ends(How::InputEnded, 10)));
 }
 
-/// Asserts that as many statements are done as are answered whole, and that what is written is a front of all replies;
+/// Asserts that as many statements are done as are answered whole, and that what is written is a prefix of all replies;
 /// says how many bytes the whole ones are.
 fn assert_cut_off(rt: &impl Abort, seen: &Seen, refusal: Refusal, replies: &[u8]) -> usize {
     let written = seen.text.len();

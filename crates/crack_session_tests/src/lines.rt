@@ -99,7 +99,7 @@ fn bad_lines_are_refused(rt: HostRuntime) -> Result<(), Fail> {
     assert_each(&rt, rt.alloc(), &ranges, b"refused 2\n")
 }
 
-/// A minus sign stands right before a payload's digits, which may be as many as ever.
+/// A minus sign is right before a payload's digits, which may be as many as ever.
 #[test]
 fn payloads_have_a_sign(rt: HostRuntime) -> Result<(), Fail> {
     let inserts: [&[u8]; 6] = [

@@ -33,7 +33,7 @@ impl Log {
         }
     }
 
-    /// Notes a read for so many bytes.
+    /// Notes a read for this many bytes.
     fn note_read(&self, bytes: usize) {
         self.reads.set(self.reads.get().saturating_add(1));
         if bytes != 4096 || self.asked.get() != self.answered.get() {

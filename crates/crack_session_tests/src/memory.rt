@@ -15,7 +15,7 @@ use std::io::Write;
 use std::process::Abort;
 use std::test::Fail;
 
-/// Statements that ask for one command each: rows come, change, go and are read, with more that pend in between.
+/// Statements that ask for one command each: rows come, change, go and are read, with more that are pending in between.
 static LINES: [&[u8]; 17] = [
     b"insert 10 10\n",
     b"insert 20 20\n",
@@ -87,7 +87,7 @@ fn a_want_of_memory_stops_nothing(rt: HostRuntime) -> Result<(), Fail> {
     Ok(())
 }
 
-/// What a desk is answered to one line by a policy, and whether that is a want of room. Room for the text is found at
+/// What a desk is answered to one line by a policy, and whether that is a lack of room. Room for the text is found at
 /// the second time.
 fn told<D: Desk>(
     rt: &impl Abort,
@@ -107,7 +107,7 @@ fn told<D: Desk>(
     }
 }
 
-/// Asserts that each cell stands in one place, that the rows are those of the column less the doomed ones and more the
+/// Asserts that each cell is in one place, that the rows are those of the column less the doomed ones and more the
 /// pending ones, and that the pieces are all of the column.
 fn assert_layout(rt: &impl Abort, layout: &Layout) {
     let whole = layout.pieces.as_slice().iter().map(|piece| piece.size);

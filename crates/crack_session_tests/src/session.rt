@@ -39,7 +39,7 @@ fn run<D: Desk + Drop, R: Read + Drop>(
     Ok((end, text))
 }
 
-/// How a session is to end, with no want of room.
+/// How a session is to end, with no lack of room.
 pub fn ends(how: How, statements: u64) -> End {
     End {
         how,
@@ -164,7 +164,7 @@ fn the_greatest_key_and_bound_are_taken(rt: HostRuntime) -> Result<(), Fail> {
     )
 }
 
-/// The greatest key with the least payload, a sum below every payload, and what is just past the limits.
+/// The greatest key with the least payload, a sum below every payload, and numbers just past the limits.
 #[test]
 fn wide_numbers_are_read_and_told(rt: HostRuntime) -> Result<(), Fail> {
     assert_alike(
@@ -210,7 +210,7 @@ fn a_full_history_is_told(rt: HostRuntime) -> Result<(), Fail> {
     )
 }
 
-/// What follows a want of room is answered as ever.
+/// What follows a lack of room is answered as usual.
 #[test]
 fn a_want_of_room_stops_nothing(rt: HostRuntime) -> Result<(), Fail> {
     assert_script(
@@ -329,7 +329,7 @@ piece 25 18446744073709551616 18\n";
     )
 }
 
-/// A plain table lays its rows out as one piece, and a layout that finds no memory is a want of room.
+/// A plain table lays its rows out as one piece, and a layout that finds no memory is a lack of room.
 #[test]
 fn layouts_of_other_desks(rt: HostRuntime) -> Result<(), Fail> {
     assert_run(

@@ -29,14 +29,14 @@ fn assert_few_writes(rt: &impl Abort, log: &Log) {
     assert_eq!(rt; [log.flushes.get(), log.left.get() as u64], [most, 0]);
 }
 
-/// Asserts that each read asked for 4,096 bytes, and once each whole line was answered; each line of so many is in the
-/// end.
+/// Asserts that each read asked for 4,096 bytes, and once each whole line was answered; each line of this many is in
+/// the end.
 fn assert_orderly(rt: &impl Abort, log: &Log, lines: usize) {
     assert!(rt; log.is_orderly.get());
     assert_eq!(rt; log.answered.get(), lines);
 }
 
-/// A session of a desk and a writer whose reader gives so many bytes at a time, and which is to end.
+/// A session of a desk and a writer whose reader gives this many bytes at a time, and which is to end.
 fn log_reads<D: Desk, W: Write>(
     rt: &impl Abort,
     alloc: Global,
@@ -55,7 +55,7 @@ fn log_reads<D: Desk, W: Write>(
     assert!(rt; result.is_ok());
 }
 
-/// A session whose reader gives so many bytes at a time, and whose writer keeps so many before it writes.
+/// A session whose reader gives this many bytes at a time, and whose writer keeps this many before it writes.
 fn log_it(rt: &impl Abort, alloc: Global, input: &[u8], most: usize, room: usize, log: &Log) {
     let mut desk = Core::open(alloc, &[], GREATEST_LIMIT).expect(rt, "a desk");
     let device = Sink::new(Vec::new(alloc));
