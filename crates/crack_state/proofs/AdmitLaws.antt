@@ -1,4 +1,4 @@
--- A new row at the back of the pending insertions keeps a store intact, and is the one more that commands see.
+-- A new row at the end of the pending insertions keeps a store intact, and is the only row that commands see in addition.
 use Rattle.std.proofs.Common.{◌≡◌, ◌≢◌, ℕ, ◌+◌, ◌-◌, ◌<◌, ◌≤◌, ◌^◌, Bool, true, false, eqb, ltb, List, [], ◌∷◌, ◌++◌, length, get_or, drop, add-one, cond, Some, None, refl, sym, ap, ◌∙◌, inl, inr, arith, length-set, zero-add}
 use Rattle.std.specs.Prelude.{◌==◌, IfSome}
 use Rattle.std.specs.List.{All, filter_map, range_with_len}
@@ -144,7 +144,7 @@ IsKeyed-more cells after doomed serials later h row fill off empty fresh maps ke
   ];
 }
 
--- numbers that aren't in a list are none of its elements
+-- numbers that aren't in a list aren't its elements
 pub apart_numbers : (ns : List ℕ) (n : ℕ) → times n ns ≡ 0 → All (λ m. m ≢ n) ns
 apart_numbers ns n none = λ k d within same.
     let listed = rw (map_fixed (λ (m : ℕ). m) ns (λ j c i. refl)) at (times_map_at n (λ (m : ℕ). m) ns k d within same) in
@@ -171,7 +171,7 @@ freed_of-admitted row s (n ∷ ns) is owned =
     let within = free_within s n (rw is (omega (arith, times_head n ns))) owned in
     omega (arith, sum_by-set (λ (c : Cell Row). c.generation) s.cells n (record { generation = (cell_at s.cells n).generation; value = Some row }) empty_cell within)
 
--- a cell more only where none was free
+-- one more cell only where none was free
 length_cells-admitted : (row : Row) (s : State) (free : List ℕ) → s.free ≡ free → length s.cells < 2 ^ 32 - 1 + length s.free → length s.cells < 2 ^ 32 → length (cells_with row s.cells free) < 2 ^ 32
 length_cells-admitted row s [] is room few = omega (arith, ap length is, length_push s.cells (record { generation = 0; value = Some row }))
 length_cells-admitted row s (n ∷ ns) is room few = omega (arith, length-set s.cells n (record { generation = (cell_at s.cells n).generation; value = Some row }))
@@ -207,7 +207,7 @@ IsIntact-grown row s t same maps may intact =
 pub IsIntact-admitted : (row : Row) (s : State) → IsAdmissible row s → IsIntact s [] → IsIntact (admitted row s) []
 IsIntact-admitted row s may intact = IsIntact-grown row s (admitted row s) refl (handle_of-push s.serials row.serial.0 (next_handle s) may.fresh) may intact
 
--- commands see the admitted row besides
+-- commands also see the admitted row
 pub live_rows-admitted : (row : Row) (s : State) → IsIntact s [] → IsPermutation (row ∷ live_rows s) (live_rows (admitted row s))
 live_rows-admitted row s intact = by_free s.free refl
   where

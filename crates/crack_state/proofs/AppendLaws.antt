@@ -1,4 +1,4 @@
--- Where no bound stands, each pending insertion is appended: one after the other they leave what all at once do.
+-- If there is no bound, each pending insertion is appended: one after the other they leave what all at once do.
 use Rattle.std.proofs.Common.{◌≡◌, ℕ, ◌+◌, ◌-◌, ◌<◌, ◌≤◌, List, [], ◌∷◌, length, get_or, min, suc, refl, sym, ap, ◌∙◌, inl, inr, arith}
 use Rattle.std.proofs.Math.Nat.{min-eq_left, min-eq_right}
 use Rattle.std.proofs.lemmas.Bool.{cases_lt}
@@ -10,7 +10,7 @@ use Rattle.crack_state.specs.Steps.{lifted, appended, all_appended, more}
 use Rattle.crack_state.proofs.OwnedLaws.{times-places, once-most}
 use Rattle.crack_state.proofs.StepLaws.{IsIntact-lifted, IsIntact-appended, IsIntact-room}
 
--- a counter that is raised by one, and then by so many
+-- a counter that is raised by one, and then by this many
 more_and : (n k : ℕ) → min (more n + k) greatest ≡ min (n + suc k) greatest
 more_and n k = elim (cases_lt n greatest) [
   | inl l ↦
@@ -25,7 +25,7 @@ more_and n k = elim (cases_lt n greatest) [
 abbrev pub first_appended : State → State
 first_appended s = appended (lifted 0 s)
 
--- where no bound stands, those after it are appended as before
+-- if there is no bound, those after it are appended as before
 pub all-first : (s : State) (h : Handle) (hs : List Handle) → s.marks ≡ [] → s.pending_in ≡ h ∷ hs → all_appended (first_appended s) ≡ record (all_appended s) { column_room = s.column_room - 1 }
 all-first s h hs none first =
     rw (none, first, append_assoc s.column (h ∷ []) hs, more_and s.tally.put_in (length hs)) refl

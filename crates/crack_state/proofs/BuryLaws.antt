@@ -72,7 +72,7 @@ pub freed_of-emptied : (cells : List (Cell Row)) (h : Handle) → h.slot < lengt
 freed_of-emptied cells h within reads =
     omega (arith, sum_by-set (λ (x : Cell Row). x.generation) cells h.slot (record { generation = h.generation + 1; value = None }) empty_cell within, generation_of_read cells h reads)
 
--- what a freed cell leaves, of which the handle was in hand or a pending insertion, and isn't doomed any more
+-- what a freed cell leaves, if the handle was in hand or a pending insertion, and is no longer doomed
 pub IsIntact-freed : (s t : State) (h : Handle) (hand : List Handle) → t ≡ record s { cells = emptied h s.cells; free = h.slot ∷ s.free; pending_in = t.pending_in; pending_out = t.pending_out; serials = t.serials; tally = t.tally } → Reads s.cells h → ((n : ℕ) → times n (slots t.pending_in) + times n (h.slot ∷ []) ≡ times n (slots s.pending_in) + times n (slots hand)) → times h.slot (slots t.pending_out) ≡ 0 → ((n : ℕ) → times n (slots t.pending_out) ≤ times n (slots s.column)) → All (Reads s.cells) t.pending_in → All (Reads s.cells) t.pending_out → IsKeyed (emptied h s.cells) (slots t.pending_out) t.serials → freed_of s.cells + length t.pending_out < greatest → IsCounted t.tally → IsIntact s hand → IsIntact t []
 IsIntact-freed s t h hand same reads counts off few pending_reads doomed_reads keyed spare counted intact =
     let owned = intact.owned in

@@ -46,7 +46,7 @@ pub one_handle : (cells : List (Cell Row)) (g h : Handle) → Reads cells g → 
 one_handle cells g h g_reads h_reads same =
     handle_same g h same (sym (generation_of_read cells g g_reads) ∙ ap (λ (n : ℕ). (cell_at cells n).generation) same ∙ generation_of_read cells h h_reads)
 
--- a handle stands where its cell is first listed
+-- a handle is where its cell is first listed
 pub stands_there : (cells : List (Cell Row)) (hs : List Handle) (h : Handle) → Reads cells h → All (Reads cells) hs → 0 < times h.slot (slots hs) → StandsAt hs (place_in hs h.slot) h
 stands_there cells hs h reads all listed =
     let place = place_in hs h.slot in

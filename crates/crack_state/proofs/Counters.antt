@@ -27,7 +27,7 @@ raised_counter n = record {
   fits = min-le_right (n + 1) greatest;
 }
 
--- a counter that rose by so many, unless it is at its greatest number
+-- a counter that rose by this many, unless it is at its greatest number
 pub record Rises (k before after : ℕ) : Type 0 where
   pub rises : before ≤ after
   pub exact : after < greatest → after ≡ before + k

@@ -30,11 +30,11 @@ use Rattle.crack_state.proofs.PieceLaws.{cases_Option, Divides-listed, piece_end
 abbrev pub AreEnds : Range → ℕ → ℕ → Type 0
 AreEnds r first second = ((first ≡ r.low) × (second ≡ r.high)) ⊎ ((first ≡ r.high) × (second ≡ r.low))
 
--- crack: a bound divides its own piece at a place; the column's handles stand in this order
+-- crack: a bound divides its own piece at a place; the column's handles are in this order
 abbrev pub cracked_at : InnerBound → ℕ → List Handle → State → State
 cracked_at bound place handles s = record s { column = handles; marks = added (record { bound = bound; position = place }) s.marks }
 
--- how a bound's own piece is cracked: its rows, divided by the bound, and no other; whatever is remembered of them
+-- how a bound's own piece is cracked: its rows, divided by the bound, and no others; whatever is remembered about them
 pub record CracksAt (s u : State) (bound : InnerBound) : Type 0 where
   pub place : ℕ
   pub missing : HasBound s.marks bound.0 → ⊥
@@ -85,14 +85,14 @@ module _ (s u : State) (hand : List Handle) (bound : InnerBound) (c : CracksAt s
   abbrev Outside : ℕ → Type 0
   Outside p = (p ≤ from) ⊎ (to ≤ p)
 
-  -- a mark of another bound stands there
+  -- a mark of another bound is there
   mark_outside : All (λ (m : Mark). Outside m.position) s.marks
   mark_outside = λ k d h. elim (cases_lt bound.0 (get_or s.marks k d).bound.0) [
     | inl l ↦ inr (piece_end-before s bound.0 k d intact.rising intact.obeyed h l)
     | inr l ↦ inl (piece_start-behind s bound.0 k d intact.rising intact.obeyed h l)
   ]
 
-  -- every mark divides the cracked column, the new one too
+  -- every mark divides the cracked column, including the new one
   Obeyed-cracked : IsObeyed (added new_mark s.marks) (map (key_at s.cells) u.column)
   Obeyed-cracked =
       let low = piece_before s bound.0 intact.rising intact.obeyed in
@@ -171,7 +171,7 @@ cuts_kept IsNew s u refined p is =
     let back : In (length u.column) = Contains-append_right (0 ∷ map position u.marks) (length u.column ∷ []) (length u.column) (0, omega arith, refl) in
     All-contains In (cuts s) p (All-cons In 0 (map position s.marks ++ length s.column ∷ []) front (All-push In (map position s.marks) (length s.column) positions (subst In refined.long back))) is
 
--- a store refines itself, where the bounds are there
+-- a store refines itself, if the bounds are in the index
 pub RefinesBy-refl : (IsNew : ℕ → Type 0) (s : State) → ((b : ℕ) → IsNew b → HasBound s.marks b) → RefinesBy IsNew s s
 RefinesBy-refl IsNew s there = record {
   same = refl;
@@ -182,7 +182,7 @@ RefinesBy-refl IsNew s there = record {
   only = λ b has. inl has;
 }
 
--- one refinement after another, with the bounds of both, said otherwise
+-- one refinement after another, with the bounds of both, in other words
 RefinesBy-trans : (New First Second : ℕ → Type 0) (s u v : State) → ((b : ℕ) → First b ⊎ Second b → New b) → ((b : ℕ) → New b → First b ⊎ Second b) → RefinesBy First s u → RefinesBy Second u v → RefinesBy New s v
 RefinesBy-trans New First Second s u v is_new new_is a b = record {
   same = b.same ∙ ap (λ (x : State). let y : State = record x { column = v.column; marks = v.marks; column_room = v.column_room; in_room = v.in_room } in y) a.same;

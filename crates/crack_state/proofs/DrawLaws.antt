@@ -1,4 +1,4 @@
--- Where a doomed row stands, as a pull comes nearer to it.
+-- Where a doomed row is, as a pull comes nearer to it.
 use Rattle.std.proofs.Common.{◌≡◌, ◌≢◌, ◌⊎◌, ℕ, zero, suc, ◌+◌, ◌-◌, ◌<◌, ◌≤◌, List, [], ◌∷◌, map, length, get_or, Option, Some, None, refl, sym, ap, ◌∙◌, inl, inr, arith, length-set}
 use Rattle.std.specs.List.{All}
 use Rattle.std.proofs.lemmas.Bool.Decides.{nat_tests}
@@ -18,19 +18,19 @@ use Rattle.crack_state.proofs.CellLaws.{one_handle, stands_there}
 use Rattle.crack_state.proofs.PieceLaws.{cases_Option, Divides-order, Divides-listed}
 use Rattle.crack_state.proofs.PullLaws.{met_below}
 
--- a piece ends at or after a place where each bound above its key stands there or after it
+-- a piece ends at or after a place where each bound above its key is there or after it
 piece_end-least : (s : State) (key place : ℕ) → Rising s.marks → place ≤ length s.column → All (λ (m : Mark). key < m.bound.0 → place ≤ m.position) s.marks → place ≤ piece_end s key
 piece_end-least s key place rising within behind = cases_Option (λ o. place ≤ end_of (length s.column) o) (next_mark key s.marks) (λ none. within) (λ m found.
     let is_next = next_mark-is key s.marks m rising found in
     All-contains (λ (n : Mark). key < n.bound.0 → place ≤ n.position) s.marks m behind is_next.listed is_next.above)
 
--- a piece begins at or before a place where each bound at or below its key stands there or before it
+-- a piece begins at or before a place where each bound at or below its key is there or before it
 pub piece_start-most : (s : State) (key place : ℕ) → Rising s.marks → All (λ (m : Mark). m.bound.0 ≤ key → m.position ≤ place) s.marks → piece_start s key ≤ place
 piece_start-most s key place rising before = cases_Option (λ o. start_of o ≤ place) (last_mark key s.marks) (λ none. omega arith) (λ m found.
     let is_last = last_mark-is key s.marks m rising found in
     All-contains (λ (n : Mark). n.bound.0 ≤ key → n.position ≤ place) s.marks m before is_last.listed is_last.below)
 
--- a bound above the key of a row stands after it
+-- a bound above the key of a row is after it
 mark_behind : (s : State) (hand : List Handle) (k place : ℕ) (d : Mark) (met : Handle) → IsIntact s hand → k < length s.marks → place < length s.column → met ≡ get_or s.column place met → key_at s.cells met < (get_or s.marks k d).bound.0 → place < (get_or s.marks k d).position
 mark_behind s hand k place d met intact listed within read above =
     elim (cases_lt place (get_or s.marks k d).position) [
@@ -46,7 +46,7 @@ pub piece_end-behind : (s : State) (hand : List Handle) (key place : ℕ) (met :
 piece_end-behind s hand key place met intact within read below =
     piece_end-least s key (suc place) intact.rising (omega arith) (λ k d listed above. mark_behind s hand k place d met intact listed within read (omega arith))
 
--- where the row that came into hand stood lies its own piece
+-- where the row that came into hand was, its own piece lies
 pub record MetAt (c : Carried) (place : ℕ) : Type 0 where
   pub start : piece_start c.store (hand_key c) ≤ place
   pub end : place ≤ piece_end c.store (hand_key c)
@@ -91,7 +91,7 @@ piece_end-lifted_last s some intact after =
     let behind = mark_behind s [] k (length s.column - 1) d last intact h within read high in
     grind (arith, nat_tests)))
 
--- a handle that stands in a list is counted there
+-- a handle that is in a list is counted there
 counted : (hs : List Handle) (place : ℕ) (h : Handle) → StandsAt hs place h → 0 < times h.slot (slots hs)
 counted hs place h stands = times_map_at h.slot (λ (x : Handle). x.slot) hs place h stands.within (ap (λ (x : Handle). x.slot) (sym stands.is))
 
@@ -119,7 +119,7 @@ hand_isnt c place h intact stands = λ e.
     let apart = hand_apart s.cells s.free s.column s.pending_in s.pending_out c.hand intact.owned in
     absurd (omega (arith, counted s.column place h stands, apart.off_column, ap (λ (x : Handle). times x.slot (slots s.column)) e))
 
--- where rows are doomed, the column has some
+-- if rows are doomed, the column has some
 pub column_some : (s : State) → 0 < length s.pending_out → IsIntact s [] → 0 < length s.column
 column_some s some intact =
     let first = get_or s.pending_out 0 no_handle in
@@ -144,12 +144,12 @@ doomed_at_most_once s hand slot intact =
     let owned = intact.owned in
     omega (arith, owned.doomed_once slot, once-most s.cells s.free s.column s.pending_in s.pending_out hand slot owned, times-places slot s.column s.pending_in s.free hand, times-append slot (slots s.column) (slots hand))
 
--- a pending deletion is struck where it stands
+-- a pending deletion is struck where it is
 pub place_in-doomed : (s : State) (hand : List Handle) (place : ℕ) (doomed : Handle) → IsIntact s hand → StandsAt s.pending_out place doomed → place_in s.pending_out doomed.slot ≡ place
 place_in-doomed s hand place doomed intact stands =
     place_in-only s.pending_out place doomed.slot doomed stands.within (ap (λ (x : Handle). x.slot) (sym stands.is)) (doomed_at_most_once s hand doomed.slot intact)
 
--- the doomed row is the hand, or stands before the end of the own piece of the hand
+-- the doomed row is the hand, or is before the end of the own piece of the hand
 abbrev pub IsAhead : Carried → ℕ → Handle → Type 0
 IsAhead c place doomed = ((c.hand ≡ doomed) × (piece_start c.store (hand_key c) ≤ place)) ⊎ (StandsAt c.store.column place doomed × (place < piece_end c.store (hand_key c)))
 

@@ -54,14 +54,14 @@ MayEvict-trans Gradual s t u before a b = b ∙ a
 MayEvict-trans Ripple s t u before a b = λ exact. omega (arith, a (before exact), b exact)
 MayEvict-trans Auto s t u before a b = b ∙ a
 
--- where nothing was evicted, no policy is broken
+-- if nothing was evicted, no policy is broken
 pub MayEvict-none : (policy : Policy) (s t : State) → s.tally.put_in ≤ t.tally.put_in → t.tally.evicted ≡ s.tally.evicted → MayEvict policy s t
 MayEvict-none Complete s t rises same = same
 MayEvict-none Gradual s t rises same = same
 MayEvict-none Ripple s t rises same = λ _. omega (arith, rises, same)
 MayEvict-none Auto s t rises same = same
 
--- no counter is at its greatest number, if none is later on
+-- no counter is at its greatest number, if none is later
 pub IsExact-before : (policy : Policy) (s t : State) → Tallies policy s t → IsExact t.tally → IsExact s.tally
 IsExact-before policy s t tallies exact = record {
   put_in = omega (arith, tallies.rises.put_in, exact.put_in);
@@ -92,7 +92,7 @@ Tallies-trans policy s t u same a b = record {
   evicts = MayEvict-trans policy s t u (IsExact-before policy t u b) a.evicts b.evicts;
 }
 
--- what a step counts that puts in and takes out so many rows, and evicts none
+-- what a step counts that puts in and takes out this many rows, and evicts none
 pub Tallies-step : (policy : Policy) (s t : State) (put out : ℕ) → Rises put s.tally.put_in t.tally.put_in → Rises out s.tally.taken_out t.tally.taken_out → t.tally.evicted ≡ s.tally.evicted → s.tally.moved ≤ t.tally.moved → t.tally.moved ≤ s.tally.moved + put * (length s.marks + 1) → s.tally.pulled ≤ t.tally.pulled → t.tally.pulled ≤ s.tally.pulled + out * (length s.marks + 1) → length t.pending_in + put ≡ length s.pending_in → length t.pending_out + out ≡ length s.pending_out → Tallies policy s t
 Tallies-step policy s t put out in_rose out_rose evicted moved_rises moved pulled_rises pulled fewer_in fewer_out = record {
   rises = record { put_in = in_rose.rises; taken_out = out_rose.rises; evicted = omega (arith, evicted); moved = moved_rises; pulled = pulled_rises };

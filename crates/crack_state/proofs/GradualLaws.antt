@@ -1,4 +1,4 @@
--- When a merge of the pending rows of a range has given what its policy promises.
+-- When a merge of the pending rows of a range has done what its policy promises.
 use Rattle.std.proofs.Common.{◌≡◌, ◌+◌, ◌≤◌, List, [], length, get_or, ap, ◌∙◌, arith}
 use Rattle.std.specs.List.{All}
 use Rattle.crack_row.specs.Ranges.{Range}

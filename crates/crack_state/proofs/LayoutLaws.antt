@@ -17,7 +17,7 @@ use Rattle.crack_state.proofs.CellLaws.{row_read}
 use Rattle.crack_state.proofs.OwnedLaws.{places_of, times-places, once-most}
 use Rattle.crack_state.proofs.LiveLaws.{live_read, live_among, live_rows-among, times-range, IsPermutation-times}
 
--- lists in which each number stands equally often are equally long
+-- lists in which each number is equally often are equally long
 pub length-times : (xs ys : List ℕ) → ((n : ℕ) → times n xs ≡ times n ys) → length xs ≡ length ys
 length-times xs ys same = sym (length_permutation xs ys (IsPermutation-times xs ys same))
 
@@ -84,7 +84,7 @@ rows-intact s hand intact =
     let doomed = length-doomed s hs (λ n some. omega (arith, some, times-map-append n slot (s.column ++ s.pending_in) hand, times-map-append n slot s.column s.pending_in, times-places n s.column s.pending_in s.free hand, once-most s.cells s.free s.column s.pending_in s.pending_out hand n owned, owned.doomed_once n, times-append n (slots s.column) (slots hand))) in
     omega (arith, live, ap length split, length-live_among s hs reads, doomed, length-append (s.column ++ s.pending_in) hand, length-append s.column s.pending_in)
 
--- the layout that an intact store reports meets the layout equations, where its pieces do
+-- the layout that an intact store reports satisfies the layout equations, if its pieces do
 pub IsLayout-intact : (s : State) (layout : Layout) → layout.column ≡ length s.column → layout.pending_in ≡ length s.pending_in → layout.pending_out ≡ length s.pending_out → layout.cells ≡ length s.cells → layout.free ≡ length s.free → layout.rows ≡ layout.column - layout.pending_out + layout.pending_in → sum_by (λ (p : PieceSize). p.size) layout.pieces ≡ length s.column → AreJoined s.keys.low s.keys.high layout.pieces → IsIntact s [] → IsLayout s.keys layout
 IsLayout-intact s layout column pending_in pending_out cells free rows sizes joined intact = record {
   sizes = omega arith;

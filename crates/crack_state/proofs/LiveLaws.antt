@@ -18,7 +18,7 @@ use Rattle.crack_state.specs.State.{State, Reads, IsOwned, IsIntact, AreEmpty, l
 use Rattle.crack_state.proofs.OwnedLaws.{places_of}
 use Rattle.crack_state.proofs.CellLaws.{AgreeOff, AgreeOff-set, read_is_value, read-value, cell_within}
 
--- what a handle has for commands to see: the row that it reads, unless that is doomed
+-- what commands see of a handle: the row that it reads, unless that is doomed
 abbrev pub live_read : State → Handle → Option Row
 live_read s h = if times h.slot (slots s.pending_out) == 0 then read s.cells h else None
 
@@ -53,7 +53,7 @@ split_at_member x (y ∷ ys) some = elim (cases_eq y x) [
       record { front = y ∷ rest.front; back = rest.back; is = ap (λ zs. y ∷ zs) rest.is }
 ]
 
--- where the one has a row at a number that stands in the list once, the other has none, and they agree at all others, that row
+-- if the one has a row at a number that is in the list once, the other has none, and they agree at all others, that row
 -- is the difference
 pub filter_map-less : (f g : ℕ → Option Row) (n : ℕ) (r : Row) (ns : List ℕ) → f n ≡ Some r → g n ≡ None → ((k : ℕ) → k ≢ n → f k ≡ g k) → times n ns ≡ 1 → IsPermutation (filter_map f ns) (r ∷ filter_map g ns)
 filter_map-less f g n r ns had lacks agree once =
@@ -64,7 +64,7 @@ filter_map-less f g n r ns had lacks agree once =
     let back = filter_map-off f g n at.back agree (omega (arith, times_head n at.back)) in
     rw (at.is, filter_map-append f at.front (n ∷ at.back), filter_map-append g at.front (n ∷ at.back), had, lacks, front, back) (IsPermutation-middle (filter_map g at.front) r (filter_map g at.back))
 
--- lists in which each number stands equally often are the same, in some order
+-- lists in which each number is equally often are the same, in some order
 pub IsPermutation-times : (xs ys : List ℕ) → ((n : ℕ) → times n xs ≡ times n ys) → IsPermutation xs ys
 IsPermutation-times [] [] same = IsPermutation-refl []
 IsPermutation-times [] (y ∷ ys) same = absurd (omega (arith, same y, times-nil y, times_head y ys))
@@ -74,12 +74,12 @@ IsPermutation-times (x ∷ xs) ys same =
     let fewer = IsPermutation-times xs rest (λ n. omega (arith, rw split.is at (same n), times-cons n x xs, times-append n split.front (x ∷ split.back), times-append n split.front split.back, times-cons n x split.back)) in
     rw split.is (IsPermutation-trans (x ∷ xs) (x ∷ rest) (split.front ++ x ∷ split.back) (IsPermutation-cons x xs rest fewer) (IsPermutation-sym (split.front ++ x ∷ split.back) (x ∷ rest) (IsPermutation-middle split.front x split.back)))
 
--- each number below n stands once among the first n, and no other
+-- each number below n is once among the first n, and no other
 pub times-range : (k n : ℕ) → times k (range_with_len 0 n) ≡ cond (ltb k n) 1 0
 times-range k zero = rw (le-ltb k 0 (omega arith)) (times-nil k)
 times-range k (suc n) = rw (range_with_len-more 0 n, zero-add) (times-append k (range_with_len 0 n) (n ∷ []) ∙ rw (times-range k n, times_one k n) (grind (arith, nat_tests)))
 
--- the cell of this number shows no row any more; the others, and which of them are doomed, are as before
+-- the cell with this number no longer shows a row; the others, and which of them are doomed, are as before
 pub record Hides (cells after : List (Cell Row)) (doomed left : List ℕ) (slot : ℕ) : Type 0 where
   pub others : AgreeOff slot cells after
   pub kept : (n : ℕ) → n ≢ slot → times n left ≡ times n doomed
@@ -124,7 +124,7 @@ live_among-slots s hs reads =
 live_at-free : (cells : List (Cell Row)) (doomed ns : List ℕ) → AreEmpty cells ns → filter_map (live_at cells doomed) ns ≡ []
 live_at-free cells doomed ns empty = filter_map_none (live_at cells doomed) ns (λ k d h. rw (empty k d h) (none_either (times (get_or ns k d) doomed == 0)))
 
--- the rows that commands see are, in some order, those that column, pending insertions and hand hold, the doomed left out
+-- the rows that commands see are, in some order, those that column, pending insertions and hand hold, without the doomed ones
 pub live_rows-among : (s : State) (hand : List Handle) → IsIntact s hand → IsPermutation (live_rows s) (live_among s s.column ++ live_among s s.pending_in ++ live_among s hand)
 live_rows-among s hand intact =
     let owned = intact.owned in

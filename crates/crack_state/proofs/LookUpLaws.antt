@@ -1,4 +1,4 @@
--- What a look-up of a serial says of the live rows, and of any list of them; and how such a list changes.
+-- What a look-up of a serial says about the live rows, and about any list of them; and how such a list changes.
 use Rattle.std.proofs.Common.{◌≡◌, ◌≢◌, ℕ, Bool, List, [], ◌∷◌, map, filter, length, get_or, Option, Some, None, IsSome, refl, sym, ap, ◌∙◌}
 use Rattle.std.specs.Prelude.{◌==◌, unwrap_or}
 use Rattle.std.specs.List.{All, Contains, find, range_with_len}
@@ -18,7 +18,7 @@ use Rattle.crack_state.proofs.CellLaws.{row_read}
 use Rattle.crack_state.proofs.LiveLaws.{All-live_at}
 use Rattle.crack_state.proofs.PointLaws.{found_by, reads_by, others_live}
 
--- the row that a serial leads to is a live one, and of this serial
+-- the row that a serial leads to is a live one, and with this serial
 pub record IsRowBy (s : State) (serial : ℕ) (row : Row) : Type 0 where
   pub handle : Handle
   pub leads : handle_of s.serials serial ≡ Some handle
@@ -32,7 +32,7 @@ row_by-is s serial row is intact = option_and_then_some (read s.cells) (handle_o
     let rows : live.row ≡ row = same_Some live.row row (sym live.reads ∙ e) in
     record { handle = h; leads = found; reads = e; same = ap (λ (r : Row). r.serial.0) (sym rows) ∙ live.same; live = Contains-live s h row e live.kept })
 
--- a row is there just where the map has its serial, and just where it is known whether it is pending
+-- a row exists exactly if the map has its serial, and exactly if it is known whether it is pending
 pub row_by-handle : (s : State) (serial : ℕ) (h : Handle) → handle_of s.serials serial ≡ Some h → row_by s serial ≡ read s.cells h
 row_by-handle s serial h found = ap (option_and_then (read s.cells)) found
 
@@ -41,7 +41,7 @@ row_by-pending s serial pending is intact =
     let found = found_by s serial pending is in
     rw (row_by-handle s serial (handle_by s serial) found.leads) (reads_by s serial (handle_by s serial) found.leads intact)
 
--- where there is none, no live row has the serial
+-- if there is none, no live row has the serial
 pub row_by-none : (s : State) (serial : ℕ) → handle_of s.serials serial ≡ None → IsIntact s [] → All (λ (r : Row). r.serial.0 ≢ serial) (live_rows s)
 row_by-none s serial none intact = others_live s.cells (slots s.pending_out) s.serials serial (range_with_len 0 (length s.cells)) none intact.keyed
 
@@ -69,7 +69,7 @@ row_by-find s serial plain intact same = by_handle (handle_of s.serials serial) 
         let only = All-permutation (λ (r : Row). r.serial.0 ≡ serial → r ≡ row.0) (live_rows s) plain same (row_by-only s serial row.0 is intact) in
         is ∙ sym (find_only has row.0 plain (Contains-permutation (live_rows s) plain row.0 same known.live) (eq-eqb row.0.serial.0 serial known.same) (λ k d h e. only k d h (eqb-true (get_or plain k d).serial.0 serial e)))
 
--- the serial of a row that was cancelled or doomed is in the map no more
+-- the serial of a row that was cancelled or doomed is no longer in the map
 pub gone-cancels : (serial : ℕ) (s t : State) → Cancels serial s t → handle_of t.serials serial ≡ None
 gone-cancels serial s t cancels = cancels.map serial ∙ rw (eq-eqb serial serial refl) refl
 

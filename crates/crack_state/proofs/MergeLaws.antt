@@ -1,4 +1,4 @@
--- When a merge has given what its policy promises.
+-- When a merge has done what its policy promises.
 use Rattle.std.proofs.Common.{◌≡◌, ◌⊎◌, ℕ, ◌<◌, ◌≤◌, true, false, List, [], ◌∷◌, refl, ap, inl, inr, arith}
 use Rattle.std.specs.List.{All, list_any}
 use Rattle.std.proofs.lemmas.Bool.{cases_lt, lt-ltb, le-leb, true≢false, or_parts}
@@ -38,7 +38,7 @@ outside_all cells r (h ∷ hs) none =
     let both = or_parts (is_in r (key_at cells h)) (list_any (λ g. is_in r (key_at cells g)) hs) none in
     All-cons (ReadsOutside cells r) h hs (outside_of_not_in r (key_at cells h) both.0) (outside_all cells r hs both.1)
 
--- where no pending row has its key in the range, each has it outside
+-- if no pending row has its key in the range, each has it outside
 pub outside-untouched : (s : State) (r : Range) → is_touched s r ≡ false → All (ReadsOutside s.cells r) s.pending_in × All (ReadsOutside s.cells r) s.pending_out
 outside-untouched s r untouched =
     let both = or_parts (list_any (λ h. is_in r (key_at s.cells h)) s.pending_in) (list_any (λ h. is_in r (key_at s.cells h)) s.pending_out) untouched in

@@ -17,7 +17,7 @@ key_there : (s : State) (place : ℕ) (hand : Handle) → place < length s.colum
 key_there s place hand within =
     get_or-map (key_at s.cells) s.column place (get_or s.column place hand) 0 within ∙ ap (key_at s.cells) (sym (get_or_default s.column place hand (get_or s.column place hand) within))
 
--- after a push_on, the bound above the key in hand is the first that stood after the place where the hand was put
+-- after a push_on, the bound above the key in hand is the first that was after the place where the hand was put
 pub next-pushed_on : (c : Carried) (m : Mark) → next_mark (hand_key c) c.store.marks ≡ Some m → m.position < length c.store.column → IsIntact c.store (c.hand ∷ []) → next_mark (hand_key (pushed_on c)) (pushed_on c).store.marks ≡ first_behind m.position c.store.marks
 next-pushed_on c m found within intact =
     let s = c.store in
@@ -27,7 +27,7 @@ next-pushed_on c m found within intact =
     (λ k d h up_to. rw (← at) ((intact.obeyed k d h).above m.position up_to (omega arith)))
     (λ k d h behind. rw (← at) ((intact.obeyed k d h).below m.position behind)))
 
--- after a pull_back, the bound below the key in hand is the last that stood before the place where the piece began
+-- after a pull_back, the bound below the key in hand is the last that was before the place where the piece began
 pub last-pulled_back : (c : Carried) (m : Mark) → last_mark (hand_key c) c.store.marks ≡ Some m → 0 < m.position → IsIntact c.store (c.hand ∷ []) → last_mark (hand_key (pulled_back c)) (pulled_back c).store.marks ≡ last_before m.position c.store.marks
 last-pulled_back c m found some intact =
     let s = c.store in

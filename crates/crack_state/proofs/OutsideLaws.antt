@@ -85,7 +85,7 @@ module _ (cells : List (Cell Row)) (r : Range) where
     | inr is ↦ rw (outside_of-out h hs is) (All-cons (ReadsOutside cells r) h (outside_of cells r hs) (outside_of_not_in r (key_at cells h) is) (All-outside hs))
   ]
 
-  -- where none is in the range, all are outside it
+  -- if none is in the range, all are outside it
   pub outside_of-all : (hs : List Handle) → All (λ h. inside h ≡ false) hs → outside_of cells r hs ≡ hs
   outside_of-all [] none = refl
   outside_of-all (h ∷ hs) none =

@@ -1,4 +1,4 @@
--- Where cells stand: counted by number.
+-- Where cells are: counted by number.
 use Rattle.std.proofs.Common.{◌≡◌, ◌≢◌, ℕ, ◌+◌, ◌<◌, ◌≤◌, Bool, true, false, ltb, cond, List, [], ◌∷◌, ◌++◌, length, get_or, set, refl, sym, ap, ◌∙◌, inl, inr, arith}
 use Rattle.std.specs.List.{All, remove}
 use Rattle.std.proofs.lemmas.List.{map-set, length-map, get_or-map}
@@ -8,11 +8,11 @@ use Rattle.crack_arena.specs.Arena.{Cell, Handle, times, slots}
 use Rattle.crack_arena.proofs.Times.{times_head, times-append, times-set, times-map-remove, times_map_at}
 use Rattle.crack_state.specs.State.{State, places, IsOwned}
 
--- where the cells of a store stand
+-- where the cells of a store are
 abbrev pub places_of : State → List Handle → List ℕ
 places_of s hand = places s.column s.pending_in s.free hand
 
--- a handle put at a place of a list, and the one that stood there
+-- a handle put at a place of a list, and the one that was there
 pub times-exchange : (n : ℕ) (hs : List Handle) (place : ℕ) (hand met : Handle) → place < length hs → met ≡ get_or hs place met → times n (slots (set hs place hand)) + times n (slots (met ∷ [])) ≡ times n (slots hs) + times n (slots (hand ∷ []))
 times-exchange n hs place hand met inside found =
     let read : get_or (slots hs) place met.slot ≡ met.slot = get_or-map (λ (h : Handle). h.slot) hs place met met.slot inside ∙ ap (λ (h : Handle). h.slot) (sym found) in
@@ -31,7 +31,7 @@ times-places n column pending_in free hand =
 pub apart_from_times : (hs : List Handle) (slot : ℕ) → times slot (slots hs) ≡ 0 → All (λ (h : Handle). h.slot ≢ slot) hs
 apart_from_times hs slot none = λ k d within same. absurd (omega (arith, none, times_map_at slot (λ (h : Handle). h.slot) hs k d within same))
 
--- a cell stands in one place at most
+-- a cell is in one place at most
 pub once-most : (cells : List (Cell Row)) (free : List ℕ) (column pending_in pending_out hand : List Handle) (n : ℕ) → IsOwned cells free column pending_in pending_out hand → times n (places column pending_in free hand) ≤ 1
 once-most cells free column pending_in pending_out hand n owned = rw (owned.once n) (at_most (ltb n (length cells)))
   where
@@ -39,14 +39,14 @@ once-most cells free column pending_in pending_out hand n owned = rw (owned.once
     at_most true = omega arith
     at_most false = omega arith
 
--- a number that stands anywhere is a cell's
+-- a number that is anywhere is a cell's
 pub once-within : (cells : List (Cell Row)) (free : List ℕ) (column pending_in pending_out hand : List Handle) (n : ℕ) → 0 < times n (places column pending_in free hand) → IsOwned cells free column pending_in pending_out hand → n < length cells
 once-within cells free column pending_in pending_out hand n listed owned = elim (cases_lt n (length cells)) [
   | inl l ↦ l
   | inr l ↦ let none : times n (places column pending_in free hand) ≡ 0 = owned.once n ∙ rw (le-ltb n (length cells) l) refl in absurd (omega (arith, listed, none))
 ]
 
--- where the cell in hand stands, and where not
+-- where the cell in hand is, and where not
 pub record HandApart (cells : List (Cell Row)) (free : List ℕ) (column pending_in : List Handle) (slot : ℕ) : Type 0 where
   pub within : slot < length cells
   pub off_column : times slot (slots column) ≡ 0

@@ -16,7 +16,7 @@ use Rattle.crack_arena.specs.Arena.{Handle}
 use Rattle.crack_arena.specs.Rows.{key_at}
 use Rattle.crack_state.specs.Steps.{piece_start, piece_end, raise_next, bounds_above, bounds_up_to}
 
--- a bound above another stands at or after it
+-- a bound above another is at or after it
 pub Divides-order : (keys : List ℕ) (m n : Mark) → Divides keys m → Divides keys n → m.bound.0 ≤ n.bound.0 → m.position ≤ n.position
 Divides-order keys m n d e h = IsDividedAt-order m.bound.0 n.bound.0 keys m.position n.position h d e
 
@@ -33,7 +33,7 @@ Divides-raised keys x high m inside above divides d least =
       ])
     ]
 
--- `push_on`: the hand is put where the piece of its key ends, and the bounds above its key that stood there move up
+-- `push_on`: the hand is put where the piece of its key ends, and the bounds above its key that were there move up
 pub Obeyed-raised : (keys : List ℕ) (marks : List Mark) (x : ℕ) (high : Mark) → high.position < length keys → IsObeyed marks keys → All (λ m. x < m.bound.0 → high.bound.0 ≤ m.bound.0) marks → x < high.bound.0 → Divides keys high → IsObeyed (map (raised high.bound.0 high.position) marks) (set keys high.position x)
 Obeyed-raised keys marks x high inside obeyed least above divides =
     All-map (Divides (set keys high.position x)) (raised high.bound.0 high.position) marks
@@ -51,7 +51,7 @@ Divides-push_raised keys x high m at_end divides d least above =
       ])
     ]
 
--- `append` where a bound above the key stands at the end
+-- `append` where a bound above the key is at the end
 pub Obeyed-push_raised : (keys : List ℕ) (marks : List Mark) (x : ℕ) (high : Mark) → high.position ≡ length keys → IsObeyed marks keys → All (λ m. x < m.bound.0 → high.bound.0 ≤ m.bound.0) marks → x < high.bound.0 → Divides keys high → IsObeyed (map (raised high.bound.0 high.position) marks) (keys ++ x ∷ [])
 Obeyed-push_raised keys marks x high at_end obeyed least above divides =
     All-map (Divides (keys ++ x ∷ [])) (raised high.bound.0 high.position) marks
@@ -102,13 +102,13 @@ pub piece_start-le : (s : State) (key : ℕ) → Rising s.marks → IsObeyed s.m
 piece_start-le s key rising obeyed = cases_Option (λ o. start_of o ≤ length s.column) (last_mark key s.marks) (λ none. omega arith) (λ m found.
     omega (arith, (Divides-listed (column_keys s) s.marks m obeyed (last_mark-is key s.marks m rising found).listed).within, length-map s.column (key_at s.cells)))
 
--- where a bound above the key stands, the key's piece has ended
+-- where a bound above the key is, the key's piece has ended
 pub piece_end-before : (s : State) (key k : ℕ) (d : Mark) → Rising s.marks → IsObeyed s.marks (column_keys s) → k < length s.marks → key < (get_or s.marks k d).bound.0 → piece_end s key ≤ (get_or s.marks k d).position
 piece_end-before s key k d rising obeyed within above = cases_Option (λ o. end_of (length s.column) o ≤ (get_or s.marks k d).position) (next_mark key s.marks) (λ none. absurd (omega (arith, next_mark-none key s.marks none k d within))) (λ m found.
     let is_next = next_mark-is key s.marks m rising found in
     Divides-order (column_keys s) m (get_or s.marks k d) (Divides-listed (column_keys s) s.marks m obeyed is_next.listed) (obeyed k d within) (is_next.least k d within above))
 
--- where a bound at or below the key stands, the key's piece hasn't begun
+-- where a bound at or below the key is, the key's piece hasn't begun
 pub piece_start-behind : (s : State) (key k : ℕ) (d : Mark) → Rising s.marks → IsObeyed s.marks (column_keys s) → k < length s.marks → (get_or s.marks k d).bound.0 ≤ key → (get_or s.marks k d).position ≤ piece_start s key
 piece_start-behind s key k d rising obeyed within below = cases_Option (λ o. (get_or s.marks k d).position ≤ start_of o) (last_mark key s.marks) (λ none. absurd (omega (arith, last_mark-none key s.marks rising none k d within))) (λ m found.
     let is_last = last_mark-is key s.marks m rising found in

@@ -43,7 +43,7 @@ found_by s serial pending is =
 pub handle_by-is : (s : State) (serial : ℕ) (h : Handle) → handle_of s.serials serial ≡ Some h → handle_by s serial ≡ h
 handle_by-is s serial h found = ap (λ (o : Option Handle). unwrap_or o no_handle) found
 
--- a row's handle stands in the column or among the pending insertions, in one place
+-- a row's handle is in the column or among the pending insertions, in one place
 pub record Stands1 (s : State) (serial : ℕ) (h : Handle) : Type 0 where
   pub live : IsLiveAt s.cells (slots s.pending_out) serial h
   pub within : h.slot < length s.cells
@@ -75,11 +75,11 @@ reads_by s serial h found intact =
     let live : IsLiveAt s.cells (slots s.pending_out) serial h = intact.keyed.leads serial h found in
     reads_some s.cells h live.row live.reads
 
--- a row that is no pending insertion isn't listed there
+-- a row that isn't a pending insertion isn't listed there
 pub unlisted_by : (s : State) (serial : ℕ) → FoundBy s serial false → times (handle_by s serial).slot (slots s.pending_in) ≡ 0
 unlisted_by s serial found = omega (arith, ltb-false 0 (times (handle_by s serial).slot (slots s.pending_in)) found.test)
 
--- a pending insertion stands at the first place of its cell
+-- a pending insertion is at the first place of its cell
 pub listed_at : (s : State) (serial : ℕ) (h : Handle) → handle_of s.serials serial ≡ Some h → 0 < times h.slot (slots s.pending_in) → IsIntact s [] → StandsAt s.pending_in (place_in s.pending_in h.slot) h
 listed_at s serial h found listed intact =
     let live : IsLiveAt s.cells (slots s.pending_out) serial h = intact.keyed.leads serial h found in
@@ -230,7 +230,7 @@ IsIntact-renewed s h row after found unlisted maps inside may intact =
     let fresh : handle_of d.serials serial ≡ None = maps_this serial serial None s.serials d.serials gone refl in
     IsIntact-grown row d (record (renewed row h s) { serials = after }) refl (Maps-over serial None (Some (next_handle s)) s.serials d.serials after gone maps) (record { fresh = fresh; within = inside; cell = may.cell }) (IsIntact-between s h row found unlisted may.few intact)
 
--- where a serial isn't in the map, no live row has it
+-- if a serial isn't in the map, no live row has it
 pub others_live : (cells : List (Cell Row)) (doomed : List ℕ) (serials : List (ℕ × Handle)) (serial : ℕ) (numbers : List ℕ) → handle_of serials serial ≡ None → IsKeyed cells doomed serials → All (λ (r : Row). r.serial.0 ≢ serial) (filter_map (live_at cells doomed) numbers)
 others_live cells doomed serials serial numbers none keyed = All-live_at (λ (r : Row). r.serial.0 ≢ serial) cells doomed numbers (λ h r reads kept e.
     true≢false (ap is_some (sym (keyed.lists h r reads kept) ∙ ap (handle_of serials) e ∙ none)))

@@ -33,7 +33,7 @@ Divides-lowered keys x low m inside above divides d greatest_below =
       ])
     ]
 
--- `pull_back`: the hand is put at the last place before its piece, and the bounds at or below its key that stood there move down
+-- `pull_back`: the hand is put at the last place before its piece, and the bounds at or below its key that were there move down
 Obeyed-lowered : (keys : List ℕ) (marks : List Mark) (x : ℕ) (low : Mark) → 0 < low.position → IsObeyed marks keys → All (λ m. m.bound.0 ≤ x → m.bound.0 ≤ low.bound.0) marks → low.bound.0 ≤ x → Divides keys low → IsObeyed (map (lowered low.bound.0 low.position) marks) (set keys (low.position - 1) x)
 Obeyed-lowered keys marks x low inside obeyed greatest_below above divides =
     All-map (Divides (set keys (low.position - 1) x)) (lowered low.bound.0 low.position) marks
@@ -55,7 +55,7 @@ Divides-lowered_at keys m some d =
           rw stays (IsDividedAt-take m.bound.0 keys m.position (length keys - 1) (omega (arith, d.within)) (omega arith) d)
     ]
 
--- `lift_last`: the last key is taken, and the bounds that stood after it move down
+-- `lift_last`: the last key is taken, and the bounds that were after it move down
 Obeyed-lowered_at : (keys : List ℕ) (marks : List Mark) → 0 < length keys → IsObeyed marks keys → IsObeyed (map (lowered_at (length keys)) marks) (take (length keys - 1) keys)
 Obeyed-lowered_at keys marks some obeyed =
     All-map (Divides (take (length keys - 1) keys)) (lowered_at (length keys)) marks (λ k d h. Divides-lowered_at keys (get_or marks k d) some (obeyed k d h))
@@ -121,7 +121,7 @@ IsIntact-pulled_back c some intact =
     (omega (arith, divides.within, length-map s.column (key_at s.cells)), AreMarks-map s.keys (set (column_keys s) (m.position - 1) (hand_key c)) (lowered m.bound.0 m.position) s.marks (λ x. refl) (Obeyed-lowered (column_keys s) s.marks (hand_key c) m inside intact.obeyed is_last.greatest is_last.below divides) (Rising-lowered m.bound.0 m.position s.marks intact.rising) intact.inside)) some in
     IsIntact-put_at (piece_start s (hand_key c) - 1) (lower_last (last_mark (hand_key c) s.marks) s.marks) (record s.tally { pulled = more s.tally.pulled }) c both.0 both.1 (IsCounted-pulled s.tally intact.counted) intact
 
--- the row that stood before a piece is below the bound there
+-- the row that was before a piece is below the bound there
 pub met_below : (s : State) (key : ℕ) (m : Mark) (met : Handle) → Rising s.marks → IsObeyed s.marks (column_keys s) → last_mark key s.marks ≡ Some m → 0 < m.position → met ≡ get_or s.column (m.position - 1) met → key_at s.cells met < m.bound.0
 met_below s key m met rising obeyed found some read =
     let is_last = last_mark-is key s.marks m rising found in

@@ -100,7 +100,7 @@ divides_rows s bound place divides =
       above = λ k d h j. rw (← get_or-map (key_at s.cells) s.column k d 0 j) (divides.above k h (omega arith));
     }
 
--- the column between two places holds just the live rows of the range
+-- the column between two places holds exactly the live rows of the range
 holds_between : (s : State) (r : Range) (from to : ℕ) → from ≤ to → DividesRows s r.low from → DividesRows s r.high to → All (ReadsOutside s.cells r) s.pending_in → All (ReadsOutside s.cells r) s.pending_out → IsIntact s [] → IsPermutation (filter (in_range r) (live_rows s)) (filter_map (read s.cells) (between from to s.column))
 holds_between s r from to order low high pending doomed intact =
     let owned = intact.owned in

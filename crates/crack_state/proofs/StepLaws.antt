@@ -110,7 +110,7 @@ IsIntact-appended c ends intact =
     intact.counted
     intact
 
--- the row that stood where a piece ended is at or above the bound there
+-- the row that was where a piece ended is at or above the bound there
 pub met_key : (s : State) (key : ℕ) (m : Mark) (met : Handle) → Rising s.marks → IsObeyed s.marks (column_keys s) → next_mark key s.marks ≡ Some m → m.position < length s.column → met ≡ get_or s.column m.position met → m.bound.0 ≤ key_at s.cells met
 met_key s key m met rising obeyed found inside read =
     let is_next = next_mark-is key s.marks m rising found in

@@ -5,7 +5,7 @@ use Rattle.crack_row.specs.declared.command.Policy.{Policy}
 use Rattle.crack_state.specs.State.{State}
 use Rattle.crack_state.specs.Merge.{RefinesBy, Follows, Tallies, StillReads, SomeOf}
 
--- refined at one bound: it is added where it is missing, unless it is the partition's own end
+-- refined at one bound: it is added if it is missing, unless it is the partition's own end
 abbrev pub RefinesAt : State → State → ℕ → Type 0
 RefinesAt s u bound = RefinesBy (λ b. (b ≡ bound) × (s.keys.low < b) × (b < s.keys.high)) s u
 

@@ -17,7 +17,7 @@ use Rattle.crack_state.specs.State.{State, Reads, IsIntact, EachCounter, live_ro
 abbrev pub ReadsOutside : List (Cell Row) → Range → Handle → Type 0
 ReadsOutside cells r h = (key_at cells h < r.low) ⊎ (r.high ≤ key_at cells h)
 
--- those of the handles whose key is outside the range, in their order
+-- the handles whose key is outside the range, in their order
 abbrev pub outside_of : List (Cell Row) → Range → List Handle → List Handle
 outside_of cells r hs = filter (λ h. not (is_in r (key_at cells h))) hs
 
@@ -51,11 +51,11 @@ edge s bound = if nat_le bound s.keys.low then 0 else if nat_le s.keys.high boun
 abbrev pub stretch : State → Range → List Handle
 stretch s r = between (edge s r.low) (edge s r.high) s.column
 
--- the bound is an end of the partition or lies outside, or stands in the index
+-- the bound is an end of the partition or lies outside, or is in the index
 abbrev pub Stands : State → ℕ → Type 0
 Stands s bound = s.keys.low < bound → bound < s.keys.high → HasBound s.marks bound
 
--- both ends of the range stand
+-- this holds for both ends of the range
 abbrev pub IsCracked : State → Range → Type 0
 IsCracked s r = Stands s r.low × Stands s r.high
 
@@ -63,8 +63,8 @@ IsCracked s r = Stands s r.low × Stands s r.high
 abbrev pub cuts : State → List ℕ
 cuts s = 0 ∷ map (λ (m : Mark). m.position) s.marks ++ length s.column ∷ []
 
--- between any two bounds, the ends counted, the column has the same handles, in some order; the marks stay, and the bounds of
--- which `IsNew` holds are added where they were missing, and no other; all else but room is the same
+-- between any two bounds, including the ends, the column has the same handles, in some order; the marks stay, and the bounds for
+-- which `IsNew` holds are added if they were missing, and no others; everything else except room is the same
 pub record RefinesBy (IsNew : ℕ → Type 0) (s u : State) : Type 0 where
   pub same : u ≡ record s { column = u.column; marks = u.marks; column_room = u.column_room; in_room = u.in_room }
   pub long : length u.column ≡ length s.column
@@ -77,8 +77,8 @@ pub record RefinesBy (IsNew : ℕ → Type 0) (s u : State) : Type 0 where
 abbrev pub Refines : State → State → Range → Type 0
 Refines s u r = RefinesBy (IsInner s.keys r) s u
 
--- settled: no row of either pending column has its key in the range, both ends of the range stand, and the column
--- between the two places holds just the live rows of the range
+-- settled: no row of either pending column has its key in the range, both ends of the range are in the index or lie outside, and the column
+-- between the two places holds exactly the live rows of the range
 pub record IsSettled (t : State) (r : Range) : Type 0 where
   pub cracked : IsCracked t r
   pub pending : All (ReadsOutside t.cells r) t.pending_in
@@ -111,7 +111,7 @@ pub record LeavesOutside (s t : State) (r : Range) : Type 0 where
   pub some : SomeOf t.pending_out (outside_of s.cells r s.pending_out)
   pub few : length (outside_of s.cells r s.pending_out) ≤ length t.pending_out + count_inside s.cells r s.pending_in
 
--- the pending insertions of a store where those of a range were put in under ripple: those outside the range, in their order, and then the
+-- the pending insertions of a store after those of a range were put in under ripple: those outside the range, in their order, and then the
 -- evicted, which are some of the column's rows from the place of the range's end on, in their order, at most as many as the pending
 -- insertions in the range
 pub record Evicts (s : State) (r : Range) (left : List Handle) : Type 0 where
@@ -120,7 +120,7 @@ pub record Evicts (s : State) (r : Range) (left : List Handle) : Type 0 where
   pub some : SomeOf evicted (drop (edge s r.high) s.column)
   pub few : length evicted ≤ count_inside s.cells r s.pending_in
 
--- the bound of a mark, or another where there is none
+-- the bound of a mark, or another if there is none
 abbrev pub bound_or : ℕ → Option Mark → ℕ
 bound_or end None = end
 bound_or end (Some m) = m.bound.0
@@ -133,7 +133,7 @@ bound_above s bound = bound_or s.keys.high (next_mark bound s.marks)
 abbrev pub beyond : State → Range → Range
 beyond s r = record { low = r.high; high = bound_above s r.high }
 
--- the handles without so many of those whose key is in the range, the first ones
+-- the handles without this many of those whose key is in the range, the first ones
 pub record LosesFirst (cells : List (Cell Row)) (r : Range) (count : ℕ) (hs left : List Handle) : Type 0 where
   pub passed : ℕ
   pub left_are : left ≡ without_first cells r passed hs
@@ -146,7 +146,7 @@ pub record Fills (s t : State) (r : Range) (hs : List Handle) : Type 0 where
   pub loses : LosesFirst s.cells (beyond s r) count hs t.pending_in
 
 -- which pending rows are left by a merge of this policy: complete takes all or none of both, gradual and ripple those of the range; no merge
--- is by auto itself, which stands for one of the others
+-- is by auto itself, which selects one of the others
 abbrev pub Leaves : Policy → State → State → Range → Type 0
 Leaves Complete s t r = (t.pending_in ≡ (if is_touched s r then [] else s.pending_in)) × (t.pending_out ≡ (if is_touched s r then [] else s.pending_out))
 Leaves Gradual s t r = (t.pending_in ≡ outside_of s.cells r s.pending_in) × LeavesOutside s t r
@@ -174,7 +174,7 @@ counted_between before after = record {
 abbrev pub IsExact : MergeReport → Type 0
 IsExact tally = EachCounter (λ n same. n < greatest) tally tally
 
--- what the report from s to t says, where every counter is exact: with q pieces, what was put in and not evicted is gone from
+-- what the report from s to t says if every counter is exact: with q pieces, what was put in and not evicted is gone from
 -- the pending insertions, what was taken out is gone from the pending deletions, each row put in moved at most q rows, and
 -- each row taken out pulled at most q
 pub record Counts (s t : State) (q : ℕ) : Type 0 where
@@ -183,7 +183,7 @@ pub record Counts (s t : State) (q : ℕ) : Type 0 where
   pub moved : t.tally.moved + s.tally.put_in * q ≤ s.tally.moved + t.tally.put_in * q
   pub pulled : t.tally.pulled + s.tally.taken_out * q ≤ s.tally.pulled + t.tally.taken_out * q
 
--- what a policy may have evicted: complete and gradual nothing, ripple at most as many rows as it put in, where every counter is exact
+-- what a policy may have evicted: complete and gradual nothing, ripple at most as many rows as it put in, if every counter is exact
 abbrev pub MayEvict : Policy → State → State → Type 0
 MayEvict Ripple s t = IsExact t.tally → t.tally.evicted + s.tally.put_in ≤ s.tally.evicted + t.tally.put_in
 MayEvict _ s t = t.tally.evicted ≡ s.tally.evicted

@@ -1,4 +1,4 @@
--- What the commands on one row do to a store. The row is found by its serial, and taken out, or replaced by another of its serial.
+-- What the commands on one row do to a store. The row is found by its serial, and taken out, or replaced by another with its serial.
 use Rattle.std.specs.Prelude.{◌≡◌, ℕ, ◌+◌, ◌-◌, ◌<◌, ◌^◌, Bool, true, false, nat_lt, nat_eq, if◌then◌else◌, drop, length, List, [], ◌∷◌, ◌++◌, Option, Some, None, IsSome, slice_set}
 use Rattle.std.specs.List.{remove}
 use Rattle.std.specs.Option.{option_map, option_and_then, unwrap_or}
@@ -12,7 +12,7 @@ use Rattle.crack_state.specs.Steps.{next_handle, SameButRoom}
 abbrev pub row_by : State → ℕ → Option Row
 row_by s serial = option_and_then (read s.cells) (handle_of s.serials serial)
 
--- whether the row of a serial is a pending insertion; nothing where there is no such row
+-- whether the row with a serial is a pending insertion; nothing if there is no such row
 abbrev pub pending_by : State → ℕ → Option Bool
 pending_by s serial = option_map (λ (h : Handle). nat_lt 0 (times h.slot (slots s.pending_in))) (handle_of s.serials serial)
 
@@ -28,7 +28,7 @@ Maps serial o serials after = (n : ℕ) → handle_of after n ≡ (if nat_eq ser
 abbrev pub MayFree : State → Type 0
 MayFree s = freed_of s.cells + length s.pending_out < greatest
 
--- a cell of a pending insertion is freed, the next to be used, and its handle leaves the pending insertions: the later ones close up
+-- a cell of a pending insertion is freed, to be used next, and its handle leaves the pending insertions: the later ones close up
 abbrev pub struck : Handle → State → State
 struck h s =
     record s {
@@ -55,28 +55,28 @@ renewed row h s =
       pending_out = s.pending_out ++ h ∷ [];
     }
 
--- cancel: the pending insertion of a serial is struck, and the serial leaves the map
+-- cancel: the pending insertion with a serial is struck, and the serial leaves the map
 pub record Cancels (serial : ℕ) (s t : State) : Type 0 where
   pub after : SameButRoom (record (struck (handle_by s serial) s) { serials = t.serials }) t
   pub map : Maps serial None s.serials t.serials
 
--- doom: the column's row of a serial becomes a pending deletion, and the serial leaves the map
+-- doom: the column's row with a serial becomes a pending deletion, and the serial leaves the map
 pub record Dooms (serial : ℕ) (s t : State) : Type 0 where
   pub after : SameButRoom (record (doomed_too (handle_by s serial) s) { serials = t.serials }) t
   pub map : Maps serial None s.serials t.serials
 
--- remove, by whether the row of a serial is a pending insertion: it is cancelled, or doomed; where there is none nothing changes
+-- remove, by whether the row with a serial is a pending insertion: it is cancelled, or doomed; if there is none nothing changes
 abbrev pub Removes : Option Bool → ℕ → State → State → Type 0
 Removes None serial s t = t ≡ s
 Removes (Some true) serial s t = Cancels serial s t
 Removes (Some false) serial s t = Dooms serial s t
 
--- renew: the column's row of a serial becomes a pending deletion, and the map leads to the new row of that serial
+-- renew: the column's row with a serial becomes a pending deletion, and the map leads to the new row with that serial
 pub record Renews (row : Row) (s t : State) : Type 0 where
   pub after : SameButRoom (record (renewed row (handle_by s row.serial.0) s) { serials = t.serials }) t
   pub map : Maps row.serial.0 (Some (next_handle s)) s.serials t.serials
 
--- rewrite, by whether the row of a serial is a pending insertion: it is written in place, or renewed; where there is none nothing changes
+-- rewrite, by whether the row with a serial is a pending insertion: it is written in place, or renewed; if there is none nothing changes
 abbrev pub Rewrites : Option Bool → Row → State → State → Type 0
 Rewrites None row s t = t ≡ s
 Rewrites (Some true) row s t = t ≡ overwritten row (handle_by s row.serial.0) s
@@ -87,7 +87,7 @@ pub record IsRenewable (s : State) : Type 0 where
   pub cell : length s.cells < 2 ^ 32 - 1 + length s.free
   pub few : MayFree s
 
--- when a row may be rewritten: there is one of its serial, its key is the partition's, and one of the column may be renewed
+-- when a row may be rewritten: there is one with its serial, its key is the partition's, and one in the column may be renewed
 pub record IsRewritable (row : Row) (s : State) : Type 0 where
   pub there : IsSome (handle_of s.serials row.serial.0)
   pub within : IsIn s.keys row.key.0

@@ -1,4 +1,4 @@
--- A store as lists: what stands where, and what has to hold of it.
+-- A store as lists: its parts, and what must hold of it.
 use Rattle.std.specs.Prelude.{◌≡◌, ℕ, ◌+◌, ◌<◌, ◌≤◌, ◌^◌, ◌-◌, ◌==◌, nat_lt, nat_eq, if◌then◌else◌, sum_by, List, ◌++◌, length, map, Option, Some, None, IsSome, IfSome}
 use Rattle.std.specs.List.{All, filter_map, range_with_len}
 use Rattle.std.specs.Map.{lookup}
@@ -12,7 +12,7 @@ use Rattle.crack_column.specs.Column.{IsDividedAt}
 use Rattle.crack_state.specs.declared.MergeReport.{MergeReport}
 
 -- the partition's keys; the cells of the arena and its free numbers; the column; the pending columns; the marks of the index;
--- the handle of each live serial; the tally; and how many handles more are sure to fit in column and pending insertions without memory
+-- the handle of each live serial; the tally; and how many more handles are sure to fit in column and pending insertions without memory
 pub record State : Type 0 where
   pub keys : Range
   pub cells : List (Cell Row)
@@ -26,12 +26,12 @@ pub record State : Type 0 where
   pub column_room : ℕ
   pub in_room : ℕ
 
--- a store with a cell in hand, which stands in no list
+-- a store with a cell in hand, which is in no list
 pub record Carried : Type 0 where
   pub store : State
   pub hand : Handle
 
--- where the cells' numbers stand
+-- where the cells' numbers are
 abbrev pub places : List Handle → List Handle → List ℕ → List Handle → List ℕ
 places column pending_in free hand = slots column ++ slots pending_in ++ free ++ slots hand
 
@@ -39,7 +39,7 @@ places column pending_in free hand = slots column ++ slots pending_in ++ free ++
 abbrev pub Reads : List (Cell Row) → Handle → Type 0
 Reads cells h = IsSome (read cells h)
 
--- each cell stands in exactly one place; what stands in column, pending insertions or hand reads a row; the doomed are
+-- each cell is in exactly one place; what is in column, pending insertions or hand reads a row; the doomed are
 -- distinct, and each is in the column or is the hand
 pub record IsOwned (cells : List (Cell Row)) (free : List ℕ) (column pending_in pending_out hand : List Handle) : Type 0 where
   pub once : (n : ℕ) → times n (places column pending_in free hand) ≡ (if nat_lt n (length cells) then 1 else 0)
@@ -53,7 +53,7 @@ pub record IsOwned (cells : List (Cell Row)) (free : List ℕ) (column pending_i
 abbrev pub column_keys : State → List ℕ
 column_keys s = map (key_at s.cells) s.column
 
--- a mark divides keys: those below its bound stand first, and its position is their number
+-- a mark divides keys: those below its bound are first, and its position is their number
 abbrev pub Divides : List ℕ → Mark → Type 0
 Divides keys m = IsDividedAt m.bound.0 keys m.position
 
@@ -65,7 +65,7 @@ IsObeyed marks keys = All (Divides keys) marks
 abbrev pub AreInside : Range → List Mark → Type 0
 AreInside keys marks = All (λ (m : Mark). (keys.low < m.bound.0) × (m.bound.0 < keys.high)) marks
 
--- what the cell of this number has for commands to see: its row, unless that is doomed
+-- what commands see of the cell with this number: its row, unless that is doomed
 abbrev pub live_at : List (Cell Row) → List ℕ → ℕ → Option Row
 live_at cells doomed n = if times n doomed == 0 then (cell_at cells n).value else None
 
@@ -77,7 +77,7 @@ live_rows s = filter_map (live_at s.cells (slots s.pending_out)) (range_with_len
 abbrev pub handle_of : List (ℕ × Handle) → ℕ → Option Handle
 handle_of serials serial = lookup (nat_eq serial) serials
 
--- the handle reads a row of this serial, and it isn't doomed
+-- the handle reads a row with this serial, and it isn't doomed
 pub record IsLiveAt (cells : List (Cell Row)) (doomed : List ℕ) (serial : ℕ) (h : Handle) : Type 0 where
   pub row : Row
   pub reads : read cells h ≡ Some row
@@ -105,7 +105,7 @@ freed_of cells = sum_by (λ (c : Cell Row). c.generation) cells
 abbrev pub greatest : ℕ
 greatest = 2 ^ 64 - 1
 
--- each counter of a report stands so to that of another
+-- each counter of a report is related like this to that of another
 pub record EachCounter (R : ℕ → ℕ → Type 0) (before after : MergeReport) : Type 0 where
   pub put_in : R before.put_in after.put_in
   pub taken_out : R before.taken_out after.taken_out

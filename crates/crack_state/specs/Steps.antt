@@ -23,12 +23,12 @@ piece_start s key = start_of (last_mark key s.marks)
 abbrev pub piece_end : State → ℕ → ℕ
 piece_end s key = end_of (length s.column) (next_mark key s.marks)
 
--- the bounds above a key that stand where its own piece ends move up by one, and no other
+-- the bounds above a key that are where its own piece ends move up by one, and no other
 abbrev pub raise_next : Option Mark → List Mark → List Mark
 raise_next None marks = marks
 raise_next (Some m) marks = map (raised m.bound.0 m.position) marks
 
--- the bounds at or below a key that stand where its own piece begins move down by one, and no other
+-- the bounds at or below a key that are where its own piece begins move down by one, and no other
 abbrev pub lower_last : Option Mark → List Mark → List Mark
 lower_last None marks = marks
 lower_last (Some m) marks = map (lowered m.bound.0 m.position) marks
@@ -41,7 +41,7 @@ IsDoomed c = 0 < times c.hand.slot (slots c.store.pending_out)
 abbrev pub more : ℕ → ℕ
 more n = min (n + 1) greatest
 
--- a handle is put at a place of the column, and the one that stood there is in hand
+-- a handle is put at a place of the column, and the one that was there is in hand
 abbrev pub put_at : ℕ → List Mark → MergeReport → Carried → Carried
 put_at place marks tally c =
     record {
@@ -76,17 +76,17 @@ lifted_last s =
       hand = slice_index_or s.column (length s.column - 1) no_handle;
     }
 
--- push_on: the hand is put where its own piece ends, and the row that stood there is in hand
+-- push_on: the hand is put where its own piece ends, and the row that was there is in hand
 abbrev pub pushed_on : Carried → Carried
 pushed_on c =
     put_at (piece_end c.store (hand_key c)) (raise_next (next_mark (hand_key c) c.store.marks) c.store.marks) (record c.store.tally { moved = more c.store.tally.moved }) c
 
--- pull_back: the hand is put at the last place before its own piece, and the row that stood there is in hand
+-- pull_back: the hand is put at the last place before its own piece, and the row that was there is in hand
 abbrev pub pulled_back : Carried → Carried
 pulled_back c =
     put_at (piece_start c.store (hand_key c) - 1) (lower_last (last_mark (hand_key c) c.store.marks) c.store.marks) (record c.store.tally { pulled = more c.store.tally.pulled }) c
 
--- exchange: the hand is put at a place, and the row that stood there is in hand
+-- exchange: the hand is put at a place, and the row that was there is in hand
 abbrev pub exchanged : ℕ → Carried → Carried
 exchanged place c = put_at place c.store.marks (record c.store.tally { pulled = more c.store.tally.pulled }) c
 
@@ -99,7 +99,7 @@ appended c =
       column_room = c.store.column_room - 1;
     }
 
--- where no bound stands, the carries of all pending insertions: in the order of arrival they become the column's last rows
+-- if there is no bound, the carries of all pending insertions: in order of arrival they become the column's last rows
 abbrev pub all_appended : State → State
 all_appended s =
     record s {
@@ -133,13 +133,13 @@ admitted row s =
       in_room = s.in_room - 1;
     }
 
--- when a row may be admitted: its serial isn't there, its key is the partition's, and a cell is free or one more may be made
+-- when a row may be admitted: its serial isn't in the map, its key is the partition's, and a cell is free or one more may be made
 pub record IsAdmissible (row : Row) (s : State) : Type 0 where
   pub fresh : handle_of s.serials row.serial.0 ≡ None
   pub within : IsIn s.keys row.key.0
   pub cell : length s.cells < 2 ^ 32 - 1 + length s.free
 
--- the two differ in the room for handles alone
+-- the two differ only in the room for handles
 pub record SameButRoom (s t : State) : Type 0 where
   pub same : t ≡ record s { column_room = t.column_room; in_room = t.in_room }
 
@@ -170,13 +170,13 @@ abbrev pub IsBelow : Option ℕ → ℕ → Type 0
 IsBelow None key = ⊤
 IsBelow (Some bound) key = key < bound
 
--- so many times, one or none, the hand was pushed on: each time it wasn't doomed, its key was below the ceiling, and its own piece ended
+-- this many times, one or none, the hand was pushed on: each time it wasn't doomed, its key was below the ceiling, and its own piece ended
 -- before the column does
 pub data PushesOn (ceiling : Option ℕ) : Carried → Carried → Type 0 where
   stays : (c : Carried) → PushesOn ceiling c c
   pushes : (c d : Carried) → ¬ IsDoomed c → IsBelow ceiling (hand_key c) → piece_end c.store (hand_key c) < length c.store.column → PushesOn ceiling (pushed_on c) d → PushesOn ceiling c d
 
--- so many times, one or none, the hand was pulled back: each time its own piece began after the place
+-- this many times, one or none, the hand was pulled back: each time its own piece began after the place
 pub data PullsBack (place : ℕ) : Carried → Carried → Type 0 where
   stays : (c : Carried) → PullsBack place c c
   pulls : (c d : Carried) → place < piece_start c.store (hand_key c) → PullsBack place (pulled_back c) d → PullsBack place c d

@@ -1,4 +1,4 @@
--- What a range command reads off the column.
+-- What a range command reads from the column.
 use Rattle.std.specs.Prelude.{ℕ, List}
 use Rattle.std.specs.List.{filter_map, between}
 use Rattle.crack_row.specs.Ranges.{Range}

@@ -1,6 +1,6 @@
-//! What a partition's store is, and what must hold of it: its cells and where each stands, the steps by which rows move
+//! What a partition's store is, and what must hold of it: its cells and where each is, the steps by which rows move
 //! between the pending columns, a hand and the cracked column, and what a refinement and a merge may change. The
-//! definitions stand in `specs/`, over one record of plain lists, and the laws that the crates above cite in `proofs/`.
+//! definitions are in `specs/`, over one record of plain lists, and the laws that the crates above cite in `proofs/`.
 #![tactic(auto)]
 
 /// What merges have counted; each number stays at its greatest value once it is there.
