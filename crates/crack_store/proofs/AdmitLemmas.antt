@@ -11,7 +11,7 @@ use Rattle.crack_state.specs.State.{State, IsIntact}
 use Rattle.crack_state.specs.Steps.{next_handle}
 use Rattle.crack_state.proofs.OwnedLaws.{places_of, times-places}
 
--- there is one cell more where none was free
+-- there is one more cell if none was free
 length_cells_with : (row : Row) (cells : List (Cell Row)) (free : List ℕ) → length cells + bool_byte (nat_eq (length free) 0) ≡ length (cells_with row cells free)
 length_cells_with row cells [] = sym (length_push cells (record { generation = 0; value = Some row }))
 length_cells_with row cells (n ∷ ns) =
@@ -28,7 +28,7 @@ next_within row s (n ∷ ns) is intact = elim (cases_lt n (length s.cells)) [
       absurd (omega (arith, times-places n s.column s.pending_in s.free []))
 ]
 
--- where as many cells are covered as there will be, each is
+-- if as many cells are covered as there will be, each is
 pub all_covered : (row : Row) (s : State) (cells free covered : ℕ) → cells ≡ length s.cells → free ≡ length s.free → cells + bool_byte (nat_eq free 0) ≤ covered → length (cells_with row s.cells s.free) ≤ covered
 all_covered row s cells free covered cells_is free_is enough = omega (arith, rw (← free_is) at (length_cells_with row s.cells s.free))
 

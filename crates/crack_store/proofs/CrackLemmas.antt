@@ -28,7 +28,7 @@ use Rattle.crack_store.specs.Gaps.{MissesIn, FallTogether, IsMissing, above_or}
 
 -- A bound among the marks
 
--- where the last bound up to a bound equals it, it is there
+-- if the last bound up to a bound equals it, it is there
 pub listed_bound : (bound low : InnerBound) (marks : List Mark) → Rising marks → option_map (λ (m : Mark). m.bound) (last_mark bound.0 marks) ≡ Some low → low.0 ≡ bound.0 → HasBound marks bound.0
 listed_bound bound low marks rising is same = by_last (last_mark bound.0 marks) refl is
   where
@@ -38,7 +38,7 @@ listed_bound bound low marks rising is same = by_last (last_mark bound.0 marks) 
         let is_low : m.bound ≡ low = cc in
         rw (ap (λ (b : InnerBound). b.0) is_low ∙ same) at (HasBound-mark marks m (last_mark-is bound.0 marks m rising (sym e)).listed)
 
--- where it is another, or there is none, it isn't
+-- if it is another, or there is none, it isn't
 pub absent_bound : (bound : InnerBound) (marks : List Mark) → Rising marks → ((low : InnerBound) → option_map (λ (m : Mark). m.bound) (last_mark bound.0 marks) ≡ Some low → low.0 ≢ bound.0) → HasBound marks bound.0 → ⊥
 absent_bound bound marks rising other there =
     let at = HasBound-contains marks bound.0 there in
@@ -70,7 +70,7 @@ next_above number (n ∷ ns) x found = elim (cases_lt number n.bound.0) [
   | inr l ↦ next_above number ns x (rw (le-ltb number n.bound.0 l) at found)
 ]
 
--- and the next mark, where that isn't above it
+-- and the next mark, if that isn't above it
 next_mark-added_behind : (number : ℕ) (m : Mark) (marks : List Mark) (x : Mark) → next_mark number marks ≡ Some x → x.bound.0 ≤ m.bound.0 → next_mark number (added m marks) ≡ Some x
 next_mark-added_behind number m [] x found below = absurd (cc)
 next_mark-added_behind number m (n ∷ ns) x found below = elim (cases_lt number n.bound.0) [
@@ -122,7 +122,7 @@ behind_both s hand low high intact below = by_next (next_mark low s.marks) refl 
     by_next None is h = λ k d l above. absurd (let none = next_mark-none low s.marks (sym is) k d l in omega (arith, none, above))
     by_next (Some m) is h = λ k d l above. omega (arith, h, (next_mark-is low s.marks m intact.rising (sym is)).least k d l above)
 
--- so the high end is missing too
+-- so the high end is also missing
 pub high_missing : (s : State) (hand : List Handle) (low high : ℕ) → IsIntact s hand → IsMissing s low → low < high → high < bound_above s low → IsMissing s high
 high_missing s hand low high intact missing order below = record {
   low = omega (arith, missing.low);
@@ -139,7 +139,7 @@ high_missing s hand low high intact missing order below = record {
         let inner = All-contains (λ (x : Mark). (s.keys.low < x.bound.0) × (x.bound.0 < s.keys.high)) s.marks m intact.inside (next_mark-is low s.marks m intact.rising (sym is)).listed in
         omega (arith, h, inner.1)
 
--- where the high end isn't below the next bound above the low one, that bound is at or below it
+-- if the high end isn't below the next bound above the low one, that bound is at or below it
 pub next_behind : (s : State) (low high : ℕ) → bound_above s low ≤ high → high < s.keys.high → (m : Mark) × (next_mark low s.marks ≡ Some m) × (m.bound.0 ≤ high)
 next_behind s low high order within = by_next (next_mark low s.marks) refl order
   where
@@ -147,7 +147,7 @@ next_behind s low high order within = by_next (next_mark low s.marks) refl order
     by_next None is h = absurd (omega arith)
     by_next (Some m) is h = (m, sym is, h)
 
--- the low end is missing still, in the same piece
+-- the low end is still missing, in the same piece
 pub missing_after : (s u : State) (high : Mark) (low : ℕ) (piece : Piece) → MissesIn s low piece → IsMissing s high.bound.0 → bound_above s low ≤ high.bound.0 → RefinesAt s u high.bound.0 → u.marks ≡ added high s.marks → MissesIn u low piece
 missing_after s u high low piece misses missing order refined marks =
     let keys = keys-refined (λ b. (b ≡ high.bound.0) × (s.keys.low < b) × (b < s.keys.high)) s u refined in
@@ -222,7 +222,7 @@ module _ (cells : List (Cell Row)) (low high from to : ℕ) (handles : List Hand
   key_within k g l =
       get_or-map (key_at cells) d.piece (k - from) no_handle 0 (omega (arith, piece_long)) ∙ ap (key_at cells) (sym (placed.inside k no_handle g l))
 
-  -- the rows at or above the low bound stand divided by the high one already
+  -- the rows at or above the low bound are divided by the high one already
   pub Cracks-again : a ≤ b → Cracks cells high a to handles' remembered' handles' remembered' b
   Cracks-again rises =
       let within : to ≤ length handles' = omega (arith, long, c.within) in
@@ -302,7 +302,7 @@ module _ (s u : State) (low high : InnerBound) (handles : List Handle) (known kn
   Refines-three r is_low is_high =
       Refines-both s halfway u r low.0 high.0 (inl (is_low, is_high)) (RefinesAt-cracked s halfway [] low first intact) (RefinesAt-cracked halfway u [] high second halfway_intact)
 
-  -- the high end may be added where it stands, after the low one
+  -- the high end may be added where it is, after the low one
   second_fits : Fits (record { bound = high; position = b }) (added low_mark s.marks)
   second_fits = Fits-piece (record { bound = high; position = b }) (length handles) (added low_mark s.marks) halfway_intact.rising (omega (arith, starts, rises)) (omega (arith, stops, d.high))
 

@@ -57,7 +57,7 @@ module _ (cells : List (Cell Row)) (hs : List Handle) where
   abbrev fall : Mark → Mark
   fall m = record m { position = m.position - count_below m.bound.0 ds }
 
-  -- what stands before the gap, and what from the next piece on
+  -- what is before the gap, and what from the next piece on
   record At (v : Drain) (front rows : List Handle) : Type 0 where
     ready : IsReady v
     doomed_are : v.doomed.items ≡ ds
@@ -192,7 +192,7 @@ module _ (s : State) (ds : List Doomed) (intact : IsIntact s []) (can : CanBePul
     column_room = s.column_room + length gs;
   }
 
-  -- what stands where all were pulled
+  -- what is left after all were pulled
   pub record IsPulled (ms' : List Mark) (z : Drain) : Type 0 where
     pub column_is : z.column.handles ≡ column_of after
     pub marks_are : ms' ≡ marks_of 0 after

@@ -1,4 +1,4 @@
--- Where the ends of a range stand in a column that was cracked by it.
+-- Where the ends of a range are in a column that was cracked by it.
 use Rattle.std.proofs.Common.{ℕ, ◌<◌, ◌≤◌, ◌^◌, ◌-◌, List, length, inl, inr, arith}
 use Rattle.std.specs.List.{All}
 use Rattle.std.proofs.lemmas.Bool.{cases_lt, lt-leb, le-leb}
@@ -12,7 +12,7 @@ use Rattle.crack_state.specs.Merge.{Stands, edge}
 use Rattle.crack_state.proofs.SettledLaws.{edge-divides}
 use Rattle.crack_state.proofs.LayoutLaws.{cells-intact}
 
--- every bound stands at a place of the column, or at its end
+-- every bound is at a place of the column, or at its end
 pub positions_within : (s : State) (hand : List Handle) → IsIntact s hand → All (λ (m : Mark). m.position ≤ length s.column) s.marks
 positions_within s hand intact = λ k d h. omega (arith, (intact.obeyed k d h).within, length-map s.column (key_at s.cells))
 
@@ -29,7 +29,7 @@ edge_within s hand bound intact stands =
       ]
     ]
 
--- the lower end stands at or before the higher
+-- the lower end is at or before the higher
 pub edge_order : (s : State) (hand : List Handle) (low high : ℕ) → IsIntact s hand → low ≤ high → Stands s low → Stands s high → edge s low ≤ edge s high
 edge_order s hand low high intact order low_stands high_stands =
     elim (cases_lt s.keys.low low) [

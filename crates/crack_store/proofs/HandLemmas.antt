@@ -1,4 +1,4 @@
--- What calls on the inside say of a step that takes a row back or out.
+-- What calls on the inside say about a step that returns a row or takes one out.
 use Rattle.std.proofs.Common.{◌≡◌, ℕ, ◌<◌, true, List, [], ◌∷◌, length, get_or, Option, Some, None, sym, ap, subst, ◌∙◌, arith}
 use Rattle.std.specs.Prelude.{MatchOption, IsSome, is_some}
 use Rattle.std.proofs.lemmas.Bool.{true≢false}
@@ -58,7 +58,7 @@ same_handles h k e =
     let built : ℕ → ℕ → Handle = λ slot generation. record { slot = slot; generation = generation } in
     ap (λ n. built n h.generation) slots_agree ∙ ap (λ n. built k.slot n) generations_agree
 
--- a handle that stands at a place of the column stands at none before it
+-- a handle that is at a place of the column is at none before it
 pub once_first : (s : State) (hand : List Handle) (h : Handle) (place : ℕ) → IsIntact s hand → StandsAt s.column place h → IsFirstAt s.column h place
 once_first s hand h place intact stands = record {
   here = stands;
@@ -70,13 +70,13 @@ once_first s hand h place intact stands = record {
       absurd (omega (arith, again, once, times-places h.slot hs s.pending_in s.free hand, times-taken h.slot hs place h stands.within stands.is, times_head h.slot [], times-nil h.slot));
 }
 
--- the cell in hand stands nowhere in the column
+-- the cell in hand is nowhere in the column
 pub hand_absent : (c : Carried) (h : Handle) → IsIntact c.store (c.hand ∷ []) → c.hand.slot ≡ h.slot → IsAbsent c.store.column h
 hand_absent c h intact same =
     let s = c.store in
     λ place at. apart_from_times s.column h.slot (rw same at (hand_apart s.cells s.free s.column s.pending_in s.pending_out c.hand intact.owned).off_column) place h at.within (ap (λ (x : Handle). x.slot) (sym at.is))
 
--- what holds where a value was taken, holds where there was one
+-- what holds if a value was taken holds if there was one
 pub when_some : (o value : Option Row) (P Q : Type 0) → o ≡ value → IsSome value → MatchOption o P (λ _. Q) → Q
 when_some None value P Q is some h = absurd (true≢false (sym (ap is_some is ∙ some)))
 when_some (Some r) value P Q is some h = h

@@ -1,4 +1,4 @@
--- What cells have for commands to see, one after the other.
+-- What commands see of cells, one after the other.
 use Rattle.std.proofs.Common.{◌≡◌, ℕ, ◌+◌, ◌<◌, ◌≤◌, List, [], ◌∷◌, ◌++◌, length, get_or, take, drop, Option, refl, sym, ap, ◌∙◌, inl, inr, arith, add-one, zero-add}
 use Rattle.std.specs.List.{cons_option, filter_map, range_with_len}
 use Rattle.std.proofs.lemmas.List.{get_or-take, get_or-drop, get_or_append_left, get_or_push, length_push}
@@ -13,7 +13,7 @@ use Rattle.crack_store.specs.Found.{AreRising}
 longer : (n : ℕ) → range_with_len 0 (n + 1) ≡ range_with_len 0 n ++ n ∷ []
 longer n = rw add-one (rw (zero-add n) at (range_with_len-more 0 n))
 
--- one cell more
+-- one more cell
 pub seen-next : (seen : ℕ → Option Row) (rows after : List Row) (slot : ℕ) (o : Option Row) → o ≡ seen slot → rows ≡ filter_map seen (range_with_len 0 slot) → after ≡ rows ++ cons_option o [] → after ≡ filter_map seen (range_with_len 0 (slot + 1))
 seen-next seen rows after slot o shown so_far added =
     let one : cons_option o [] ≡ filter_map seen (slot ∷ []) = rw shown refl in
@@ -31,7 +31,7 @@ cell_in-stretch cells part slot place is within =
 pub rising-none : (last : ℕ) → AreRising [] last
 rising-none last = record { rise = λ i j d le within. absurd (omega (arith, within)); most = λ place row within. absurd (omega (arith, within)) }
 
--- a row more, whose serial isn't below the last
+-- one more row, whose serial isn't below the last
 pub rising-next : (rows : List Row) (last : ℕ) (row : Row) → last ≤ serial_of row → AreRising rows last → AreRising (rows ++ row ∷ []) (serial_of row)
 rising-next rows last row above rising = record {
   rise = λ i j d le within. elim (cases_lt j (length rows)) [

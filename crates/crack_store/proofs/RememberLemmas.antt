@@ -1,4 +1,4 @@
--- What the column and the pending lists remember stays right where a cell changes of which they have no row.
+-- What the column and the pending lists remember stays right if a cell changes of which they have no row.
 use Rattle.std.proofs.Common.{◌≡◌, ℕ, List, [], get_or, refl}
 use Rattle.crack_row.specs.declared.Row.{Row}
 use Rattle.crack_arena.specs.Arena.{Cell, Handle, times, slots, cells_with}
@@ -27,7 +27,7 @@ pub Remembers-admitted : (row : Row) (s : State) (remembered : List Memory) → 
 Remembers-admitted row s remembered intact remembers =
     Remembers-off (next_handle s).slot s.cells (cells_with row s.cells s.free) s.column remembered (filled s row s.free refl intact.owned).others (unused s s.free refl intact.owned).column remembers
 
--- where a step leaves the cells and the pending lists alone, what is remembered of these stays right
+-- if a step leaves the cells and the pending lists alone, what is remembered of these stays right
 pub KeepsIntact-column : (p : Inside) (column : Column) (index : Index) (notes : Notes) (tally : MergeReport) (before after : List Handle) → KeepsIntact p before → IsIntact (lists_of (record p { column = column; index = index; notes = notes; tally = tally })) after → Remembers p.arena.cells column.handles column.remembered → KeepsIntact (record p { column = column; index = index; notes = notes; tally = tally }) after
 KeepsIntact-column p column index notes tally before after kept intact remembers = record {
   intact = intact;
@@ -38,7 +38,7 @@ KeepsIntact-column p column index notes tally before after kept intact remembers
   covered = kept.covered;
 }
 
--- what a pending list remembers stays right likewise
+-- the same for what a pending list remembers
 pub RemembersKeys-off : (n : ℕ) (cells after : List (Cell Row)) (hs : List Handle) (keys : List ℕ) → AgreeOff n cells after → times n (slots hs) ≡ 0 → RemembersKeys cells hs keys → RemembersKeys after hs keys
 RemembersKeys-off n cells after hs keys agree none remembers = record {
   beside = remembers.beside;

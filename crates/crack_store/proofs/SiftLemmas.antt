@@ -32,7 +32,7 @@ use Rattle.crack_store.specs.Sieves.{AreClear, Passes, Rises}
 
 -- Parts of lists
 
--- what stands where in three lists, one after another
+-- what is at each place of three lists, one after another
 three : {X : Type 0} (front lower rest : List X) (a b : ℕ) → length front ≡ a → length lower ≡ b → (take a (front ++ (lower ++ rest)) ≡ front) × (between a (a + b) (front ++ (lower ++ rest)) ≡ lower) × (drop (a + b) (front ++ (lower ++ rest)) ≡ rest)
 three front lower rest a b is_front is_lower =
     let all = front ++ (lower ++ rest) in
@@ -64,7 +64,7 @@ drop_between xs from to order =
 
 -- The walk
 
--- where no bound may rise
+-- if no bound may rise
 nothing-rises : (most last : ℕ) (ms ms' : List Mark) (v w : Sieve) → most ≡ 0 → Raises Rises most ms v ms' w last → (ms' ≡ ms) × (w ≡ v)
 nothing-rises most last ms ms' v w none (Raises.done m x) = (refl, refl)
 nothing-rises most last ms ms' v w none (Raises.stays m ns ns' x y l on) =
@@ -274,7 +274,7 @@ module _ (r : Range) (s : State) (intact : IsIntact s []) where
       length-keys [] = refl
       length-keys (h ∷ hs) = ap suc (length-keys hs)
 
-  -- what is left where that was all is what the carries leave
+  -- if that was all, what is left is what the carries leave
   pub record IsCarried (u : State) : Type 0 where
     pub carried : SameButRoom (carried_in_bulk None r s) u
     pub kept : IsKept s u

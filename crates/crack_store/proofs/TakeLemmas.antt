@@ -1,4 +1,4 @@
--- What is inside a range of a list of pending rows, and what is left where it is taken out row after row.
+-- What is inside a range of a list of pending rows, and what is left if it is taken out row after row.
 use Rattle.std.proofs.Common.{◌≡◌, ℕ, zero, suc, ◌+◌, ◌-◌, ◌<◌, ◌≤◌, not, List, [], ◌∷◌, ◌++◌, length, map, get_or, take, drop, Some, None, refl, sym, ap, ◌∙◌, inl, inr, arith}
 use Rattle.std.specs.List.{All}
 use Rattle.std.proofs.lemmas.Bool.{cases_Bool}
@@ -29,7 +29,7 @@ module _ (cells : List (Cell Row)) (r : Range) where
       let out = is_in-false r (key h) (none zero (omega arith)) in
       (rw out rest.0, rw out (ap (λ ys. h ∷ ys) rest.1))
 
-  -- where none is inside, all are outside
+  -- if none is inside, all are outside
   pub all-left : (hs : List Handle) → inside_of cells r hs ≡ [] → outside_of cells r hs ≡ hs
   all-left [] none = refl
   all-left (h ∷ hs) none = elim (cases_Bool (is_in r (key h))) [
@@ -149,7 +149,7 @@ module _ (cells : List (Cell Row)) (r : Range) where
       take_front (x ∷ xs) ys zero is = absurd (omega (arith, is))
       take_front (x ∷ xs) ys (suc n) is = ap (λ zs. x ∷ zs) (take_front xs ys n (omega (arith, is)))
 
--- of those that are left without one, each was there before
+-- each of those that are left without one was there before
 pub All-removed : (P : Handle → Type 0) (hs : List Handle) (place : ℕ) → place < length hs → All P hs → All P (remove hs place)
 All-removed P [] place within all = absurd (omega (arith, within))
 All-removed P (h ∷ hs) zero within all = All-tail P h hs all

@@ -29,7 +29,7 @@ below_ceiling (Some bound) p known agrees = elim agrees [
   | inr e ↦ let key = ap (λ (m : Memory). m.key) e in omega (arith, known.1, key)
 ]
 
--- the store in the midst of a walk up: its column goes along
+-- the store in the middle of a walk up: its column goes along
 abbrev climbing : Inside → Ascent → List Mark → Inside
 climbing p v marks = record p { column = v.column; index = record p.index { marks = marks }; tally = record p.tally { moved = v.moved } }
 
@@ -66,7 +66,7 @@ taken p m marks v w out has next takes =
       room = room;
     }
 
--- a walk up is so many pushes
+-- a walk up is this many pushes
 pub climbed : (p : Inside) (ceiling : Option Bound) (o last : Option Mark) (marks marks' : List Mark) (v w : Ascent) → Climbs Ascends o marks v last marks' w → v.pending_out.now ≡ p.pending_out → v.ceiling ≡ ceiling → HasHand (climbing p v marks) → next_mark (hand_key (carried_of (climbing p v marks))) marks ≡ o → IsClimbed p ceiling (carried_of (climbing p v marks)) last marks' w
 climbed p ceiling o last marks marks' v w (Climbs.ends ms x) out same has next = record { has = has; next = next; pushes = PushesOn.stays (carried_of (climbing p x ms)) }
 climbed p ceiling o last marks marks' v w (Climbs.stops m ms x y is) out same has next = rw is (record { has = has; next = next; pushes = PushesOn.stays (carried_of (climbing p x ms)) })
@@ -80,7 +80,7 @@ climbed p ceiling o last marks marks' v w (Climbs.goes_on m l ms ms' x y z takes
       pushes = PushesOn.pushes c (carried_of (climbing p z ms')) up.lasting (rw same at up.below) up.room (subst (λ (d : Carried). PushesOn (ceiling_of ceiling) d (carried_of (climbing p z ms'))) up.is on.pushes);
     }
 
--- the hand comes no further from where its way ends
+-- the hand comes no farther from where its way ends
 pub bounds_above-pushes : (ceiling : Option ℕ) (c d : Carried) → PushesOn ceiling c d → IsIntact c.store (c.hand ∷ []) → bounds_above (hand_key d) d.store.marks ≤ bounds_above (hand_key c) c.store.marks
 bounds_above-pushes ceiling c d (PushesOn.stays e) intact = omega arith
 bounds_above-pushes ceiling c d (PushesOn.pushes e f lasting below room rest) intact =
@@ -113,7 +113,7 @@ ascended p v w index last key has column moved out is_key climbs room =
       kept = record { has = on.has; is_near = sym on.next };
     })
 
--- the store in the midst of a walk down: its column and its notes go along
+-- the store in the middle of a walk down: its column and its notes go along
 abbrev descending : Inside → Descent → List Mark → Inside
 descending p v marks = record p { column = v.column; index = record p.index { marks = marks }; notes = v.notes; tally = record p.tally { pulled = v.pulled } }
 
@@ -158,7 +158,7 @@ rests q m marks place has next above ends = elim (cases_lt (m.position - 1) plac
       absurd (omega (arith, past, above, start, piece_start-le c.store (hand_key c) has.kept.intact.rising has.kept.intact.obeyed))
 ]
 
--- a walk down is so many pulls
+-- a walk down is this many pulls
 pub descended : (p : Inside) (place : ℕ) (o last : Option Mark) (marks marks' : List Mark) (v w : Descent) → Descends Draws o marks v last marks' w → v.place ≡ place → HasHand (descending p v marks) → last_mark (hand_key (carried_of (descending p v marks))) marks ≡ o → IsDescended p place (carried_of (descending p v marks)) last marks' w
 descended p place o last marks marks' v w (Descends.ends ms x) same has next = record { has = has; next = next; pulls = PullsBack.stays (carried_of (descending p x ms)); ends = omega arith }
 descended p place o last marks marks' v w (Descends.front m ms x front) same has next = record { has = has; next = next; pulls = PullsBack.stays (carried_of (descending p x ms)); ends = omega (arith, front) }

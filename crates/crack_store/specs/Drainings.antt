@@ -18,7 +18,7 @@ use Rattle.crack_store.specs.declared.inside.Inside.{Inside}
 abbrev pub doomed_of : List (Cell Row) → Handle → Doomed
 doomed_of cells h = record { key = key_at cells h; handle = h }
 
--- the gap and the next piece stand in the column
+-- the gap and the next piece are in the column
 pub record IsReady (v : Drain) : Type 0 where
   pub gap : v.gap ≤ v.from
   pub within : v.from ≤ length v.column.handles
@@ -38,7 +38,7 @@ pub record Passes (v : Drain) (m : Mark) (end : ℕ) (w : Drain) : Type 0 where
   pub room : w.column.room ≡ v.column.room
   pub remembered : StillRemembers v.column w.column
 
--- the bound stands behind the gap: then the rows were pulled out of the piece below it
+-- the bound is after the gap: then the rows were pulled out of the piece below it
 abbrev pub Empties : Drain → Mark → ℕ → Drain → Type 0
 Empties v m end w = v.from ≤ m.position → m.position ≤ length v.column.handles → Passes v m end w
 

@@ -10,7 +10,7 @@ use Rattle.crack_store.specs.declared.cracking.Gap.{Gap}
 use Rattle.crack_store.specs.declared.cracking.Missing.{Missing}
 use Rattle.crack_store.specs.declared.cracking.Missing.TheVariants.{Neither, One, Together, Apart}
 
--- the bound lies strictly between the partition's ends, and doesn't stand in the index
+-- the bound lies strictly between the partition's ends, and isn't in the index
 pub record IsMissing (s : State) (bound : ℕ) : Type 0 where
   pub low : s.keys.low < bound
   pub high : bound < s.keys.high
@@ -44,7 +44,7 @@ pub record FallApart (s : State) (first second : Gap) : Type 0 where
 abbrev pub AreEnds : Range → ℕ → ℕ → Type 0
 AreEnds r low high = (low ≡ r.low) × (high ≡ r.high)
 
--- what is said of the ends of a range is right: where one alone is missing, no other inner end of the range is
+-- the description of a range's ends is right: if only one is missing, no other inner end of the range is
 abbrev pub Misses : State → Range → Missing → Type 0
 Misses s r Neither = IsCracked s r
 Misses s r (One gap) = MissesIn s gap.bound.0 gap.piece × ((gap.bound.0 ≡ r.low) ⊎ (gap.bound.0 ≡ r.high)) × ((b : ℕ) → IsInner s.keys r b → b ≢ gap.bound.0 → HasBound s.marks b)

@@ -12,12 +12,12 @@ use Rattle.crack_state.specs.State.{State, greatest}
 use Rattle.crack_state.specs.Steps.{piece_start, piece_end}
 use Rattle.crack_store.specs.declared.sifting.Sieve.{Sieve}
 
--- the rows that came in stand in the column
+-- the rows that came in are in the column
 pub record IsReady (v : Sieve) : Type 0 where
   pub order : v.from ≤ v.to
   pub within : v.to ≤ length v.column.handles
 
--- they were sifted through the piece above a bound, so many of whose rows made way
+-- they were sifted through the piece above a bound, this many of whose rows made way
 pub record Passes (v : Sieve) (m : Mark) (rise : ℕ) (w : Sieve) : Type 0 where
   pub made : ℕ
   pub sifts : (cells : List (Cell Row)) → AreRead cells v.from v.to v.column → Sifts cells m.bound.0 m.position v.from v.to v.column w.column rise made
@@ -29,11 +29,11 @@ pub record Passes (v : Sieve) (m : Mark) (rise : ℕ) (w : Sieve) : Type 0 where
   pub room : w.column.room ≡ v.column.room
   pub remembered : StillRemembers v.column w.column
 
--- the bound doesn't stand after the rows that came in: then they were sifted, and it rises by as many as are below it
+-- the bound isn't after the rows that came in: then they were sifted, and it rises by as many as are below it
 abbrev pub Rises : Sieve → Mark → ℕ → Sieve → Type 0
 Rises v m rise w = m.position ≤ v.from → Passes v m rise w
 
--- the row stands elsewhere than among the first rows of its piece, so many
+-- the row is elsewhere than among the first rows of its piece, this many
 abbrev pub IsClear : ℕ → State → Handle → Type 0
 IsClear count s h =
     let from = piece_start s (key_at s.cells h) in

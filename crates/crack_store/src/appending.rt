@@ -1,4 +1,4 @@
-//! All pending insertions put after the column's last row at once, where no bound stands.
+//! All pending insertions are put after the column's last row at once, if there is no bound.
 ghost use Rattle.std.specs.Prelude.{◌≡◌, ◌↔◌, ◌≤◌, ◌++◌, [], length, All, IsTrue, IfErr, OnOk, OnErr};
 ghost use Rattle.crack_column.specs.Column.{Remembers};
 ghost use Rattle.crack_state.specs.State.{Reads, live_rows};
@@ -12,16 +12,16 @@ use crack_pending::PendingIn;
 use crack_row::{Refusal, Row};
 
 impl Store {
-    /// Whether no bound stands. O(1).
+    /// Whether there is no bound. O(1).
     pub fn is_uncracked(&self) -> bool
         ensures { IsTrue result ↔ (self.now.marks ≡ []) }
     {
         self.inside.index.is_empty()
     }
 
-    /// Puts all pending insertions after the column's last row, in the order of arrival: where no bound stands, it
-    /// leaves what the carry of one after the other leaves. Room is made for all of them at once. O(pending
-    /// insertions). Refused with 8 where it finds no memory; all is then as it was.
+    /// Puts all pending insertions after the column's last row, in order of arrival: if there is no bound, it
+    /// leaves what carrying them one after the other leaves. Room is made for all of them at once. O(pending
+    /// insertions). Refused with 8 if it finds no memory; then all is as it was.
     pub fn append_all(&mut self) -> Result<(), Refusal>
         requires { self.old.marks ≡ [] }
         ensures ok { OnOk result (SameButRoom (all_appended self.old) self.new) }
@@ -45,7 +45,7 @@ impl Store {
 }
 
 /// Puts the rows of a list after the column's last one, in their order, each with what is to be remembered of it.
-/// O(rows), where the list has no holes; the cells are read in the order of the list.
+/// O(rows), if the list has no holes; the cells are read in the order of the list.
 fn append_rows(column: &mut CrackerColumn, rows: &PendingIn, arena: &Arena<Row>)
     requires room { length rows.now.handles ≤ column.old.room }
     requires reads { All (Reads arena.now.cells) rows.now.handles }

@@ -1,4 +1,4 @@
-//! The hand on its way up and down, as what goes along on a walk over the bounds, with the column beside it.
+//! The hand on its way up and down, as the visitor of a walk over the bounds, with the column beside it.
 ghost use Rattle.std.specs.Prelude.{◌≤◌, IsTrue};
 ghost use Rattle.crack_column.specs.Column.{first_aside};
 ghost use Rattle.crack_state.specs.Steps.{ceiling_of, hand_key, piece_start, PushesOn, PullsBack};
@@ -27,7 +27,7 @@ pub(crate) struct Ascent<'a> {
 }
 
 impl Ascent<'_> {
-    /// Whether the row in hand is known to be below the ceiling. O(1), and asks no cell.
+    /// Whether the row in hand is known to be below the ceiling. O(1), without a look at any cell.
     #[inline(always)]
     fn is_below(&self) -> bool
         ensures { IsTrue result → IsKnownBelow self.now.ceiling (first_aside self.now.column).memory }
@@ -47,7 +47,7 @@ impl Visitor for Ascent<'_> {
 
     ghost visits = { Ascends };
 
-    /// Pushes the hand on, where it isn't doomed, is known to be below the ceiling, and the place is one of the column.
+    /// Pushes the hand on, if it isn't doomed, is known to be below the ceiling, and the place is one of the column.
     #[inline(always)]
     fn visit(&mut self, place: usize) -> bool {
         if self.pending_out.contains(self.column.slot()) {
@@ -66,8 +66,8 @@ impl Visitor for Ascent<'_> {
 }
 
 /// Pushes the hand on from place to place as long as it isn't doomed, is known to be below the ceiling, and its own
-/// piece ends before the column does. The bound where its piece ends then. O(log bounds) and the bounds at the places
-/// on its way; takes no memory.
+/// piece ends before the column does. Returns the bound where its piece ends then. O(log bounds) and the bounds at the
+/// places on its way; takes no memory.
 #[inline(always)]
 pub(crate) fn ascend(inside: &mut Inside, ceiling: Option<Bound>) -> Near
     requires { HasHand inside.old }
@@ -123,8 +123,8 @@ impl Visitor for Descent<'_> {
     }
 }
 
-/// Pulls the hand back from place to place as long as its own piece begins after the place. The bound where its piece
-/// begins then. O(log bounds) and the bounds at the places on its way; takes no memory.
+/// Pulls the hand back from place to place as long as its own piece begins after the place. Returns the bound where its
+/// piece begins then. O(log bounds) and the bounds at the places on its way; takes no memory.
 #[inline(always)]
 pub(crate) fn descend(inside: &mut Inside, place: usize) -> Near
     requires { HasHand inside.old }

@@ -28,7 +28,7 @@ pub(crate) enum Near {
     Below(Option<Mark>),
 }
 
-/// A store with one cell in hand, which stands in no list. It can't be let go: a step ends it and gives the store back.
+/// A store with one cell in hand, which is in no list. It can't be dropped: a step ends it and returns the store.
 /// The column keeps the hand aside, so that a step exchanges two of its tags and reads no generation.
 pub struct Carrying {
     pub(crate) inside: Inside,
@@ -48,7 +48,7 @@ impl Model for Carrying {
 }
 
 impl Carrying {
-    /// States what is true of every store with a cell in hand, and does nothing.
+    /// States the invariants of every store with a cell in hand, and does nothing.
     pub fn facts(&self)
         ensures { IsIntact self.now.store (self.now.hand ∷ []) }
     {
@@ -97,14 +97,14 @@ impl Carrying {
         self.inside.pending_out.contains(slot)
     }
 
-    /// The place of the column where the handle stands; none where it stands nowhere. O(rows of the column).
+    /// The place of the column where the handle is; none if it is nowhere. O(rows of the column).
     pub fn place_of(&self, handle: Handle<Row>) -> Option<usize>
         ensures { MatchOption result (IsAbsent self.now.store.column handle) (IsFirstAt self.now.store.column handle) }
     {
         self.inside.column.place_of(handle)
     }
 
-    /// The key of the row in hand. O(1), without a look at its cell where the row is known.
+    /// The key of the row in hand. O(1), without a look at its cell if the row is known.
     pub fn hand_key(&self) -> Key
         ensures { result.0 ≡ hand_key self.now }
     {
@@ -170,8 +170,8 @@ impl Carrying {
         }
     }
 
-    /// Puts the hand where its own piece ends; each bound above its key that stands there moves up by one, and the row
-    /// that stood there is in hand. O(1) on the way up and the bounds at that place; else O(log bounds) more, once.
+    /// Puts the hand where its own piece ends; each bound above its key that is there moves up by one, and the row
+    /// that was there is in hand. O(1) on the way up and the bounds at that place; else O(log bounds) more, once.
     pub fn push_on(&mut self)
         requires { piece_end self.old.store (hand_key self.old) < length self.old.store.column }
         ensures after { self.new ≡ pushed_on self.old }
@@ -188,8 +188,8 @@ impl Carrying {
         self.inside.tally.moved = self.inside.tally.moved.saturating_add(1);
     }
 
-    /// Puts the hand at the last place before its own piece; each bound at or below its key that stands where that
-    /// piece begins moves down by one, and the row that stood there is in hand. O(1) on the way down and the bounds at
+    /// Puts the hand at the last place before its own piece; each bound at or below its key that is where that
+    /// piece begins moves down by one, and the row that was there is in hand. O(1) on the way down and the bounds at
     /// that place; else O(log bounds) more, once.
     pub fn pull_back(&mut self)
         requires { 0 < piece_start self.old.store (hand_key self.old) }
@@ -214,7 +214,7 @@ impl Carrying {
         self.inside.tally.pulled = self.inside.tally.pulled.saturating_add(1);
     }
 
-    /// Puts the hand at a place of its own piece, and the row that stood there is in hand. No bound moves. O(1).
+    /// Puts the hand at a place of its own piece, and the row that was there is in hand. No bound moves. O(1).
     pub fn exchange(&mut self, place: usize)
         requires from { piece_start self.old.store (hand_key self.old) ≤ place }
         requires to { place < piece_end self.old.store (hand_key self.old) }
@@ -231,7 +231,7 @@ impl Carrying {
         self.inside.tally.pulled = self.inside.tally.pulled.saturating_add(1);
     }
 
-    /// Frees the cell of the row in hand, which is doomed, and strikes it from the pending deletions.
+    /// Frees the cell of the row in hand, which is doomed, and removes it from the pending deletions.
     /// Amortised O(1).
     pub fn bury(self) -> Store
         requires { IsDoomed self }
@@ -262,7 +262,7 @@ impl Carrying {
         Store { inside }
     }
 
-    /// Puts the hand after the column's last row, where its own piece ends there; each bound above its key that stands
+    /// Puts the hand after the column's last row, if its own piece ends there; each bound above its key that is
     /// there moves up by one. O(1) on the way up and the bounds at that place, else O(log bounds) more.
     pub fn append(self) -> Store
         requires ends { piece_end self.store (hand_key self) ≡ length self.store.column }

@@ -1,4 +1,4 @@
-//! A crack by both ends of a range. One look-up of each end says what is to be divided.
+//! A crack by both ends of a range. One look-up of each end shows what is to be divided.
 ghost use Rattle.std.specs.Prelude.{◌≡◌, ◌+◌, ◌≤◌, [], length, IfSome, IfNone};
 ghost use Rattle.crack_index.specs.Marks.{added, piece_at};
 ghost use Rattle.crack_state.specs.Merge.{Refines, Stands};
@@ -21,9 +21,9 @@ pub(crate) struct Gap {
 /// Which ends of a range are missing, and in which pieces of the column they fall.
 #[derive(Clone, Copy)]
 pub(crate) enum Missing {
-    /// Both stand.
+    /// Neither.
     Neither,
-    /// This one alone; where the range is empty it is both.
+    /// Only this one; if the range is empty, it is both.
     One(Gap),
     /// Both, and they fall into one piece: the low one with it, and the high one.
     Together(Gap, InnerBound),
@@ -44,8 +44,8 @@ impl Missing {
     }
 }
 
-/// The bound with its own piece, where the bound lies between the partition's ends and isn't in the index. O(log
-/// bounds): a bound is there just where its piece begins with it.
+/// The bound with its own piece, if the bound lies between the partition's ends and isn't in the index. O(log
+/// bounds): a bound is in the index exactly if its piece begins with it.
 fn gap_at(inside: &Inside, bound: Bound) -> Option<Gap>
     ensures bound { IfSome result (λ gap. gap.bound.0 ≡ bound.0) }
     ensures missing { IfSome result (λ gap. MissesIn (lists_of inside.now) gap.bound.0 gap.piece) }
@@ -88,8 +88,8 @@ pub(crate) fn code_pending(inside: &mut Inside)
     inside.pending_out.code_keys();
 }
 
-/// Which ends of the range are missing. O(log bounds): each end is looked up once, and the high one not where it falls
-/// into the piece of the low one.
+/// Which ends of the range are missing. O(log bounds): each end is looked up once, and the high one only if it doesn't
+/// fall into the piece of the low one.
 pub(crate) fn missing_ends(inside: &Inside, range: KeyRange) -> Missing
     ensures { Misses (lists_of inside.now) range result }
 {
@@ -133,8 +133,8 @@ pub(crate) fn crack_at_ends(inside: &mut Inside, range: KeyRange, missing: Missi
     }
 }
 
-/// Cracks a missing bound's own piece in two by it; where the bound stands then. Takes no memory. O(size of the piece +
-/// bounds).
+/// Cracks a missing bound's own piece in two by it; returns where the bound is then. Takes no memory. O(size of the
+/// piece + bounds).
 fn crack_in(inside: &mut Inside, gap: Gap) -> usize
     requires intact { KeepsIntact inside.old [] }
     requires missing { MissesIn (lists_of inside.old) gap.bound.0 gap.piece }

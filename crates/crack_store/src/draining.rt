@@ -1,5 +1,5 @@
-//! All pending deletions of a range pulled in bulk: the doomed rows are taken out of the column's pieces from the
-//! lowest up, and then buried in the order of arrival.
+//! All pending deletions of a range are pulled in bulk: the doomed rows are taken out of the column's pieces from the
+//! lowest up, and then buried in order of arrival.
 ghost use Rattle.std.specs.Prelude.{◌≡◌, ◌<◌, ◌≤◌, [], length, map, All, IfSome, IsTrue, IsFalse};
 ghost use Rattle.crack_arena.specs.Rows.{RemembersKeys, key_at};
 ghost use Rattle.crack_bulk.specs.Carried.{inside_of};
@@ -21,7 +21,7 @@ use crack_pending::PendingOut;
 use crack_row::{KeyNumber, KeyRange, Row};
 use std::alloc::Global;
 
-/// Fewer rows are pulled one at a time, where more bounds stand than this: a walk over all of them isn't worth it.
+/// Fewer rows are pulled one at a time, if there are more bounds than this: a walk over all of them isn't worth it.
 const FEWEST: usize = 16;
 
 const FEW_BOUNDS: usize = 64;
@@ -30,9 +30,9 @@ const FEW_BOUNDS: usize = 64;
 const SHORT: usize = 4096;
 
 impl Store {
-    /// Pulls all pending deletions of a range in bulk, each by the column's last row, and leaves what the pull of one
-    /// after the other leaves; whether it did so. It doesn't where none is in the range or few are, nor where one is in
-    /// a long piece or it finds no memory to list them: all is then as it was. O(pending deletions and holes); for each
+    /// Pulls all pending deletions of a range in bulk, each by the column's last row, and leaves what pulling them one
+    /// after the other leaves; returns whether it did so. It doesn't if none or few are in the range, nor if one is in
+    /// a long piece or it finds no memory to list them: then all is as it was. O(pending deletions and holes); for each
     /// that it pulls O(bounds) without a wait for memory, and one search of its piece, which is short; O(bounds).
     pub fn pull_in_bulk(&mut self, range: KeyRange) -> bool
         ensures pulled { IsTrue result → self.new ≡ pulled_in_bulk range self.old }
@@ -54,7 +54,7 @@ impl Store {
     }
 }
 
-/// The rows of a list whose keys are in the range, in their order; none where it finds no memory for them.
+/// The rows of a list whose keys are in the range, in their order; none if it finds no memory for them.
 fn doomed_in(
     rows: &PendingOut,
     range: KeyRange,
@@ -122,8 +122,8 @@ fn pull_rows(inside: &mut Inside, doomed: Vec<Doomed>)
     bury_all(inside, &doomed);
 }
 
-/// Pulls the rows out of the last piece, and takes those that were pulled out of the column, after whose last row they
-/// stand.
+/// Pulls the rows out of the last piece, and takes those that were pulled out of the column, whose last rows they
+/// are.
 fn drain_last(drain: &mut Drain)
     requires { IsReady drain.old }
     ensures { IsDrainedTo drain.old drain.new }
@@ -136,7 +136,7 @@ fn drain_last(drain: &mut Drain)
     drain.pulled = drain.pulled.saturating_add(more as u64);
 }
 
-/// Takes the last rows out of a column, down to so many. O(rows that are taken), and reads none.
+/// Takes the last rows out of a column, down to this many. O(rows taken), and reads none.
 pub(crate) fn shorten(column: &mut CrackerColumn, len: usize)
     requires { len ≤ length column.old.handles }
     ensures { IsShortened len column.old column.new }
@@ -148,7 +148,7 @@ pub(crate) fn shorten(column: &mut CrackerColumn, len: usize)
     }
 }
 
-/// Strikes these rows from the pending deletions, and frees their cells, one after the other.
+/// Removes these rows from the pending deletions, and frees their cells, one after the other.
 pub(crate) fn bury_all(inside: &mut Inside, doomed: &[Doomed])
     requires { AreBuried (map doomed_handle doomed.now) inside.old.arena.cells inside.old.pending_out.handles }
     ensures buried { lists_of inside.new ≡ buried_all (map doomed_handle doomed.now) (lists_of inside.old) }
@@ -164,7 +164,7 @@ pub(crate) fn bury_all(inside: &mut Inside, doomed: &[Doomed])
 }
 
 /// A column on a walk over its bounds from the lowest up, out of which doomed rows are pulled: the piece that begins at
-/// the bound `low` and the place `from` is next, and those that were taken out of the pieces below stand in the `gap`
+/// the bound `low` and the place `from` is next, and those that were taken out of the pieces below are in the `gap`
 /// places before it.
 #[derive(Drop)]
 pub(crate) struct Drain {
@@ -184,7 +184,7 @@ impl Placer for Drain {
 
     ghost places = { Empties };
 
-    /// Pulls the doomed rows out of the piece below the bound, which stands where the piece ends then.
+    /// Pulls the doomed rows out of the piece below the bound, which is then where the piece ends.
     fn place(&mut self, mark: Mark) -> usize {
         let Mark { bound, position } = mark;
         if position < self.from || self.column.len() < position {

@@ -13,7 +13,7 @@ use indexmap::IndexMap;
 /// The handles of rows, by the numbers of their serials.
 pub(crate) type Serials = IndexMap<u64, Handle<Row>, SerialHashing>;
 
-/// The partition's keys, its cells, and the lists in which they stand.
+/// The partition's keys, its cells, and the lists in which they are.
 #[derive(Drop)]
 pub(crate) struct Inside {
     pub(crate) keys: KeyRange,

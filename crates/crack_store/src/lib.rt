@@ -1,7 +1,7 @@
 //! The store of a partition: every cell in one place, with at most one cell in hand.
 //!
-//! Rows stand in the cells of an arena. A cell in use is a place of the cracker column, a pending insertion or the
-//! hand; a doomed row stays in the column and is a pending deletion besides. Contracts see a store as one record of
+//! Rows are in the cells of an arena. A cell in use is a place of the cracker column, a pending insertion or the
+//! hand; a doomed row stays in the column and is also a pending deletion. Contracts see a store as one record of
 //! plain lists.
 #![tactic(auto)]
 

@@ -42,9 +42,9 @@ impl Found {
 }
 
 impl Store {
-    /// The rows that commands see, in rising serial. It cracks and merges nothing. O(cells) where serials rise with the
+    /// The rows that commands see, by rising serial. It cracks and merges nothing. O(cells) if serials rise with the
     /// numbers of the cells, in whose order they are read; else O(n log n) for n rows: after an insert into a freed
-    /// cell, or an update of a row of the column, which takes another cell. Refused with 8 where it finds no memory.
+    /// cell, or an update of a row of the column, which takes another cell. Refused with 8 if it finds no memory.
     pub fn live_rows(&self) -> Result<Vec<Row>, Refusal>
         ensures rows { IfOk result (λ rows. IsPermutation (live_rows self.now) rows.items) }
         ensures rising { IfOk result (λ rows. IsNonDecreasingBy serial_of rows.items) }
@@ -83,7 +83,7 @@ impl Store {
         Ok(found)
     }
 
-    /// Adds the rows that commands see of cells that stand side by side, from the one of this number on, after those of
+    /// Adds the rows that commands see of cells that are adjacent, from the one with this number on, after those of
     /// the cells before. O(cells).
     fn add_live(
         &self,
@@ -106,7 +106,7 @@ impl Store {
         Ok(())
     }
 
-    /// What the cell at this place of a stretch, which begins with the cell of this number, has for commands to see, if
+    /// The row at this place of a stretch, which begins with the cell with this number, if commands see one.
     /// anything. O(1).
     #[inline(always)]
     fn live_at(&self, slot: u32, cells: &Stretch<'_, Row>, place: usize) -> Option<Row>

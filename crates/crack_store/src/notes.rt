@@ -5,8 +5,8 @@ use crack_row::Refusal;
 use std::alloc::Global;
 use std::mem;
 
-/// For each cell, the place of the column where its row was seen last while it was doomed. Rows move, so a note is
-/// checked before it is used, and nothing hangs on it but time.
+/// For each cell, the place of the column where its row was last seen while it was doomed. Rows move, so a note is
+/// checked before it is used, and only speed depends on it.
 #[derive(Drop)]
 pub(crate) struct Notes {
     places: Vec<u32>,
@@ -20,7 +20,7 @@ impl Notes {
         }
     }
 
-    /// The notes, with none left in their place. Takes no memory.
+    /// The notes, of which none are left in their place. Takes no memory.
     pub(crate) fn take(&mut self) -> Notes
         ensures { result ≡ self.old }
     {
@@ -46,7 +46,7 @@ impl Notes {
         }
     }
 
-    /// The place that is noted for the cell, which is no place of the column where nothing was noted. O(1).
+    /// The place that is noted for the cell; not a place of the column if nothing was noted. O(1).
     pub(crate) fn get(&self, slot: u32) -> usize {
         match self.places.get(slot as usize) {
             Some(place) => *place as usize,

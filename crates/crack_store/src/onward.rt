@@ -1,4 +1,4 @@
-//! From one row in hand to the next: what ends the way of the one and begins that of the other, with the store where it
+//! From one row in hand to the next: ends the way of the one and begins that of the other, with the store where it
 //! is.
 ghost use Rattle.std.specs.Prelude.{◌≡◌, ◌<◌, ◌≤◌, ◌↔◌, IsTrue, length, OnOk, IfErr};
 ghost use Rattle.crack_arena.specs.Arena.{times, slots, StandsAt};
@@ -14,8 +14,8 @@ use crack_arena::Handle;
 use crack_row::{KeyRange, Refusal, Row};
 
 impl Carrying {
-    /// Makes room for two more places in the column and two more pending insertions: for the hand and for one row more.
-    /// Refused with 8 where it finds no memory; all is then as it was.
+    /// Makes room for two more places in the column and two more pending insertions: for the hand and for one more row.
+    /// Refused with 8 if it finds no memory; then all is as it was.
     pub fn make_room(&mut self) -> Result<(), Refusal>
         ensures same { SameButRoom self.old.store self.new.store }
         ensures hand { self.new.hand ≡ self.old.hand }
@@ -75,7 +75,7 @@ impl Carrying {
     }
 
     /// Ends the way of the hand as `put_back` does, and takes the pending insertion at this place into the hand, as
-    /// `lift` does; the hand itself stands after all others. It costs what the two do, and moves no store.
+    /// `lift` does; the hand itself is after all others. It costs what the two do, and moves no store.
     pub fn put_back_and_lift(&mut self, place: usize)
         requires room { 0 < self.old.store.in_room }
         requires kept { times self.old.hand.slot (slots self.old.store.pending_out) ≡ 0 }
@@ -87,9 +87,9 @@ impl Carrying {
         self.near = take_in(&mut self.inside, place);
     }
 
-    /// The first pending insertion at or after the place with its key in the range; O(1) for each that it passes. Where
+    /// The first pending insertion at or after the place with its key in the range; O(1) for each that it passes. If
     /// the range holds all of the partition's keys, it looks at none. It goes on from the place that it finds when one
-    /// is lifted next: to find a row and then to lift it is one pass.
+    /// is lifted next: finding a row and then lifting it is one pass.
     pub fn seek_in(&mut self, range: KeyRange, from: usize) -> Option<usize>
         ensures finds { Finds range (keys_at self.old.store.cells self.old.store.pending_in) from result }
         ensures same { self.new ≡ self.old }
@@ -114,7 +114,7 @@ impl Carrying {
         inside.pending_out.seek_in(range, from, &inside.arena)
     }
 
-    /// The pending deletion at this place of the order of arrival. O(1) at the place that was sought last.
+    /// The pending deletion at this place of the order of arrival. O(1) at the place that was looked up last.
     pub fn doomed(&self, place: usize) -> Handle<Row>
         requires { place < length self.now.store.pending_out }
         ensures { StandsAt self.now.store.pending_out place result }

@@ -17,7 +17,7 @@ use crack_arena::{Arena, Handle};
 use crack_row::{Key, Payload, Refusal, Row, Serial};
 
 impl Store {
-    /// The row of this serial; none where there is no such row. O(1).
+    /// The row with this serial; none if there is no such row. O(1).
     pub fn row_of(&self, serial: Serial) -> Option<Row>
         ensures value { result ≡ row_by self.now serial.0 }
         ensures none { IfNone result (handle_of self.now.serials serial.0 ≡ None) }
@@ -35,9 +35,9 @@ impl Store {
         self.inside.arena.freed()
     }
 
-    /// Takes out the row of this serial, wherever it stands: a pending insertion is cancelled, a row of the column
-    /// doomed. It comes back; none where there is no such row. The serial is looked up once. Amortised O(1). Refused
-    /// with 8 where a row of the column finds no memory; all is then as it was.
+    /// Takes out the row with this serial, wherever it is: a pending insertion is cancelled, a row of the column
+    /// doomed. Returns it; none if there is no such row. The serial is looked up once. Amortised O(1). Refused
+    /// with 8 if a row of the column finds no memory; then all is as it was.
     pub fn remove(&mut self, serial: Serial) -> Result<Option<Row>, Refusal>
         requires { MayFree self.old }
         ensures row { IfOk result (λ row. row ≡ row_by self.old serial.0) }
@@ -59,7 +59,7 @@ impl Store {
         Ok(Some(row))
     }
 
-    /// Takes out the row of this serial, a pending insertion: its cell is free at once, and the row comes back.
+    /// Takes out the row with this serial, a pending insertion: its cell is free at once, and the row is returned.
     /// Takes no memory. Amortised O(1).
     pub fn cancel(&mut self, serial: Serial) -> Row
         requires pending { pending_by self.old serial.0 ≡ Some true }
@@ -72,8 +72,8 @@ impl Store {
         self.cancel_at(lead)
     }
 
-    /// Takes out the row of this serial, which stands in the column: it stays there as a pending deletion, and comes
-    /// back. O(1), but for a growth. Refused with 8 where it finds no memory; all is then as it was.
+    /// Takes out the row with this serial, which is in the column: it stays there as a pending deletion, and is
+    /// returned. O(1), except for growth. Refused with 8 if it finds no memory; then all is as it was.
     pub fn doom(&mut self, serial: Serial) -> Result<Row, Refusal>
         requires column { pending_by self.old serial.0 ≡ Some false }
         requires few { MayFree self.old }
@@ -103,7 +103,7 @@ impl Store {
         free(&mut self.inside.arena, handle)
     }
 
-    /// Dooms a row of the column whose serial was looked up. O(1), but for a growth.
+    /// Dooms a row of the column whose serial was looked up. O(1), except for growth.
     fn doom_at(&mut self, lead: Lead) -> Result<Row, Refusal>
         requires entry { slice_get self.old.serials lead.at ≡ Some (lead.serial.0, lead.handle) }
         requires found { handle_of self.old.serials lead.serial.0 ≡ Some lead.handle }
@@ -127,9 +127,9 @@ impl Store {
         Ok(row)
     }
 
-    /// Puts this row in the place of the one of its serial, if there is one, as `rewrite` does; the row as it was comes
-    /// back, and none where there is no such row. The serial is looked up once. O(1), but for a growth. Refused with 8
-    /// where a row of the column finds no memory; all is then as it was.
+    /// Replaces the row with the same serial, if there is one, as `rewrite` does; returns the row as it was,
+    /// and none if there is no such row. The serial is looked up once. O(1), except for growth. Refused with 8
+    /// if a row of the column finds no memory; then all is as it was.
     pub fn replace(&mut self, row: Row) -> Result<Option<Row>, Refusal>
         requires within { IsIn self.old.keys row.key.0 }
         requires anew { pending_by self.old row.serial.0 ≡ Some false → IsRenewable self.old }
@@ -153,9 +153,9 @@ impl Store {
         Ok(Some(before))
     }
 
-    /// Gives the row of this serial another key and another payload. A pending insertion is written in place, which
+    /// Gives the row with this serial another key and another payload. A pending insertion is written in place, which
     /// takes no memory and always succeeds. A row of the column becomes a pending deletion, and a new one of its serial
-    /// stands after the last pending insertion. O(1), but for a growth. Refused with 8 where it finds no memory; all is
+    /// is after the last pending insertion. O(1), except for growth. Refused with 8 if it finds no memory; all is
     /// then as it was.
     pub fn rewrite(&mut self, serial: Serial, key: Key, payload: Payload) -> Result<(), Refusal>
         requires { IsRewritable (row_with serial key payload) self.old }
@@ -192,8 +192,8 @@ impl Store {
         before
     }
 
-    /// Dooms the row of this serial, which stands in the column and was looked up, and keeps this one in a new cell;
-    /// the row as it was. O(1), but for a growth.
+    /// Dooms the row with this serial, which is in the column and was looked up, and keeps this one in a new cell;
+    /// the row as it was. O(1), except for growth.
     fn renew(&mut self, lead: Lead, row: Row) -> Result<Row, Refusal>
         requires serial { lead.serial ≡ row.serial }
         requires entry { slice_get self.old.serials lead.at ≡ Some (lead.serial.0, lead.handle) }
@@ -253,7 +253,7 @@ fn free(arena: &mut Arena<Row>, handle: Handle<Row>) -> Row
     }
 }
 
-/// What a serial led to when it was looked up: its entry of the map stands at `at`.
+/// What a serial led to when it was looked up: its entry of the map is at `at`.
 #[derive(Clone, Copy)]
 struct Lead {
     serial: Serial,

@@ -1,4 +1,4 @@
-//! What a range command reads off the column.
+//! What a range command reads from the column.
 ghost use Rattle.std.specs.Prelude.{◌≡◌, ◌<◌, ◌≤◌, ◌≤ℤ◌, ◌^◌, neg_ℤ, pos, Some, length, IfOk, IfErr, slice_index_or};
 ghost use Rattle.std.specs.List.Sorted.{IsPermutation, IsNonDecreasingBy};
 ghost use Rattle.crack_row.specs.Rows.{sum_of};
@@ -11,7 +11,7 @@ use crate::points::row_at;
 use crack_row::{KeyRange, Refusal, Row};
 
 impl Store {
-    /// The sum of the payloads of the rows that stand in the column between the ends of a range by which it was
+    /// The sum of the payloads of the rows that are in the column between the ends of a range by which it was
     /// cracked. Takes no memory. O(rows there + log bounds); it reads no cell of a row that the column knows.
     pub fn sum_between(&self, range: KeyRange) -> i128
         requires { IsCracked self.now range }
@@ -22,8 +22,8 @@ impl Store {
         self.inside.column.sum_between(from, to, &self.inside.arena)
     }
 
-    /// The rows that stand in the column between the ends of a range by which it was cracked, in rising serial.
-    /// O(m log m + log bounds) for m rows. Refused with 8 where it finds no memory.
+    /// The rows that are in the column between the ends of a range by which it was cracked, by rising serial.
+    /// O(m log m + log bounds) for m rows. Refused with 8 if it finds no memory.
     pub fn rows_between(&self, range: KeyRange) -> Result<Vec<Row>, Refusal>
         requires { IsCracked self.now range }
         ensures rows { IfOk result (λ rows. IsPermutation (stretch_rows self.now range) rows.items) }

@@ -16,13 +16,13 @@ const BLOCK: usize = 64;
 /// So few doomed rows are looked for one by one in a piece of any length.
 const FEW: usize = 16;
 
-/// In a piece of at most so many rows one row is looked for by itself where fewer rows are doomed than there are
+/// In a piece of at most this many rows one row is looked for by itself where fewer rows are doomed than there are
 /// bounds, since it is likely to be the one doomed row there.
 const SHORT: usize = 4096;
 
 impl Carrying {
-    /// The place of the column where a doomed row stands, as `place_of` returns it. O(1) where the row was noted, else
-    /// O(its own piece + log bounds). Where the row is likely to be the one doomed row of its piece, it is looked for
+    /// The place of the column where a doomed row is, as `place_of` returns it. O(1) where the row was noted, else
+    /// O(its own piece + log bounds). If the row is likely to be the one doomed row of its piece, it is looked for
     /// by itself, at a fifth of the cost of a pass that notes every doomed row there; so a long piece is passed over
     /// once for all its doomed rows, until a crack moves them. Steps that move a doomed row note its new place.
     pub fn find(&mut self, handle: Handle<Row>) -> Option<usize>
@@ -44,7 +44,7 @@ impl Carrying {
         }
     }
 
-    /// The place that is noted for the row, where it still stands there. O(1).
+    /// The place that is noted for the row, where it still is there. O(1).
     fn noted(&self, handle: Handle<Row>) -> Option<usize>
         ensures { IfSome result (IsFirstAt self.now.store.column handle) }
     {
@@ -81,7 +81,7 @@ impl Carrying {
     }
 }
 
-/// Notes the place of a row, where it stands in this piece. O(rows there), and no look at other doomed rows.
+/// Notes the place of a row, where it is in this piece. O(rows there), and no look at other doomed rows.
 fn note_row(column: &CrackerColumn, piece: Piece, handle: Handle<Row>, notes: &mut Notes) {
     let to = piece.to.min(column.len());
     let from = piece.from.min(to);
@@ -130,7 +130,7 @@ fn note_each(
     }
 }
 
-/// Notes the place to which the row of this slot goes, if it is doomed. O(1).
+/// Notes the place to which the row with this slot goes, if it is doomed. O(1).
 pub(crate) fn note_if_doomed(notes: &mut Notes, pending_out: &PendingOut, slot: u32, place: usize) {
     if pending_out.contains(slot) {
         notes.put(slot, place);

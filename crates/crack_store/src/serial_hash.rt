@@ -18,7 +18,7 @@ const SPREAD: u64 = 0x9e37_79b9_7f4a_7c15;
 /// full. The low bits of a hash choose the group, and the highest eight of its 32 distinguish rows of one group.
 ///
 /// A partition gives its serials in order, so rows that are admitted one after the other go into a group whose line is
-/// in the cache, and a growth copies the table stretch by stretch. A client can't choose serials, so nothing has to be
+/// in the cache, and a growth copies the table stretch by stretch. A client can't choose serials, so nothing must be
 /// kept from those who would let them collide; and a hash that served worse would cost time alone, since a look-up
 /// compares serials.
 #[derive(Clone, Copy)]

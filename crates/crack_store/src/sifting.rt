@@ -27,7 +27,7 @@ const FEWEST: usize = 2;
 /// More bounds than these are many: the walk over them isn't worth it for fewer than `FEWEST_OVER_MANY` rows.
 const MANY_BOUNDS: usize = 64;
 
-/// The fewest rows that are carried in bulk where many bounds stand.
+/// The fewest rows that are carried in bulk where many bounds are.
 const FEWEST_OVER_MANY: usize = 8;
 
 /// More pending insertions than these are many: those of a range are counted as they are taken.
@@ -89,8 +89,8 @@ fn is_counted_late(inside: &Inside) -> bool
     inside.pending_out.is_empty() && MANY_PENDING < inside.pending_in.len()
 }
 
-/// Carries the pending insertions of a range, at most so many, of which `first` is the first, where no doomed row is in
-/// the way; whether it found memory for so many. All is else as it was.
+/// Carries the pending insertions of a range, at most this many, of which `first` is the first, if no doomed row is
+/// in the way; returns whether it found memory for this many. All else is as it was.
 fn carry_at_most(inside: &mut Inside, range: KeyRange, first: usize, most: usize) -> bool
     requires intact { KeepsIntact inside.old [] }
     requires clear { AreClear (length (inside_of inside.old.arena.cells range inside.old.pending_in.handles))
@@ -138,7 +138,7 @@ pub(crate) fn count_in(
     count
 }
 
-/// Whether so many rows are too few for a walk over all bounds. O(1).
+/// Whether this many rows are too few for a walk over all bounds. O(1).
 fn is_few(inside: &Inside, count: usize) -> bool {
     let fewest = if MANY_BOUNDS < inside.index.len() {
         FEWEST_OVER_MANY
@@ -148,8 +148,8 @@ fn is_few(inside: &Inside, count: usize) -> bool {
     count < fewest
 }
 
-/// Whether no doomed row stands where carries of so many rows could meet it: among as many first rows of its piece.
-/// Where many rows are doomed, it says no.
+/// Whether no doomed row is where carries of this many rows could meet it: among as many first rows of its piece.
+/// If many rows are doomed, it says no.
 fn is_clear(inside: &Inside, count: usize) -> bool
     requires intact { KeepsIntact inside.now [] }
     requires few { count ≤ 2 ^ 32 }
@@ -167,7 +167,7 @@ fn is_clear(inside: &Inside, count: usize) -> bool
     true
 }
 
-/// Whether a row stands among the first rows of its piece, so many. O(count + log bounds).
+/// Whether a row is among the first rows of its piece, this many. O(count + log bounds).
 fn is_in_way(inside: &Inside, handle: Handle<Row>, count: usize) -> bool
     requires intact { KeepsIntact inside.now [] }
     requires few { count ≤ 2 ^ 32 }
@@ -221,7 +221,7 @@ fn carry_rows(inside: &mut Inside, range: KeyRange, first: usize, taken: Vec<Han
     inside.tally.put_in = inside.tally.put_in.saturating_add(count as u64);
 }
 
-/// A column on a walk over its bounds from the highest down: the rows from the place `from` up to and without `to` came
+/// A column on a walk over its bounds from the highest down: the rows at the places `from..to` came
 /// in, and are of pieces below the bounds that were passed.
 #[derive(Drop)]
 pub(crate) struct Sieve {

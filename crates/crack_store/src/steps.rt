@@ -1,4 +1,4 @@
-//! The steps between the lists and the hand, on the inside of a store: those by value and those by reference share
+//! The steps between the lists and the hand, inside a store: those by value and those by reference share
 //! them.
 ghost use Rattle.std.specs.Prelude.{◌≡◌, ◌<◌, [], length, All, IfSome, Contains};
 ghost use Rattle.crack_arena.specs.Arena.{times, slots};
@@ -17,8 +17,8 @@ use crack_column::Remembered;
 use crack_index::{CrackerIndex, Mark};
 
 /// Takes the pending insertion at this place into the hand, with what is to be remembered of its row. No bound is
-/// looked up yet. O(1) at the first place or after the one that was taken last; takes no memory. A list that is emptied
-/// gives its memory back.
+/// looked up yet. O(1) at the first place or after the one that was taken last; takes no memory. A list that becomes
+/// empty frees its memory.
 pub(crate) fn take_in(inside: &mut Inside, place: usize) -> Near
     requires intact { KeepsIntact inside.old [] }
     requires there { place < length inside.old.pending_in.handles }
@@ -34,7 +34,7 @@ pub(crate) fn take_in(inside: &mut Inside, place: usize) -> Near
     Near::Unsought
 }
 
-/// Takes the column's last row into the hand, with what is remembered of it; each bound that stands after it moves down
+/// Takes the column's last row into the hand, with what is remembered of it; each bound that is after it moves down
 /// by one. No bound is looked up yet. O(log bounds) and the bounds at that place; takes no memory.
 pub(crate) fn take_last(inside: &mut Inside) -> Near
     requires intact { KeepsIntact inside.old [] }
@@ -48,8 +48,8 @@ pub(crate) fn take_last(inside: &mut Inside) -> Near
     Near::Unsought
 }
 
-/// Frees the cell of the hand, which is doomed, and strikes it from the pending deletions. Amortised O(1). A list that
-/// is emptied gives its memory back.
+/// Frees the cell of the hand, which is doomed, and removes it from the pending deletions. Amortised O(1). A list that
+/// becomes empty frees its memory.
 pub(crate) fn free_hand(inside: &mut Inside)
     requires hand { HasHand inside.old }
     requires doomed { IsDoomed (carried_of inside.old) }
@@ -93,7 +93,7 @@ pub(crate) fn give_back(inside: &mut Inside)
     inside.tally.evicted = inside.tally.evicted.saturating_add(1);
 }
 
-/// Each bound above a key that stands where the key's piece ends moves up by one, from the least such bound on.
+/// Each bound above a key that is where the key's piece ends moves up by one, from the least such bound on.
 fn raise_next(index: &mut CrackerIndex, above: Option<Mark>)
     requires there { IfSome above (λ m. Contains index.old.marks m) }
     requires small { All (λ m. m.position < usize.MAX) index.old.marks }

@@ -78,7 +78,7 @@ impl Store {
         }
     }
 
-    /// States what is true of every store, and does nothing.
+    /// States the invariants of every store, and does nothing.
     pub fn facts(&self)
         ensures { IsIntact self.now [] }
     {
@@ -86,7 +86,7 @@ impl Store {
     }
 
     /// Keeps a row in a new cell after the last pending insertion. O(1).
-    /// Refused with 8 where it finds no memory; all is then as it was.
+    /// Refused with 8 if it finds no memory; then all is as it was.
     pub fn admit(&mut self, row: Row) -> Result<(), Refusal>
         requires { IsAdmissible row self.old }
         ensures ok { OnOk result (SameButRoom (admitted row self.old) self.new) }
@@ -110,7 +110,7 @@ impl Store {
         Ok(())
     }
 
-    /// Whether the row of this serial is a pending insertion; none where there is no such row. O(1).
+    /// Whether the row with this serial is a pending insertion; none if there is no such row. O(1).
     pub fn is_pending(&self, serial: Serial) -> Option<bool>
         ensures value { result ≡ pending_by self.now serial.0 }
         ensures none { IfNone result (handle_of self.now.serials serial.0 ≡ None) }
@@ -121,9 +121,9 @@ impl Store {
         }
     }
 
-    /// Cracks the column at both ends of the range: each that is no end of the partition then stands in the index.
-    /// O(size of their pieces + bounds); O(log bounds) for an end that is there already, which takes no memory.
-    /// Refused with 8 where it finds no memory; all is then as it was.
+    /// Cracks the column at both ends of the range: each that isn't an end of the partition then is in the index.
+    /// O(size of their pieces + bounds); O(log bounds) for an end that exists already, which takes no memory.
+    /// Refused with 8 if it finds no memory; then all is as it was.
     pub fn crack(&mut self, range: KeyRange) -> Result<(), Refusal>
         ensures ok { OnOk result (Refines self.old self.new range) }
         ensures cracked { OnOk result (IsCracked self.new range) }
@@ -140,7 +140,7 @@ impl Store {
     }
 
     /// Makes room for one more place in the column and one more pending insertion.
-    /// Refused with 8 where it finds no memory; all is then as it was.
+    /// Refused with 8 if it finds no memory; then all is as it was.
     // inlined, it makes the compiler copy whole stores in a merge
     #[inline(never)]
     pub fn make_room(&mut self) -> Result<(), Refusal>
@@ -168,7 +168,7 @@ impl Store {
         Carrying { inside, near }
     }
 
-    /// Takes the column's last row into the hand; each bound that stands after it moves down by one.
+    /// Takes the column's last row into the hand; each bound that is after it moves down by one.
     /// O(log bounds) and the bounds at that place; takes no memory.
     pub fn lift_last(self) -> Carrying
         requires { 0 < length self.column }
@@ -180,7 +180,7 @@ impl Store {
         Carrying { inside, near }
     }
 
-    /// How many rows stand in the column between the ends of a range by which it was cracked. O(log bounds).
+    /// How many rows are in the column between the ends of a range by which it was cracked. O(log bounds).
     pub fn count_between(&self, range: KeyRange) -> u64
         requires { IsCracked self.now range }
         ensures value { result ≡ edge self.now range.high - edge self.now range.low }
@@ -223,8 +223,8 @@ impl Store {
         }
     }
 
-    /// What stands where, as numbers, and the sizes of the pieces. It cracks and merges nothing. O(bounds).
-    /// Refused with 8 where it finds no memory.
+    /// The layout, as numbers, and the sizes of the pieces. It cracks and merges nothing. O(bounds).
+    /// Refused with 8 if it finds no memory.
     pub fn layout(&self) -> Result<Layout, Refusal>
         ensures ok { IfOk result (λ layout. IsLayoutOf self.now layout) }
         ensures equations { IfOk result (λ layout. IsLayout self.now.keys layout) }
@@ -249,8 +249,8 @@ impl Store {
         })
     }
 
-    /// Gives back what memory the pending lists have beyond their rows and the room of a growth. Contracts see no
-    /// change. O(1) where no row left a hole in them, else O(pending rows); it takes no memory and can't fail.
+    /// Frees the memory that the pending lists have beyond their rows and the room of a growth. Contracts see no
+    /// change. O(1) if no row left a hole in them, else O(pending rows); it takes no memory and can't fail.
     pub fn shrink_pending(&mut self)
         ensures { self.new ≡ self.old }
     {
@@ -272,21 +272,21 @@ impl Store {
         self.inside.pending_out.len()
     }
 
-    /// The number of rows in the column, doomed ones too.
+    /// The number of rows in the column, including doomed ones.
     pub fn column_len(&self) -> usize
         ensures { result ≡ length self.now.column }
     {
         self.inside.column.len()
     }
 
-    /// The number of bounds in the index; the column has one piece more.
+    /// The number of bounds in the index; the column has one more piece.
     pub fn bounds(&self) -> usize
         ensures { result ≡ length self.now.marks }
     {
         self.inside.index.len()
     }
 
-    /// The number of cells, free ones too.
+    /// The number of cells, including free ones.
     pub fn cells(&self) -> usize
         ensures { result ≡ length self.now.cells }
     {
@@ -337,8 +337,8 @@ impl Store {
         self.inside.pending_out.next_in(range, from, arena)
     }
 
-    /// Goes on from this place when a pending deletion is looked for next, so that those which are taken out at rising
-    /// places are passed over once. Contracts see no change.
+    /// Goes on from this place when a pending deletion is next searched for, so that those which are taken out at
+    /// rising places are passed over once. Contracts see no change.
     pub fn seek_out(&mut self, place: usize)
         requires { place < length self.old.pending_out }
         ensures { self.new ≡ self.old }
@@ -346,7 +346,7 @@ impl Store {
         self.inside.pending_out.seek(place);
     }
 
-    /// The pending deletion at this place of the order of arrival. O(1) at the place that was sought last.
+    /// The pending deletion at this place of the order of arrival. O(1) at the place that was looked up last.
     pub fn doomed(&self, place: usize) -> Handle<Row>
         requires { place < length self.now.pending_out }
         ensures { StandsAt self.now.pending_out place result }
@@ -355,7 +355,7 @@ impl Store {
     }
 }
 
-/// For how many rows more a map of so many is to have room.
+/// For how many more rows a map of this many is to have room.
 fn growth(rows: usize) -> usize
     ensures { 1 ≤ result }
 {

@@ -1,4 +1,4 @@
-//! The way of a hand from place to place, as one walk over the bounds.
+//! Moving a hand from place to place, as one walk over the bounds.
 ghost use Rattle.std.specs.Prelude.{◌≡◌, ◌≤◌, IsTrue, IsFalse, IfSome, MatchOption};
 ghost use Rattle.crack_state.specs.Steps.{hand_key, piece_start, ceiling_of, IsBelow, PushesOn, PullsBack};
 ghost use Rattle.crack_store.specs.Ends.{EndsBy};
@@ -50,7 +50,7 @@ impl Carrying {
         self.near = descend(&mut self.inside, place);
     }
 
-    /// The rule that ends a carry before its first step, where that is known without a look at any bound: where there
+    /// The rule that ends a carry before its first step, if that is known without a look at any bound: if there
     /// is none. O(1).
     #[inline(always)]
     fn end_at_once(&mut self, ceiling: Option<Bound>) -> Option<CarryEnd>
@@ -72,7 +72,7 @@ impl Carrying {
         self.near = ascend(&mut self.inside, ceiling);
     }
 
-    /// The first rule that holds of those that end a carry, if one does. O(1) on the way up, else O(log bounds).
+    /// The first of the rules that end a carry that holds, if one does. O(1) on the way up, else O(log bounds).
     #[inline(always)]
     fn carry_end(&self, ceiling: Option<Bound>) -> Option<CarryEnd>
         ensures { MatchOption result (GoesOn (ceiling_of ceiling) self.now) (λ end. EndsBy (ceiling_of ceiling)

@@ -2,7 +2,7 @@ use Rattle.std.proofs.Common.{◌≡◌, ◌+◌, ◌++◌, take}
 use Rattle.crack_column.specs.Column.{Remembers}
 use Rattle.crack_store.proofs.appending.append_rows.Given as goal
 
--- the first rows, so many, stand after the others
+-- the first rows, this many, are after the others
 abbrev pub invariant-rows : goal.invariant-rows
 invariant-rows l = record {
   handles : l.column.handles ≡ l.initial.column.handles ++ take l.place l.rows.handles;

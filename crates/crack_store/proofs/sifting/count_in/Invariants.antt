@@ -2,7 +2,7 @@ use Rattle.std.proofs.Common.{◌≡◌, ◌-◌, ◌≤◌, length, take}
 use Rattle.crack_bulk.specs.Carried.{inside_of}
 use Rattle.crack_store.proofs.sifting.count_in.Given as goal
 
--- so many are counted of those that were passed, and the list is as it was
+-- this many are counted of those that were passed, and the list is as it was
 abbrev pub invariant-rows : goal.invariant-rows
 invariant-rows l = record {
   within : l.from ≤ length l.initial.rows.handles;

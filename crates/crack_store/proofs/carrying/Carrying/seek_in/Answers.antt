@@ -10,7 +10,7 @@ use Rattle.crack_store.specs.Inside.{lists_of}
 use Rattle.crack_store.specs.Hand.{hand_of}
 use Rattle.crack_store.proofs.carrying.Carrying.seek_in.Goals as goal
 
--- where the range holds all of the partition's keys, the row at the place is in it
+-- if the range holds all of the partition's keys, the row at the place is in it
 Finds-here : (s : State) (hand : List Handle) (r : Range) (from : ℕ) → r.low ≤ s.keys.low → s.keys.high ≤ r.high → from < length s.pending_in → IsIntact s hand → Finds r (keys_at s.cells s.pending_in) from (Some from)
 Finds-here s hand r from low high there intact =
     let inside : IsIn s.keys (key_at s.cells (get_or s.pending_in from no_handle)) = key_within s.keys s.cells (get_or s.pending_in from no_handle) intact.within (intact.owned.pending_reads from no_handle there) in
