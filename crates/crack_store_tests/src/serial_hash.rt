@@ -16,14 +16,14 @@ const PLACES: u32 = 12;
 /// How many rows a group has on average when the table is full.
 const LOAD: u64 = 9;
 
-/// The group of a serial in a table of so many groups, a power of two.
+/// The group of a serial in a table of this many groups, a power of two.
 fn group_of(serial: u64, groups: usize) -> usize
     requires { 0 < groups }
 {
     (SerialHashing.hash_one(serial) % groups as u64) as usize
 }
 
-/// The most rows that one group gets, of so many rows whose serials are a step apart.
+/// The most rows that one group gets, of this many rows whose serials are a step apart.
 fn most_in_one(rt: &impl Abort, alloc: Global, groups: usize, step: u64, rows: u64) -> u32
     requires { 0 < groups }
 {
@@ -55,7 +55,7 @@ fn neighbours_share_a_group(rt: HostRuntime) {
     }
 }
 
-/// Where serials follow one another from the first on, no group gets more rows than it has places, up to a full table
+/// If serials follow one another from the first on, no group gets more rows than it has places, up to a full table
 /// of each size.
 #[test]
 fn rows_in_order_find_their_groups_free(rt: HostRuntime) {
@@ -75,7 +75,7 @@ fn rows_kept_far_apart_do_not_pile_up(rt: HostRuntime) {
     assert_eq!(rt; small, 1);
 }
 
-/// Asserts that a row of this serial is there, with this key.
+/// Asserts that a row with this serial is there, with this key.
 fn assert_there(rt: &impl Abort, store: &Store, serial: u64, key: KeyNumber) {
     let row = store.row_of(Serial(serial)).expect(rt, "the row");
     assert_eq!(rt; row.key.number(), key);

@@ -1,4 +1,4 @@
-//! A store: each call with ample memory; and which bounds move where several stand at one place.
+//! A store: each call with ample memory; and which bounds move where several are at one place.
 ghost use Rattle.std.specs.Prelude.{◌≡◌, ◌<◌, length};
 
 use crack_row::{
@@ -82,7 +82,7 @@ fn append(rt: &impl Abort, carrying: Carrying) -> Store
     carrying.append()
 }
 
-/// Cracks at the ends of the range, between which so many rows then stand.
+/// Cracks at the ends of the range, between which this many rows then are.
 fn crack(rt: &impl Abort, store: &mut Store, low: u128, high: u128, rows: u64) {
     let range = KeyRange::new(low, high).expect(rt, "a range");
     let cracked = store.crack(range);
@@ -160,7 +160,7 @@ fn two_bounds_at_one_place_move_together(rt: HostRuntime) {
     drop(store);
 }
 
-/// The low bound of an empty piece stays where it is, though it stands where the piece's high bound moves up.
+/// The low bound of an empty piece stays where it is, though it is where the piece's high bound moves up.
 #[test]
 fn low_bound_of_an_empty_piece_stays(rt: HostRuntime) {
     let mut store = append_two(&rt, rt.alloc(), [10, 15, 25]);

@@ -1,4 +1,4 @@
-//! The commands on one row of a store, and what is read off its column, with ample memory.
+//! The commands on one row of a store, and what is read from its column, with ample memory.
 ghost use Rattle.std.specs.Prelude.{◌≡◌};
 
 use crate::store::{admit, admit_three, append_two};
@@ -94,7 +94,7 @@ fn assert_numbers(rt: &impl Abort, store: &Store, numbers: [usize; 4]) {
     assert_eq!(rt; counted, numbers);
 }
 
-/// Asserts that the first pending insertion of the keys from the low end up to the high end stands at this place.
+/// Asserts that the first pending insertion of the keys from the low end up to the high end is at this place.
 fn assert_first_in(rt: &impl Abort, store: &Store, low: u128, high: u128, place: usize) {
     let range = KeyRange::new(low, high).expect(rt, "a range");
     assert_eq!(rt; store.first_in(range), Some(place));
@@ -135,7 +135,7 @@ fn pending_rows_change_in_place(rt: HostRuntime) {
     drop(store);
 }
 
-/// A row of the column stays there as a pending deletion, and a rewritten one waits in a new cell besides.
+/// A row of the column stays there as a pending deletion, and a rewritten one also waits in a new cell.
 #[test]
 fn rows_of_the_column_are_doomed(rt: HostRuntime) {
     let mut store = append_two(&rt, rt.alloc(), [10, 16, 24]);
@@ -146,7 +146,7 @@ fn rows_of_the_column_are_doomed(rt: HostRuntime) {
     drop(store);
 }
 
-/// A row comes back as it was, whether it waits or stands in the column, and none where there is none.
+/// A row is returned as it was, whether it waits or is in the column; none if there is none.
 #[test]
 fn a_replaced_row_comes_back(rt: HostRuntime) {
     let mut store = append_two(&rt, rt.alloc(), [10, 16, 24]);
@@ -176,7 +176,7 @@ fn a_row_is_removed_wherever_it_stands(rt: HostRuntime) {
     drop(store);
 }
 
-/// Rows are listed in rising serial, wherever they stand.
+/// Rows are listed by rising serial, wherever they stand.
 #[test]
 fn rows_are_listed_in_rising_serial(rt: HostRuntime) {
     let mut store = append_two(&rt, rt.alloc(), [16, 10, 24]);
