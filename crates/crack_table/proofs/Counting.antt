@@ -1,4 +1,4 @@
--- Receipts that cover what partitions lived through have the same sums.
+-- Receipts that cover the pasts of partitions have the same sums.
 use Rattle.std.proofs.Common.{◌≡◌, ◌<◌, ℕ, ◌+◌, ◌-◌, List, [], ◌∷◌, length, map, Bool, true, false, cond, ◌==◌, ◌&&◌, Option, Some, None, refl, ap, arith, sym, zero, suc, ◌∙◌, add-zero}
 use Rattle.std.specs.Prelude.{filter, All, is_some, nat_lt, sum_by}
 use Rattle.std.specs.List.{slice_get}

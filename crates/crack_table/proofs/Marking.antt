@@ -44,7 +44,7 @@ mark_more Met place (x ∷ xs) r b right is = (no_nil r (x ∷ xs), two_long x r
 mark_more Failed place [] r b right is = absurd (is.0 refl)
 mark_more Failed place (x ∷ xs) r b right is = (no_nil r (x ∷ xs), two_long x r xs place)
 
--- an entry that stands at a place is held against the receipt's own
+-- an entry that is at a place is held against the receipt's own
 pub right_here : (k : KeptState) (r : Receipt) (e : Entry) (b : Bool) → nat_lt r.position k.folded ≡ false → slice_get k.tail (r.position - k.folded) ≡ Some e → Decides b (entry_of r ≡ e)
     → (place : Place) × (place_at k r.position ≡ Some place) × Decides b (IsRight place (entry_of r))
 right_here k r e b above is right = (Standing e, rw (above, is) refl, right)
@@ -80,7 +80,7 @@ noted_at kept ms done r e row m b e_is row_is m_is same marked p n true named =
 noted_at kept ms done r e row m b e_is row_is m_is same marked p n false other =
     rw (at_set_other ms r.part r.position p n row (mark_after m b) row_is other, filter_other p n done r other) (marked p n)
 
--- where there is an entry there is a mark
+-- if there is an entry there is a mark
 mark_there : (e : Place) (o : Option Naming) (rs : List Receipt) → MarkIsAt (Some e) o rs → (m : Naming) × (o ≡ Some m)
 mark_there e None rs h = absurd h
 mark_there e (Some m) rs h = (m, refl)
@@ -88,7 +88,7 @@ mark_there e (Some m) rs h = (m, refl)
 pub marked_some : (kept : List KeptState) (ms : List (List Naming)) (done : List Receipt) (p n : ℕ) (e : Place) → Marked kept ms done → place_in kept p n ≡ Some e → (m : Naming) × (at ms p n ≡ Some m)
 marked_some kept ms done p n e marked is = mark_there e (at ms p n) _ (rw is at (marked p n))
 
--- one receipt more, whose entry is or isn't that of its place
+-- one more receipt, whose entry is or isn't that of its place
 pub noted : (kept : List KeptState) (ms : List (List Naming)) (done : List Receipt) (r : Receipt) (e : Place) (row after : List Naming) (b : Bool)
     → place_in kept r.part r.position ≡ Some e → slice_get ms r.part ≡ Some row → ((m : Naming) → slice_get row r.position ≡ Some m → after ≡ set row r.position (mark_after m b)) → Decides b (IsRight e (entry_of r))
     → Marked kept ms done → Marked kept (set ms r.part after) (done ++ r ∷ [])

@@ -72,7 +72,7 @@ met_up_to : (row : List Naming) (first : Option ℕ) (bound : ℕ) → MatchOpti
 met_up_to row None bound met not_below n k lt is = met n k is
 met_up_to row (Some i) bound first not_below n k lt is = let l : n < i = grind (arith, nat_tests, lt, not_below) in first.3 n k l is
 
--- there is something checkpointed where it isn't counted
+-- there is something checkpointed if it isn't counted
 pub some_folded : (kept : KeptState) (row : List Naming) (left : KindsLeft) (p : ℕ) (rs : List Receipt) → IsKept kept → RowNoted kept row left p rs → ¬ ((left.placed ≡ Some 0) × (left.gone ≡ Some 0)) → 0 < kept.folded
 some_folded kept row left p rs few noted not_none = by kept.folded refl
   where

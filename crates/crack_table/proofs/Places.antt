@@ -87,6 +87,6 @@ place_by k n false is =
     let f : nat_lt n (k.folded + length k.tail) ≡ nat_lt (n - k.folded) (length k.tail) = grind (arith, nat_tests) in
     some_mapped Standing (slice_get k.tail (n - k.folded)) ∙ (some_within k.tail (n - k.folded) ∙ sym f)
 
--- there are as many places as commands were checkpointed and entries stand
+-- there are as many places as commands were checkpointed and entries are
 pub places : (k : KeptState) (n : ℕ) → is_some (place_at k n) ≡ nat_lt n (k.folded + length k.tail)
 places k n = place_by k n (nat_lt n k.folded) refl

@@ -1,4 +1,4 @@
--- Why partitions and workers don't come to one account.
+-- Why partitions and workers don't agree.
 use Rattle.std.proofs.Common.{List, inl, inr, ⊎_elim}
 use Rattle.crack_row.specs.declared.Bound.{Bound}
 use Rattle.crack_row.specs.declared.limit.Limits.{Limits}

@@ -1,4 +1,4 @@
--- That replies follow from the base and from the commands, so that steps that ask the same are answered the same.
+-- Replies follow from the base and from the commands, so steps that ask the same are answered the same.
 use Rattle.std.specs.Prelude.{◌≡◌, ◌≢◌, ◌⊎◌, ℕ, zero, suc, ◌+◌, ◌<◌, ◌≤◌, ◌==◌, ◌&&◌, not, Bool, true, false, cond, List, [], ◌∷◌, ◌++◌, length, map, take, Option, None, Some, IfSome, IsOk, Result, Ok, Err, slice_get, All, nat_le, nat_lt, if◌then◌else◌}
 use Rattle.std.specs.Option.{option_map, option_or}
 use Rattle.std.proofs.Common.{ap, sym, refl, subst, ◌∙◌, arith, inl, inr, ⊎_elim, get_or, append-nil, append_assoc, length-append}
@@ -37,7 +37,7 @@ middle-reply : (s : PlainState) (xs ys : List Entry) (e : Entry) → AreReplies 
 middle-reply s [] ys e legal = legal.0
 middle-reply s (x ∷ xs) ys e legal = middle-reply (after s x.command) xs ys e legal.1
 
--- and a key of the partition, if it brings one
+-- and a key of the partition, if it has one
 middle-within : (keys : Range) (xs ys : List Entry) (e : Entry) → BringWithin keys (xs ++ e ∷ ys) → IsWithin keys e.command
 middle-within keys [] ys e bring = bring 0 e (omega arith)
 middle-within keys (x ∷ xs) ys e bring = middle-within keys xs ys e (λ k d within. bring (suc k) d (omega (arith, within)))
@@ -46,7 +46,7 @@ key-tested : (keys : Range) (key : Option Key) → IfSome key (λ (k : Key). IsI
 key-tested keys None is = refl
 key-tested keys (Some key) is = rw (le-leb keys.low key.0 is.0, lt-ltb key.0 keys.high is.1) refl
 
--- where nothing is tested true there is no cause
+-- if nothing is tested true there is no cause
 uncaused : (limits : Limits) (own full over : Bool) → own ≡ true → full ≡ false → over ≡ false → ◌≡◌ {A = Option Refusal} (if own then option_or (if full then Some (HistoryFull limits.history) else (if over then Some LifeOver else None)) None else Some KeyOutside) None
 uncaused limits own full over is goes lives = rw (is, goes, lives) refl
 
@@ -71,14 +71,14 @@ next-answered limits keys past now e rest legal base tails =
     let reply : e.reply ≡ reply_to (state_after now) e.command = rw base (middle-reply past.base.state now.tail rest e (subst (λ (es : List Entry). AreReplies past.base.state es) tails legal.replies)) in
     ap (λ (o : Option Refusal). reply_unless o (reply_to (state_after now) e.command)) none ∙ ap Ok (sym reply)
 
--- what comes of a step comes as its job's
+-- the outcome of a step comes as its job's
 unperformed : (r s : Result Reply Refusal) → performed r ≡ performed s → r ≡ s
 unperformed (Ok x) (Ok y) same = let is : x ≡ y = cc same in ap Ok is
 unperformed (Ok x) (Err e) same = cc same
 unperformed (Err e) (Ok x) same = cc same
 unperformed (Err e) (Err f) same = let is : e ≡ f = cc same in ap Err is
 
--- a reply, or a want of memory or of a cell
+-- a reply, or a lack of memory or of a cell
 answered-or : {Lacks : Type 0} (reply : Reply) (o r : Result Reply Refusal) → o ≡ Ok reply → (r ≡ o) ⊎ (IsOk o × ((r ≡ Err OutOfMemory) ⊎ ((r ≡ Err NoCell) × Lacks))) → (r ≡ Ok reply) ⊎ ((r ≡ Err OutOfMemory) ⊎ (r ≡ Err NoCell))
 answered-or {Lacks} reply o r is comes = ⊎_elim (λ (same : r ≡ o). inl (same ∙ is)) (λ (wants : IsOk o × ((r ≡ Err OutOfMemory) ⊎ ((r ≡ Err NoCell) × Lacks))). inr (⊎_elim (λ (m : r ≡ Err OutOfMemory). inl m) (λ (c : (r ≡ Err NoCell) × Lacks). inr c.0) wants.1)) comes
 
@@ -114,7 +114,7 @@ AreThere final (step ∷ steps) = ((past : Past) × (final step.part ≡ Some pa
 abbrev AreLegal : Limits → List Bound → (ℕ → Option Past) → Type 0
 AreLegal limits splits final = (part : ℕ) (past : Past) → final part ≡ Some past → IsLegal (keys_of_part splits part) limits past
 
--- what follows of such steps
+-- what follows from such steps
 record Followed (final now : ℕ → Option Past) (steps : List Step) (results : List (Result Reply Refusal)) : Type 0 where
   pub whole : first_refusal results ≡ None → (part : ℕ) (past cur : Past) → final part ≡ Some past → now part ≡ Some cur → map said past.tail ≡ map said cur.tail ++ (replies_at part steps results ++ [])
   pub begun : (part : ℕ) (past cur : Past) → final part ≡ Some past → now part ≡ Some cur → (rest : List Reply) × (map said past.tail ≡ map said cur.tail ++ (replies_at part steps results ++ rest))
@@ -181,7 +181,7 @@ module _ (limits : Limits) (splits : List Bound) (final : ℕ → Option Past) (
       let few : length n.past.tail ≤ limits.history = (legal step.part n.past n.final_is).limited in
       omega (arith, long, more, few)
 
-  -- what comes of a step is the reply of that entry, or a want
+  -- the outcome of a step is the reply of that entry, or a lack of memory or of a cell
   comes : (now : ℕ → Option Past) (step : Step) (steps : List Step) (result : Result Reply Refusal) (results : List (Result Reply Refusal)) (n : Next final now step steps) → Outcomes limits splits now (step ∷ steps) (result ∷ results) → (result ≡ Ok n.entry.reply) ⊎ ((result ≡ Err OutOfMemory) ⊎ (result ≡ Err NoCell))
   comes now step steps result results n outcomes =
       let keys = keys_of_part splits step.part in
@@ -214,7 +214,7 @@ module _ (limits : Limits) (splits : List Bound) (final : ℕ → Option Past) (
           let there : stepped limits step (Ok n.entry.reply) now part ≡ Some way.0 = rw way.1 (ap Some (after-other limits part step n.entry.reply way.0 differs)) in
           (way.0, there, record { rest = way.2.rest; base = way.2.base; tails = way.2.tails; coming = sym (asked-other part step steps differs) ∙ way.2.coming })
 
-  -- what is said of the steps after it is said of these
+  -- what holds for the steps after it holds for these
   said-on : (now : ℕ → Option Past) (step : Step) (steps : List Step) (results : List (Result Reply Refusal)) (n : Next final now step steps) (part : ℕ) (tail : List Reply) (cur : Past) (rest : List Reply) → now part ≡ Some cur → ((cur' : Past) → stepped limits step (Ok n.entry.reply) now part ≡ Some cur' → tail ≡ map said cur'.tail ++ (replies_at part steps results ++ rest)) → tail ≡ map said cur.tail ++ (replies_at part (step ∷ steps) (Ok n.entry.reply ∷ results) ++ rest)
   said-on now step steps results n part tail cur rest is behind = ⊎_elim own else_where (cases_eq part step.part)
     where
@@ -259,7 +259,7 @@ module _ (limits : Limits) (splits : List Bound) (final : ℕ → Option Past) (
               let b = f.begun part past cur' is now_is in
               (b.0, said-on now step steps results n part (map said past.tail) cur b.0 at (λ other is_other. let same : other ≡ cur' = cc (is_other, now_is) in rw same b.1))
 
-  -- where the next step is refused, for a want
+  -- if the next step is refused, for lack of memory or of a cell
   followed-refused : (now : ℕ → Option Past) (step : Step) (steps : List Step) (e : Refusal) (results : List (Result Reply Refusal)) → Going final now (step ∷ steps) → (e ≡ OutOfMemory) ⊎ (e ≡ NoCell) → Followed final now (step ∷ steps) (Err e ∷ results)
   followed-refused now step steps e results going wants = record {
     whole = λ none part past cur is at. absurd (cc none);

@@ -1,4 +1,4 @@
--- Folded receipts, by their kinds.
+-- Checkpointed receipts, by their kinds.
 use Rattle.std.proofs.Common.{◌≡◌, ◌≢◌, ◌<◌, ◌+◌, ℕ, zero, suc, List, [], ◌∷◌, ◌++◌, length, get_or, set, map, take, Bool, true, false, cond, ◌==◌, ◌&&◌, Option, Some, None, refl, ap, arith, sym, subst, ◌∙◌}
 use Rattle.std.specs.Prelude.{filter, nat_lt}
 use Rattle.std.specs.List.{slice_get}
@@ -124,7 +124,7 @@ none_read ks kinds i k lt long read counted =
     let l : length (map told (take i ks)) ≡ length kinds = simp (length-map, length-take) (omega arith) in
     rw (take_more ks i k lt, ← read, map-append) (none_counted (map told (take i ks)) kinds (told k) l counted)
 
--- where none is left, just as many came as were given
+-- if none is left, exactly as many came as were given
 left_none : (o : Option ℕ) (wanted came : ℕ) → LeftIs o wanted came → o ≡ Some 0 → came ≡ wanted
 left_none None wanted came is none = cc
 left_none (Some n) wanted came is none = let e : n ≡ 0 = cc in omega (arith, e, is)
@@ -146,6 +146,6 @@ none_folded (r ∷ rs) p = rw (never (r.part == p) r.position) (none_folded rs p
     never : (b : Bool) (n : ℕ) → (b && nat_lt n 0) ≡ false
     never b n = grind (arith, nat_tests)
 
--- where nothing is checkpointed, there is nothing to count
+-- if nothing is checkpointed, there is nothing to count
 pub counted_unfolded : (rs : List Receipt) (p : ℕ) (k : KeptState) → IsKept k → k.folded ≡ 0 → IsCounted rs p k
 counted_unfolded rs p k few none = rw (none, none_folded rs p) (omega (arith, few, none), omega (arith, few, none))

@@ -1,4 +1,4 @@
--- The shares of workers whose receipts cover what partitions lived through come to its totals.
+-- The shares of workers whose receipts cover the pasts of partitions add up to its totals.
 use Rattle.std.proofs.Common.{◌≡◌, ◌<◌, ◌≤◌, ℕ, ◌+◌, ◌*◌, ◌^◌, List, [], ◌∷◌, length, cond, refl, ap, arith, sym, ◌∙◌}
 use Rattle.std.specs.Prelude.{All, sum_by, pos, ◌-ℤ◌}
 use Rattle.std.proofs.Math.IntN.{+ℤ-neg_ℤ_cancel}
@@ -87,7 +87,7 @@ held_difference (p ∷ ps) all =
     let rest = held_difference ps (All-tail IsSound p ps all) in
     omega (arith, here, rest, sum_by-cons (λ (p : Part). length (live_rows p.store)) p ps, sum_by-cons (λ (p : Part). deleted_in p.past) p ps, sum_by-cons (λ (p : Part). inserted_in p.past) p ps)
 
--- the live rows are the rows placed less those gone
+-- the live rows are the rows placed minus those gone
 pub held_are : (placed gone left : ℕ) → left + gone ≡ placed → pos left ≡ pos placed -ℤ pos gone
 held_are placed gone left e = sym (ap (λ (n : ℕ). pos n -ℤ pos gone) (sym e) ∙ +ℤ-neg_ℤ_cancel (pos left) (pos gone))
 

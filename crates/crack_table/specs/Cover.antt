@@ -1,4 +1,4 @@
--- When receipts cover what partitions lived through, and which place a fault names.
+-- When receipts cover the pasts of partitions, and which place a fault names.
 use Rattle.std.specs.Prelude.{ℕ, Bool, List, [], ◌∷◌, ◌++◌, ◌≡◌, ◌+◌, ◌-◌, ◌<◌, ◌≤◌, ◌⊎◌, ◌&&◌, ◌==◌, nat_lt, nat_le, not, Option, Some, None, is_some, slice_get, filter, find, All, AllPairs, if◌then◌else◌, true}
 use Rattle.std.specs.List.{list_any}
 use Rattle.std.specs.Option.{option_map, option_and_then}
@@ -11,7 +11,7 @@ use Rattle.crack_core.specs.declared.receipt.Receipt.{Receipt}
 use Rattle.crack_core.specs.Receipts.{entry_of, entries_of}
 use Rattle.crack_table.specs.declared.kept.Kept.{Kept}
 
--- what a cover is given of a partition: how many of its commands are checkpointed, how many of these placed a row and how many took one out, and
+-- what a cover is given about a partition: how many of its commands are checkpointed, how many of these placed a row and how many removed one, and
 -- the entries since, in order
 pub record KeptState : Type 0 where
   pub folded : ℕ
@@ -19,7 +19,7 @@ pub record KeptState : Type 0 where
   pub gone : ℕ
   pub tail : List Entry
 
--- what it is given by a caller
+-- the same as a caller gives it
 abbrev pub told : Kept → KeptState
 told kept = record { folded = kept.folded; placed = kept.inserted; gone = kept.deleted; tail = kept.tail.now }
 
@@ -27,11 +27,11 @@ told kept = record { folded = kept.folded; placed = kept.inserted; gone = kept.d
 abbrev pub kept_of : Past → KeptState
 kept_of past = record { folded = past.base.folded; placed = past.base.placed; gone = past.base.gone; tail = past.tail }
 
--- no more checkpointed commands placed rows or took them out than there are
+-- no more checkpointed commands placed or removed rows than there are
 abbrev pub IsKept : KeptState → Type 0
 IsKept kept = kept.placed + kept.gone ≤ kept.folded
 
--- what is known of a place: nothing but that there is one, where its entry is checkpointed, or its entry
+-- what is known of a place: only that it exists, if its entry is checkpointed, or its entry
 pub data Place : Type 0 where
   Folded : Place
   Standing : Entry → Place
@@ -48,12 +48,12 @@ place_in kept part position = option_and_then (λ k. place_at k position) (slice
 abbrev pub names : ℕ → ℕ → Receipt → Bool
 names part position r = (r.part == part) && (r.position == position)
 
--- an entry is right for a place: the one that stands there, or any where it is checkpointed
+-- an entry is right for a place: the one that is there, or any if the place is checkpointed
 abbrev pub IsRight : Place → Entry → Type 0
 IsRight Folded entry = Unit {0}
 IsRight (Standing own) entry = entry ≡ own
 
--- just one receipt names the place, and its entry is right there
+-- exactly one receipt names the place, and its entry is right there
 abbrev pub IsMetBy : List Receipt → ℕ → ℕ → Place → Type 0
 IsMetBy receipts part position place = (r : Receipt) × (filter (names part position) receipts ≡ r ∷ []) × IsRight place (entry_of r)
 
@@ -65,7 +65,7 @@ MetBelow receipts part kept bound = (position : ℕ) (place : Place) → positio
 abbrev pub folded_entries : List Receipt → ℕ → ℕ → List Entry
 folded_entries receipts part folded = entries_of (filter (λ r. (r.part == part) && nat_lt r.position folded) receipts)
 
--- as many of these placed a row, and took one out, as the partition says
+-- as many of these placed or removed a row as the partition says
 abbrev pub IsCounted : List Receipt → ℕ → KeptState → Type 0
 IsCounted receipts part kept = (inserted (folded_entries receipts part kept.folded) ≡ kept.placed) × (deleted (folded_entries receipts part kept.folded) ≡ kept.gone)
 
@@ -82,7 +82,7 @@ SettledBelow kept receipts bound = (part : ℕ) (k : KeptState) → part < bound
 abbrev pub AllSettled : List KeptState → List Receipt → Type 0
 AllSettled kept receipts = (part : ℕ) (k : KeptState) → slice_get kept part ≡ Some k → IsSettled receipts part k
 
--- whether a receipt names a place that there is
+-- whether a receipt names an existing place
 abbrev pub has_place : List KeptState → Receipt → Bool
 has_place kept r = is_some (place_in kept r.part r.position)
 
@@ -97,13 +97,13 @@ pub record Covers (kept : List KeptState) (receipts : List Receipt) : Type 0 whe
   pub placed : All (λ r. has_place kept r ≡ true) receipts
   pub rising : AllPairs Rises receipts
 
--- the least place of a partition that isn't met, where the checkpointed ones, if they stand below it, are counted
+-- the least place of a partition that isn't met, if the checkpointed ones, if they are below it, are counted
 abbrev pub IsLeastUnmet : List Receipt → ℕ → KeptState → ℕ → Type 0
 IsLeastUnmet receipts part kept position =
     (place : Place) × (place_at kept position ≡ Some place) × (¬ IsMetBy receipts part position place)
     × MetBelow receipts part kept position × (kept.folded ≤ position → IsCounted receipts part kept)
 
--- what keeps a partition from being settled first: its least place that isn't met; or the last checkpointed one, where all of these are met and
+-- what first keeps a partition from being settled: its least place that isn't met; or the last checkpointed one, if all of these are met and
 -- not counted
 abbrev pub IsGap : List Receipt → ℕ → KeptState → ℕ → Type 0
 IsGap receipts part kept position = IsLeastUnmet receipts part kept position
@@ -113,7 +113,7 @@ IsGap receipts part kept position = IsLeastUnmet receipts part kept position
 abbrev pub IsFirstGap : List KeptState → List Receipt → ℕ → ℕ → Type 0
 IsFirstGap kept receipts part position = (k : KeptState) × (slice_get kept part ≡ Some k) × IsGap receipts part k position × SettledBelow kept receipts part
 
--- the first receipt that names no place
+-- the first receipt whose place doesn't exist
 abbrev pub first_stranger : List KeptState → List Receipt → Option Receipt
 first_stranger kept receipts = find (λ r. not (has_place kept r)) receipts
 
@@ -121,7 +121,7 @@ first_stranger kept receipts = find (λ r. not (has_place kept r)) receipts
 abbrev pub is_late : Receipt → Receipt → Bool
 is_late earlier r = (earlier.worker == r.worker) && (earlier.part == r.part) && nat_le r.position earlier.position
 
--- the first receipt that is late, where these went before
+-- the first receipt that is late, if these went before
 abbrev pub first_late : List Receipt → List Receipt → Option Receipt
 first_late done [] = None
 first_late done (r ∷ rs) = if list_any (λ earlier. is_late earlier r) done then Some r else first_late (done ++ r ∷ []) rs
@@ -130,7 +130,7 @@ first_late done (r ∷ rs) = if list_any (λ earlier. is_late earlier r) done th
 abbrev pub IsPlaceOf : Option Receipt → ℕ → ℕ → Type 0
 IsPlaceOf found part position = (r : Receipt) × (found ≡ Some r) × (r.part ≡ part) × (r.position ≡ position)
 
--- the place that a fault names: that of the first gap; where there is none, that of the first stranger; where there is none,
+-- the place that a fault names: that of the first gap; if there is none, that of the first stranger; if there is none,
 -- that of the first late receipt
 abbrev pub IsFault : List KeptState → List Receipt → ℕ → ℕ → Type 0
 IsFault kept receipts part position =

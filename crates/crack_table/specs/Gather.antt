@@ -1,4 +1,4 @@
--- What a table comes to when its workers are gathered.
+-- The totals of a table when its workers are gathered.
 use Rattle.std.specs.Prelude.{ℕ, pos, ◌-ℤ◌, zero, suc, List, length, map, ◌≡◌, ◌≢◌, ◌+◌, ◌^◌, ◌<◌, ◌⊎◌, ◌==◌, Some, slice_get, All, sum_by, if◌then◌else◌}
 use Rattle.std.specs.List.{list_any, flat_map}
 use Rattle.crack_row.specs.declared.Bound.{Bound}
@@ -24,11 +24,11 @@ missing_below workers (suc number) = missing_below workers number + (if list_any
 abbrev pub receipts_of : List BookState → List Receipt
 receipts_of workers = flat_map (λ (w : BookState). w.receipts) workers
 
--- what is kept of what partitions lived through
+-- what is kept of the partitions' pasts
 abbrev pub kept_by : List Part → List KeptState
 kept_by parts = map (λ (p : Part). kept_of p.past) parts
 
--- the partition of this number has the table's keys and limits
+-- the partition with this number has the table's keys and limits
 abbrev pub IsTables : List Bound → Limits → ℕ → Part → Type 0
 IsTables splits limits part p = (p.keys ≡ keys_of_part splits part) × (p.limits ≡ limits)
 
@@ -38,7 +38,7 @@ IsFirstOther splits limits parts part =
     (p : Part) × (slice_get parts part ≡ Some p) × (¬ IsTables splits limits part p)
     × ((q : ℕ) (earlier : Part) → q < part → slice_get parts q ≡ Some earlier → IsTables splits limits q earlier)
 
--- the totals of what partitions lived through, and the number of live rows, which are the rows placed less those gone
+-- the totals of the partitions' pasts, and the number of live rows, which are the rows placed minus those gone
 pub record AreTotals (parts : List Part) (answers placed gone left : ℕ) : Type 0 where
   pub accepted_is : answers ≡ sum_by (λ (p : Part). accepted_in p.past) parts
   pub inserted_is : placed ≡ sum_by (λ (p : Part). inserted_in p.past) parts
@@ -46,20 +46,20 @@ pub record AreTotals (parts : List Part) (answers placed gone left : ℕ) : Type
   pub rows_are : left ≡ sum_by (λ (p : Part). length (live_rows p.store)) parts
   pub held_is : pos left ≡ pos placed -ℤ pos gone
 
--- the place at which partitions and workers don't come to one account: the first partition that isn't the table's; where there is none,
+-- the place at which partitions and workers don't agree: the first partition that isn't the table's; if there is none,
 -- the fault of the cover
 abbrev pub IsWrongAt : List Bound → Limits → List Part → List BookState → ℕ → ℕ → Type 0
 IsWrongAt splits limits parts workers part position =
     (IsFirstOther splits limits parts part × (position ≡ 0))
     ⊎ (AreParts splits limits parts × IsFault (kept_by parts) (receipts_of workers) part position)
 
--- why workers and the partitions behind so many locks may not come to one account: 8, or 16 at the place at which they don't
+-- why workers and the partitions in this many locks may not agree: 8, or 16 at the place at which they don't
 abbrev pub MayNotAgree : List Bound → Limits → List BookState → Refusal → Type 0
 MayNotAgree splits limits workers e =
     (e ≡ OutOfMemory)
     ⊎ ((parts : List Part) × (part : ℕ) × (position : ℕ) × (length parts ≡ length splits + 1) × All IsSound parts × (e ≡ StrangeReceipt part position) × IsWrongAt splits limits parts workers part position)
 
--- why workers may not be gathered: 15 where some are missing, with their bits; where none is, they and the partitions don't agree
+-- why workers may not be gathered: 15 if some are missing, with their bits; if none is, they and the partitions don't agree
 abbrev pub MayNotGather : TableState → List BookState → Refusal → Type 0
 MayNotGather table workers e =
     ((missing_below workers table.workers ≢ 0) × (e ≡ WorkersMissing (missing_below workers table.workers)))

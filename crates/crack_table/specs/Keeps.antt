@@ -1,5 +1,5 @@
 -- What private clauses alone cite.
--- What a table keeps, and what comes of asking a partition for a worker.
+-- What a table keeps, and the outcome of asking a partition for a worker.
 use Rattle.std.specs.Prelude.{◌≡◌, ℕ, ◌+◌, ◌≤◌, List, [], ◌∷◌, ◌++◌, length, None, Result, Err, IfOk, IfErr, IfSome, OnOk, OnErr}
 use Rattle.crack_row.specs.Limits.{AreLimits}
 use Rattle.crack_row.specs.declared.Bound.{Bound}
@@ -25,7 +25,7 @@ pub record IsTable (splits : List Bound) (limits : Limits) (workers locks : ℕ)
   pub few : workers ≤ MOST_WORKERS
   pub all : locks ≡ length splits + 1
 
--- A partition of this number is asked for the worker of a book, and this comes of it: the reply of its plain rows, an entry more in its past and a
+-- A partition with this number is asked for the worker of a book, with this outcome: the reply of its plain rows, one more entry in its past and a
 -- receipt of that in the book, or a refusal for its cause, which leaves past and receipts.
 pub record AsksFor (part : ℕ) (command : Command) (policy : Policy) (answered : Result Reply Refusal) (book book' : BookState) (old new : Part) : Type 0 where
   pub receipt : IfOk answered (λ reply. book'.receipts ≡ book.receipts

@@ -1,5 +1,5 @@
 -- What private clauses alone cite.
--- What is noted of the receipts on the way to a cover.
+-- The notes about receipts that lead to a cover.
 use Rattle.std.specs.Prelude.{ℕ, zero, suc, Bool, true, false, List, [], ◌∷◌, length, ◌≡◌, ◌≢◌, ◌+◌, ◌<◌, nat_lt, nat_le, Option, Some, None, filter, slice_get}
 use Rattle.std.specs.List.{list_any}
 use Rattle.std.specs.Option.{option_and_then}
@@ -13,7 +13,7 @@ use Rattle.crack_table.specs.declared.marks.Naming.{Naming}
 use Rattle.crack_table.specs.declared.marks.Naming.TheVariants.{Unnamed, Met, Failed}
 use Rattle.crack_table.specs.Cover.{KeptState, Place, IsRight, place_at, place_in, names, folded_entries, is_late}
 
--- what stands at a place of a list of lists, if there is such a place
+-- what is at a place of a list of lists, if there is such a place
 abbrev pub at : {X : Type 0} → List (List X) → ℕ → ℕ → Option X
 at lists part position = option_and_then (λ list. slice_get list position) (slice_get lists part)
 
@@ -22,7 +22,7 @@ abbrev pub mark_after : Naming → Bool → Naming
 mark_after Unnamed true = Met
 mark_after _ _ = Failed
 
--- there is just one receipt, and its entry is right for the place
+-- there is exactly one receipt, and its entry is right for the place
 abbrev pub IsSole : Place → List Receipt → Type 0
 IsSole place named = (r : Receipt) × (named ≡ r ∷ []) × IsRight place (entry_of r)
 
@@ -32,7 +32,7 @@ MarkIs Unnamed place named = named ≡ []
 MarkIs Met place named = IsSole place named
 MarkIs Failed place named = (named ≢ []) × (¬ IsSole place named)
 
--- there is a mark where there is a place, and what it says is so
+-- there is a mark if there is a place, and what it says is true
 abbrev pub MarkIsAt : Option Place → Option Naming → List Receipt → Type 0
 MarkIsAt (Some place) (Some mark) named = MarkIs mark place named
 MarkIsAt None None named = Unit {0}
@@ -42,19 +42,19 @@ MarkIsAt _ _ named = ⊥
 abbrev pub Marked : List KeptState → List (List Naming) → List Receipt → Type 0
 Marked kept marks receipts = (part position : ℕ) → MarkIsAt (place_in kept part position) (at marks part position) (filter (names part position) receipts)
 
--- how many are still to come, after one more that counts or doesn't; nothing where more came than were given
+-- how many are still missing, after one more that counts or doesn't; nothing if there were more than were given
 abbrev pub left_after : Bool → Option ℕ → Option ℕ
 left_after false left = left
 left_after true None = None
 left_after true (Some zero) = None
 left_after true (Some (suc left)) = Some left
 
--- so many are still to come of those given, or more came
+-- this many are still missing of those given, or there were more
 abbrev pub LeftIs : Option ℕ → ℕ → ℕ → Type 0
 LeftIs (Some left) told came = left + came ≡ told
 LeftIs None told came = told < came
 
--- how many checkpointed receipts of each kind are still to come
+-- how many checkpointed receipts of each kind are still missing
 abbrev pub AreLeft : KindsLeft → List Receipt → ℕ → KeptState → Type 0
 AreLeft left receipts part kept =
     LeftIs left.placed kept.placed (inserted (folded_entries receipts part kept.folded))
@@ -65,11 +65,11 @@ abbrev pub in_folded : Option KeptState → ℕ → Bool
 in_folded None position = false
 in_folded (Some kept) position = nat_lt position kept.folded
 
--- the same of each partition
+-- the same for each partition
 abbrev pub Counted : List KeptState → List KindsLeft → List Receipt → Type 0
 Counted kept kinds receipts = (part : ℕ) (k : KeptState) (left : KindsLeft) → slice_get kept part ≡ Some k → slice_get kinds part ≡ Some left → AreLeft left receipts part k
 
--- a partition's row of marks, and what is still to come, are those of these receipts
+-- a partition's list of marks, and what is still missing, are those of these receipts
 pub record RowNoted (kept : KeptState) (row : List Naming) (left : KindsLeft) (part : ℕ) (receipts : List Receipt) : Type 0 where
   pub marked : (position : ℕ) → MarkIsAt (place_at kept position) (slice_get row position) (filter (names part position) receipts)
   pub counted : AreLeft left receipts part kept
@@ -81,7 +81,7 @@ pub record AreNoted (kept : List KeptState) (marks : List (List Naming)) (kinds 
   pub marked : Marked kept marks receipts
   pub counted : Counted kept kinds receipts
 
--- the first place of a row whose mark isn't Met
+-- the first place of a list whose mark isn't Met
 abbrev pub IsOpenIn : List Naming → ℕ → Type 0
 IsOpenIn row place = (m : Naming) × (slice_get row place ≡ Some m) × (m ≢ Met) × ((n : ℕ) (k : Naming) → n < place → slice_get row n ≡ Some k → k ≡ Met)
 

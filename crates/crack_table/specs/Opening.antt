@@ -15,12 +15,12 @@ use Rattle.crack_table.specs.declared.TheConstants.{MOST_WORKERS}
 abbrev pub table_fault : List Bound → Limits → ℕ → Option Refusal
 table_fault splits limits workers = option_or (splits_fault splits) (option_or (if nat_le 1 workers && nat_le workers MOST_WORKERS then None else Some BadWorkerCount) (limits_fault limits))
 
--- why a table may not open: for its first fault, or, where there is none, for want of memory
+-- why a table may not open: for its first fault, or, if there is none, for lack of memory
 abbrev pub MayNotOpen : List Bound → Limits → ℕ → Refusal → Type 0
 MayNotOpen splits limits workers e =
     (table_fault splits limits workers ≡ Some e) ⊎ ((table_fault splits limits workers ≡ None) × (e ≡ OutOfMemory))
 
--- A table opens exactly where there is no fault, but for want of memory: with what is asked for, a lock for each partition, and so many new
+-- A table opens exactly if there is no fault, except for lack of memory: with what was requested, a lock for each partition, and this many new
 -- workers.
 pub record Opens (splits : List Bound) (limits : Limits) (workers : ℕ) (result : Result (TableState × Vec BookState) Refusal) : Type 0 where
   pub table : IfOk result (λ opened. opened.0 ≡ record { splits = splits; limits = limits; workers = workers; locks = length splits + 1 })

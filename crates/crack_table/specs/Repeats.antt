@@ -1,4 +1,4 @@
--- That one thread repeats what the workers of a gathered table were answered.
+-- One thread repeats the answers to the workers of a gathered table.
 use Rattle.std.specs.Prelude.{◌≡◌, ◌⊎◌, ℕ, ◌<◌, ◌==◌, List, [], ◌∷◌, ◌++◌, length, map, All, Option, Some, None, IfSome, Result, Ok, Err, slice_get, if◌then◌else◌}
 use Rattle.crack_row.specs.declared.Bound.{Bound}
 use Rattle.crack_row.specs.declared.command.Command.{Command}
@@ -16,12 +16,12 @@ use Rattle.crack_core.specs.declared.step.Job.TheVariants.{Perform}
 abbrev pub asked : Entry → ℕ × Command
 asked entry = (entry.worker, entry.command)
 
--- who asks the partition of this number, and what, in a list of steps
+-- who asks the partition with this number, and what, in a list of steps
 abbrev pub asked_of : ℕ → List Step → List (ℕ × Command)
 asked_of part [] = []
 asked_of part (step ∷ steps) = if step.part == part then (step.worker, step.command) ∷ asked_of part steps else asked_of part steps
 
--- the replies that the partition of this number gives to a list of steps, up to the first step that is refused
+-- the replies of the partition with this number to a list of steps, up to the first step that is refused
 abbrev pub replies_at : ℕ → List Step → List (Result Reply Refusal) → List Reply
 replies_at part (step ∷ steps) (Ok reply ∷ results) = if step.part == part then reply ∷ replies_at part steps results else replies_at part steps results
 replies_at part _ _ = []
@@ -36,7 +36,7 @@ first_refusal (Err e ∷ results) = Some e
 abbrev pub at_base : Past → Past
 at_base past = record { base = past.base; tail = [] }
 
--- what an entry was replied
+-- the reply of an entry
 abbrev pub said : Entry → Reply
 said entry = entry.reply
 
@@ -45,14 +45,14 @@ pub record AreAsked (pasts : List Past) (steps : List Step) : Type 0 where
   pub there : All (λ (step : Step). step.part < length pasts) steps
   pub commands : (part : ℕ) (past : Past) → slice_get pasts part ≡ Some past → asked_of part steps ≡ map asked past.tail
 
--- each partition gives the replies of its past's history, in their order: all of them where no step is refused, and else the first of them; and
--- the first refusal is for want of memory or of a cell
+-- each partition gives the replies of its past's history, in their order: all of them if no step is refused, and else the first of them; and
+-- the first refusal is for lack of memory or of a cell
 pub record AreRepeated (pasts : List Past) (steps : List Step) (results : List (Result Reply Refusal)) : Type 0 where
   pub whole : first_refusal results ≡ None → (part : ℕ) (past : Past) → slice_get pasts part ≡ Some past → map said past.tail ≡ replies_at part steps results
   pub begun : (part : ℕ) (past : Past) → slice_get pasts part ≡ Some past → (rest : List Reply) × (map said past.tail ≡ replies_at part steps results ++ rest)
   pub refused : IfSome (first_refusal results) (λ e. (e ≡ OutOfMemory) ⊎ (e ≡ NoCell))
 
--- Steps that ask the commands of these pasts, however those of several partitions are mixed, repeat the replies, where they come out as a
--- core's do that stands at the bases of these pasts.
+-- Steps that ask the commands of these pasts, however those of several partitions are interleaved, repeat the replies, if their outcomes are those of
+-- a core at the bases of these pasts.
 abbrev pub Repeats : List Bound → Limits → List Past → Type 0
 Repeats splits limits pasts = (steps : List Step) (results : List (Result Reply Refusal)) → AreAsked pasts steps → AreExpectedOutcomes limits splits (map at_base pasts) (map Perform steps) (map performed results) → AreRepeated pasts steps results

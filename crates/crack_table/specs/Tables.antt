@@ -1,4 +1,4 @@
--- What contracts see of a table and of its workers, and what these are answered.
+-- What contracts see of a table and of its workers, and the answers to these.
 use Rattle.std.specs.Prelude.{ℕ, ◌≡◌, ◌+◌, ◌<◌, ◌≤◌, ◌⊎◌, List, [], ◌∷◌, ◌++◌, length, Some, Result, Err, IfOk, IfErr, OnErr, OnOk, slice_get}
 use Rattle.crack_row.specs.Layouts.{IsLayout}
 use Rattle.crack_row.specs.Ranges.{Range}
@@ -31,8 +31,8 @@ abbrev pub with_limit : ℕ → Refusal → Refusal
 with_limit limit (HistoryFull entries) = HistoryFull limit
 with_limit limit e = e
 
--- each refusal for its cause: there is no such partition, the gate may say no at each turn, no memory was found, or a partition refuses the
--- command so, with the table's limit of a history
+-- each refusal for its cause: there is no such partition, the gate may refuse at each turn, no memory was found, or a partition refuses the
+-- command in this way, with the table's limit of a history
 abbrev pub MayRefuse : TableState → (ℕ → Type 0) → ℕ → Command → Refusal → Type 0
 MayRefuse table may_refuse part command e =
     ((e ≡ NoSuchPartition) × (length table.splits < part))
@@ -40,8 +40,8 @@ MayRefuse table may_refuse part command e =
     ⊎ (e ≡ OutOfMemory)
     ⊎ ((p : Part) × (cause : Refusal) × (refusal_of p command ≡ Some cause) × (e ≡ with_limit table.limits.history cause))
 
--- A worker asks one partition: it is answered, and its book has a receipt of that, or refused for a cause, and its book has those that it had.
--- A gate is asked only where there is room for the receipt.
+-- A worker asks one partition: it is answered, and its book has a receipt of that, or it is refused for a cause, and its book has the former ones.
+-- A gate is asked only if there is room for the receipt.
 pub record AsksTable (table : TableState) (may_refuse : ℕ → Type 0) (part : ℕ) (command : Command) (result : Result Reply Refusal) (old new : BookState) : Type 0 where
   pub receipt : IfOk result (λ reply. (position : ℕ) × (new.receipts ≡ old.receipts ++ record { part = part; position = position; worker = old.worker; command = command; reply = reply } ∷ []))
   pub worker : new.worker ≡ old.worker
@@ -52,14 +52,14 @@ pub record AsksTable (table : TableState) (may_refuse : ℕ → Type 0) (part : 
   pub room : result ≡ Err GateGaveUp → 0 < new.room
   pub nowhere : length table.splits < part → (result ≡ Err NoSuchPartition) × (new ≡ old)
 
--- A worker looks at one partition: it is given a layout of ends of its own, or refused where there is no such partition, and for want of memory.
+-- A worker looks at one partition: it is given a layout with ends of its own, or refused if there is no such partition, or for lack of memory.
 pub record LooksAt (table : TableState) (part : ℕ) (result : Result Layout Refusal) : Type 0 where
   pub equations : IfOk result (λ layout. (ends : Range) × IsLayout ends layout)
   pub there : OnOk result (part ≤ length table.splits)
   pub nowhere : length table.splits < part → result ≡ Err NoSuchPartition
   pub err : part ≤ length table.splits → IfErr result (λ e. e ≡ OutOfMemory)
 
--- A worker checkpoints one partition: it is given how many entries went, or refused where there is no such partition, and for want of memory.
+-- A worker makes a checkpoint of one partition: it is given how many entries the history had, or refused if there is no such partition, or for lack of memory.
 pub record FoldsAt (table : TableState) (part : ℕ) (result : Result ℕ Refusal) : Type 0 where
   pub there : OnOk result (part ≤ length table.splits)
   pub nowhere : length table.splits < part → result ≡ Err NoSuchPartition

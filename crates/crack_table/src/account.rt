@@ -1,4 +1,4 @@
-//! Whether partitions and workers come to one account.
+//! Whether partitions and workers agree.
 ghost use Rattle.std.specs.Prelude.{◌≡◌, ◌+◌, ◌<◌, ◌≤◌, ◌^◌, length, map, sum_by, All, IfOk, IfErr, OnOk, IfSome};
 ghost use Rattle.std.specs.Prelude.{IfNone, IsTrue, ◌↔◌};
 ghost use Rattle.std.specs.List.{flat_map};
@@ -27,8 +27,8 @@ pub(crate) struct Sums {
     pub(crate) held: u64,
 }
 
-/// The sums where the partitions are those of the splits and the limits, and the workers' receipts cover what they
-/// lived through. Refused with 16 at the first partition that is another, or as `cover` is; with 8 where it finds no
+/// The sums, if the partitions are those of the splits and the limits, and the workers' receipts cover the partitions'
+/// pasts. Refused with 16 at the first partition that is a different one, or as `cover` is; with 8 if it finds no
 /// memory.
 pub(crate) fn account(
     alloc: Global,
@@ -57,7 +57,7 @@ pub(crate) fn account(
     }
 }
 
-/// States what is true of every partition, and does nothing: O(partitions).
+/// States the invariants of every partition, and does nothing: O(partitions).
 fn facts(parts: &Vec<Partition>)
     ensures { All IsSound parts.now.items }
 {
@@ -66,7 +66,7 @@ fn facts(parts: &Vec<Partition>)
     }
 }
 
-/// The first partition whose keys or limits are others.
+/// The first partition whose keys or limits differ.
 fn first_other(splits: &[Bound], limits: Limits, parts: &Vec<Partition>) -> Option<u32>
     requires count { length parts.now.items ≡ length splits.now + 1 }
     requires rising { AreSplits splits.now }
@@ -91,7 +91,7 @@ pub fn is_tables(splits: &[Bound], limits: Limits, part: usize, partition: &Part
     partition.keys() == keys_of_part(splits, part) && partition.limits() == limits
 }
 
-/// What partitions keep of what they lived through.
+/// What partitions keep of their pasts.
 fn kept_in<'a>(alloc: Global, parts: &'a Vec<Partition>) -> Result<Vec<Kept<'a>>, AllocError>
     requires sound { All IsSound parts.now.items }
     ensures { IfOk result (λ v. map told v.items ≡ kept_by parts.now.items) }
@@ -103,7 +103,7 @@ fn kept_in<'a>(alloc: Global, parts: &'a Vec<Partition>) -> Result<Vec<Kept<'a>>
     Ok(kept)
 }
 
-/// What a partition keeps of what it lived through.
+/// What a partition keeps of its past.
 fn kept_of(part: &Partition) -> Kept<'_>
     ensures { told result ≡ kept_of part.now.past }
 {
@@ -129,7 +129,7 @@ fn receipts_in<'a>(
     Ok(receipts)
 }
 
-/// The sums of the shares of workers whose receipts cover what partitions lived through: O(workers).
+/// The sums of the shares of workers whose receipts cover the partitions' pasts: O(workers).
 fn sums_of(parts: &Vec<Partition>, workers: &Vec<Worker>) -> Sums
     requires covered { Covers (kept_by parts.now.items) (receipts_of workers.now.items) }
     requires sound { All IsSound parts.now.items }
@@ -147,7 +147,7 @@ fn sums_of(parts: &Vec<Partition>, workers: &Vec<Worker>) -> Sums
     }
 }
 
-/// How many commands workers were answered.
+/// How many commands were answered for workers.
 fn accepted_by(workers: &Vec<Worker>) -> u64
     requires { sum_by (λ (w : BookState). accepted (entries_of w.receipts)) workers.now.items < 2 ^ 64 }
     ensures { result ≡ sum_by (λ (w : BookState). accepted (entries_of w.receipts)) workers.now.items }
@@ -163,7 +163,7 @@ fn inserted_by(workers: &Vec<Worker>) -> u64
     workers.iter().map(|worker| worker.book().inserted()).sum()
 }
 
-/// How many rows workers took out.
+/// How many rows workers removed.
 fn deleted_by(workers: &Vec<Worker>) -> u64
     requires { sum_by (λ (w : BookState). deleted (entries_of w.receipts)) workers.now.items < 2 ^ 64 }
     ensures { result ≡ sum_by (λ (w : BookState). deleted (entries_of w.receipts)) workers.now.items }

@@ -1,4 +1,4 @@
-//! A command behind its gate, under a lock that is held.
+//! A command after its gate, under a held lock.
 ghost use Rattle.std.specs.Prelude.{◌≡◌, ℕ, ◌+◌, ◌<◌, IfOk, IfErr, OnErr, OnOk};
 ghost use Rattle.crack_table.specs.Keeps.{AsksFor};
 ghost use Rattle.crack_table.specs.declared.TheConstants.{GATE_TURNS};
@@ -8,11 +8,11 @@ use crack_core::Book;
 use crack_part::Partition;
 use crack_row::{Command, Policy, Refusal, Reply};
 
-/// Asks the gate until it says yes, and then the partition, of number `part`, for the worker of the book, which has
-/// room for the receipt. The partition stays borrowed from the gate's first turn to the reply, so its lock can't be let
-/// go in between. What comes of asking the partition, which may be a refusal, comes as the value, and `folded` is set
-/// to how many entries a checkpoint that was due took. Refused with 7 where the gate says no at each turn: book and
-/// partition are then as they were.
+/// Asks the gate until it consents, and then the partition, number `part`, for the worker of the book, which has
+/// room for the receipt. The partition stays borrowed from the gate's first turn to the reply, so its lock can't be
+/// released in between. The outcome of asking the partition, which may be a refusal, is the value, and `folded` is set
+/// to how many entries the history had at a checkpoint that was due. Refused with 7 if the gate refuses at each turn:
+/// then book and partition are as they were.
 pub(crate) fn ask_behind<G: Gate>(
     gate: &G,
     book: &mut Book,

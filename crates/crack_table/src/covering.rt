@@ -1,4 +1,4 @@
-//! Whether receipts cover what partitions lived through.
+//! Whether receipts cover the partitions' pasts.
 ghost use Rattle.std.specs.Prelude.{◌≡◌, ◌≤◌, ◌^◌, ℕ, List, [], ◌∷◌, ◌++◌, map, length, All, IfOk, IfErr, IfSome};
 ghost use Rattle.std.specs.Prelude.{IfNone, MatchOption, OnOk, None, Some, slice_get};
 ghost use Rattle.std.specs.Bool.{Decides};
@@ -19,8 +19,8 @@ use crack_core::Receipt;
 use crack_row::Refusal;
 use std::alloc::{AllocError, Global};
 
-/// What is noted of the receipts: a row of marks for each partition, and how many receipts of its checkpointed commands
-/// are still to come.
+/// Notes about the receipts: a list of marks for each partition, and how many receipts of its checkpointed commands
+/// are still missing.
 #[derive(Drop)]
 pub(crate) struct Notes {
     marks: Vec<MarkRow>,
@@ -28,15 +28,15 @@ pub(crate) struct Notes {
 }
 
 /// Whether the receipts, read as one list, cover what is kept of the partitions: each place is named by exactly one
-/// receipt, which has the entry that stands there, if it isn't checkpointed; as many receipts of checkpointed places
-/// placed a row, and took one out, as the partition says; no receipt names another place; and one worker's receipts in
+/// receipt, which has the entry that is there, unless that was checkpointed; as many receipts of checkpointed places
+/// placed a row, and removed one, as the partition says; no receipt names another place; and one worker's receipts in
 /// one partition name rising places in the order of the list. Refused with 16 at the least place (partition first) that
-/// fails. Of one partition the checkpointed places go first, then their totals, which fail at the last of these places,
-/// and then the entries that stand. Where all of them are met it is the place that the first stranger in the list
-/// names; where there is no stranger, that of the first receipt whose place isn't above that of an earlier one of its
-/// worker in that partition. Refused with 8 where it finds no memory, of which it takes a byte for each place. O(places
-/// + receipts), but for a logarithm of the workers and partitions that the receipts name. The partitions are at most as
-/// many as 32 bits number, since a refusal names one of them by its number.
+/// fails. In one partition the checkpointed places go first, then their totals, which fail at the last of these places,
+/// and then the entries that are kept. If all of them are met it is the place that the first stranger in the list
+/// names; if there is no stranger, that of the first receipt whose place isn't above that of an earlier one of its
+/// worker in that partition. Refused with 8 if it finds no memory; it takes a byte for each place. O(places
+/// + receipts), up to a logarithm of the workers and partitions that the receipts name. There are at most as many
+/// partitions as 32 bits can number, since a refusal names one of them by its number.
 pub fn cover(alloc: Global, kept: &[Kept<'_>], receipts: &[&[Receipt]]) -> Result<(), Refusal>
     requires few { length kept.now ≤ 2 ^ 32 }
     requires kept { All IsKept (map told kept.now) }
@@ -57,14 +57,14 @@ pub fn cover(alloc: Global, kept: &[Kept<'_>], receipts: &[&[Receipt]]) -> Resul
     Ok(())
 }
 
-/// States that receipts with a fault don't cover what partitions lived through, so that `cover` answers Ok exactly
-/// where they do, and does nothing.
+/// States that receipts with a fault don't cover the partitions' pasts, so that `cover` returns Ok exactly
+/// if they do, and does nothing.
 pub fn a_fault_is_no_cover()
     ensures { (kept : List KeptState) (receipts : List Receipt) (part position : ℕ) → IsFault kept receipts part
         position → ¬ Covers kept receipts }
 {}
 
-/// The notes of no receipts.
+/// The notes without receipts.
 fn blank(alloc: Global, kept: &[Kept<'_>]) -> Result<Notes, Refusal>
     ensures noted { IfOk result (λ n. AreNoted (map told kept.now) n.marks.items n.kinds.items []) }
     ensures err { IfErr result (λ e. e ≡ Refusal.OutOfMemory) }
@@ -88,7 +88,7 @@ fn blank_marks(alloc: Global, kept: &[Kept<'_>]) -> Result<Vec<MarkRow>, Refusal
     Ok(marks)
 }
 
-/// Of each partition all checkpointed receipts are still to come.
+/// For each partition all checkpointed receipts are still missing.
 fn all_kinds(alloc: Global, kept: &[Kept<'_>]) -> Result<Vec<KindsLeft>, AllocError>
     ensures long { IfOk result (λ v. length v.items ≡ length kept.now) }
     ensures counted { IfOk result (λ v. Counted (map told kept.now) v.items []) }
@@ -103,7 +103,7 @@ fn all_kinds(alloc: Global, kept: &[Kept<'_>]) -> Result<Vec<KindsLeft>, AllocEr
     Ok(kinds)
 }
 
-/// Notes the receipts of all lists, and answers the place of the first that names none.
+/// Notes the receipts of all lists, and returns the place of the first one whose place doesn't exist.
 fn note_lists(kept: &[Kept<'_>], notes: &mut Notes, receipts: &[&[Receipt]]) -> Option<(u32, u64)>
     requires { AreNoted (map told kept.now) notes.old.marks.items notes.old.kinds.items [] }
     ensures noted { AreNoted (map told kept.now) notes.new.marks.items notes.new.kinds.items (flat_map (λ r.
@@ -119,7 +119,7 @@ fn note_lists(kept: &[Kept<'_>], notes: &mut Notes, receipts: &[&[Receipt]]) -> 
     stranger
 }
 
-/// Notes the receipts of one list, and answers the place of the first that names none.
+/// Notes the receipts of one list, and returns the place of the first one whose place doesn't exist.
 fn note_all(kept: &[Kept<'_>], notes: &mut Notes, list: &[Receipt]) -> Option<(u32, u64)>
     requires { (done : List Receipt) × AreNoted (map told kept.now) notes.old.marks.items notes.old.kinds.items done }
     ensures noted { (done : List Receipt) → AreNoted (map told kept.now) notes.old.marks.items notes.old.kinds.items
@@ -134,7 +134,7 @@ fn note_all(kept: &[Kept<'_>], notes: &mut Notes, list: &[Receipt]) -> Option<(u
     stranger
 }
 
-/// Notes one receipt, and answers its place if there is none such.
+/// Notes one receipt, and returns its place if that doesn't exist.
 fn note(kept: &[Kept<'_>], notes: &mut Notes, receipt: &Receipt) -> Option<(u32, u64)>
     requires { (done : List Receipt) × AreNoted (map told kept.now) notes.old.marks.items notes.old.kinds.items done }
     ensures noted { (done : List Receipt) → AreNoted (map told kept.now) notes.old.marks.items notes.old.kinds.items
@@ -145,7 +145,7 @@ fn note(kept: &[Kept<'_>], notes: &mut Notes, receipt: &Receipt) -> Option<(u32,
     mark(kept, &mut notes.marks, receipt)
 }
 
-/// Counts one receipt, where it names a checkpointed place.
+/// Counts one receipt, if it names a checkpointed place.
 fn count(kept: &[Kept<'_>], kinds: &mut Vec<KindsLeft>, receipt: &Receipt)
     requires { length kinds.old.items ≡ length kept.now }
     ensures long { length kinds.new.items ≡ length kinds.old.items }
@@ -168,7 +168,7 @@ fn is_folded(kept: &[Kept<'_>], receipt: &Receipt) -> bool
     }
 }
 
-/// Marks the place of one receipt, and answers it if there is none such.
+/// Marks the place of one receipt, and returns it if it doesn't exist.
 fn mark(kept: &[Kept<'_>], marks: &mut Vec<MarkRow>, receipt: &Receipt) -> Option<(u32, u64)>
     requires { (done : List Receipt) × Marked (map told kept.now) marks.old.items done }
     ensures long { length marks.new.items ≡ length marks.old.items }
@@ -184,7 +184,7 @@ fn mark(kept: &[Kept<'_>], marks: &mut Vec<MarkRow>, receipt: &Receipt) -> Optio
     None
 }
 
-/// Whether a receipt's entry is right for its place. `None` where there is no such place.
+/// Whether a receipt's entry is right for its place. `None` if there is no such place.
 fn is_right(kept: &[Kept<'_>], receipt: &Receipt) -> Option<bool>
     ensures { MatchOption result (place_in (map told kept.now) receipt.now.part receipt.now.position ≡ None) (λ right.
         (place : Place) × (place_in (map told kept.now) receipt.now.part receipt.now.position ≡ Some place) ×

@@ -1,4 +1,4 @@
-//! What keeps a partition from being settled.
+//! What keeps a partition from being covered.
 ghost use Rattle.std.specs.Prelude.{◌≡◌, ℕ, List, IfSome, IfNone};
 ghost use Rattle.crack_core.specs.declared.receipt.Receipt.{Receipt};
 ghost use Rattle.crack_table.specs.Cover.{told, IsKept, IsSettled, IsGap};
@@ -8,8 +8,8 @@ use crate::kept::Kept;
 use crate::kinds::KindsLeft;
 use crate::marks::MarkRow;
 
-/// The first gap of a partition: its least place that isn't met, but that the totals of the checkpointed places go
-/// before the entries that stand.
+/// The first gap of a partition: its least place that isn't met, except that the totals of the checkpointed places go
+/// before the entries that are kept.
 pub(crate) fn gap_in(kept: &Kept<'_>, row: &MarkRow, left: &KindsLeft) -> Option<u64>
     requires kept { IsKept (told kept.now) }
     requires noted { (part : ℕ) × (receipts : List Receipt) × RowNoted (told kept.now) row.now left.now part receipts }

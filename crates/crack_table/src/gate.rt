@@ -1,4 +1,4 @@
-//! What a command waits for under a lock, and what hears of checkpoints that were due.
+//! What a command waits for under a lock, and what is notified of checkpoints that were due.
 ghost use Rattle.std.specs.Prelude.{◌≡◌, ◌<◌, ℕ, IfErr};
 ghost use Rattle.std.specs.Bool.{OnFalse};
 ghost use Rattle.crack_table.specs.declared.TheConstants.{GATE_TURNS};
@@ -6,26 +6,26 @@ ghost use Rattle.crack_table.specs.declared.TheConstants.{GATE_TURNS};
 use crate::GATE_TURNS;
 use crack_row::Refusal;
 
-/// What is asked, while a partition's lock is held, whether a command may go on. A server or a test hangs what it waits
-/// for on it.
+/// Is asked, while a partition's lock is held, whether a command may go on. A server or a test attaches here what it
+/// waits for.
 pub trait Gate {
-    /// When it may say no: at this partition, at this turn.
+    /// When it may refuse: at this partition, at this turn.
     ghost may_refuse: { Self → ℕ → ℕ → Type 0 };
 
-    /// Whether a command may go on. It is asked under the lock of partition `part`, with turn 0, 1, .. until it says
-    /// yes, at most `GATE_TURNS` times in one call.
+    /// Whether a command may go on. It is asked under the lock of partition `part`, with turn 0, 1, .. until it
+    /// consents, at most `GATE_TURNS` times in one call.
     fn inside(&self, part: u32, turn: u32) -> bool
         ensures { OnFalse result (may_refuse self.now part turn) };
 
-    /// Takes note of a checkpoint that partition `part` made by itself, since one was due, and of how many entries it
-    /// took. The worker whose command found the history full calls it, once for each such checkpoint, after it has let
-    /// go of the lock.
+    /// Takes note of a checkpoint that partition `part` made by itself, since one was due, and of how many entries its
+    /// history had. The worker whose command found the history full calls it, once for each such checkpoint, after it
+    /// has released the lock.
     fn note_checkpoint(&self, part: u32, entries: u64) {
         let _ = (part, entries);
     }
 }
 
-/// A gate that says yes at once.
+/// A gate that consents at once.
 #[derive(Clone, Copy, Drop, Debug)]
 pub struct OpenGate;
 
@@ -37,7 +37,7 @@ impl Gate for OpenGate {
     }
 }
 
-/// Asks a gate until it says yes. Refused with 7 where it says no at each turn.
+/// Asks a gate until it consents. Refused with 7 if it refuses at each turn.
 pub fn pass<G: Gate>(gate: &G, part: u32) -> Result<(), Refusal>
     ensures cause { IfErr result (λ e. e ≡ Refusal.GateGaveUp) }
     ensures turns { IfErr result (λ _. (turn : ℕ) → turn < GATE_TURNS → G.may_refuse gate.now part turn) }

@@ -1,4 +1,4 @@
-//! The end of a table: its workers come together.
+//! The end of a table: its workers are gathered.
 ghost use Rattle.std.specs.Prelude.{◌≡◌, ◌+◌, ◌≤◌, ◌==◌, length, IfOk, IfErr, OnOk, OnErr, vec_len, if◌then◌else◌};
 ghost use Rattle.std.specs.List.{list_any};
 ghost use Rattle.crack_core.specs.Receipts.{AreShares, BookState};
@@ -23,7 +23,7 @@ pub struct Closed {
     pub accepted: u64,
     /// How many rows were placed.
     pub inserted: u64,
-    /// How many rows were taken out.
+    /// How many rows were removed.
     pub deleted: u64,
     /// How many rows are left.
     pub held: u64,
@@ -39,11 +39,11 @@ pub struct GatherRefused {
     pub workers: Vec<Worker>,
 }
 
-/// Ends a table whose workers all come back: their receipts are found to be the entries of the histories, one by one,
-/// and to name each place that is checkpointed once, with as many of each kind as the partition says. Refused with 15,
-/// one bit for each missing number, where a worker of the table isn't there; then with 16 at the first partition that
+/// Ends a table whose workers are all handed back: their receipts are found to be the entries of the histories, one by
+/// one, and to name each checkpointed place once, with as many of each kind as the partition says. Refused with 15,
+/// one bit for each missing number, if a worker of the table is missing; then with 16 at the first partition that
 /// isn't the table's; then as `cover` is; and after 15 with 8 wherever it finds no memory. The table and the workers
-/// are then handed back. O(entries + checkpointed places + receipts), but for a logarithm of the workers and
+/// are then handed back. O(entries + checkpointed places + receipts), up to a logarithm of the workers and
 /// partitions.
 pub fn gather(alloc: Global, table: Table, workers: Vec<Worker>) -> Result<Closed, GatherRefused>
     ensures all { OnOk result (missing_below workers.items table.workers ≡ 0) }
@@ -85,8 +85,8 @@ pub fn gather(alloc: Global, table: Table, workers: Vec<Worker>) -> Result<Close
     }
 }
 
-/// Takes the partitions out of their locks, and finds whether they and the workers come to one account; else what
-/// `settle` gives back goes behind the locks again.
+/// Takes the partitions out of their locks, and finds whether they and the workers agree; otherwise what
+/// `settle` returns goes into the locks again.
 fn close(
     alloc: Global,
     locks: &mut Vec<Mutex<Partition>>,
@@ -114,8 +114,8 @@ fn close(
     }
 }
 
-/// Finds whether the partitions that were taken out of the locks, and the workers, come to one account. The list that
-/// goes behind the locks again is the one that was taken out.
+/// Finds whether the partitions that were taken out of the locks, and the workers, agree. The list that
+/// goes into the locks again is the one that was taken out.
 fn settle(
     alloc: Global,
     splits: &[Bound],
@@ -145,7 +145,7 @@ fn settle(
     }
 }
 
-/// One bit for each of so many workers that isn't there.
+/// One bit for each of this many workers that is missing.
 fn missing_workers(workers: &Vec<Worker>, count: u64) -> u64
     requires { count ≤ 64 }
     ensures { result ≡ missing_below workers.now.items count }
@@ -159,7 +159,7 @@ fn missing_workers(workers: &Vec<Worker>, count: u64) -> u64
     missing
 }
 
-/// The bit, unless the worker is there.
+/// The bit, unless the worker is present.
 pub fn bit_unless(is_there: bool, bit: u64) -> u64
     ensures is { result ≡ (if is_there then 0 else bit) }
     ensures small { result ≤ bit }

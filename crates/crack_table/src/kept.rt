@@ -1,4 +1,4 @@
-//! What a cover is given of a partition.
+//! What `cover` is given about a partition.
 ghost use Rattle.std.specs.Prelude.{◌≡◌, ◌+◌, length, None, Some, IfOk, IfErr, IsTrue, ◌↔◌, MatchOption};
 ghost use Rattle.std.specs.Bool.{Decides};
 ghost use Rattle.crack_core.specs.Receipts.{entry_of};
@@ -7,21 +7,21 @@ ghost use Rattle.crack_table.specs.Cover.{told, place_at, IsRight, Place};
 use crack_core::Receipt;
 use crack_row::{Entry, Refusal};
 
-/// What a partition keeps of the commands that it answered: totals of those checkpointed, and the entries since.
+/// What a partition keeps of its answered commands: totals of the checkpointed ones, and the entries since.
 #[derive(Clone, Copy, Drop)]
 pub struct Kept<'a> {
     /// How many commands are checkpointed.
     pub folded: u64,
     /// How many of these placed a row.
     pub inserted: u64,
-    /// How many of these took a row out.
+    /// How many of these removed a row.
     pub deleted: u64,
     /// The entries since, in order.
     pub tail: &'a [Entry],
 }
 
 impl Kept<'_> {
-    /// How many places it has. Refused with 8 where no list could be so long.
+    /// How many places it has. Refused with 8 if no list could be that long.
     pub(crate) fn places(&self) -> Result<usize, Refusal>
         ensures ok { IfOk result (λ n. n ≡ self.now.folded + length self.now.tail.now) }
         ensures err { IfErr result (λ e. e ≡ Refusal.OutOfMemory) }
@@ -32,7 +32,7 @@ impl Kept<'_> {
         }
     }
 
-    /// Whether a receipt's entry is right for its place: any is where that is checkpointed. `None` where there is no
+    /// Whether a receipt's entry is right for its place: any is if the place is checkpointed. `None` if there is no
     /// such place.
     pub(crate) fn is_right(&self, receipt: &Receipt) -> Option<bool>
         ensures { MatchOption result (place_at (told self.now) receipt.now.position ≡ None) (λ right. (place : Place) ×

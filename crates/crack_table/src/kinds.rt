@@ -1,12 +1,12 @@
-//! How many checkpointed receipts of each kind are still to come.
+//! How many checkpointed receipts of each kind are still missing.
 ghost use Rattle.std.specs.Prelude.{◌≡◌, Some, IsTrue, ◌↔◌, true};
 ghost use Rattle.crack_plain.specs.Totals.{is_placed, is_gone};
 ghost use Rattle.crack_table.specs.Marks.{left_after};
 
 use crack_row::Reply;
 
-/// How many receipts that placed a row, and that took one out, are still to come of those that a partition
-/// checkpointed; `None` where more came.
+/// How many receipts that placed a row, and that removed one, are still missing of those that a partition
+/// checkpointed; `None` if there were more.
 #[derive(Clone, Copy, Debug, Drop)]
 pub(crate) struct KindsLeft {
     pub(crate) placed: Option<u64>,
@@ -29,7 +29,7 @@ impl KindsLeft {
         }
     }
 
-    /// Whether all came, and no more.
+    /// Whether there were all, and no more.
     pub(crate) fn are_none(&self) -> bool
         ensures { IsTrue result ↔ ((self.now.placed ≡ Some 0) × (self.now.gone ≡ Some 0)) }
     {
@@ -37,7 +37,7 @@ impl KindsLeft {
     }
 }
 
-/// What is left once one more came.
+/// What is left after one more.
 fn one_less(left: Option<u64>) -> Option<u64>
     ensures { result ≡ left_after true left }
 {

@@ -1,5 +1,5 @@
-//! A table of partitions, each under a lock of its own; the workers that ask it, each with its receipts; and whether
-//! these cover what the partitions lived through.
+//! A table of partitions, each with a lock of its own; the workers that ask it, each with its receipts; and whether
+//! these cover the partitions' pasts.
 #![tactic(auto)]
 
 pub mod account;

@@ -1,4 +1,4 @@
-//! Partitions behind locks, and out of them.
+//! Partitions into locks, and out of them.
 ghost use Rattle.std.specs.Prelude.{◌≡◌, ◌≤◌, length, vec_len, vec_capacity};
 
 use crack_part::Partition;
@@ -17,7 +17,7 @@ pub(crate) fn unlock(locks: &mut Vec<Mutex<Partition>>, parts: &mut Vec<Partitio
     parts.reverse();
 }
 
-/// Puts partitions behind locks again, in their order; there is room for them, so no memory is taken.
+/// Puts partitions into locks again, in their order; there is room for them, so no memory is taken.
 pub(crate) fn lock(parts: &mut Vec<Partition>, locks: &mut Vec<Mutex<Partition>>)
     requires empty { vec_len locks.old ≡ 0 }
     requires room { length parts.old.items ≤ vec_capacity locks.old }

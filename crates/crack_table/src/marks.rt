@@ -7,7 +7,7 @@ ghost use Rattle.crack_table.specs.Marks.{IsOpenIn, mark_after};
 use std::alloc::{AllocError, Global};
 use std::marker::Model;
 
-/// What the receipts so far say of a place.
+/// What the receipts so far say about a place.
 #[derive(Clone, Copy, PartialEq, Eq, Debug, Drop)]
 pub(crate) enum Naming {
     /// None names it.
@@ -34,7 +34,7 @@ impl Model for MarkRow {
 }
 
 impl MarkRow {
-    /// A row of so many places that none names: O(places).
+    /// A row of this many places that none names: O(places).
     pub(crate) fn new(alloc: Global, count: usize) -> Result<MarkRow, AllocError>
         ensures { IfOk result (λ r. r ≡ replicate count Unnamed) }
     {
@@ -42,7 +42,7 @@ impl MarkRow {
         Ok(MarkRow { marks })
     }
 
-    /// Notes one more receipt of a place, by whether its entry is right there.
+    /// Notes one more receipt of a place, and whether its entry is right there.
     pub(crate) fn note(&mut self, place: usize, right: bool)
         requires { place < length self.old }
         ensures { (m : Naming) → slice_get self.old place ≡ Some m → self.new ≡ slice_set self.old place

@@ -28,7 +28,7 @@ pub(crate) fn first_late(
     Ok(None)
 }
 
-/// The same for one list, where the last position of each worker in each partition is kept.
+/// The same for one list, given the last position of each worker in each partition.
 fn first_late_in(
     last: &mut BTreeMap<(u32, u32), u64>,
     list: &[Receipt],

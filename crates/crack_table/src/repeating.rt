@@ -1,4 +1,4 @@
-//! That one thread repeats what gathered workers were answered.
+//! One thread repeats what gathered workers were answered.
 ghost use Rattle.std.specs.Prelude.{List};
 ghost use Rattle.crack_row.specs.declared.Bound.{Bound};
 ghost use Rattle.crack_row.specs.declared.limit.Limits.{Limits};
@@ -8,8 +8,8 @@ ghost use Rattle.crack_table.specs.Repeats.{Repeats};
 
 use crate::gathering::Closed;
 
-/// States that a core of the same splits and limits, whose partitions stand at the bases of a gathered table's, repeats
-/// what the table's workers were answered: whatever list of steps asks each partition the commands of its history, in
+/// States that a core with the same splits and limits, whose partitions are at the bases of a gathered table's, repeats
+/// the answers of the table's workers: whatever list of steps asks each partition the commands of its history, in
 /// their order, gets the replies of the history. Does nothing.
 pub fn one_thread_repeats(closed: &Closed)
     ensures { (splits : List Bound) (limits : Limits) → AreParts splits limits closed.now.parts.items →

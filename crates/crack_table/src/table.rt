@@ -15,8 +15,8 @@ use std::alloc::{AllocError, Global};
 use std::marker::Model;
 use std::sync::Mutex;
 
-/// Partitions, each under a lock of its own. Many threads may share it, and its workers ask it.
-/// Contracts see with what it was opened; nothing is known of what follows a lock but its partition's own fact.
+/// Partitions, each with a lock of its own. Many threads may share it, and its workers ask it.
+/// Contracts see what it was opened with; nothing is known of what is in a lock except its partition's own invariant.
 #[derive(Drop)]
 pub struct Table {
     pub(crate) locks: Vec<Mutex<Partition>>,
@@ -58,9 +58,9 @@ impl Table {
     }
 
     /// A table without rows, and its workers, numbered from 0: each split ends one partition and begins the next, and
-    /// each partition has these limits. Refused, in this order: with 11 where the splits don't rise strictly or one
-    /// isn't 1 to `GREATEST_KEY`, with 12 where there are more than `MOST_SPLITS` of crack_core, with 13 where there
-    /// aren't 1 to `MOST_WORKERS` workers, with 14 where a limit isn't 1 to the greatest of its kind, with 8 where it
+    /// each partition has these limits. Refused, in this order: with 11 if the splits don't rise strictly or one
+    /// isn't 1 to `GREATEST_KEY`, with 12 if there are more than `MOST_SPLITS` of crack_core, with 13 if there
+    /// aren't 1 to `MOST_WORKERS` workers, with 14 if a limit isn't 1 to the greatest of its kind, with 8 if it
     /// finds no memory. O(partitions + workers).
     pub fn open_with(
         alloc: Global,
@@ -85,7 +85,7 @@ impl Table {
         Ok((table, hands))
     }
 
-    /// States what is true of every table, and does nothing: it has a lock for each partition of its splits.
+    /// States the invariants of every table, and does nothing: it has a lock for each partition of its splits.
     pub fn facts(&self)
         ensures locks { self.now.locks ≡ length self.now.splits + 1 }
         ensures rising { AreSplits self.now.splits }
@@ -126,7 +126,7 @@ pub fn fault(splits: &[Bound], limits: Limits, workers: u64) -> Option<Refusal>
     limits_fault(limits)
 }
 
-/// The partitions of splits, each behind a lock.
+/// The partitions of splits, each in a lock.
 fn locks_of(
     alloc: Global,
     splits: &[Bound],
@@ -143,7 +143,7 @@ fn locks_of(
     Ok(locks)
 }
 
-/// Workers numbered from 0, so many.
+/// Workers numbered from 0, this many.
 fn hire(alloc: Global, count: u64) -> Result<Vec<Worker>, AllocError>
     requires few { count ≤ 64 }
     ensures count { IfOk result (λ workers. vec_len workers ≡ count) }

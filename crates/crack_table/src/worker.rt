@@ -11,7 +11,7 @@ use std::alloc::Global;
 use std::marker::Model;
 use std::sync::Wait;
 
-/// One who asks a table, with its book. Contracts see the book.
+/// Asks a table, with its book. Contracts see the book.
 #[derive(Drop)]
 pub struct Worker {
     book: Book,
@@ -26,7 +26,7 @@ impl Model for Worker {
 }
 
 impl Worker {
-    /// The worker of this number, who has asked nothing yet. Takes no memory.
+    /// The worker with this number, which has asked nothing yet. Takes no memory.
     pub(crate) fn new(alloc: Global, number: u32) -> Worker
         ensures worker { result.worker ≡ number }
         ensures empty { result.receipts ≡ [] }
@@ -43,11 +43,11 @@ impl Worker {
         &self.book
     }
 
-    /// Asks partition `part` of a table, under its lock, which it may wait for. Refused, in this order: with 5 where
-    /// there is no such partition; with 8 where there is no memory for its receipt; under the lock with 7 where the
-    /// gate says no at each turn; then as `Partition::apply` is, with 4, 6, 10, 9 and 8. After each refusal the book is
-    /// as it was. The gate takes note of a checkpoint that was due. Besides what `Partition::apply` takes it is O(1),
-    /// amortised, and the gate's turns.
+    /// Asks partition `part` of a table, under its lock, which it may wait for. Refused, in this order: with 5 if
+    /// there is no such partition; with 8 if there is no memory for its receipt; under the lock with 7 if the
+    /// gate refuses at each turn; then as `Partition::apply` is, with 4, 6, 10, 9 and 8. After each refusal the book is
+    /// as it was. The gate takes note of a checkpoint that was due. In addition to what `Partition::apply` takes it is
+    /// O(1), amortised, and the gate's turns.
     pub fn ask<R: Wait, G: Gate>(
         &mut self,
         rt: &R,
@@ -79,10 +79,10 @@ impl Worker {
         with_table_limit(answered, table.limits.history)
     }
 
-    /// Folds the history of partition `part` of a table into its base, under its lock, which it may wait for, and
-    /// returns how many entries went: for all workers its rows stay as they are, and its history begins anew. It cracks
-    /// and merges nothing, and isn't kept. Refused with 5 where there is no such partition, and with 8 where it finds
-    /// no memory; nothing has changed then. It holds this one lock, for the time that `Partition::checkpoint` takes.
+    /// Makes a checkpoint of partition `part` of a table, under its lock, which it may wait for, and returns how many
+    /// entries its history had: for all workers its rows stay as they are, and its history starts again. It
+    /// cracks and merges nothing, and isn't kept. Refused with 5 if there is no such partition, and with 8 if it finds
+    /// no memory; then nothing has changed. It holds this one lock, for the time that `Partition::checkpoint` takes.
     pub fn checkpoint<R: Wait>(&self, rt: &R, table: &Table, part: u32) -> Result<u64, Refusal>
         ensures { FoldsAt table.now part result }
     {
@@ -93,8 +93,8 @@ impl Worker {
         partition.checkpoint()
     }
 
-    /// What stands where in partition `part` of a table, read under its lock, which it may wait for. It cracks and
-    /// merges nothing, and isn't kept. Refused with 5 where there is no such partition, and with 8 where it finds no
+    /// The layout of partition `part` of a table, read under its lock, which it may wait for. It cracks and
+    /// merges nothing, and isn't kept. Refused with 5 if there is no such partition, and with 8 if it finds no
     /// memory. O(pieces).
     pub fn layout<R: Wait>(&self, rt: &R, table: &Table, part: u32) -> Result<Layout, Refusal>
         ensures { LooksAt table.now part result }
@@ -107,7 +107,7 @@ impl Worker {
     }
 }
 
-/// Has a gate take note of a checkpoint that was due, if one was: then there was one.
+/// Notifies a gate of a checkpoint that was due, if one was: then there was one.
 #[inline(always)]
 pub fn note_folded<G: Gate>(gate: &G, part: u32, folded: u64) {
     if folded > 0 {
@@ -115,7 +115,7 @@ pub fn note_folded<G: Gate>(gate: &G, part: u32, folded: u64) {
     }
 }
 
-/// What came of asking, with the table's limit where it reports a full history: a lock says nothing of its partition's
+/// The outcome of asking, with the table's limit if it reports a full history: a lock says nothing of its partition's
 /// own.
 pub fn with_table_limit(answered: Result<Reply, Refusal>, limit: u64) -> Result<Reply, Refusal>
     ensures { MatchResult answered (λ reply. result ≡ Ok reply) (λ e. result ≡ Err (with_limit limit e)) }
@@ -126,7 +126,7 @@ pub fn with_table_limit(answered: Result<Reply, Refusal>, limit: u64) -> Result<
     }
 }
 
-/// A refusal with the table's limit where it reports a full history: a lock says nothing of its partition's own.
+/// A refusal with the table's limit if it reports a full history: a lock says nothing of its partition's own.
 fn with_limit(refusal: Refusal, limit: u64) -> Refusal
     ensures { result ≡ with_limit limit refusal }
 {
