@@ -1,4 +1,4 @@
-//! What one worker is answered under small limits, with checkpoints amid its commands.
+//! What one worker is answered under small limits, with checkpoints during its commands.
 use crate::values::{ask, ask_by, insert, splits};
 use crack_commands::{write_folded, write_layout, write_refusal, write_reply};
 use crack_gates::{Due, totals};
@@ -46,7 +46,7 @@ fn count_all() -> Turn {
     Turn::Ask(Command::Count(KeyRange::all()))
 }
 
-/// Writes what a worker is answered at one turn.
+/// Writes the answers that a worker gets at one turn.
 fn tell<R: Wait, W: Write>(
     rt: &R,
     worker: &mut Worker,
@@ -70,7 +70,7 @@ fn tell<R: Wait, W: Write>(
     }
 }
 
-/// What a worker is answered at these turns, as a text; nothing where it can't be written.
+/// The answers that a worker gets at these turns, as a text; nothing if it can't be written.
 fn told<R: Wait>(
     rt: &R,
     alloc: Global,
@@ -176,7 +176,7 @@ fn a_worker_is_refused_where_no_cell_is_free(rt: HostRuntime) -> Result<(), Fail
     Ok(())
 }
 
-/// A checkpoint gives no life back.
+/// A checkpoint doesn't extend a life.
 #[test]
 fn a_worker_is_refused_where_the_life_is_over(rt: HostRuntime) -> Result<(), Fail> {
     let alloc: Global = rt.alloc();
@@ -213,7 +213,7 @@ fn a_checkpoint_folds_for_all_workers(rt: HostRuntime) -> Result<(), Fail> {
     Ok(())
 }
 
-/// Has a worker insert so many rows into partition 1, behind a gate; whether all were placed.
+/// Has a worker insert this many rows into partition 1, behind a gate; whether all were placed.
 fn fill<R: Wait>(rt: &R, worker: &mut Worker, table: &Table, gate: &Due, count: u32) -> bool {
     let mut fine = true;
     'rows: for _ in 0..count {

@@ -43,7 +43,7 @@ fn four() -> [Bound; 3] {
     ]
 }
 
-/// Whether a worker that asks each of four partitions for a count is refused 7 by the one at which the gate says no,
+/// Whether a worker that asks each of four partitions for a count is refused 7 by the one at which the gate refuses,
 /// and answered by the others.
 fn is_kept_out_there<R: Wait>(rt: &R, worker: &mut Worker, table: &Table, shut: u32) -> bool {
     let gate = ShutAt { part: shut };
@@ -60,7 +60,7 @@ fn is_kept_out_there<R: Wait>(rt: &R, worker: &mut Worker, table: &Table, shut: 
     fine
 }
 
-/// Each partition's gate is its own: one that says no at one partition keeps no worker out of another.
+/// Each partition's gate is its own: one that refuses at one partition keeps no worker out of another.
 #[test]
 fn a_gate_shut_at_one_partition_refuses_it_alone(rt: HostRuntime) -> Result<(), Fail> {
     let alloc: Global = rt.alloc();
@@ -190,7 +190,7 @@ fn refused_with_a_stranger(alloc: Global, table: Table) -> Result<(Refusal, Tabl
     }
 }
 
-/// After the locks stands again, in its order, what was taken out: the table's own worker comes to its account.
+/// The locks contain again, in order, what was taken out: the receipts of the table's own worker agree.
 #[test]
 fn a_table_that_a_stranger_was_refused_is_gathered_by_its_own_worker(
     rt: HostRuntime,

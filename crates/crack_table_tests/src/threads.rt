@@ -8,7 +8,7 @@ use std::sync::Wait;
 use std::test::Fail;
 use std::thread;
 
-/// Inserts a key behind the gate, and returns whether it was placed first.
+/// Inserts a key after asking the gate, and returns whether it was placed first.
 fn meet<R: Wait>(
     rt: &R,
     mut worker: Worker,
@@ -43,7 +43,7 @@ fn two_partitions_at_once(rt: HostRuntime) -> Result<(), Fail> {
     Ok(())
 }
 
-/// Inserts a key into partition 0 behind the gate, and returns whether it was placed.
+/// Inserts a key into partition 0 after asking the gate, and returns whether it was placed.
 fn enter<R: Wait>(
     rt: &R,
     mut worker: Worker,
@@ -55,7 +55,7 @@ fn enter<R: Wait>(
     (worker, matches!(reply, Ok(Reply::Placed(_))))
 }
 
-/// Were the gate asked before its partition's lock is got, both threads would be inside.
+/// If the gate were asked before its partition's lock is acquired, both threads would be inside.
 #[test]
 fn one_partition_lets_one_inside(rt: HostRuntime) -> Result<(), Fail> {
     let alloc: Global = rt.alloc();
@@ -95,8 +95,8 @@ fn enter_noted<R: Wait>(
     (worker, fine)
 }
 
-/// Were the lock let go between the gate's yes and the command, another worker's note would stand at some row's place;
-/// were the gate asked twice for a command, there would be more notes than rows.
+/// If the lock were released between the gate's consent and the command, another worker's note would be at some row's
+/// place; if the gate were asked twice for a command, there would be more notes than rows.
 #[test]
 fn each_command_is_let_in_once_and_follows_at_once(rt: HostRuntime) -> Result<(), Fail> {
     let alloc: Global = rt.alloc();
@@ -131,7 +131,7 @@ fn count_ten_times<R: Wait>(rt: &R, mut worker: Worker, table: &Table) -> (Worke
     (worker, [answered, refused])
 }
 
-/// Were a room in the history found before the lock is got, more would be answered than it has room for.
+/// If room in the history were found before the lock is acquired, more would be answered than it has room for.
 #[test]
 fn four_workers_fill_one_history(rt: HostRuntime) -> Result<(), Fail> {
     let alloc: Global = rt.alloc();
@@ -154,7 +154,7 @@ fn four_workers_fill_one_history(rt: HostRuntime) -> Result<(), Fail> {
     Ok(())
 }
 
-/// Inserts the worker's key of this number, into the partitions in turn; of each fourth row it is the last that is
+/// Inserts the worker's key with this number, into the partitions in turn; of each fourth row it is the last that is
 /// deleted again.
 fn insert_one<R: Wait>(rt: &R, worker: &mut Worker, table: &Table, own: u16, number: u16) -> bool {
     let part = u32::from(number % 2);
@@ -248,7 +248,7 @@ fn four_workers_come_to_one_account(rt: HostRuntime) -> Result<(), Fail> {
     Ok(())
 }
 
-/// The same totals, where partitions are checkpointed amid the work.
+/// The same totals, where partitions are checkpointed during the work.
 #[test]
 fn four_workers_come_to_one_account_over_folded_histories(rt: HostRuntime) -> Result<(), Fail> {
     let alloc: Global = rt.alloc();

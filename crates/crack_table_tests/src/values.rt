@@ -25,7 +25,7 @@ pub(crate) fn count(key: u32) -> Result<Command, Refusal> {
     Ok(Command::Count(range))
 }
 
-/// What a worker is answered behind a gate.
+/// The answers that a worker gets with a gate.
 pub(crate) fn ask_by<R: Wait, G: Gate>(
     rt: &R,
     worker: &mut Worker,
@@ -37,7 +37,7 @@ pub(crate) fn ask_by<R: Wait, G: Gate>(
     worker.ask(rt, table, gate, part, command, Policy::Complete)
 }
 
-/// What a worker is answered.
+/// The answers that a worker gets.
 pub(crate) fn ask<R: Wait>(
     rt: &R,
     worker: &mut Worker,
