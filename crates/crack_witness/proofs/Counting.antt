@@ -41,7 +41,7 @@ prefix_same (x ∷ xs) (y ∷ ys) p le =
 pub calls_grow : (w : ℕ) (a h : List Entry) → IsPrefix a h → IsPrefix (calls_by w a) (calls_by w h)
 calls_grow w a h p = (calls_by w p.0, sym (filter-append (λ (e : Entry). e.worker == w) a p.0) ∙ ap (calls_by w) p.1)
 
--- where a history has as many of a worker's calls as what it had seen, it has one more afterwards, and no other
+-- if a history has as many of a worker's calls as what it had seen, it has one more afterwards, and no others
 pub mine_exact : (w : ℕ) (a b h new : List Entry) (e : Entry) → IsPrefix a b → IsPrefix b h → length (calls_by w a) ≡ length (calls_by w h) → new ≡ h ++ e ∷ [] → e.worker ≡ w → calls_by w new ≡ calls_by w a ++ e ∷ []
 mine_exact w a b h new e p q same is own =
     let all : calls_by w a ≡ calls_by w h = prefix_same (calls_by w a) (calls_by w h) (calls_grow w a h (prefix_trans a b h p q)) same in
@@ -78,7 +78,7 @@ asker_after own n seen fronts counts part count new w less grows more bound = re
   small = All-set (λ (k : ℕ). k ≤ 2 ^ 41) counts part count bound w.small;
 }
 
--- where a history has as many of a worker's calls as it counted, they are those that it made
+-- if a history has as many of a worker's calls as it counted, they are those that it made
 pub agree : (own : ℕ → ℕ) (n : ℕ) (seen : List Event) (fronts : List (List Event)) (counts : List ℕ) (part mine theirs : ℕ) (all log : List Event)
     → IsAsker own n seen fronts counts → part < length counts → mine ≡ slice_index_or counts part 0 → theirs ≡ length (calls_by n (history_of (own part) log)) → mine ≡ theirs
     → IsPrefix seen all → IsPrefix (history_of (own part) all) (history_of (own part) log)
@@ -99,7 +99,7 @@ given_exact own n part number f seen log new e count same begins before written 
     let many : length (calls_by n (history_of (own part) f)) ≡ length (calls_by n (history_of (own part) log)) = subst (λ (p : ℕ). length (calls_by n (history_of (own part) f)) ≡ length (calls_by n (history_of (own p) log))) same (omega (arith, mine, theirs)) in
     mine_exact n (history_of (own part) f) (history_of (own part) seen) (history_of (own part) log) (history_of (own part) new) e (history_grows (own part) f seen begins) old many here is
 
--- one reply more
+-- one more reply
 pub sum_more : (counts : List ℕ) (part count : ℕ) → part < length counts → count ≡ slice_index_or counts part 0 + 1 → sum_by (λ (n : ℕ). n) (slice_set counts part count) ≡ sum_by (λ (n : ℕ). n) counts + 1
 sum_more counts part count less is = let set = sum_by-set (λ (n : ℕ). n) counts part count 0 less in omega (arith, set, is)
 

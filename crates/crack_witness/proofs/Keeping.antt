@@ -76,7 +76,7 @@ IsPastOf-either h old new (Err e) ok err k = subst (λ (p : Part). IsPastOf h p.
 pub calls-le-accepted : (worker : ℕ) (h : List Entry) (past : Past) → IsPastOf h past → length (calls_by worker h) ≤ accepted_in past
 calls-le-accepted worker h past k = omega (arith, accepted_in-whole h past k, length-filter (λ (e : Entry). e.worker == worker) h, count_by-le-length (λ (e : Entry). e.worker == worker) h)
 
--- a partition that was asked refuses for want of memory, or as it refuses the command
+-- a partition that was asked refuses for lack of memory, or as it refuses the command
 pub refused-for : (o : Option Refusal) (e : Refusal) (Same : Type 0) → IfSome o (λ x. (◌≡◌ {A = Result (Reply × Reply) Refusal} (Err e) (Err x)) × Same) → (o ≡ None → e ≡ OutOfMemory) → (e ≡ OutOfMemory) ⊎ (o ≡ Some e)
 refused-for None e Same refused memory = inl (memory refl)
 refused-for (Some x) e Same refused memory = inr (let is : x ≡ e = cc refused.0 in ap Some is)

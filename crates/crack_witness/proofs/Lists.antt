@@ -37,7 +37,7 @@ among_right P (x ∷ xs) ys a = inr (among_right P xs ys a)
 pub among_prefix : {X : Type 0} (P : X → Type 0) (xs ys : List X) → IsPrefix xs ys → Among P xs → Among P ys
 among_prefix P xs ys p a = subst (Among P) p.1 (among_left P xs p.0 a)
 
--- what stands among events of which each is so, is so
+-- what is among events of which each is so, is so
 pub among_every : {X : Type 0} (P Q : X → Type 0) (xs : List X) → Every P xs → Among Q xs → (x : X) × Q x × P x
 among_every P Q [] a b = absurd b
 among_every P Q (x ∷ xs) a (inl b) = (x, b, a.0)
@@ -82,11 +82,11 @@ prefix_self xs = ([], append-nil xs)
 pub prefix_trans : {A : Type 0} (xs ys zs : List A) → IsPrefix xs ys → IsPrefix ys zs → IsPrefix xs zs
 prefix_trans xs ys zs p q = (p.0 ++ q.0, sym (append_assoc xs p.0 q.0) ∙ (ap (λ w. w ++ q.0) p.1 ∙ q.1))
 
--- what is so of no later event is so of no earlier one
+-- what holds of no later event holds of no earlier one
 pub none_before : (m : ℕ) (xs ys : List Event) → IsPrefix xs ys → NoneOf m ys → NoneOf m xs
 none_before m xs ys p none = every_left (λ (e : Event). e.owner ≡ m → ⊥) xs p.0 (subst (NoneOf m) (sym p.1) none)
 
--- an owner that has an event is another than one that has none
+-- an owner that has an event differs from one that has none
 pub owners_differ : (one other : ℕ) (log : List Event) → HasOwner one log → NoneOf other log → one ≢ other
 owners_differ one other log has none = λ same. let e = among_every (λ (e : Event). e.owner ≡ other → ⊥) (λ (e : Event). e.owner ≡ one) log none has in e.2 (e.1 ∙ same)
 

@@ -35,7 +35,7 @@ grown_home cs k x j h = home_more (slice_set cs k (x, true)) (0, false) j (home_
 pub grown_length : (cs : List Cell) (k x : ℕ) → length (grown cs k x) ≡ length cs + 1
 grown_length cs k x = omega (arith, length-append (slice_set cs k (x, true)) ((0, false) ∷ []), length_set cs k (x, true))
 
--- the rule stays with one cell more
+-- the rule stays with one more cell
 pub kept_grown : (cs : List Cell) (log : List Event) (k x : ℕ) → IsKept cs log → IsKept (grown cs k x) log
 kept_grown cs log k x kept = record {
   words = every_weaker (λ (e : Event). Home cs e.word) (λ (e : Event). Home (grown cs k x) e.word) (λ e h. grown_home cs k x e.word h) log kept.words;
@@ -51,7 +51,7 @@ makes_moves v k ask has cs log kept pre away =
     let x = either ((cell cs k).0 == 0) 0 (cell cs k).0 in
     (h.0, h.1, (adds, [], None, tt, subst (IsKept (grown cs k x)) (sym (append-nil log)) (kept_grown cs log k x kept), inl (refl, refl), refl))
 
--- the rule stays with a cell more and the first event of the owner that it names
+-- the rule stays with one more cell and the first event of the owner that it names
 pub kept_opened : (cs : List Cell) (log : List Event) (k x word : ℕ) → Home cs word → IsKept cs log → IsKept (grown cs k x) (log ++ opening (length cs) word ∷ [])
 kept_opened cs log k x word h kept =
     let g = kept_grown cs log k x kept in
@@ -126,7 +126,7 @@ adds_moves v xs d k p e begins own at right has stands may cs log kept pre away 
     let new : IsKept (given_home cs k x p) (log ++ e ∷ []) = subst (λ (l : List Event). IsKept (given_home cs k x p) (l ++ e ∷ [])) q.1 (kept_added cs xs d q.0 k x p e own at off.0 not_home (subst (Home cs) (sym stands) h) may kept') in
     (h.0, h.1, (gives, e ∷ [], None, right, new, inl (refl, refl), (log, refl, pre, is_alone cs log e.owner p.key kept.chain not_home, new.legal)))
 
--- the owner's history has one entry more
+-- the owner's history has one more entry
 pub added_history : (xs : List Event) (d : Event) (v log : List Event) (e : Event) (x : Entry)
     → IsPrefix (xs ++ d ∷ []) v → IsPrefix v log → IsAlone e.owner d.next log → d.owner ≡ e.owner → e.entry ≡ Some x
     → history_of e.owner (log ++ e ∷ []) ≡ history_of e.owner (xs ++ d ∷ []) ++ x ∷ []

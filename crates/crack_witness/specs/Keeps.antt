@@ -8,7 +8,7 @@ use Rattle.crack_witness.specs.declared.event.Event.{Event}
 use Rattle.crack_witness.specs.Histories.{history_of, calls_by, calls_at}
 use Rattle.crack_witness.specs.Rules.{OwnerState}
 
--- P holds of one of them
+-- P holds for one of them
 abbrev pub Among : {X : Type 0} → (X → Type 0) → List X → Type 0
 Among P [] = ⊥
 Among P (x ∷ xs) = P x ⊎ Among P xs
@@ -17,7 +17,7 @@ Among P (x ∷ xs) = P x ⊎ Among P xs
 abbrev pub HasOwner : ℕ → List Event → Type 0
 HasOwner owner log = Among (λ (e : Event). e.owner ≡ owner) log
 
--- one of the events stands at this word
+-- one of the events is at this word
 abbrev pub HasWord : ℕ → List Event → Type 0
 HasWord k log = Among (λ (e : Event). e.word ≡ k) log
 

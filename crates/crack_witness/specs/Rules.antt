@@ -1,11 +1,11 @@
--- The rule of a book, and what its steps report.
+-- The rule of a book, and the results of its steps.
 use Rattle.std.specs.Prelude.{ℕ, zero, suc, ◌≡◌, ◌<◌, List, [], ◌∷◌, ◌++◌, length, None, true}
 use mathlib.Core.List.{IsPrefix}
 use Rattle.logbook.specs.Pages.{Cell, cell, Step, View, Book, may_make}
 use Rattle.crack_witness.specs.declared.event.Event.{Event}
 use Rattle.crack_witness.specs.Histories.{AreHistories}
 
--- P holds of each of them
+-- P holds for each of them
 abbrev pub Every : {X : Type 0} → (X → Type 0) → List X → Type 0
 Every P [] = Unit {0}
 Every P (x ∷ xs) = P x × Every P xs
@@ -18,23 +18,23 @@ NoneOf owner log = Every (λ (e : Event). e.owner ≡ owner → ⊥) log
 abbrev pub Home : List Cell → ℕ → Type 0
 Home cs k = (k < length cs) × ((cell cs k).1 ≡ true)
 
--- where an owner has a later event, the cell that an event names is at home
+-- if an owner has a later event, the cell that an event names is at home
 abbrev pub Chain : List Cell → List Event → Type 0
 Chain cs [] = Unit {0}
 Chain cs (e ∷ es) = Every (λ (d : Event). d.owner ≡ e.owner → Home cs e.next) es × Chain cs es
 
--- what holds between any two steps
+-- the invariant between any two steps
 pub record IsKept (cells : List Cell) (log : List Event) : Type 0 where
   pub words : Every (λ (e : Event). Home cells e.word) log
   pub owners : Every (λ (e : Event). e.owner < length cells) log
   pub chain : Chain cells log
   pub legal : AreHistories log
 
--- a word stands in its place, and belongs to nobody
+-- a word is in its place, and belongs to nobody
 abbrev pub place : ℕ → Event
 place k = record { owner = 0; next = 0; word = k; entry = None }
 
--- so many words, from 0 on
+-- this many words, from 0 on
 abbrev pub row : ℕ → List Event
 row zero = []
 row (suc n) = row n ++ place n ∷ []
@@ -47,7 +47,7 @@ opening owner word = record { owner = owner; next = owner; word = word; entry = 
 abbrev pub Makes : Step Event → View Event ℕ → ℕ → View Event ℕ → Type 0
 Makes s v found w = w.1.0.right ≡ may_make
 
--- a fresh pen, whose key names an owner that had no event, and has its first one now
+-- a fresh pen, whose key names an owner that had no event, and now has its first
 abbrev pub Opens : Step Event → View Event ℕ → ℕ → View Event ℕ → Type 0
 Opens s v found w =
     (w.1.0.right ≡ may_make)

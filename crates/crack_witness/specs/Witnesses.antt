@@ -1,4 +1,4 @@
--- What contracts see of a book that was opened, and of partitions that are witnessed.
+-- What contracts see of an opened book, and of witnessed partitions.
 use Rattle.std.specs.Prelude.{◌≡◌, ◌≢◌, ℕ, ◌+◌, ◌<◌, ◌≤◌, ◌⊎◌, List, [], ◌∷◌, ◌++◌, length, sum_by, take, All, Any, AllPairs, Contains, Some, slice_index_or}
 use mathlib.Core.List.{IsPrefix}
 use Rattle.logbook.specs.Pages.{Book}
@@ -21,12 +21,12 @@ pub record OpenedState : Type 0 where
 abbrev pub AreDistinct : List ℕ → Type 0
 AreDistinct ids = AllPairs (λ (one other : ℕ). one ≢ other) ids
 
--- each partition, by its number, is the owner of this book that stands at its place
+-- each partition, by its number, is the owner of this book that is at its place
 pub record AreNames (book : Book) (owner : ℕ → ℕ) (opened : OpenedState) : Type 0 where
   pub book_is : book ≡ opened.book
   pub owner_is : (part : ℕ) → owner part ≡ slice_index_or opened.ids part 0
 
--- of so many partitions no two have one owner, and so one history
+-- of this many partitions no two have one owner, and so one history
 abbrev pub AreApart : (ℕ → ℕ) → ℕ → Type 0
 AreApart owner count = (one other : ℕ) → one < other → other < count → owner one ≢ owner other
 
@@ -50,13 +50,13 @@ AreNewFrom owner workers number [] [] = Unit {0}
 AreNewFrom owner workers number (p ∷ ps) (w ∷ ws) = IsNewAt owner workers number p w × AreNewFrom owner workers (number + 1) ps ws
 AreNewFrom owner workers number _ _ = ⊥
 
--- a worker is one of those that are counted, and so many of its entries stand in the history
+-- a worker is one of those that are counted, and this many of its entries are in the history
 pub record IsInStep (owner : ℕ → ℕ) (w : WitnessedState) (worker count : ℕ) : Type 0 where
   pub one : worker < w.workers
   pub same : length (calls_by worker (history_of (owner w.part) w.log)) ≡ count
 
--- why a partition may refuse a worker who has been given so many replies there: 16, where its history hasn't just as many entries of the
--- worker; else for want of memory, or as the partition refuses the command
+-- why a partition may refuse a worker that has been given this many replies there: 16, if its history doesn't have exactly as many entries of the
+-- worker; else for lack of memory, or as the partition refuses the command
 abbrev pub MayRefuseIt : (ℕ → ℕ) → WitnessedState → ℕ → ℕ → Command → Refusal → Type 0
 MayRefuseIt owner w worker count command e =
     ((e ≡ StrangeReceipt w.part count) × (IsInStep owner w worker count → ⊥))
@@ -70,27 +70,27 @@ pub record AskerState : Type 0 where
   pub fronts : List (List Event)
   pub counts : List ℕ
 
--- the partition's history, as far as it is now seen, ends with the entry, and all that was seen of it before comes ahead of that
+-- the partition's history, as far as it is now seen, ends with the entry, and all that was seen of it before precedes that
 pub record IsGiven (owner : ℕ → ℕ) (part : ℕ) (entry : Entry) (old new : List Event) : Type 0 where
   pub before : List Entry
   pub ends : history_of (owner part) new ≡ before ++ entry ∷ []
   pub begins : IsPrefix (history_of (owner part) old) before
 
--- the history of a partition has just the entries of a worker that it was given replies for
+-- the history of a partition has exactly the entries of a worker that it was given replies for
 abbrev pub HasJustItsOwn : (ℕ → ℕ) → AskerState → WitnessedState → Type 0
 HasJustItsOwn owner a w = calls_at owner w.part a.worker w.log ≡ calls_at owner w.part a.worker (slice_index_or a.fronts w.part [])
 
--- what a worker has seen of a partition's history is a beginning of it, and of its entries that history has just those that it was given
+-- what a worker has seen of a partition's history is a prefix of it, and of its entries that history has exactly those that it was given
 -- replies for
 pub record IsSettledFor (owner : ℕ → ℕ) (a : AskerState) (w : WitnessedState) : Type 0 where
   pub covered : IsPrefix (history_of (owner w.part) a.seen) (history_of (owner w.part) w.log)
   pub mine : HasJustItsOwn owner a w
 
--- a partition's history has other entries of a worker than it was given replies for, where each knows of the other
+-- a partition's history has other entries of a worker than it was given replies for, if each knows of the other
 abbrev pub Differs : (ℕ → ℕ) → AskerState → WitnessedState → Type 0
 Differs owner a w = w.part < length a.fronts → a.worker < w.workers → HasJustItsOwn owner a w → ⊥
 
--- how many replies the partition of this number gave a worker
+-- how many replies the partition with this number gave a worker
 abbrev pub replies_at : AskerState → ℕ → ℕ
 replies_at a part = slice_index_or a.counts part 0
 
@@ -98,8 +98,8 @@ replies_at a part = slice_index_or a.counts part 0
 abbrev pub Knows : (ℕ → ℕ) → AskerState → ℕ → WitnessedState → Type 0
 Knows owner a part w = (w.part ≡ part) × IsInStep owner w a.worker (replies_at a part)
 
--- why a worker that asks for partition `part` may be refused by the partition that it is lent: 5 where it knows of none of this number; 16 with the
--- number and its replies there, where the partition doesn't know it; else for want of memory, or as the partition refuses the command
+-- why a worker that asks for partition `part` may be refused by the partition that it is lent: 5 if it knows of none with this number; 16 with the
+-- number and its replies there, if the partition doesn't know it; else for lack of memory, or as the partition refuses the command
 abbrev pub MayRefuseAt : (ℕ → ℕ) → WitnessedState → ℕ → Command → AskerState → Refusal → Type 0
 MayRefuseAt owner w part command a e =
     ((e ≡ NoSuchPartition) × (length a.fronts ≤ part))
@@ -110,7 +110,7 @@ MayRefuseAt owner w part command a e =
 abbrev pub replies_to : AskerState → ℕ
 replies_to a = sum_by (λ (n : ℕ). n) a.counts
 
--- why workers and partitions may not come together: 16, with the number of the first partition that differs from a worker, and with how
+-- why workers and partitions may not agree: 16, with the number of the first partition that differs from a worker, and with how
 -- many replies it gave such a worker
 pub record MayDiffer (owner : ℕ → ℕ) (askers : List AskerState) (parts : List WitnessedState) (e : Refusal) : Type 0 where
   pub place : ℕ

@@ -1,4 +1,4 @@
-//! Who asks witnessed partitions.
+//! Workers that ask witnessed partitions.
 ghost use Rattle.std.specs.Prelude.{◌≡◌, ◌⊎◌, ◌+◌, ◌<◌, ◌≤◌, ◌++◌, ◌∷◌, [], length, sum_by, ℕ, ◌^◌, Some, IfOk, IfErr};
 ghost use Rattle.std.specs.Prelude.{OnErr, OnOk, Err, IsTrue, List, slice_index_or, slice_set};
 ghost use mathlib.Core.List.{IsPrefix};
@@ -47,7 +47,7 @@ impl<J: Naming> Model for Asker<J> {
 }
 
 impl<J: Naming> Asker<J> {
-    /// A worker of this number at so many partitions, which has asked nothing.
+    /// A worker with this number at this many partitions, which has asked nothing.
     pub fn new(
         alloc: Global,
         number: u32,
@@ -96,8 +96,8 @@ impl<J: Naming> Asker<J> {
         &self.front
     }
 
-    /// Asks a partition, whose number is to be `part`: O(1) besides `Partition::apply`, and no memory. Refused with 5
-    /// where the worker knows of no such partition; with 16, with the number and the count of its replies there, where
+    /// Asks a partition, whose number is to be `part`: O(1) beyond `Partition::apply`, and no memory. Refused with 5
+    /// if the worker knows of no such partition; with 16, with the number and the count of its replies there, if
     /// the partition has another number, or its history another number of the worker's entries; then as
     /// `Partition::apply` is. After each refusal nothing was seen or written.
     pub fn ask(
@@ -149,8 +149,8 @@ impl<J: Naming> Asker<J> {
         Ok(reply)
     }
 
-    /// Whether a partition's history has just the entries of this worker that it was given replies for. What the worker
-    /// has seen of that history is found to be a beginning of it. O(1).
+    /// Whether a partition's history has exactly the entries of this worker that it was given replies for. What the
+    /// worker has seen of that history is found to be a prefix of it. O(1).
     pub fn agrees(&self, witnessed: &mut Witnessed<J>) -> bool
         ensures same { witnessed.new ≡ witnessed.old }
         ensures covered { IsPrefix (history_of (J.owner witnessed.old.part) self.now.seen)
@@ -163,14 +163,14 @@ impl<J: Naming> Asker<J> {
         self.counts_agree(witnessed)
     }
 
-    /// How many replies a partition has given it: O(1). 0 where it knows of no such partition.
+    /// How many replies a partition has given it: O(1). 0 if it knows of no such partition.
     pub(crate) fn replies_of(&self, part: u32) -> u64
         ensures { result ≡ replies_at self.now part }
     {
         count_at(self.counts.as_slice(), part).unwrap_or(0)
     }
 
-    /// The same of a partition that covers what the worker has seen.
+    /// The same for a partition that covers what the worker has seen.
     fn counts_agree(&self, witnessed: &Witnessed<J>) -> bool
         requires covered { IsPrefix (history_of (J.owner witnessed.now.part) self.now.seen)
             (history_of (J.owner witnessed.now.part) witnessed.now.log) }

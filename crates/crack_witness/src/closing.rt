@@ -1,4 +1,4 @@
-//! The end of a book: its partitions and its workers come together.
+//! The end of a book: its partitions and its workers are compared.
 ghost use Rattle.std.specs.Prelude.{◌≡◌, All, Any, IfNone, IfSome, IfErr, OnOk};
 ghost use Rattle.crack_witness.specs.Witnesses.{AskerState, WitnessedState, IsSettledFor, Differs, MayDiffer};
 ghost use Rattle.crack_witness.specs.Witnesses.{replies_at};
@@ -8,10 +8,10 @@ use crate::opening::Naming;
 use crate::witnessed::Witnessed;
 use crack_row::Refusal;
 
-/// Finds that what each worker has seen of each partition's history is a beginning of it, and that of its entries that
-/// history has just those that it was given replies for: by their numbers, pair by pair. Takes no memory. O(partitions
-/// × workers), however many entries there are. Refused with 16 at the first partition that differs from a worker, with
-/// its number, and with how many replies it gave the first such worker.
+/// Finds that what each worker has seen of each partition's history is a prefix of it, and that of its entries that
+/// history has exactly those that it was given replies for: by their numbers, pair by pair. Takes no memory.
+/// O(partitions × workers), however many entries there are. Refused with 16 at the first partition that differs from a
+/// worker, with its number, and with how many replies it gave the first such worker.
 pub fn settle<J: Naming>(
     askers: &Vec<Asker<J>>,
     parts: &mut Vec<Witnessed<J>>,

@@ -1,12 +1,12 @@
-//! The book of a table: its events, the rule that they keep, and the steps that add to them. None of it has bytes but
-//! one word a partition.
+//! The book of a table: its events, the rule that they keep, and the steps that add to them. None of it has bytes
+//! except one word per partition.
 ghost use Rattle.std.specs.Prelude.{◌≡◌};
 
 use crack_row::Entry;
 use logbook::{Gain, Offer, Opening, Plain, Play, Rule, Seen, Word};
 
-/// An event of a book: the entry of an owner, and the cell that the owner's next event brings home. No value of it is
-/// made.
+/// An event of a book: the entry of an owner, and the cell that the owner's next event brings home. It has no runtime
+/// values.
 pub struct Event {
     pub owner: u64,
     pub next: u64,
@@ -50,7 +50,7 @@ pub(crate) type Token = Seen<Event, u64, Law>;
 /// The word of a partition, which always holds 0.
 pub(crate) type Head = Word<Event, u64, Law>;
 
-/// What a step is to do.
+/// What a step does.
 pub(crate) type Update = Offer<Event, u64, Law, Nothing>;
 
 /// The words of a new book.

@@ -1,4 +1,4 @@
-//! A witness for each reply: one history of each partition, which every worker sees, and what lies under a lock beside
+//! A witness for each reply: one history of each partition, which every worker sees, and what is under a lock beside
 //! its partition.
 #![tactic(auto)]
 

@@ -54,7 +54,7 @@ impl Model for Owner {
 }
 
 impl Owner {
-    /// Makes a word out to an owner of its own, by one step on it. The owner had no event among those seen before, and
+    /// Makes a word over to an owner of its own, by one step on it. The owner had no event among those seen before, and
     /// has one now.
     fn open(word: Head, seen: &mut Token) -> Owner
         requires { (word.tracked ≡ true) × (seen.old.book ≡ word.book) × HasWord word.key seen.old.log }
@@ -78,7 +78,7 @@ impl Owner {
     }
 }
 
-/// A new book, with its owners. Contracts see the book, and the owners' numbers in it, which exist in proofs alone.
+/// A new book, with its owners. Contracts see the book, and the owners' numbers in it, which exist only in proofs.
 #[derive(Drop)]
 pub struct Opened {
     seen: Token,
@@ -105,7 +105,7 @@ impl Model for Opened {
 }
 
 impl Opened {
-    /// A new book with so many owners, for so many partitions. O(owners).
+    /// A new book with this many owners, for this many partitions. O(owners).
     pub fn new(alloc: Global, count: u32) -> Result<Opened, AllocError>
         ensures count { IfOk result (λ o. length o.ids ≡ count) }
         ensures distinct { IfOk result (λ o. AreDistinct o.ids) }
@@ -122,7 +122,7 @@ impl Opened {
     }
 
     /// The partitions, each with its scribe, by their numbers, and what a worker begins with, once the book has its
-    /// name. Each counts the entries of so many workers. O(partitions × workers).
+    /// name. Each counts the entries of this many workers. O(partitions × workers).
     pub fn witness<J: Naming>(
         self,
         alloc: Global,

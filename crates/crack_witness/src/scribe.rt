@@ -1,4 +1,4 @@
-//! Who writes the entries of a partition into its history, and what others have seen of it.
+//! What writes the entries of a partition into its history, and what others have seen of it.
 ghost use Rattle.std.specs.Prelude.{◌≡◌, [], ◌∷◌, ◌++◌, true};
 ghost use mathlib.Core.List.{IsPrefix};
 ghost use Rattle.logbook.specs.Pages.{may_write};
@@ -11,7 +11,7 @@ use crack_row::{Command, Reply};
 use logbook::{Pen, Plain};
 use std::marker::{Model, PhantomData};
 
-/// A beginning of the book that was seen, in no bytes. Contracts see its events.
+/// A prefix of the book that was seen, in no bytes. Contracts see its events.
 #[derive(Drop)]
 pub struct Front<J: Naming> {
     seen: Token,
@@ -86,7 +86,7 @@ impl<'a, J: Naming> Plain<Asked<'a, J>, Event, u64> for Add {
     ghost state = { λ a. None };
 }
 
-/// Who writes the entries of one partition into the book. Contracts see the partition's number, and the events that
+/// Writes the entries of one partition into the book. Contracts see the partition's number, and the events that
 /// were seen.
 #[derive(Drop)]
 pub(crate) struct Scribe<J: Naming> {
@@ -135,8 +135,8 @@ impl<J: Naming> Scribe<J> {
         self.part
     }
 
-    /// Writes an entry after all that the scribe and the one who asks have seen. O(1): two steps on the partition's own
-    /// word.
+    /// Writes an entry after all that the scribe and the asking worker have seen. O(1): two steps on the partition's
+    /// own word.
     pub(crate) fn write(&mut self, me: &mut Front<J>, worker: u32, command: &Command, reply: &Reply)
         requires { IsHistory (history_of (J.owner self.old.part) self.old.log ++ record {
           worker = worker;
@@ -172,7 +172,7 @@ impl<J: Naming> Scribe<J> {
         me.seen = token;
     }
 
-    /// Finds that what anyone has seen of its partition's history is a beginning of its own. O(1).
+    /// Finds that what anyone has seen of its partition's history is a prefix of its own. O(1).
     pub(crate) fn covers(&mut self, front: &Front<J>)
         ensures same { self.new ≡ self.old }
         ensures begins { IsPrefix (history_of (J.owner self.old.part) front.now) (history_of (J.owner self.old.part)

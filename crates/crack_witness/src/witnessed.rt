@@ -1,4 +1,4 @@
-//! What lies under a lock: a partition, and the scribe of its whole history.
+//! What is under a lock: a partition, and the scribe of its whole history.
 ghost use Rattle.std.specs.Prelude.{◌≡◌, ◌⊎◌, ◌+◌, ◌<◌, ◌≤◌, [], ◌∷◌, ◌++◌, length, vec_len, IfOk, IfErr, IfSome};
 ghost use Rattle.std.specs.Prelude.{IsTrue, OnErr, OnOk, Err, None, ◌≢◌, ◌↔◌, ◌^◌, slice_index_or};
 ghost use mathlib.Core.List.{IsPrefix};
@@ -89,8 +89,8 @@ impl<J: Naming> Witnessed<J> {
         self.answered.len()
     }
 
-    /// States what is true of each, and does nothing: its history is one, what the partition keeps is all of it, and
-    /// each entry is one of its workers'.
+    /// States the invariants of each, and does nothing: its history is legal, what the partition keeps is all of it,
+    /// and each entry is one of its workers'.
     pub fn facts(&self)
         ensures legal { AreHistories self.now.log }
         ensures kept { IsPastOf (history_of (J.owner self.now.part) self.now.log) self.now.held.past }
@@ -101,7 +101,7 @@ impl<J: Naming> Witnessed<J> {
         self.partition.facts();
     }
 
-    /// How many entries of a worker stand in its history: O(1). `None` where that is no worker of the table.
+    /// How many entries of a worker are in its history: O(1). `None` if that isn't a worker of the table.
     pub fn answered(&self, worker: u32) -> Option<u64>
         ensures some { IfSome result (λ n. (worker < self.now.workers) ×
             (n ≡ length (calls_by worker (history_of (J.owner self.now.part) self.now.log)))) }
@@ -110,10 +110,10 @@ impl<J: Naming> Witnessed<J> {
         count_at(self.answered.as_slice(), worker)
     }
 
-    /// Answers a command of a worker, who has been given `count` replies by this partition before, and writes it into
-    /// the history: O(1) besides `Partition::apply`, and no memory. Refused with 16, with the partition's number and
-    /// that count, where the history hasn't just as many entries of the worker, or the worker isn't one of the table's;
-    /// nothing has changed then. Else refused as `Partition::apply` is, and nothing is written.
+    /// Answers a command of a worker that has been given `count` replies by this partition before, and writes it into
+    /// the history: O(1) beyond `Partition::apply`, and no memory. Refused with 16, with the partition's number and
+    /// that count, if the history doesn't have exactly as many entries of the worker, or the worker isn't one of
+    /// the table's; then nothing has changed. Otherwise refused as `Partition::apply` is, and nothing is written.
     pub fn ask(
         &mut self,
         me: &mut Front<J>,
@@ -169,7 +169,7 @@ impl<J: Naming> Witnessed<J> {
         Ok(reply)
     }
 
-    /// Folds what the partition keeps, as `Partition::checkpoint` does and with its refusal; the history stays whole.
+    /// Makes a checkpoint of the partition as `Partition::checkpoint` does, with its refusal; the history stays whole.
     pub fn checkpoint(&mut self) -> Result<u64, Refusal>
         ensures ok { IfOk result (λ count. count ≡ length self.old.held.past.tail) }
         ensures folded { OnOk result (self.new.held ≡ folded_part self.old.held) }
@@ -181,7 +181,7 @@ impl<J: Naming> Witnessed<J> {
         self.partition.checkpoint()
     }
 
-    /// Finds that what anyone has seen of the partition's history is a beginning of it. O(1).
+    /// Finds that what anyone has seen of the partition's history is a prefix of it. O(1).
     pub fn covers(&mut self, front: &Front<J>)
         ensures same { self.new ≡ self.old }
         ensures begins { IsPrefix (history_of (J.owner self.old.part) front.now) (history_of (J.owner self.old.part)
@@ -198,7 +198,7 @@ impl<J: Naming> Witnessed<J> {
     }
 }
 
-/// The count that stands at a place, if there is one.
+/// The count at a place, if there is one.
 pub(crate) fn count_at(counts: &[u64], place: u32) -> Option<u64>
     ensures some { IfSome result (λ n. (place < length counts.now) × (n ≡ slice_index_or counts.now place 0)) }
     ensures none { place < length counts.now → result ≢ None }
@@ -210,7 +210,7 @@ pub(crate) fn count_at(counts: &[u64], place: u32) -> Option<u64>
     }
 }
 
-/// Whether this count stands at a place.
+/// Whether this count is at a place.
 fn is_at(counts: &[u64], place: u32, count: u64) -> bool
     ensures { IsTrue result ↔ ((place < length counts.now) × (slice_index_or counts.now place 0 ≡ count)) }
 {
