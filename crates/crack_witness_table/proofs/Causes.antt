@@ -8,7 +8,7 @@ use Rattle.crack_witness.specs.Witnesses.{AskerState, WitnessedState, MayRefuseA
 use Rattle.crack_table.specs.Tables.{TableState, with_limit}
 use Rattle.crack_witness_table.specs.Asking.{MayRefuseAsker}
 
--- where a witnessed partition refuses a worker, its table does, with its limit of a history
+-- if a witnessed partition refuses a worker, its table does, with its limit of a history
 at-table : (owner : ℕ → ℕ) (table : TableState) (may_refuse : ℕ → Type 0) (part : ℕ) (w : WitnessedState) (command : Command) (old : AskerState) (e : Refusal) → MayRefuseAt owner w part command old e → MayRefuseAsker table may_refuse part command old (with_limit table.limits.history e)
 at-table owner table may_refuse part w command old e cause = elim cause [
   | inl nowhere ↦ rw nowhere.0 (inr (inr (refl, nowhere.1)))

@@ -1,4 +1,4 @@
--- Witnessed partitions that are the table's, and what they come to.
+-- Witnessed partitions that are the table's, and their totals.
 use Rattle.std.proofs.Common.{◌≡◌, ◌<◌, ◌≤◌, ◌+◌, add-one, ◌*◌, ◌^◌, ◌⊎◌, ℕ, List, [], ◌∷◌, Bool, length, get_or, map, Some, refl, ap, sym, ◌∙◌, arith, ⊎_elim}
 use Rattle.std.specs.Prelude.{All, sum_by, if◌then◌else◌, ◌==◌}
 use Rattle.std.specs.List.{slice_get, list_any}
@@ -73,7 +73,7 @@ are_numbered splits limits workers parts n long all k w is = let there = all k w
 pub first_strange : (splits : List Bound) (limits : Limits) (workers : ℕ) (parts : List WitnessedState) (place : ℕ) (w : WitnessedState) → place < length parts → w ≡ get_or parts place w → ¬ IsTablesAt splits limits workers place w → AreUpTo splits limits workers parts place → IsFirstStrange splits limits workers parts place
 first_strange splits limits workers parts place w lt read other before = (w, slice_get_read parts (length parts) place w refl lt read, other, before)
 
--- what sound partitions lived through fits into a word
+-- the totals of sound partitions fit into a word
 pub record AreSmall (parts : List Part) : Type 0 where
   pub accepted_fits : sum_by (λ (p : Part). accepted_in p.past) parts < 2 ^ 64
   pub inserted_fits : sum_by (λ (p : Part). inserted_in p.past) parts < 2 ^ 64
@@ -91,7 +91,7 @@ are_small parts sound few =
       enough = omega (arith, left);
     }
 
--- the same of what witnessed partitions hold
+-- the same for what witnessed partitions hold
 pub witnessed_small : (ws : List WitnessedState) → All (λ (w : WitnessedState). IsSound w.held) ws → length ws ≤ 64 → AreSmall (held_by ws)
 witnessed_small ws sound few = are_small (held_by ws) (held_sound ws sound) (omega (arith, few, length-map ws (λ (w : WitnessedState). w.held)))
 
@@ -106,6 +106,6 @@ are_totals parts answers placed left gone sound answers_are placed_are left_are 
       held_is = held_are placed gone left (omega (arith, gone_is));
     }
 
--- one bit more
+-- one more bit
 pub missing_more : (askers : List AskerState) (n missing bit add : ℕ) (has : Bool) → missing ≡ missing_askers askers n → bit ≡ 2 ^ n → has ≡ list_any (λ (a : AskerState). a.worker == n) askers → add ≡ (if has then 0 else bit) → missing + add ≡ missing_askers askers (n + 1)
 missing_more askers n missing bit add has m_is b_is h_is a_is = rw (add-one, a_is, m_is, b_is, h_is) refl

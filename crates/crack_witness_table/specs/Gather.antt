@@ -1,4 +1,4 @@
--- What a table that witnesses its replies comes to when its workers are gathered.
+-- The totals of a table that witnesses its replies when its workers are gathered.
 use Rattle.std.specs.Prelude.{◌≡◌, ◌≢◌, ℕ, zero, suc, ◌+◌, ◌^◌, ◌<◌, ◌⊎◌, ◌==◌, List, length, map, All, Some, slice_get, if◌then◌else◌}
 use Rattle.std.specs.List.{list_any}
 use Rattle.crack_row.specs.declared.Bound.{Bound}
@@ -15,7 +15,7 @@ use Rattle.crack_table.specs.Gather.{IsTables}
 abbrev pub held_by : List WitnessedState → List Part
 held_by parts = map (λ (w : WitnessedState). w.held) parts
 
--- each stands at its number, and counts the entries of so many workers
+-- each is at its number, and counts the entries of this many workers
 abbrev pub AreNumbered : ℕ → List WitnessedState → Type 0
 AreNumbered workers parts = (place : ℕ) (w : WitnessedState) → slice_get parts place ≡ Some w → (w.part ≡ place) × (w.workers ≡ workers)
 
@@ -25,7 +25,7 @@ pub record IsWhole (owner : ℕ → ℕ) (w : WitnessedState) : Type 0 where
   pub kept : IsPastOf (history_of (owner w.part) w.log) w.held.past
   pub known : AreOfWorkers w.workers (history_of (owner w.part) w.log)
 
--- what each worker has seen of each partition's history is a beginning of it, and of its entries that history has just those that it was
+-- what each worker has seen of each partition's history is a prefix of it, and of its entries that history has exactly those that it was
 -- given replies for
 abbrev pub AreSettled : (ℕ → ℕ) → List AskerState → List WitnessedState → Type 0
 AreSettled owner askers parts = All (λ (w : WitnessedState). All (λ (a : AskerState). IsSettledFor owner a w) askers) parts
@@ -41,21 +41,21 @@ pub record IsTablesAt (splits : List Bound) (limits : Limits) (workers place : �
   pub counts : w.workers ≡ workers
   pub tables : IsTables splits limits place w.held
 
--- the first place at which stands a partition that isn't the table's
+-- the first place with a partition that isn't the table's
 abbrev pub IsFirstStrange : List Bound → Limits → ℕ → List WitnessedState → ℕ → Type 0
 IsFirstStrange splits limits workers parts place =
     (w : WitnessedState) × (slice_get parts place ≡ Some w) × (IsTablesAt splits limits workers place w → ⊥)
     × ((earlier : ℕ) (v : WitnessedState) → earlier < place → slice_get parts earlier ≡ Some v → IsTablesAt splits limits workers earlier v)
 
--- why workers and the partitions of so many locks may not come together: 8; 16 at the first partition that isn't the table's; where there is
--- none, 16 where one differs from a worker
+-- why workers and the partitions of this many locks may not agree: 8; 16 at the first partition that isn't the table's; if there is
+-- none, 16 if one differs from a worker
 abbrev pub MayNotMatch : (ℕ → ℕ) → List Bound → Limits → ℕ → List AskerState → Refusal → Type 0
 MayNotMatch owner splits limits workers askers e =
     (e ≡ OutOfMemory)
     ⊎ ((parts : List WitnessedState) × (length parts ≡ length splits + 1)
     × (((place : ℕ) × (e ≡ StrangeReceipt place 0) × IsFirstStrange splits limits workers parts place) ⊎ MayDiffer owner askers parts e))
 
--- why workers may not be gathered: 15 where some are missing, with their bits; where none is, they and the partitions don't come together
+-- why workers may not be gathered: 15 if some are missing, with their bits; if none is, they and the partitions don't agree
 abbrev pub MayNotGather : (ℕ → ℕ) → TableState → List AskerState → Refusal → Type 0
 MayNotGather owner table askers e =
     ((missing_askers askers table.workers ≢ 0) × (e ≡ WorkersMissing (missing_askers askers table.workers)))

@@ -7,7 +7,7 @@ use Rattle.crack_row.specs.declared.limit.Limits.{Limits}
 use Rattle.crack_core.specs.Routes.{AreSplits}
 use Rattle.crack_witness.specs.Witnesses.{AreApart, AreDistinct}
 
--- what holds of each table that has no name yet: its book has an owner for each partition, and no two have one owner
+-- the invariant of each table that has no name yet: its book has an owner for each partition, and no two have one owner
 pub record IsUnnamed (ids : List ℕ) (splits : List Bound) (limits : Limits) (workers : ℕ) : Type 0 where
   pub rising : AreSplits splits
   pub limited : AreLimits limits
@@ -15,7 +15,7 @@ pub record IsUnnamed (ids : List ℕ) (splits : List Bound) (limits : Limits) (w
   pub owners : length ids ≡ length splits + 1
   pub distinct : AreDistinct ids
 
--- what holds of each table that witnesses its replies: there is a lock for each partition, and no two partitions have one owner
+-- the invariant of each table that witnesses its replies: there is a lock for each partition, and no two partitions have one owner
 pub record IsWitnessedTable (owner : ℕ → ℕ) (splits : List Bound) (limits : Limits) (workers locks : ℕ) : Type 0 where
   pub rising : AreSplits splits
   pub limited : AreLimits limits

@@ -5,14 +5,14 @@ use Rattle.crack_row.specs.declared.limit.Limits.{Limits}
 use Rattle.crack_witness.specs.Histories.{AreEmpty}
 use Rattle.crack_witness.specs.Witnesses.{AskerState, OpenedState}
 
--- with what a table is to be opened: its book, where one partition ends and the next begins, the limits of each partition, and how many workers
+-- what a table is to be opened with: its book, where one partition ends and the next begins, the limits of each partition, and how many workers
 pub record UnnamedState : Type 0 where
   pub opened : OpenedState
   pub splits : List Bound
   pub limits : Limits
   pub workers : ℕ
 
--- so many workers, numbered from 0 on, which have seen nothing of so many partitions
+-- this many workers, numbered from 0 on, which have seen nothing of this many partitions
 pub record AreNewAskers (workers parts : ℕ) (askers : List AskerState) : Type 0 where
   pub count : length askers ≡ workers
   pub numbered : (number : ℕ) (asker : AskerState) → slice_get askers number ≡ Some asker → (asker.worker ≡ number) × (length asker.fronts ≡ parts) × AreEmpty asker.seen

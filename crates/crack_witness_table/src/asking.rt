@@ -1,4 +1,4 @@
-//! A command behind its gate, under a lock that is held.
+//! A command after its gate, under a held lock.
 ghost use Rattle.std.specs.Prelude.{◌≡◌, ◌⊎◌, ℕ, ◌+◌, ◌<◌, ◌≤◌, [], ◌∷◌, ◌++◌, length, Err, IfOk, IfErr, OnErr, OnOk};
 ghost use Rattle.std.specs.Prelude.{slice_index_or, slice_set};
 ghost use mathlib.Core.List.{IsPrefix};
@@ -14,11 +14,11 @@ use crack_table::Gate;
 use crack_table::gate::pass;
 use crack_witness::{Asker, Naming, Witnessed};
 
-/// Asks the gate until it says yes, and then the partition, which is to have number `part`, for the worker. The
-/// partition stays borrowed from the gate's first turn to the reply, so its lock can't be let go in between. What comes
-/// of asking the partition, which may be a refusal, comes as the value, and `folded` is set to how many entries a
-/// checkpoint that was due took. Refused with 7 where the gate says no at each turn: worker and partition are then as
-/// they were.
+/// Asks the gate until it consents, and then the partition, which is to have number `part`, for the worker. The
+/// partition stays borrowed from the gate's first turn to the reply, so its lock can't be released in between. What
+/// outcome of asking the partition, which may be a refusal, is the value, and `folded` is set to how many entries the
+/// history had at a checkpoint that was due. Refused with 7 if the gate refuses at each turn: then worker and partition
+/// are as they were.
 pub(crate) fn ask_behind<J: Naming, G: Gate>(
     gate: &G,
     asker: &mut Asker<J>,

@@ -1,4 +1,4 @@
-//! The end of a table that witnesses its replies: its workers come together, by counts.
+//! The end of a table that witnesses its replies: its workers are gathered by counts.
 ghost use Rattle.std.specs.Prelude.{◌≡◌, ◌+◌, ◌≤◌, ◌==◌, length, All, IfOk, IfErr, IfNone, IfSome, IsTrue, OnOk, OnErr};
 ghost use Rattle.std.specs.Prelude.{◌↔◌, vec_len};
 ghost use Rattle.std.specs.List.{list_any};
@@ -27,7 +27,7 @@ pub struct Gathered<J: Naming> {
     pub accepted: u64,
     /// How many rows were placed.
     pub inserted: u64,
-    /// How many rows were taken out.
+    /// How many rows were removed.
     pub deleted: u64,
     /// How many rows are left.
     pub held: u64,
@@ -43,9 +43,9 @@ pub struct GatherRefused<J: Naming> {
     pub askers: Vec<Asker<J>>,
 }
 
-/// Ends a table whose workers all come back: each partition's history since its opening is the one whose beginnings all
-/// workers saw, and of each worker it has just the entries that it was given replies for, as many as both have counted.
-/// Refused with 15, one bit for each missing number, where a worker of the table isn't there; then with 8 where it
+/// Ends a table whose workers are all handed back: each partition's history since its opening begins with all that the
+/// workers saw of it, and has exactly the entries of each worker that it was given replies for, as both have counted.
+/// Refused with 15, one bit for each missing number, if a worker of the table is missing; then with 8 if it
 /// finds no memory; then with 16 at the first partition that isn't the table's, and then as `settle` of crack_witness
 /// is. The table and the workers are then handed back. O(partitions × workers), however many entries there are.
 pub fn gather<J: Naming>(
@@ -93,7 +93,7 @@ pub fn gather<J: Naming>(
     }
 }
 
-/// Takes the partitions out of their locks, and finds whether they and the workers come together; else they go behind
+/// Takes the partitions out of their locks, and finds whether they and the workers agree; otherwise they go into
 /// the locks again.
 fn close<J: Naming>(
     alloc: Global,
@@ -130,7 +130,7 @@ fn close<J: Naming>(
     }
 }
 
-/// Finds whether partitions are the table's, and whether they and the workers come together, and what they come to.
+/// Finds whether partitions are the table's, and whether they and the workers agree, and their totals.
 fn match_all<J: Naming>(
     splits: &[Bound],
     limits: Limits,
@@ -156,7 +156,7 @@ fn match_all<J: Naming>(
     Ok(sums_of(parts))
 }
 
-/// States what is true of every partition, and does nothing: O(partitions).
+/// States the invariants of every partition, and does nothing: O(partitions).
 fn facts<J: Naming>(parts: &Vec<Witnessed<J>>)
     ensures whole { All (λ (w : WitnessedState). IsWhole J.owner w) parts.now.items }
     ensures sound { All (λ (w : WitnessedState). IsSound w.held) parts.now.items }
@@ -166,7 +166,7 @@ fn facts<J: Naming>(parts: &Vec<Witnessed<J>>)
     }
 }
 
-/// The first place at which stands a partition that isn't the table's.
+/// The first place with a partition that isn't the table's.
 fn first_strange<J: Naming>(
     splits: &[Bound],
     limits: Limits,
@@ -206,7 +206,7 @@ fn is_tables_at<J: Naming>(
         && is_tables(splits, limits, place, part.partition())
 }
 
-/// One bit for each of so many workers that isn't there.
+/// One bit for each of this many workers that is missing.
 fn missing_askers<J: Naming>(askers: &Vec<Asker<J>>, count: u64) -> u64
     requires { count ≤ 64 }
     ensures { result ≡ missing_askers askers.now.items count }

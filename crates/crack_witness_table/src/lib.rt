@@ -1,4 +1,4 @@
-//! Tables whose replies are proved as they are given: a witnessed partition under each lock, and workers that keep no
+//! Tables whose replies are proved when they are given: a witnessed partition in each lock, and workers that keep no
 //! receipts.
 #![tactic(auto)]
 

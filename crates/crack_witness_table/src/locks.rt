@@ -1,4 +1,4 @@
-//! Witnessed partitions behind locks, and out of them.
+//! Witnessed partitions into locks, and out of them.
 ghost use Rattle.std.specs.Prelude.{◌≡◌, ◌≤◌, length, vec_len, vec_capacity};
 
 use crack_witness::{Naming, Witnessed};
@@ -17,7 +17,7 @@ pub(crate) fn unlock<J: Naming>(locks: &mut Vec<Mutex<Witnessed<J>>>, parts: &mu
     parts.reverse();
 }
 
-/// Puts partitions behind locks, in their order; there is room for them, so no memory is taken.
+/// Puts partitions into locks, in their order; there is room for them, so no memory is taken.
 pub(crate) fn lock<J: Naming>(parts: &mut Vec<Witnessed<J>>, locks: &mut Vec<Mutex<Witnessed<J>>>)
     requires empty { vec_len locks.old ≡ 0 }
     requires room { length parts.old.items ≤ vec_capacity locks.old }

@@ -14,8 +14,8 @@ use crack_witness::{Asker, Front, Naming, Opened};
 use std::alloc::{AllocError, Global};
 use std::marker::Model;
 
-/// A table that is to be opened, and the book of its replies, which has no name yet. Contracts see with what it is to
-/// be opened, and the book, with an owner for each partition.
+/// A table that is to be opened, and the book of its replies, which has no name yet. Contracts see what it is to be
+/// opened with, and the book, with an owner for each partition.
 #[derive(Drop)]
 pub struct UnnamedTable {
     opened: Opened,
@@ -65,7 +65,7 @@ impl UnnamedTable {
     }
 
     /// The second step, once its book has its name: the table, without rows, and its workers, numbered from 0. Refused
-    /// with 8 where it finds no memory. O(partitions × workers).
+    /// with 8 if it finds no memory. O(partitions × workers).
     pub fn named<J: Naming>(
         self,
         alloc: Global,
@@ -102,7 +102,7 @@ impl UnnamedTable {
     }
 }
 
-/// Workers numbered from 0, so many, at so many partitions.
+/// Workers numbered from 0, this many, at this many partitions.
 fn hire<J: Naming>(
     alloc: Global,
     front: &Front<J>,

@@ -1,4 +1,4 @@
-//! Tables whose replies are proved as they are given, and whose workers keep no receipts.
+//! Tables whose replies are proved when they are given, and whose workers keep no receipts.
 ghost use Rattle.std.specs.Prelude.{◌≡◌, ◌+◌, ◌≤◌, length};
 ghost use Rattle.crack_row.specs.Limits.{AreLimits};
 ghost use Rattle.crack_core.specs.Routes.{AreSplits};
@@ -14,8 +14,8 @@ use crack_witness::{Asker, Naming, Witnessed};
 use std::marker::Model;
 use std::sync::{Mutex, Wait};
 
-/// Partitions with the scribes of their histories, each under a lock of its own. Many threads may share it. Contracts
-/// see with what it was opened; what its workers have seen of the histories, their own sides say.
+/// Partitions with the scribes of their histories, each with a lock of its own. Many threads may share it. Contracts
+/// see what it was opened with; the workers' own state says what they have seen of the histories.
 #[derive(Drop)]
 pub struct WitnessedTable<J: Naming> {
     pub(crate) locks: Vec<Mutex<Witnessed<J>>>,
@@ -42,8 +42,8 @@ impl<J: Naming> Model for WitnessedTable<J> {
 }
 
 impl<J: Naming> WitnessedTable<J> {
-    /// States what is true of every table, and does nothing: it has a lock for each partition of its splits, and no two
-    /// of its partitions have one history.
+    /// States the invariants of every table, and does nothing: it has a lock for each partition of its splits, and no
+    /// two of its partitions have one history.
     pub fn facts(&self)
         ensures locks { self.now.locks ≡ length self.now.splits + 1 }
         ensures rising { AreSplits self.now.splits }
@@ -70,10 +70,10 @@ impl<J: Naming> WitnessedTable<J> {
         self.workers
     }
 
-    /// Asks partition `part` for a worker, under its lock, which it may wait for. Refused, in this order: with 5 where
-    /// there is no such partition; under the lock with 7 where the gate says no at each turn; with 16, with the
-    /// partition and the number of its replies there, where the worker is another table's; then as `Partition::apply`
-    /// is, with 4, 6, 10, 9 and 8. After each refusal nothing was seen or written. Besides what `Partition::apply`
+    /// Asks partition `part` for a worker, under its lock, which it may wait for. Refused, in this order: with 5 if
+    /// there is no such partition; under the lock with 7 if the gate refuses at each turn; with 16, with the
+    /// partition and the number of its replies there, if the worker is another table's; then as `Partition::apply`
+    /// is, with 4, 6, 10, 9 and 8. After each refusal nothing was seen or written. Beyond what `Partition::apply`
     /// takes it is O(1), takes no memory, and the gate's turns.
     pub fn ask<R: Wait, G: Gate>(
         &self,
@@ -105,9 +105,9 @@ impl<J: Naming> WitnessedTable<J> {
         with_table_limit(answered, self.limits.history)
     }
 
-    /// Folds what partition `part` keeps into its base, under its lock, which it may wait for, and reports how many
-    /// entries went. For all workers its rows and its history stay whole. Refused with 5 where there is no such
-    /// partition, and with 8 where it finds no memory; nothing has changed then. It holds this one lock, for the time
+    /// Makes a checkpoint of partition `part`, under its lock, which it may wait for, and returns how many
+    /// entries its history had. For all workers its rows and its history stay whole. Refused with 5 if there is no such
+    /// partition, and with 8 if it finds no memory; nothing has changed then. It holds this one lock, for the time
     /// that `Partition::checkpoint` takes.
     pub fn checkpoint<R: Wait>(&self, rt: &R, part: u32) -> Result<u64, Refusal>
         ensures { FoldsAt self.now part result }
@@ -119,8 +119,8 @@ impl<J: Naming> WitnessedTable<J> {
         witnessed.checkpoint()
     }
 
-    /// What stands where in partition `part`, read under its lock, which it may wait for. It cracks and merges nothing,
-    /// and isn't kept. Refused with 5 where there is no such partition, and with 8 where it finds no memory. O(pieces).
+    /// The layout of partition `part`, read under its lock, which it may wait for. It cracks and merges nothing,
+    /// and isn't kept. Refused with 5 if there is no such partition, and with 8 if it finds no memory. O(pieces).
     pub fn layout<R: Wait>(&self, rt: &R, part: u32) -> Result<Layout, Refusal>
         ensures { LooksAt self.now part result }
     {

@@ -1,4 +1,4 @@
-//! What witnessed partitions come to.
+//! The totals of witnessed partitions.
 ghost use Rattle.std.specs.Prelude.{◌≡◌, ◌<◌, ◌≤◌, ◌^◌, length, sum_by, All};
 ghost use Rattle.crack_plain.specs.Past.{accepted_in, inserted_in};
 ghost use Rattle.crack_state.specs.State.{live_rows};
@@ -9,7 +9,7 @@ ghost use Rattle.crack_witness_table.specs.Gather.{held_by};
 
 use crack_witness::{Naming, Witnessed};
 
-/// How many commands were accepted, rows placed, taken out, and left.
+/// How many commands were accepted, rows placed, removed, and left.
 #[derive(Clone, Copy, Drop)]
 pub(crate) struct Sums {
     pub(crate) accepted: u64,
@@ -18,7 +18,7 @@ pub(crate) struct Sums {
     pub(crate) held: u64,
 }
 
-/// What partitions lived through, in all: O(partitions).
+/// The totals of the partitions' pasts: O(partitions).
 pub(crate) fn sums_of<J: Naming>(parts: &Vec<Witnessed<J>>) -> Sums
     requires sound { All (λ (w : WitnessedState). IsSound w.held) parts.now.items }
     requires few { length parts.now.items ≤ 64 }
