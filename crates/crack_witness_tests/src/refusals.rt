@@ -79,7 +79,7 @@ fn ask_with_twin<J: Naming, R: Wait + Abort>(
     asked
 }
 
-/// Where one of two workers of one number was given a reply that the other wasn't, the other is refused with its own
+/// If one of two workers of one number was given a reply that the other wasn't, the other is refused with its own
 /// count, and nothing is applied.
 fn ask_both<J: Naming, R: Wait + Abort>(
     rt: &R,

@@ -15,7 +15,7 @@ use std::thread;
 use std::thread::Threads;
 
 /// Inserts 1000 rows into the partitions in turn, and deletes each of them whose number is 3 more than a multiple of 4;
-/// and tells whether each command was answered so. A checkpoint comes in between.
+/// and returns whether each command was answered in this way. A checkpoint comes in between.
 fn work<J: Naming, R: Wait>(
     rt: &R,
     table: &WitnessedTable<J>,

@@ -19,7 +19,7 @@ pub(crate) fn insert(key: u32) -> Command {
     }
 }
 
-/// What a worker is answered.
+/// The answers that a worker gets.
 pub(crate) fn ask<J: Naming, R: Wait>(
     rt: &R,
     table: &WitnessedTable<J>,
