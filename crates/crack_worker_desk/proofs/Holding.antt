@@ -1,4 +1,4 @@
--- That a desk's calls are its worker's, and what is written holds of all that follows from its answers.
+-- A desk's calls are its worker's, and what is written holds of all that follows from its answers.
 use Rattle.std.proofs.Common.{◌≡◌, ℕ, ◌+◌, List, [], ◌∷◌, ◌++◌, Option, refl, sym, ap, ◌∙◌, subst, inl, inr}
 use Rattle.crack_commands.specs.Grammar.{Reading}
 use Rattle.crack_session.specs.declared.answer.Answer.{Answer}
@@ -8,7 +8,7 @@ use Rattle.crack_session.specs.Written.{AreWritten, AreWrittenThen}
 use Rattle.crack_table.specs.Tables.{TableState}
 
 module _ {D G S : Type 0} (stands : TableState → G → S → Call → S → Type 0) (leads : D → Call → D → Type 0) (table : D → TableState) (gate : D → G) (worker : D → S) where
-  -- what a call does to a desk over its table, behind its gate
+  -- what a call does to a desk over its table, with its gate
   abbrev pub IsStep : Type 0
   IsStep = (d : D) (call : Call) (e : D) → leads d call e → (table e ≡ table d) × (gate e ≡ gate d) × stands (table d) (gate d) (worker d) call (worker e)
 

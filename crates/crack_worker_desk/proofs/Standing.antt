@@ -1,4 +1,4 @@
--- That what a worker was answered stands in the histories, once it is gathered.
+-- The answers to a worker are in the histories, once it is gathered.
 use Rattle.std.proofs.Common.{slice_index_or, ◌≡◌, ◌≢◌, ℕ, ◌+◌, ◌<◌, ◌≤◌, ◌==◌, Bool, true, false, nat_lt, List, [], ◌∷◌, ◌++◌, length, get_or, Some, Option, Ok, Err, refl, sym, ap, ◌∙◌, subst, arith, inl, inr, append_assoc, append-nil, length-append}
 use Rattle.std.specs.Prelude.{All, map}
 use Rattle.std.specs.List.{slice_get}
@@ -72,7 +72,7 @@ module _ (owner : ℕ → ℕ) (table : TableState) (may : ℕ → ℕ → Type 
   answers-there part worker (Checkpointed p outcome ∷ calls) old new were some = answers-there part worker calls were.0 new were.2 some
   answers-there part worker (Looked p outcome ∷ calls) old new were some = answers-there part worker calls were.0 new were.2 some
 
-  -- what a partition answered stands in what was seen of its history
+  -- what a partition answered is in what was seen of its history
   pub answers-seen : (part : ℕ) (calls : List Call) (old new : AskerState) → Led old calls new → 0 < length (entries_at old.worker part calls) → 0 < length (calls_at owner part old.worker new.seen)
   answers-seen part [] old new were some = absurd (omega (arith, some))
   answers-seen part (Asked p command policy (Err e) ∷ calls) old new were some =
@@ -96,7 +96,7 @@ module _ (owner : ℕ → ℕ) (table : TableState) (may : ℕ → ℕ → Type 
   abbrev pub at_front : ℕ → AskerState → List Entry
   at_front part a = calls_at owner part a.worker (slice_index_or a.fronts part [])
 
-  -- an answer is one entry more there, and nothing for another partition
+  -- an answer is one more entry there, and nothing for another partition
   front-own : (part p : ℕ) (command : Command) (reply : Reply) (old new : AskerState) → part < length old.fronts → p ≡ part → AsksWitnessed owner table (may p) p command (Ok reply) old new → at_front part new ≡ at_front part old ++ record { worker = old.worker; command = command; reply = reply } ∷ []
   front-own part p command reply old new known same asks =
       let there : slice_index_or new.fronts p [] ≡ new.seen = ap (λ (l : List (List Event)). slice_index_or l p []) asks.fronts ∙ get_or-set_same old.fronts p new.seen [] (subst (λ (q : ℕ). q < length old.fronts) (sym same) known) in
@@ -122,7 +122,7 @@ module _ (owner : ℕ → ℕ) (table : TableState) (may : ℕ → ℕ → Type 
   fronts-stay (Checkpointed p outcome ∷ calls) old new were = fronts-stay calls were.0 new were.2 ∙ ap (λ (a : AskerState). length a.fronts) were.1.1
   fronts-stay (Looked p outcome ∷ calls) old new were = fronts-stay calls were.0 new were.2 ∙ ap (λ (a : AskerState). length a.fronts) were.1.1
 
-  -- a worker's entries there are, after those before, just what it was answered
+  -- a worker's entries there are, after those before, exactly what it was answered
   pub fronts-go : (part : ℕ) (calls : List Call) (old new : AskerState) → Led old calls new → part < length old.fronts → at_front part new ≡ at_front part old ++ entries_at old.worker part calls
   fronts-go part [] old new were known = ap (at_front part) were ∙ sym (append-nil (at_front part old))
   fronts-go part (Asked p command policy (Ok reply) ∷ calls) old new were known =

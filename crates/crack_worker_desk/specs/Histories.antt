@@ -16,7 +16,7 @@ use Rattle.crack_witness.specs.Witnesses.{AskerState, WitnessedState}
 use Rattle.crack_witness_table.specs.Gather.{held_by, AreNumbered, IsWhole, AreSettled}
 use Rattle.crack_worker_desk.specs.Leads.{answered}
 
--- with other workers of its table this one was gathered, as `gather` says, and these are the partitions
+-- this worker was gathered with the other workers of its table, as `gather` says, and these are the partitions
 pub record IsGathered (owner : ℕ → ℕ) (table : TableState) (parts : List WitnessedState) (asker : AskerState) : Type 0 where
   pub askers : List AskerState
   pub one : Contains askers asker
@@ -32,7 +32,7 @@ histories owner parts = map (λ (w : WitnessedState). history_of (owner w.part) 
 abbrev pub entries_at : ℕ → ℕ → List Call → List Entry
 entries_at worker part calls = map (λ (a : ℕ × Command × Reply). record { worker = worker; command = a.1; reply = a.2 }) (filter (λ (a : ℕ × Command × Reply). a.0 == part) (answered calls))
 
--- Each reply in the histories is the plain rows', and what a worker's calls were answered stands there: in its partition's, each once and in
+-- Each reply in the histories is the plain rows', and the answers to a worker's calls are there: in its partition's, each once and in
 -- order, with no other entry of this worker between them.
 pub record StandIn (owner : ℕ → ℕ) (parts : List WitnessedState) (worker : ℕ) (calls : List Call) : Type 0 where
   pub legal : All IsHistory (histories owner parts)

@@ -9,13 +9,13 @@ use Rattle.crack_table.specs.Tables.{TableState, AsksTable, FoldsAt, LooksAt}
 use Rattle.crack_witness.specs.Witnesses.{AskerState}
 use Rattle.crack_witness_table.specs.Asking.{AsksWitnessed}
 
--- what a call does to the worker's book: an answer is a receipt more, and nothing else changes its receipts
+-- what a call does to the worker's book: an answer is one more receipt, and nothing else changes its receipts
 abbrev pub worker_leads : TableState → (ℕ → ℕ → Type 0) → BookState → Call → BookState → Type 0
 worker_leads table may_refuse old (Asked part command policy outcome) new = AsksTable table (may_refuse part) part command outcome old new
 worker_leads table may_refuse old (Checkpointed part outcome) new = FoldsAt table part outcome × (new ≡ old)
 worker_leads table may_refuse old (Looked part outcome) new = LooksAt table part outcome × (new ≡ old)
 
--- what a call does to a worker that keeps no receipts: an answer stands at the end of its partition's one history, as the worker then sees it, and
+-- what a call does to a worker that keeps no receipts: an answer is at the end of its partition's one history, as the worker then sees it, and
 -- nothing else changes what it has seen
 abbrev pub witnessed_leads : (ℕ → ℕ) → TableState → (ℕ → ℕ → Type 0) → AskerState → Call → AskerState → Type 0
 witnessed_leads owner table may_refuse old (Asked part command policy outcome) new = AsksWitnessed owner table (may_refuse part) part command outcome old new
@@ -28,6 +28,6 @@ answered [] = []
 answered (Asked part command policy (Ok reply) ∷ calls) = (part, command, reply) ∷ answered calls
 answered (call ∷ calls) = answered calls
 
--- the same of a receipt
+-- the same for a receipt
 abbrev pub receipted : Receipt → ℕ × Command × Reply
 receipted r = (r.part, r.command, r.reply)

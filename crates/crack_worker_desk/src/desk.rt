@@ -7,7 +7,7 @@ use crack_session::Desk;
 use crack_table::{Gate, Table, Worker};
 use std::sync::Wait;
 
-/// A worker at its table, behind a gate. Each call may wait for the lock of the partition that it asks.
+/// A worker at its table, with a gate. Each call may wait for the lock of the partition that it asks.
 #[derive(Drop)]
 pub struct WorkerDesk<'a, R: Wait, G: Gate> {
     rt: &'a R,
@@ -57,7 +57,7 @@ impl<'a, R: Wait, G: Gate> Desk for WorkerDesk<'a, R, G> {
         (G.may_refuse d.gate.now) d.worker call e.worker };
 
     fn ask(&mut self, part: u32, command: Command, policy: Policy) -> Result<Reply, Refusal>
-        // The worker asks its table; nothing is known of a reply but that it's small.
+        // The worker asks its table; nothing is known of a reply except that it is small.
         ensures asks { AsksTable self.old.table.now (G.may_refuse self.old.gate.now part) part command result
             self.old.worker self.new.worker }
         ensures receipts { length self.new.worker.receipts ≡ (if is_ok result then length self.old.worker.receipts + 1
@@ -69,7 +69,7 @@ impl<'a, R: Wait, G: Gate> Desk for WorkerDesk<'a, R, G> {
     }
 
     fn checkpoint(&mut self, part: u32) -> Result<u64, Refusal>
-        // The worker checkpoints a partition of its table, for all workers; nothing is known of how many entries went.
+        // The worker makes a checkpoint of a partition of its table, for all workers; nothing is known of its entries.
         ensures folds { FoldsAt self.old.table.now part result }
         ensures worker { self.new.worker ≡ self.old.worker }
         ensures table { (self.new.table.now ≡ self.old.table.now) × (self.new.gate.now ≡ self.old.gate.now) }

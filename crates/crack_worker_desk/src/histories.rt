@@ -1,4 +1,4 @@
-//! That what a session wrote over a desk of a witnessed table is made of replies in the histories.
+//! What a session wrote over a desk of a witnessed table is made of replies in the histories.
 ghost use Rattle.std.specs.Prelude.{◌≡◌, ℕ, List, Option};
 ghost use Rattle.crack_row.specs.declared.command.Policy.{Policy};
 ghost use Rattle.crack_commands.specs.Grammar.{Reading};
@@ -14,9 +14,9 @@ use crack_table::Gate;
 use crack_witness::Naming;
 use std::sync::Wait;
 
-/// States of a desk whose worker goes to be gathered: each session over it, whatever came later, wrote the texts of
+/// States of a desk whose worker is gathered later: each session over it, whatever came afterwards, wrote the texts of
 /// answers that are made of replies in the one history of each partition that the statement meets, each of them the
-/// reply of the plain rows there, at places that rise. Does nothing.
+/// reply of the plain rows there, at rising places. Does nothing.
 pub fn lines_stand_in_histories<'a, R: Wait, G: Gate, J: Naming>(desk: &WitnessedDesk<'a, R, G, J>)
     // `old` and `new` are the desk before and after the session, which is what `serve` says of it.
     ensures written { (old new : _) (later : List Call) (parts : List WitnessedState) (policy : Policy)

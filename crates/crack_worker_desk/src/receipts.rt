@@ -1,4 +1,4 @@
-//! That a worker's receipts are what was answered at its desk.
+//! A worker's receipts are what was answered at its desk.
 ghost use Rattle.std.specs.Prelude.{◌≡◌, List, ◌++◌, map};
 ghost use Rattle.crack_core.specs.Receipts.{BookState};
 ghost use Rattle.crack_session.specs.Calls.{Call, Calls};
@@ -7,8 +7,8 @@ ghost use Rattle.crack_worker_desk.specs.Leads.{worker_leads, answered, receipte
 
 use crack_table::Gate;
 
-/// States that whatever calls are made at a worker's desk after this gate, its book gains receipts of just the commands
-/// that were answered, each with its partition and its reply, in their order. Does nothing.
+/// States that whatever calls are made at a worker's desk with this gate, its book gains receipts of exactly the
+/// commands that were answered, each with its partition and its reply, in their order. Does nothing.
 pub fn answers_are_receipts<G: Gate>(gate: &G)
     ensures { (table : TableState) (calls : List Call) (old new : BookState) →
         Calls (worker_leads table (G.may_refuse gate.now)) old calls new → map receipted new.receipts ≡

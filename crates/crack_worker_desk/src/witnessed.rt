@@ -11,7 +11,7 @@ use crack_witness::{Asker, Naming};
 use crack_witness_table::WitnessedTable;
 use std::sync::Wait;
 
-/// A worker at its table, behind a gate, that keeps no receipts. Each call may wait for the lock of the partition that
+/// A worker at its table, with a gate, that keeps no receipts. Each call may wait for the lock of the partition that
 /// it asks.
 #[derive(Drop)]
 pub struct WitnessedDesk<'a, R: Wait, G: Gate, J: Naming> {
@@ -69,7 +69,7 @@ impl<'a, R: Wait, G: Gate, J: Naming> Desk for WitnessedDesk<'a, R, G, J> {
         d.table.now (G.may_refuse d.gate.now) d.asker call e.asker };
 
     fn ask(&mut self, part: u32, command: Command, policy: Policy) -> Result<Reply, Refusal>
-        // The worker asks its table: the reply stands at the end of the partition's one history, as the worker now sees
+        // The worker asks its table: the reply is at the end of the partition's one history, as the worker now sees
         // it.
         ensures asks { AsksWitnessed J.owner self.old.table.now (G.may_refuse self.old.gate.now part) part command
             result self.old.asker self.new.asker }
@@ -82,7 +82,7 @@ impl<'a, R: Wait, G: Gate, J: Naming> Desk for WitnessedDesk<'a, R, G, J> {
     }
 
     fn checkpoint(&mut self, part: u32) -> Result<u64, Refusal>
-        // A partition of the table is checkpointed, for all workers, and its history stays whole.
+        // A checkpoint of a partition of the table is made, for all workers, and its history stays whole.
         ensures folds { FoldsAt self.old.table.now part result }
         ensures asker { self.new.asker ≡ self.old.asker }
         ensures table { (self.new.table.now ≡ self.old.table.now) × (self.new.gate.now ≡ self.old.gate.now) }
