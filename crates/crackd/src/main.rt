@@ -37,7 +37,7 @@ fn request(rt: &HostRuntime) -> (Result<Request, ArgumentsError>, bool) {
     }
 }
 
-/// The words of the command line, the program's name first. A word that is no text is an error.
+/// The words of the command line, the program's name first. A word that isn't text is an error.
 fn words(rt: &HostRuntime) -> io::Result<Vec<String>> {
     let words: Vec<String> = env::args(rt)?.collect(rt.alloc())?;
     Ok(words)
@@ -86,7 +86,7 @@ fn copy_csv(rt: &HostRuntime, core: &mut Core, policy: Policy) -> Result<(), Ref
     }
 }
 
-/// Has workers serve the lines of standard input.
+/// Lets workers serve the lines of standard input.
 fn batch<H: Threads + Wait + Sync>(
     handle: &H,
     rt: &HostRuntime,
@@ -109,7 +109,7 @@ fn batch<H: Threads + Wait + Sync>(
     )
 }
 
-/// Has workers serve connections to a port. They keep receipts where an audit is asked for.
+/// Lets workers serve connections to a port. They keep receipts if an audit is asked for.
 fn serve_port<H: Threads + Wait + Net<Listener = TcpListener, Stream = TcpStream> + Sync>(
     handle: &H,
     rt: &HostRuntime,
@@ -124,7 +124,7 @@ fn serve_port<H: Threads + Wait + Net<Listener = TcpListener, Stream = TcpStream
     serve_named::<Brand, H>(handle, rt, service, table)
 }
 
-/// Has the workers of a table serve connections, once its book has its name.
+/// Lets the workers of a table serve connections, once its book has its name.
 fn serve_named<
     J: Naming + Send + Sync,
     H: Threads + Wait + Net<Listener = TcpListener, Stream = TcpStream> + Sync,
@@ -155,7 +155,7 @@ fn serve_named<
     }
 }
 
-/// Has workers with books serve connections.
+/// Lets workers with books serve connections.
 fn serve_audited<H: Threads + Wait + Net<Listener = TcpListener, Stream = TcpStream> + Sync>(
     handle: &H,
     rt: &HostRuntime,
@@ -219,7 +219,7 @@ struct Console<'a, H: Net<Listener = TcpListener, Stream = TcpStream>> {
     is_quiet: bool,
 }
 
-/// The console of a server on these terms.
+/// The console of a server with these options.
 fn console_of<'a, H: Net<Listener = TcpListener, Stream = TcpStream>>(
     handle: &'a H,
     rt: &'a HostRuntime,
@@ -249,7 +249,7 @@ impl<'a, H: Net<Listener = TcpListener, Stream = TcpStream>> Host for Console<'a
     }
 }
 
-/// Listens on the host's port, and says so.
+/// Listens on the host's port, and reports it.
 fn listen<H: Net<Listener = TcpListener, Stream = TcpStream>, W: Write>(
     host: &Console<'_, H>,
     writer: &mut W,
@@ -262,7 +262,7 @@ fn listen<H: Net<Listener = TcpListener, Stream = TcpStream>, W: Write>(
     Ok(listener)
 }
 
-/// Tells which port is listened on.
+/// Reports the port that is listened on.
 fn announce<W: Write>(port: u16, writer: &mut W) -> Result<(), Refusal> {
     let line = writeln!(writer, "listening {port}");
     if line.is_err() || writer.flush().is_err() {
@@ -271,7 +271,7 @@ fn announce<W: Write>(port: u16, writer: &mut W) -> Result<(), Refusal> {
     Ok(())
 }
 
-/// Does what was asked for. Threads, waiting and sockets are the handle's.
+/// Does what was asked for. The handle provides threads, waiting and sockets.
 fn run_request<H: Threads + Wait + Net<Listener = TcpListener, Stream = TcpStream> + Sync>(
     handle: &H,
     rt: &HostRuntime,
@@ -286,7 +286,7 @@ fn run_request<H: Threads + Wait + Net<Listener = TcpListener, Stream = TcpStrea
     }
 }
 
-/// Writes a refusal to standard error, and its cause after it where words are asked for.
+/// Writes a refusal to standard error, followed by its cause if words are asked for.
 fn complain(rt: &HostRuntime, refusal: Refusal, in_words: bool) -> ExitCode {
     let _ = if in_words {
         eprintln!(rt; "crackd: {refusal}: {}", refusal.cause())
