@@ -1,4 +1,4 @@
--- What follows of calls by numbers.
+-- What follows from calls by numbers.
 use Rattle.std.specs.Prelude.{◌≡◌, ℕ, ℤ, List, Result}
 use Rattle.std.proofs.Common.{subst}
 use Rattle.crack_row.specs.declared.Bound.{Bound}

@@ -1,4 +1,4 @@
--- What follows of pieces that are written into lists.
+-- What follows from pieces that are written into lists.
 use Rattle.std.specs.Prelude.{◌≡◌, ◌≢◌, ◌+◌, ◌<◌, ℕ, List, length, slice_index_or}
 use Rattle.std.proofs.Common.{set, arith, sym, subst, ⊎_elim}
 use Rattle.std.proofs.lemmas.List.{get_or-set_same, get_or-set_other}
@@ -6,7 +6,7 @@ use Rattle.std.proofs.lemmas.Bool.{cases_eq}
 use Rattle.crack_row.specs.declared.layout.PieceSize.{PieceSize}
 use Rattle.crackd_c.specs.Calls.{no_piece, StandsAt}
 
--- a piece more is written
+-- one more piece is written
 pub stands-more : (pieces : List PieceSize) (lows sizes : List ℕ) (i low size : ℕ) → length sizes ≡ length lows → i < length lows → StandsAt (slice_index_or pieces i no_piece) low size
     → ((k : ℕ) → k < i → k < length lows → StandsAt (slice_index_or pieces k no_piece) (slice_index_or lows k 0) (slice_index_or sizes k 0))
     → (k : ℕ) → k < i + 1 → k < length (set lows i low) → StandsAt (slice_index_or pieces k no_piece) (slice_index_or (set lows i low) k 0) (slice_index_or (set sizes i size) k 0)

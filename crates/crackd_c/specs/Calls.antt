@@ -25,7 +25,7 @@ use Rattle.crackd_c.specs.declared.handle.Handle.{Handle}
 use Rattle.crackd_c.specs.declared.picture.Totals.{Totals}
 use Rattle.crackd_c.specs.declared.status.TheConstants.{CLOSED, LENGTHS_DIFFER, NO_SUCH_POLICY}
 
--- the policy of a number
+-- the policy with a number
 abbrev pub policy_at : ℕ → Option Policy
 policy_at n = if n == 0 then Some Complete else (if n == 1 then Some Gradual else (if n == 2 then Some Ripple else (if n == 3 then Some Auto else None)))
 
@@ -41,7 +41,7 @@ no_piece = record { low = record { 0 = 0 }; high = record { 0 = 0 }; size = 0 }
 abbrev pub StandsAt : PieceSize → ℕ → ℕ → Type 0
 StandsAt piece low size = (piece.low.0 ≤ GREATEST_KEY → low ≡ piece.low.0) × (size ≡ piece.size)
 
--- pieces stand in two lists, as far as these have room: the least key of each, and how many rows it has
+-- pieces are in two lists, as far as there is room: the least key of each, and how many rows it has
 abbrev pub PiecesIn : List PieceSize → List ℕ → List ℕ → Type 0
 PiecesIn pieces lows sizes = (k : ℕ) → k < length pieces → k < length lows → StandsAt (slice_index_or pieces k no_piece) (slice_index_or lows k 0) (slice_index_or sizes k 0)
 
@@ -50,7 +50,7 @@ abbrev pub status_of : Option Refusal → ℕ
 status_of None = 0
 status_of (Some e) = code_of e
 
--- lists are as long as another
+-- lists have the length of another
 abbrev pub AreEqual : ℕ → List ℕ → Type 0
 AreEqual count [] = Unit {0}
 AreEqual count (n ∷ others) = (n ≡ count) × AreEqual count others
@@ -75,25 +75,25 @@ StaysOpen old new = (new.is_open ≡ true) × (new.core.splits ≡ old.core.spli
 abbrev pub Declines : Handle → Handle → ℕ → Type 0 → ℕ → Type 0
 Declines old new status unwritten why = (status ≡ why) × (new ≡ old) × unwritten
 
--- a call on a table: it isn't made where the handle holds none
+-- a call on a table: it isn't made if the handle holds none
 abbrev pub OnTable : Handle → Handle → ℕ → Type 0 → (Type 0 → Type 0) → Type 0
 OnTable old new status unwritten made = (old.is_open ≡ false → Declines old new status unwritten CLOSED) × (old.is_open ≡ true → made unwritten)
 
--- a call with lists, on a table: it isn't made where these aren't as long as another
+-- a call with lists, on a table: it isn't made if these have different lengths
 abbrev pub OnLists : ℕ → List ℕ → Handle → Handle → ℕ → Type 0 → (Type 0 → Type 0) → Type 0
 OnLists count lengths old new status unwritten made =
     OnTable old new status unwritten (λ unwritten. ((AreEqual count lengths → ⊥) → Declines old new status unwritten LENGTHS_DIFFER) × (AreEqual count lengths → made unwritten))
 
--- a call by the policy of a number: it isn't made where there is none
+-- a call by the policy with a number: it isn't made if there is none
 abbrev pub ByPolicy : ℕ → Handle → Handle → ℕ → (Type 0 → Type 0) → Type 0 → Type 0
 ByPolicy number old new status made unwritten = (policy_at number ≡ None → Declines old new status unwritten NO_SUCH_POLICY) × (IsSome (policy_at number) → made unwritten)
 
--- a call on a table, which stays open, comes out by what is asked of its rows: its status is 0, and this is written; or it is the number of a
+-- the outcome of a call on a table, which stays open, follows from its rows: its status is 0, and this is written; or it is the number of a
 -- refusal, and nothing is
 abbrev pub ComesOut : {X : Type 0} → (Result X Refusal → List PlainView → List PlainView → Type 0) → Handle → Handle → ℕ → (X → Type 0) → Type 0 → Type 0
 ComesOut {X} asked old new status written unwritten = StaysOpen old new × ((outcome : Result X Refusal) × asked outcome (rows_of old.core) (rows_of new.core) × MatchResult outcome (λ x. (status ≡ 0) × written x) (λ e. (status ≡ code_of e) × unwritten))
 
--- a list of so many calls on a table went so: its status is 0, or the number of the refusal at which it stopped, and so many were done
+-- the result of a list of this many calls on a table: its status is 0, or the number of the refusal at which it stopped, and this many were done
 abbrev pub GoesOn : Call → ℕ → Handle → Handle → ℕ → ℕ → Type 0
 GoesOn call count old new status done = StaysOpen old new × ((progress : Progress) × (status ≡ status_of progress.refusal) × (done ≡ progress.done) × Went call count (rows_of old.core) progress (rows_of new.core))
 
@@ -101,7 +101,7 @@ GoesOn call count old new status done = StaysOpen old new × ((progress : Progre
 abbrev pub Shows : Handle → Handle → ℕ → ℕ → Totals → List ℕ → List ℕ → Type 0 → Type 0
 Shows old new part status totals lows sizes unwritten = (new.is_open ≡ true) × (new.core ≡ old.core) × ((outcome : Result Layout Refusal) × IsLayoutOutcome (keys_of_part old.core.splits part) (slice_get (tables_of old.core.parts) part) outcome × MatchResult outcome (λ layout. (status ≡ 0) × (totals ≡ totals_in layout) × PiecesIn layout.pieces lows sizes) (λ e. (status ≡ code_of e) × unwritten))
 
--- the history of a partition is checkpointed, and how many entries went is written
+-- a checkpoint of a partition is made, and how many entries its history had is written
 abbrev pub FoldsOne : Handle → Handle → ℕ → ℕ → ℕ → Type 0 → Type 0
 FoldsOne old new part status folded unwritten = StaysOpen old new × ((outcome : Result ℕ Refusal) × IsFoldOutcome (slice_get (tables_of old.core.parts) part) outcome × (tables_of new.core.parts ≡ tables_folded (tables_of old.core.parts) part outcome) × MatchResult outcome (λ count. (status ≡ 0) × (folded ≡ count)) (λ e. (status ≡ code_of e) × unwritten))
 

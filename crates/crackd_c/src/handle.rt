@@ -1,4 +1,4 @@
-//! A core that C holds.
+//! A core that C code holds.
 ghost use Rattle.std.specs.Prelude.{◌≡◌, ℕ, true, false};
 ghost use Rattle.crackd_c.specs.Handles.{CoreState, core_coded, handle_owns};
 ghost use Rattle.std.specs.Borrow.{sem};
@@ -9,7 +9,7 @@ use std::alloc::Global;
 use std::marker::{Model, Send};
 use std::{mem, ptr};
 
-/// A table that C holds, or none. One whose bytes are all zero holds none.
+/// A table that C code holds, or none. A handle whose bytes are all zero holds none.
 #[repr(C)]
 #[derive(Drop)]
 pub struct Handle {
@@ -32,7 +32,7 @@ impl Handle {
         self.is_open
     }
 
-    /// One that holds this table.
+    /// A handle that holds this table.
     pub fn of(core: Box<Core>) -> Handle
         ensures { (result.is_open ≡ true) × (result.core ≡ core.value) }
     {
@@ -49,7 +49,7 @@ impl Handle {
         mem::replace(self, closed).into_parts(alloc).into_box()
     }
 
-    /// One that holds no table.
+    /// A handle that holds no table.
     fn closed() -> Handle
         ensures { result.is_open ≡ false }
     {
@@ -80,7 +80,7 @@ impl Handle {
         }
     }
 
-    /// The table, to be asked.
+    /// The table, for calls.
     pub fn core(&mut self) -> &mut Core
         requires { self.old.is_open ≡ true }
         ensures* writes_back { sem 𝓛 (core_follows self.entry result) }

@@ -1,4 +1,4 @@
-//! The partitions of one thread, for C: one call at a time at a handle.
+//! The partitions of one thread, for C: one call at a time on a handle.
 #![tactic(auto)]
 
 ghost use Rattle.std.specs.Prelude.{◌≡◌, true, false, MatchOption, length, [], ◌∷◌};
@@ -23,7 +23,7 @@ use status::{
 };
 use std::alloc::Global;
 
-/// Opens a table at a handle that holds none.
+/// Opens a table in a handle that holds none.
 #[unsafe(no_mangle)]
 pub extern "C" fn crackd_open(
     alloc: Global,
@@ -55,7 +55,7 @@ pub extern "C" fn crackd_open(
     }
 }
 
-/// Gives back all that a table took. The handle holds none then.
+/// Frees all that a table took. Then the handle holds none.
 #[unsafe(no_mangle)]
 pub extern "C" fn crackd_close(alloc: Global, handle: &mut Handle) -> u32
     ensures closed { handle.old.is_open ≡ false → (result ≡ CLOSED) × (handle.new ≡ handle.old) }
@@ -97,7 +97,7 @@ pub extern "C" fn crackd_insert(
     }
 }
 
-/// Takes a row out, and writes whether it was there, and what it was.
+/// Removes a row, and writes whether it existed, and what it was.
 #[unsafe(no_mangle)]
 pub extern "C" fn crackd_delete(
     handle: &mut Handle,
@@ -134,7 +134,7 @@ pub extern "C" fn crackd_delete(
     }
 }
 
-/// Replaces the key and the payload of a row, and writes whether it is there.
+/// Replaces the key and the payload of a row, and writes whether it exists.
 #[unsafe(no_mangle)]
 pub extern "C" fn crackd_update(
     handle: &mut Handle,
@@ -269,7 +269,7 @@ pub extern "C" fn crackd_select(
     }
 }
 
-/// Writes what stands where in a partition: the totals, and the least key and the size of each piece, as far as the
+/// Writes the layout of a partition: the totals, and the least key and the size of each piece, as far as the
 /// lists have room.
 #[unsafe(no_mangle)]
 pub extern "C" fn crackd_layout(
@@ -299,7 +299,7 @@ pub extern "C" fn crackd_layout(
     }
 }
 
-/// Folds the history of a partition, and writes how many entries went.
+/// Makes a checkpoint of a partition, and writes how many entries its history had.
 #[unsafe(no_mangle)]
 pub extern "C" fn crackd_checkpoint(handle: &mut Handle, part: u32, folded: &mut u64) -> u32
     ensures folds { OnTable handle.old handle.new result (folded.new ≡ folded.old) (FoldsOne handle.old handle.new part
@@ -357,7 +357,7 @@ pub extern "C" fn crackd_insert_many(
     close_list(progress, done)
 }
 
-/// Takes rows out, and writes of each whether it was there.
+/// Removes rows, and writes for each whether it existed.
 #[unsafe(no_mangle)]
 pub extern "C" fn crackd_delete_many(
     handle: &mut Handle,
@@ -382,7 +382,7 @@ pub extern "C" fn crackd_delete_many(
     close_list(progress, done)
 }
 
-/// Replaces keys and payloads of rows, and writes of each whether it is there.
+/// Replaces keys and payloads of rows, and writes for each whether it exists.
 #[unsafe(no_mangle)]
 pub extern "C" fn crackd_update_many(
     handle: &mut Handle,

@@ -10,7 +10,7 @@ use crack_core::Core;
 use crack_row::{Bound, BoundNumber, Limits, Refusal};
 use std::alloc::Global;
 
-/// Partitions between these splits, on the heap. Refused as `Core::open_with` is, and with 8 where the splits find no
+/// Partitions between these splits, on the heap. Refused as `Core::open_with` is, and with 8 if the splits find no
 /// memory.
 pub fn open(alloc: Global, splits: &[u64], limits: Limits) -> Result<Box<Core>, Refusal>
     ensures opened { IfOk result (λ core. (core.value.splits ≡ bounds_at splits.now) × (core.value.limits ≡ limits)) }

@@ -1,4 +1,4 @@
-//! A `Box` with its fields in sight of the module above.
+//! A `Box` whose fields the module above can see.
 ghost use Rattle.std.specs.Prelude.{◌≡◌};
 ghost use Rattle.std.specs.Box.Ownership.{box_owns};
 

@@ -1,4 +1,4 @@
-//! What stands where in a partition, for C.
+//! The layout of a partition, for C.
 ghost use Rattle.std.specs.Prelude.{◌≡◌, ◌≤◌, length};
 ghost use Rattle.crackd_c.specs.Calls.{totals_in, PiecesIn};
 

@@ -6,7 +6,7 @@ ghost use Rattle.crackd_c.specs.Calls.{policy_at, status_of};
 use crack_core::Progress;
 use crack_row::{Policy, Refusal};
 
-/// What a call returns that was answered.
+/// The return value of a call that was answered.
 pub const ANSWERED: u32 = 0;
 
 /// The handle holds no table.
@@ -15,13 +15,13 @@ pub const CLOSED: u32 = 101;
 /// The handle holds a table already.
 pub const ALREADY_OPEN: u32 = 102;
 
-/// Lists that have to be equally long aren't.
+/// Lists that must be equally long aren't.
 pub const LENGTHS_DIFFER: u32 = 103;
 
-/// There is no policy of this number.
+/// There is no policy with this number.
 pub const NO_SUCH_POLICY: u32 = 104;
 
-/// The policy of a number.
+/// The policy with a number.
 pub fn policy_of(number: u32) -> Option<Policy>
     ensures { result ≡ policy_at number }
 {
@@ -34,7 +34,7 @@ pub fn policy_of(number: u32) -> Option<Policy>
     }
 }
 
-/// How a list of calls went: its number, and how many were answered.
+/// The result of a list of calls: its number, and how many were answered.
 pub fn close_list(progress: Progress, done: &mut u64) -> u32
     ensures done { done.new ≡ progress.done }
     ensures status { result ≡ status_of progress.refusal }
