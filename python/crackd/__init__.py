@@ -1,8 +1,8 @@
-"""A table of rows in memory that needs no index: it puts itself in order as it is asked.
+"""A table of rows in memory that needs no index: it sorts itself as it is queried.
 
-`Table` is one in this process, `connect` reaches one behind a server, `serve` starts such a server, and
-`crackd.cluster.Table` spreads one over a Dask cluster. All have the same methods. Keys are integers, floats or numpy's
-dates; payloads are integers of 64 bits. `load_csv` reads a table from a file. numpy is used where it is installed.
+`Table` is one in this process, `connect` connects to one on a server, `serve` starts such a server, and
+`crackd.cluster.Table` spreads one over a Dask cluster. All have the same methods. Keys are integers, floats or numpy
+dates; payloads are integers of 64 bits. `load_csv` reads a table from a file. numpy is used if it is installed.
 """
 
 from .base import Rows, row_text

@@ -1,7 +1,7 @@
-"""Arrays of numbers: numpy's where it is installed, else those of the module `array`.
+"""Arrays of numbers: numpy's if it is installed, else those of the module `array`.
 
 Each array that goes to the library is a copy that this package owns, contiguous and of the right type, so that a
-caller who changes his own meanwhile does no harm.
+caller that changes its own meanwhile does no harm.
 """
 
 from __future__ import annotations
@@ -73,7 +73,7 @@ def ints(code: str, numbers: Any, what: str) -> Any:
 
 
 def address(it: Any) -> tuple[int, int]:
-    """The address of an array of this package's own, and its length. An empty one has an address, too."""
+    """The address of an array of this package's own, and its length. Even an empty one has an address."""
     if np is not None:
         if not (it.flags.c_contiguous and it.flags.aligned and it.ndim == 1):
             raise ValueError("an array isn't laid out as the library needs it")
@@ -93,7 +93,7 @@ def plain(it: Any) -> list:
 
 
 def parsed(code: str, text: bytes) -> Any:
-    """Integers that are written in decimal, with white space between them."""
+    """Integers written in decimal, with white space between them."""
     if np is not None:
         return np.fromstring(text, dtype=DTYPES[code], sep=" ") if text.strip() else np.empty(0, dtype=DTYPES[code])
     return array.array(code, map(int, text.split()))

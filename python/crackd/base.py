@@ -45,9 +45,9 @@ def payload_of(payload: Any) -> int:
 
 
 class AnyTable(abc.ABC):
-    """A table of rows, each with a key and a payload: in this process, behind a server, or on a cluster.
+    """A table of rows, each with a key and a payload: in this process, on a server, or on a cluster.
 
-    Ranges are half open, as in Python: `low` is inside and `high` isn't, and None stands for no end. Each row has a
+    Ranges are half open, as in Python: `low` is inside and `high` isn't, and None means no end. Each row has a
     number, which stays with it and is never used again. Any thread may call any method; a table answers one call at a
     time. Close it, or use it in a `with`.
     """
@@ -69,22 +69,22 @@ class AnyTable(abc.ABC):
         return self._insert_many(self._keys.many(keys), ints("q", payloads, "payloads"))
 
     def delete(self, row: int) -> bool:
-        """Deletes a row. Returns whether it was there."""
+        """Deletes a row. Returns whether it existed."""
         return bool(self.delete_many([row])[0])
 
     def delete_many(self, rows: Any) -> Any:
-        """Deletes rows. Returns for each whether it was there, as an array."""
+        """Deletes rows. Returns for each whether it existed, as an array."""
         return flags(self._delete_many(ints("Q", rows, "row numbers")))
 
     def update(self, row: int, key: Any, payload: int) -> bool:
-        """Gives a row a new key and payload. Returns whether it was there.
+        """Gives a row a new key and payload. Returns whether it exists.
 
         A key of another partition is refused (`WrongPartition`): delete the row and insert it again.
         """
         return bool(self.update_many([row], [key], [payload])[0])
 
     def update_many(self, rows: Any, keys: Any, payloads: Any) -> Any:
-        """Updates rows in order. Returns for each whether it was there, as an array.
+        """Updates rows in order. Returns for each whether it exists, as an array.
 
         If one is refused, those before it are updated: `done` of the error says how many.
         """
@@ -98,7 +98,7 @@ class AnyTable(abc.ABC):
         return self._count(first, end - 1) if first < end else self._nothing(0)
 
     def count_many(self, lows: Optional[Sequence[Any]], highs: Optional[Sequence[Any]]) -> Any:
-        """The counts of many ranges, as an array. None in place of a list, or in it, stands for no end."""
+        """The counts of many ranges, as an array. None in place of a list, or in it, means no end."""
         return self._count_many(*self._keys.ends_many(lows, highs))
 
     def sum(self, low: Any = None, high: Any = None) -> int:
@@ -121,7 +121,7 @@ class AnyTable(abc.ABC):
         self._settle()
 
     def checkpoint(self) -> int:
-        """Empties the histories, which frees their memory; rows and their numbers stay. Returns how many entries went."""
+        """Empties the histories, which frees their memory; rows and their numbers stay. Returns how many entries they had."""
         return self._checkpoint()
 
     def layout(self) -> Layout:

@@ -14,7 +14,7 @@ SECONDS_OF_A_STEP = 0.2
 
 
 class Channel:
-    """A connection with a server. It receives while it sends, so that neither side waits for ever. `on_wait` is called when
+    """A connection with a server. It receives while it sends, so that neither side waits forever. `on_wait` is called when
     nothing came for a moment."""
 
     def __init__(self, host: str, port: int, on_wait: Callable[[], None] = lambda: None):
@@ -81,7 +81,7 @@ class Channel:
         return self.block(count).decode("ascii", "backslashreplace").split("\n")[:-1]
 
     def lines_given(self) -> list[str]:
-        """The lines that have come and weren't returned yet."""
+        """The lines that have arrived but weren't returned yet."""
         return self.lines(sum(it.count(b"\n") for it in self._given))
 
     def close(self) -> None:

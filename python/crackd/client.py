@@ -1,4 +1,4 @@
-"""A table behind a server, over TCP. A call for many items sends them all before it waits for replies."""
+"""A table on a server, over TCP. A call for many items sends them all before it waits for replies."""
 
 from __future__ import annotations
 
@@ -25,7 +25,7 @@ def row_numbers(parts: Any, serials: Any) -> Any:
 
 
 class Client(AnyTable):
-    """A table behind a server: see `connect`."""
+    """A table on a server: see `connect`."""
 
     def __init__(self, channel: Channel, keys: Keys, policy: str):
         self._channel: Optional[Channel] = channel
@@ -87,7 +87,7 @@ class Client(AnyTable):
         return b"".join(lines)
 
     def _fold(self) -> int:
-        """Makes a checkpoint of each partition. Returns how many entries went."""
+        """Makes a checkpoint of each partition. Returns how many entries they had."""
         text = b"".join(b"checkpoint %d\n" % it for it in range(MOST_PARTS))
         said = [line.split() for line in self._exchange(text, MOST_PARTS).splitlines()]
         for words in said:
@@ -196,7 +196,7 @@ class Client(AnyTable):
 
 
 def _check(said: bytes, before: int = 0, parts: Sequence[bytes] = ()) -> None:
-    """Raises an error if a reply is a refusal: `done` counts the `before` earlier items too, and `answers` are the other replies."""
+    """Raises an error if a reply is a refusal: `done` also counts the `before` earlier items, and `answers` are the other replies."""
     if b"refused" not in said:
         return
     lines = said.splitlines(keepends=True)
@@ -211,7 +211,7 @@ def connect(host: str = "127.0.0.1", port: int = 4000, *, key_type: Any = "uint6
     """Connects to a table behind `crackd serve`.
 
     `key_type` is the type of the keys: "uint64", which the server itself has, or "int64", "float64", "datetime64[s]" ..;
-    all who share a table have to give the same. `policy` says how rows are merged. Raises `Disconnected` if there is no
+    all clients of a table must give the same. `policy` says how rows are merged. Raises `Disconnected` if there is no
     server.
     """
     if policy not in POLICIES:

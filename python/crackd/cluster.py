@@ -55,7 +55,7 @@ ROWS_A_TASK = 1_000_000
 class ShardLost(Error):
     """A shard's worker is gone, and its rows with it.
 
-    `shard` is its number, and `low` and `high` are the ends of its keys, half open; None stands for no end. Of an
+    `shard` is its number, and `low` and `high` are the ends of its keys, half open; None means no end. After an
     `insert_many`, `answers` has the numbers of the rows that were placed in other shards.
     """
 
@@ -78,9 +78,9 @@ class ShardLost(Error):
 class Table(AnyTable):
     """A table over the workers of a cluster.
 
-    Methods, arguments, answers and errors are those of `crackd.Table`. There is no moment that is common to several
-    shards, and only `save` keeps rows. When a worker is lost, each call that meets its keys raises `ShardLost` from
-    then on, and never gives a partial answer; the other shards go on. `shards` is how many there are.
+    Methods, arguments, answers and errors are those of `crackd.Table`. Calls over several shards don't see one moment,
+    and only `save` keeps rows. When a worker is lost, each call that meets its keys raises `ShardLost` from
+    then on, and never returns a partial answer; the other shards go on. `shards` is how many there are.
     """
 
     def __init__(
@@ -96,9 +96,9 @@ class Table(AnyTable):
     ):
         """An empty table for about `rows` rows whose keys look like those of `sample`.
 
-        It has a shard for each worker of `client`, or `shards` of them; quantiles of the sample cut the keys, so where
-        the sample has few different keys there are fewer, and without a sample there is one. `splits` cuts the keys in
-        place of a sample. `key_type` and the options policy, history and cells are those of a `crackd.Table`.
+        It has a shard for each worker of `client`, or `shards` of them; quantiles of the sample divide the keys, so if
+        the sample has few different keys there are fewer, and without a sample there is one. `splits` divides the keys
+        instead of a sample. `key_type` and the options policy, history and cells are those of a `crackd.Table`.
         """
         kind = kind_of(sample) if key_type is None else Keys.named(key_type)
         numbers = np.sort(kind.many(sample)) if len(sample) else np.empty(0, np.uint64)
@@ -118,7 +118,7 @@ class Table(AnyTable):
         history: int = HISTORY,
         cells: int = MOST_CELLS,
     ) -> None:
-        """Starts the shards, on the workers in turn. Where `cuts` isn't given, quantiles of these numbers are."""
+        """Starts the shards, on the workers in turn. If `cuts` isn't given, quantiles of these numbers are used."""
         if policy not in POLICIES:
             raise ValueError(f"policy must be one of {', '.join(POLICIES)}, not {policy}")
         self._client, self._keys = client, kind
@@ -142,7 +142,7 @@ class Table(AnyTable):
             self._futures = []
             raise
         self._tokens = [token for token, _ in answers]
-        # (a shard that there isn't has no partition)
+        # (a shard that doesn't exist has no partition)
         self._parts = np.array([*(parts for _, parts in answers), 0], np.uint64)
 
     def _begun(self, worker: str, cuts: list[int], options: dict) -> Future:
@@ -159,7 +159,7 @@ class Table(AnyTable):
         return [it for it in quantiles(inside, parts, max(1, len(inside))) if low < it] if parts > 1 else []
 
     def _ends_of(self, shard: int) -> tuple[int, int]:
-        """The numbers of a shard's keys, from the first up to and without the second."""
+        """The numbers of a shard's keys, from the first up to but not including the second."""
         low = int(self._cuts[shard - 1]) if shard else 0
         return low, int(self._cuts[shard]) if shard < self.shards - 1 else TOP
 
@@ -170,7 +170,7 @@ class Table(AnyTable):
             raise Closed("the table is closed")
 
     def _lose(self, shard: int, why: str) -> ShardLost:
-        """Takes a shard for lost from now on."""
+        """Treats a shard as lost from now on."""
         low, high = self._ends_of(shard)
         ends = [None if it in (0, TOP) else self._keys.back_one(it) for it in (low, high)]
         self._lost.setdefault(shard, ShardLost(shard, *ends, ends_text(self._keys, low, high), why))
@@ -217,7 +217,7 @@ class Table(AnyTable):
         return Actor(Shard, worker, future.key)
 
     def _result(self, shard: int, future: Any) -> tuple[str, Any]:
-        """Waits for a shard's answer. What is no error of this package means that the shard is lost."""
+        """Waits for a shard's answer. An error that isn't this package's means that the shard is lost."""
         actor = self._actors[shard]
         try:
             return waited(future, lambda: has_actor(self._client, actor._address, actor.key))
@@ -369,7 +369,7 @@ class Table(AnyTable):
         return int(self._parts.sum())
 
     def close(self) -> None:
-        """Gives back all that the shards took. A second call does nothing."""
+        """Frees all that the shards took. A second call does nothing."""
         if self._futures:
             self._ask(self._every(), "close")
             self._futures, self._actors = [], []
@@ -377,9 +377,9 @@ class Table(AnyTable):
     # Files
 
     def save(self, folder: Any) -> dict:
-        """Writes the rows of each shard where it stands, to a folder that the client and all workers share.
+        """Writes the rows of each shard where it is, to a folder that the client and all workers share.
 
-        What was saved there before stays until all is written. Each file is an array of numpy with the fields `key` and
+        What was saved there before stays until everything is written. Each file is an array of numpy with the fields `key` and
         `payload`. Returns the manifest.
         """
         folder = pathlib.Path(folder).resolve()
@@ -408,9 +408,9 @@ class Table(AnyTable):
 
     @classmethod
     def restore(cls, client: Client, folder: Any, *, shards: Optional[int] = None, **options: Any) -> "Table":
-        """Reads a table that was saved, on the workers that there are now, or in as many shards as `shards` says.
+        """Reads a table that was saved, on the present workers, or in as many shards as `shards` says.
 
-        Rows get new numbers. Counts and sums are compared with the manifest: what doesn't agree is a `BadSave`.
+        Rows get new numbers. Counts and sums are compared with the manifest: what doesn't agree raises `BadSave`.
         """
         folder = pathlib.Path(folder).resolve()
         manifest = read_manifest(folder / MANIFEST)
@@ -461,7 +461,7 @@ class Table(AnyTable):
             except Error:
                 raise
             except Exception:
-                # (where a worker that was lost had a shard, that is the error)
+                # (if a lost worker had a shard, that is the error)
                 self._all(self._every(), "begin")
                 raise
             self.settle()
@@ -532,7 +532,7 @@ def evened(samples: Sequence[tuple[int, Any]]) -> Iterator[Any]:
 
 
 def ends_text(keys: Keys, low: int, high: int) -> str:
-    """The keys from one number up to and without another, in words."""
+    """The keys from one number up to but not including another, in words."""
     if low == 0:
         return f"keys below {keys.back_one(high)}" if high < TOP else "all keys"
     if high == TOP:
@@ -581,7 +581,7 @@ def sync_folder(folder: pathlib.Path) -> None:
 
 
 def read_manifest(path: pathlib.Path) -> dict:
-    """The manifest of a save. What is none is a `BadSave`."""
+    """The manifest of a save. Anything else raises `BadSave`."""
     try:
         manifest = json.loads(path.read_text(encoding="ascii"))
         lists = [manifest[it] for it in ("files", "counts", "sums")]

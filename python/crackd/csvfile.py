@@ -27,7 +27,7 @@ Place = Union[str, int]
 
 
 class CsvError(Error, ValueError):
-    """A field can't be read as it should. `line` and `column` say where, both from 1."""
+    """A field can't be read. `line` and `column` say where, both from 1."""
 
     def __init__(self, path: str, line: int, column: int, name: str, what: str):
         super().__init__(f"{path}, line {line}, column {column}{f' ({name})' if name else ''}: {what}")

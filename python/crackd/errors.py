@@ -26,7 +26,7 @@ REASONS = {
 
 
 class Error(Exception):
-    """The base of all errors of this package but plain TypeError, ValueError and OverflowError."""
+    """The base of all errors of this package, except plain TypeError, ValueError and OverflowError."""
 
 
 class Closed(Error, ValueError):
@@ -41,7 +41,7 @@ class Refused(Error):
     """A call was refused.
 
     `code` is the number of the refusal. `done` is how many items of the call were done before the first that was
-    refused. Over TCP and on a cluster items after it may be done too: `later` is how many, and 0 in process. After an
+    refused. Over TCP and on a cluster items after it may also be done: `later` is how many, and 0 in process. After an
     `insert_many`, `answers` has the numbers of the rows that were placed.
     """
 
@@ -81,7 +81,7 @@ class LifeOver(Refused):
 
 
 class BadSplits(Refused, ValueError):
-    """Splits that don't rise, or are too many."""
+    """Splits that don't rise, or too many splits."""
 
 
 class BadLimit(Refused, ValueError):

@@ -17,7 +17,7 @@ from .keys import Keys, kind_of, quantiles
 
 TRIES = 5
 SECONDS_OF_AN_END = 10
-# where the program lies in a checkout of the repository whose python/ this package is
+# where the program is in a checkout of the repository whose python/ this package is
 BUILT = pathlib.Path(__file__).resolve().parent.parent.parent / "crates" / "crackd" / "out" / "crackd"
 
 
@@ -26,8 +26,8 @@ class NoServer(Error):
 
 
 def find_program(path: Optional[str] = None) -> str:
-    """The path of the program: the one that is given, that the variable CRACKD says, that is built in this checkout, or that
-    of PATH."""
+    """The path of the program: the given one, that of the variable CRACKD, the one built in this checkout, or the one
+    on PATH."""
     found = path or os.environ.get("CRACKD") or (str(BUILT) if BUILT.exists() else shutil.which("crackd"))
     if found is None:
         is_checkout = BUILT.parent.parent.exists()
@@ -85,7 +85,7 @@ class Server:
     def connect(self, **options: Any) -> Client:
         """A new connection to the table, as by `crackd.connect`.
 
-        A server serves as many at a time as it has workers; a further one waits.
+        A server serves as many at a time as it has workers; further ones wait.
         """
         return connect("127.0.0.1", self.port, **{"key_type": self._keys, "policy": self._policy, **options})
 

@@ -34,7 +34,7 @@ TIMEOUTS = (TimeoutError, asyncio.TimeoutError)
 class ShardFailed(Error):
     """A shard couldn't do what it was asked, for another reason than a refusal: a full disk, for example.
 
-    Of an `insert_many`, `answers` has the numbers of the rows that were placed in other shards.
+    After an `insert_many`, `answers` has the numbers of the rows that were placed in other shards.
     """
 
     answers: Any = None
@@ -152,7 +152,7 @@ def blocks_of(shards: Any) -> Iterator[Block]:
 
 
 def waited(future: Any, is_there: Callable[[], bool]) -> Any:
-    """An actor's answer, waited for as long as the actor is there: Dask itself may wait for ever."""
+    """An actor's answer, waited for as long as the actor is there: Dask itself may wait forever."""
     while not future.done():
         try:
             return future.result(timeout=SECONDS_OF_A_LOOK)
@@ -202,7 +202,7 @@ def sample_of(keys: Any) -> tuple[int, Any]:
 
 
 def rows_of_file(path: str, count: int, kind: Keys) -> Any:
-    """The rows of a file that was saved, where it is whole. They are read as they are used."""
+    """The rows of a file that was saved, if it is whole. They are read as they are used."""
     try:
         rows = np.load(path, mmap_mode="r")
     except (OSError, ValueError, EOFError) as error:

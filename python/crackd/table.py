@@ -45,9 +45,9 @@ class Table(AnyTable):
     ):
         """An empty table for about `rows` rows whose keys look like those of `sample`, and have its type.
 
-        `key_type` says the type where there is no sample: "int64" by default, "uint64", "float64", "datetime64[s]" ..
-        There are `partitions` of them, 1 to 64, by default one for each 4,096 rows; quantiles of the sample cut the keys,
-        or `splits` does. `policy` says how rows are merged, `history` after how many commands a partition's history is
+        `key_type` gives the type if there is no sample: "int64" by default, "uint64", "float64", "datetime64[s]" ..
+        There are `partitions` of them, 1 to 64, by default one for each 4,096 rows; quantiles of the sample divide the
+        keys, or `splits` does. `policy` says how rows are merged, `history` after how many commands a partition's history is
         emptied, and `cells` how many rows a partition may have.
         """
         if policy not in POLICIES:
@@ -59,7 +59,7 @@ class Table(AnyTable):
         limits = [it if 0 <= it < TOP else 0 for it in (history, cells, MOST_LIFE)]
         self._check(self._run(self._library.open, from_ints("Q", cuts, "splits"), *limits))
         self.partitions, self._cuts = len(cuts) + 1, cuts
-        # (rows that were placed and not taken out, about, and rows that selects listed since the histories were folded)
+        # (rows that were placed and not taken out, about, and rows that selects listed since the last checkpoints)
         self._held = self._listed = 0
 
     @classmethod

@@ -1,4 +1,4 @@
-"""How the shell reaches a server, its own or another, and what a control-C does meanwhile."""
+"""How the shell connects to a server, its own or another, and what a control-C does meanwhile."""
 
 import contextlib
 import signal

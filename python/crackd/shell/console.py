@@ -236,7 +236,7 @@ class Shell:
             self.files.pop()
 
     def layout(self, partition):
-        """Draws the column of one partition, or of all."""
+        """Draws the column of one partition or of all."""
         one = [self.session.layout(partition)] if partition else []
         if None in one:
             raise Fault(f"layout {partition}: {in_words('refused 5')}")

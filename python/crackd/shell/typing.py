@@ -1,4 +1,4 @@
-"""Lines at the prompt: edited, completed by Tab, and kept in a file, if the module readline is there."""
+"""Lines at the prompt: edited, completed by Tab, and kept in a file, if the module readline is installed."""
 
 import contextlib
 import glob
