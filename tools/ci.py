@@ -1,7 +1,7 @@
 #!/usr/bin/env python3
-"""What a change has to pass: `make test`, and then the must-fail edits that are due.
+"""What a change must pass: `make test`, and then the must-fail edits that are due.
 
-Where more are due than fit into the time, those of changed crates go first, and those that are left are named. The last line is the sum of all,
+If more are due than fit into the time, those of changed crates go first, and those that are left are named. The last line is the sum of all,
 'N passed, M failed'; the status is 0 only where nothing failed.
 """
 

@@ -1,4 +1,4 @@
-"""Names of code that docs/PROOFS.md cites in a crate's section, and that neither stand in its texts nor are those of a function or a public type."""
+"""Names of code that docs/PROOFS.md cites in a crate's section, and that neither are in its texts nor are those of a function or a public type."""
 
 import pathlib
 import re
@@ -9,7 +9,7 @@ SECTION = re.compile(r"^## (crackd?_\w+)\n(.*?)(?=^## )", re.MULTILINE | re.DOTA
 QUOTED = re.compile(r"`([^`]+)`")
 NAME = re.compile(r"[A-Za-z_][\w-]*")
 NAMED = re.compile(r"\b(?:fn|pub struct|pub enum|pub trait) (\w+)")
-# what stands in sections and is no name of code: words of statements and of policies, and a crate of the toolchain
+# what is in sections and isn't a name of code: words of statements and of policies, and a crate of the toolchain
 PLAIN = {"quit", "policy", "auto", "csv"}
 
 
@@ -20,7 +20,7 @@ def texts(crate):
 
 
 def strangers(text, top=crates.TOP):
-    """The names of a page that stand nowhere, each with the crate whose section cites it."""
+    """The names of a page that are nowhere, each with the crate whose section cites it."""
     folders = {it.name: it for it in sorted((pathlib.Path(top) / "crates").iterdir())}
     functions = {name for it in folders.values() for path in sorted(it.glob("src/**/*.rt")) for name in NAMED.findall(path.read_text(encoding="utf-8"))}
     wrong = []

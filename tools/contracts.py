@@ -1,6 +1,6 @@
 """Types, ghost members and calls of src/ as items, with what they cite.
 
-A type is its text, without attributes and comments; where it has a model, what clauses see is the model's value. A field that other crates don't see is
+A type is its text, without attributes and comments; if it has a model, what clauses see is the model's value. A field that other crates don't see is
 left out where the model doesn't read it, or without a model no clause, definition or ghost member. A ghost member is one statement of a trait or of a
 block `impl`: of a model each is an item, else those of a block are one. A call is its clauses: it cites what they name, and the types and traits of its
 signature.
@@ -24,7 +24,7 @@ HIDDEN = re.compile(r"^    (?:pub\([a-z]+\) )?(\w+): ")
 
 @dataclasses.dataclass(frozen=True)
 class Clause:
-    """A clause of a call: whether callers have to see to it, its name, its lines, and what it cites."""
+    """A clause of a call: whether callers must see to it, its name, its lines, and what it cites."""
 
     is_required: bool
     name: str
@@ -155,7 +155,7 @@ def clauses_from(source, at, scope, bound):
 
 
 def signature_at(source, at):
-    """The lines of a function from its first one up to its clauses; none where it has no clauses."""
+    """The lines of a function from its first one up to its clauses; none if it has no clauses."""
     for behind in range(at, len(source.lines)):
         if CLAUSE.match(source.lines[behind]):
             return range(at, behind)

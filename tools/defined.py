@@ -26,7 +26,7 @@ This page is written by `python3 tools/defined.py`.
 
 
 def is_private(path):
-    """Whether private clauses alone cite what stands in a file."""
+    """Whether private clauses alone cite what is in a file."""
     return path.read_text(encoding="utf-8").startswith(PRIVATE)
 
 

@@ -25,7 +25,7 @@ ASSIGNED = re.compile(r"(?m)(?:[{;]|^)\s*(\w+) =(?=\s)")
 
 @dataclasses.dataclass(frozen=True, eq=False)
 class Item:
-    """What stands in a crate's texts under one name. Its lines, each with its number, are those that count; beside them stand comments, and the first
+    """What is in a crate's texts under one name. Its lines, each with its number, are those that count; beside them are comments, and the first
     lines of a function. It cites other items by their names."""
 
     name: str
@@ -66,7 +66,7 @@ def used(line):
 
 
 def plain(text):
-    """A text without comments and without what stands in quotes."""
+    """A text without comments and without what is in quotes."""
     return re.sub(r'"[^"\n]*"', '""', re.sub(r"(?m)(?:--|//).*$", "", text))
 
 

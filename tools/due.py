@@ -2,7 +2,7 @@
 
 A crate has changed where its own text has (sources, definitions or proofs, without lines of comment), or where it names something of a crate below it
 whose meaning has: a definition, the statement of a law, a type, or a function's contract, be it that its own text changed or that of something which
-it names in turn. What stands in a function's body or in a law's proof is of no meaning for the crates above. Of a crate that hasn't changed, the
+it names in turn. What is in a function's body or in a law's proof is of no meaning for the crates above. Of a crate that hasn't changed, the
 edits are due that are new or changed themselves.
 """
 
@@ -130,7 +130,7 @@ def changed_crates(commit):
 
 
 def since():
-    """The commit whose edits were all tried, where it is one that this one comes from."""
+    """The commit whose edits were all tried, if it is one that this one comes from."""
     commit = edits.TRIED.read_text().strip() if edits.TRIED.exists() else ""
     kind = edits.git("cat-file", "-t", commit) if re.fullmatch(r"[0-9a-f]{40}", commit) else ""
     base = edits.git("merge-base", commit, "HEAD") if kind == "commit" else ""

@@ -30,9 +30,9 @@ import prove
 import rooms
 
 TRIED = crates.TOP / "tools" / "edits-tried"
-# How many edits one check tries at the most, from round to round.
+# How many edits one check tries at most, from round to round.
 SIZES = (8, 3, 1)
-# What a check of several edits takes at the most, for a start; then what was seen decides.
+# What a check of several edits takes at most, for a start; then what was seen decides.
 SECONDS = 60.0
 UNREAD = re.compile(r"is not in scope|has no field|is no name|operand is missing|expected the end|cannot continue")
 ERROR = re.compile(r"(?:\./)?(\S+?):\d+:\d+: error: (?:(`[^`]*`): )?(.*)")
@@ -87,7 +87,7 @@ def edits_of(crate):
 
 
 def applied(edits):
-    """The texts of the files that these edits of one crate change, or None where they can't be made together."""
+    """The texts of the files that these edits of one crate change, or None if they can't be made together."""
     folder, texts = crates.listed()[edits[0].crate].folder, {}
     for file, old, new in (change for it in edits for change in it.changes):
         text = texts[file] if file in texts else (folder / file).read_text()
@@ -113,7 +113,7 @@ def are_apart(one, other):
 
 
 def batches(edits, size):
-    """Parts these edits of one crate into lists of at most so many, each of edits that can be tried together: first those that go with the fewest."""
+    """Parts these edits of one crate into lists of at most this many, each of edits that can be tried together: first those that go with the fewest."""
     made = []
     for edit in sorted(edits, key=lambda it: sum(are_apart(it, other) for other in edits)):
         fits = lambda batch: len(batch) < size and all(are_apart(edit, it) for it in batch) and applied([*batch, edit]) is not None
@@ -135,7 +135,7 @@ def is_kept(crate):
 
 
 class Check:
-    """What a check of a crate with some edits, or with none, said. Where it has none, what it keeps is what checks with edits begin with."""
+    """What a check of a crate with some edits, or with none, said. If it has none, what it keeps is what checks with edits begin with."""
 
     def __init__(self, crate, edits, jobs):
         texts = applied(edits) if edits else {}
@@ -236,7 +236,7 @@ class Trials:
         self.batch_seconds = max(check.taken, 0.8 * self.batch_seconds)
         seconds = check.seconds / len(batch)
         if len(batch) == 1:
-            # (a check that ended in neither way, as one that was killed for want of memory, is made once more)
+            # (a check that ended in neither way, as one that was killed for lack of memory, is made once more)
             self.judge(batch[0], check if check.status in (0, 1) else Check(crate, batch, jobs))
             return []
         left = []
@@ -266,7 +266,7 @@ class Trials:
             self.round(size)
 
     def round(self, size):
-        """One round: each edit that waits is tried once, among at most so many."""
+        """One round: each edit that waits is tried once, among at most this many."""
         by_crate = collections.defaultdict(list)
         for edit in self.waiting:
             by_crate[edit.crate].append(edit)
@@ -316,7 +316,7 @@ def ready(names):
 
 
 def git(*words):
-    """What git says of the checkout; nothing where there is none."""
+    """What git says of the checkout; nothing if there is none."""
     ran = subprocess.run(["git", *words], cwd=crates.TOP, capture_output=True, text=True, check=False)
     return ran.stdout.strip() if ran.returncode == 0 else ""
 

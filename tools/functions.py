@@ -38,7 +38,7 @@ def module_of(path):
 
 
 def without_arguments(text):
-    """A type's text without what stands in angle brackets."""
+    """A type's text without what is in angle brackets."""
     kept, depth = [], 0
     for it in text.replace("->", "  "):
         depth += it == "<"

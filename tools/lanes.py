@@ -1,4 +1,4 @@
-"""Runs tasks side by side: as many as there are processors and memory for, and first those on which most others wait."""
+"""Runs tasks in parallel: as many as there are processors and memory for, and first those on which most others wait."""
 
 import concurrent.futures
 import os
@@ -15,7 +15,7 @@ def processors():
 
 
 def memory():
-    """How much memory is free, in bytes; where the system doesn't say, as much as there is a need for."""
+    """How much memory is free, in bytes; if the system doesn't say, as much as there is a need for."""
     try:
         found = re.search(r"MemAvailable:\s+(\d+)", pathlib.Path("/proc/meminfo").read_text())
     except OSError:
@@ -36,7 +36,7 @@ class Task:
         self.waits, self.weight, self.need, self.call, self.most_jobs = waits, weight, need, call, most_jobs
 
     def need_at(self, jobs):
-        """The memory that it needs at so many jobs."""
+        """The memory that it needs at this many jobs."""
         return self.need * (1 + 0.6 * (jobs - 1))
 
 

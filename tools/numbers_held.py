@@ -1,6 +1,6 @@
-"""Numbers of the documents that are constants of the code: what stands in a document is held to the constant that the source names.
+"""Numbers of the documents that are constants of the code: what is in a document is held to the constant that the source names.
 
-A line of NUMBERS is a document, a text of it in which {} stands for the number, and the crate and the constant. The text stands in the document once, on
+A line of NUMBERS is a document, a text of it in which {} stands for the number, and the crate and the constant. The text is in the document once, on
 one line or over several, with the number in digits, in threes by commas or in one row. `mismatches` says which lines don't hold.
 """
 

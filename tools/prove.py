@@ -17,7 +17,7 @@ import crates
 import lanes
 import rooms
 
-# What these lines of a check say is of no use to whoever has to mend the crate.
+# What these lines of a check say is of no use to whoever must mend the crate.
 NOISE = ("checked ", "so far: ", "statements ", "by-macro: ", "logic ", "rt: chose ")
 
 
@@ -36,7 +36,7 @@ def made_of(crate):
 
 
 def stamp_of(crate):
-    """What stands beside what was made of a crate, if that is up to date."""
+    """What is beside what was made of a crate, if that is up to date."""
     made = made_of(crate) if crate.is_program or crate.is_static else made_of(crate) / "format"
     return f"{crates.sum_of(crate.name)} {hashlib.sha256(made.read_bytes()).hexdigest()}\n" if made.exists() else ""
 

@@ -1,7 +1,7 @@
-"""What has to be read to know what a promise says: the clauses of the calls that docs/PROOFS.md names for it, and what these cite, in turn.
+"""What must be read to know what a promise says: the clauses of the calls that docs/PROOFS.md names for it, and what these cite, in turn.
 
-A table there whose last column is headed `Its calls` names calls in it by their paths, row by row; in brackets after one stand the names of
-those of its clauses that carry the promise, where not all do. What callers have to see to is read in any case. A type is read with the value and the
+A table there whose last column is headed `Its calls` names calls in it by their paths, row by row; in brackets after one are the names of
+those of its clauses that carry the promise, where not all do. What callers must see to is read in any case. A type is read with the value and the
 view of its model, and with the types of the fields that these read; a trait's ghost members with those that each public type has of it.
 """
 
@@ -54,7 +54,7 @@ class Reading:
         return found
 
     def place(self, item):
-        """Where an item stands: its crate, the lowest first, its file and its line."""
+        """Where an item is: its crate, the lowest first, its file and its line."""
         return self.rank[item.crate], item.path.as_posix(), item.first
 
     def ordered(self, items):
@@ -88,14 +88,14 @@ class Reading:
         return found[0]
 
     def read_for(self, roots):
-        """What has to be read for calls, each with the names of the clauses that are asked for or nothing, in the order in which it's read."""
+        """What must be read for calls, each with the names of the clauses that are asked for or nothing, in the order in which it's read."""
         calls = [narrowed(self.call(path), names) for path, names in roots.items()]
         named = {it.name for it in calls}
         return self.ordered([*calls, *(self.items[it] for it in self.reached(calls) - named)])
 
 
 def narrowed(call, names):
-    """A call with those alone of its clauses that have these names or that callers have to see to; with all of them where no name is given."""
+    """A call with those alone of its clauses that have these names or that callers must see to; with all of them where no name is given."""
     kept = tuple(it for it in call.clauses if not names or it.is_required or it.name in names)
     missing = set(names) - {it.name for it in kept}
     if missing:
@@ -122,7 +122,7 @@ def roots_in(text):
 
 
 def joined(many):
-    """The calls of several promises. One of which each asks for some clauses is asked for all of these; where one asks for the whole, for that."""
+    """The calls of several promises. One of which each asks for some clauses is asked for all of these; if one asks for the whole, for that."""
     found = {}
     for calls in many:
         for path, names in calls.items():

@@ -19,7 +19,7 @@ REMARK = re.compile(r"^\s*//")
 
 @dataclasses.dataclass(frozen=True)
 class Block:
-    """An `impl` or a trait: where it stands, its type (of a trait the trait itself), its trait with its arguments (of a trait none), and the items
+    """An `impl` or a trait: where it is, its type (of a trait the trait itself), its trait with its arguments (of a trait none), and the items
     that its names are."""
 
     span: range
@@ -93,7 +93,7 @@ class Names:
         self.public = set()
 
     def item(self, crate, path):
-        """The item that a path means in a crate; nothing where it is a function, or of a library."""
+        """The item that a path means in a crate; nothing if it is a function, or of a library."""
         first, *rest = path.split("::")
         of = crate if first in {"crate", "self", "super", *self.modules[crate]} else first
         found = self.own.get((of, rest[-1] if rest else first), [])

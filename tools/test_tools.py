@@ -342,7 +342,7 @@ class Reading(unittest.TestCase):
             items = whole.read_for(roots)
             place = {it.name: at for at, it in enumerate(items)}
             late = ((it, name) for it in items for name in it.cites if place.get(name, 0) > place[it.name] and not name.startswith(f"{it.name} as "))
-            # (of items that cite one another, as the model of a recursive type and what that holds do, one has to come first)
+            # (of items that cite one another, as the model of a recursive type and what that holds do, one must come first)
             behind = [it for it, name in late if it.name not in whole.reached([whole.items[name]])]
             self.assertEqual((len(place), behind), (len(items), []))
 

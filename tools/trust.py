@@ -1,14 +1,14 @@
 #!/usr/bin/env python3
-"""Prints and counts what a reader has to read to know what is promised: trust.py [--count] [--each] [--all] [PROMISE ..]
+"""Prints and counts what a reader must read to know what is promised: trust.py [--count] [--each] [--all] [PROMISE ..]
 
 For the promises of docs/PROOFS.md and the sentence above them (PROMISE: their names, or `headline`; else all) it prints the clauses of their calls
 and the definitions, types and ghost members that these cite, in turn, each after what it cites, with its file and line. Counted are the lines of
 clauses, definitions and ghost members; those of types and constants, which are code, are counted apart, beside them. Comments and the first lines of
-functions are printed and not counted; the names that a file brings from others, and what stands in a library, are neither. --count leaves the text
-out, --each adds the numbers of each crate, and --all those of all that stands in specs/, comments and `use` lines too, and in public clauses, with the
+functions are printed and not counted; the names that a file brings from others, and what is in a library, are neither. --count leaves the text
+out, --each adds the numbers of each crate, and --all those of all that is in specs/, including comments and `use` lines, and in public clauses, with the
 ghost members of public types.
 
-The status is 1 where a definition of specs/ is reached by no clause of any crate; where private clauses alone reach it, of functions that a crate
+The status is 1 if a definition of specs/ is reached by no clause of any crate; if private clauses alone reach it, of functions that a crate
 keeps to itself, of tests, or what a type keeps of its own fields, and its module doesn't say so in its first line; or where its module says so and
 public clauses reach it.
 """
@@ -49,7 +49,7 @@ def place_of(item):
 
 
 def row(name, items):
-    """A line of a table: how many lines of items are counted, of each kind, and how many lines of types stand beside them."""
+    """A line of a table: how many lines of items are counted, of each kind, and how many lines of types are beside them."""
     return "".join([f"{name:20}", f"{count(items):8}", *(f"{count(items, kinds):15}" for kinds in (*KINDS.values(), BESIDE))])
 
 
@@ -84,7 +84,7 @@ def is_for_private(path):
 
 
 def misplaced(whole):
-    """The definitions that don't stand where they should: what is wrong with each sort, and the definitions."""
+    """The definitions that aren't where they should: what is wrong with each sort, and the definitions."""
     citing = [it for it in whole.items.values() if it.kind in ("call", "trait", "ghost", "model")]
     every, public = whole.reached(citing), whole.reached(it for it in citing if is_public(it))
     found = [it for it in whole.items.values() if it.kind == "definition"]
