@@ -1,7 +1,7 @@
 """Measures a table on a Dask cluster, and writes the times into docs/CLUSTER.md: cluster_rows.py [ROWS [RUNS]]
 
 The same rows in a `crackd.cluster.Table` over four worker processes of this machine, in a `crackd.Table` of one process, and in a dask.dataframe on
-the same workers, without an index. All in turn, each anew in each run. The least seconds of each step are printed; all have to answer the same. The page
+the same workers, without an index. All in turn, each again in each run. The least seconds of each step are printed; all must answer the same. The page
 is written only for the number of rows that it speaks of. Wants numpy, pandas and Dask, and libcrackd.so.
 """
 

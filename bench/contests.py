@@ -118,7 +118,7 @@ def rivals(runs):
 
 
 def set_contests(runs):
-    """What is asked over TCP of `crackd serve` and of a Redis sorted set; nothing where there is no Redis."""
+    """What is asked over TCP of `crackd serve` and of a Redis sorted set; nothing if there is no Redis."""
     names = {
         "load": (f"{sizes.PART_ROWS} inserts", 1),
         "cold": ("each count at once, all rows pending, under `ripple`", sizes.RANGES),

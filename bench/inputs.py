@@ -99,7 +99,7 @@ class Mix:
         return scattered(self.number) % bound
 
     def insert(self, at):
-        """The insert of a row that stands at this place among the rows."""
+        """The insert of a row that is at this place among the rows."""
         place = self.next(sizes.PARTS_EACH)
         self.rows[at : at + 1] = [f"{self.first + place}.{self.placed[place]}"]
         self.placed[place] += 1

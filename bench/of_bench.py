@@ -10,7 +10,7 @@ from programs import BENCH, PEERS, compare, in_turn, middle_of
 WORK = ["put_in", "taken_out", "evicted", "moved", "pulled"]
 
 FAST = "a cracker column for speed alone"
-# (once all rows stand in the column, the policy changes nothing)
+# (once all rows are in the column, the policy changes nothing)
 FAST_KIND = "fast-gradual"
 
 
@@ -36,7 +36,7 @@ def beside(word, kinds, numbers, runs):
 
 
 def measure_counts(table, runs):
-    # (those that are compared stand side by side, and far from the passes over all rows, which disturb what runs after them)
+    # (those that are compared are adjacent, and far from the passes over all rows, which disturb what runs after them)
     kinds = ["rows", "inline", "pairs", FAST_KIND, "gradual"]
     rows, inline, pairs, fast, same, ours = beside("counts", kinds, [sizes.PART_ROWS, sizes.RANGES], runs)
     for what, names in (

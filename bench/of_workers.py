@@ -54,7 +54,7 @@ def asking_times(runs):
 
 
 def gathering_times(runs):
-    """What gathering takes after so many commands, in seconds: of workers with receipts, whose partitions are then dropped, and of witnessed ones, before."""
+    """What gathering takes after this many commands, in seconds: of workers with receipts, whose partitions are then dropped, and of witnessed ones, before."""
     workers, times = str(sizes.GATHER_WORKERS), {}
     for rows in sizes.WITNESSED_ROWS:
         booked, witnessed = compare([[WORKERS, *kind, "gathered", workers, str(rows)] for kind in ([], ["witnessed"])], runs)

@@ -1,4 +1,4 @@
-"""Builds programs, runs them in turn, and reads off what they report."""
+"""Builds programs, runs them in turn, and reads what they report."""
 
 import contextlib
 import dataclasses
@@ -22,7 +22,7 @@ PEERS = OUT / "peers"
 
 @dataclasses.dataclass(frozen=True)
 class Programs:
-    """Where the programs of a checkout are, once they are built."""
+    """Where the programs of a checkout are, after they are built."""
 
     folder: pathlib.Path
 

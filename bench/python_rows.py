@@ -1,7 +1,7 @@
 """Run by of_python.py, by an interpreter that has numpy: python_rows.py ROWS RANGES RUNS
 
 The same rows in a `crackd.Table`, in numpy arrays that are kept sorted, in numpy arrays that are asked by masks, and in an SQLite table in memory with an
-index, all in this process and in turn. Prints, as JSON, the median seconds of each step by its name, in that order; all have to answer the same.
+index, all in this process and in turn. Prints, as JSON, the median seconds of each step by its name, in that order; all must answer the same.
 """
 
 import json
@@ -94,7 +94,7 @@ class Sorted:
 
 
 class Masks:
-    """Arrays in the order of arrival; a row that goes is marked."""
+    """Arrays in order of arrival; a row that goes is marked."""
 
     name = "numpy, masks"
 

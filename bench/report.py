@@ -79,7 +79,7 @@ class Rivals:
 
 @dataclasses.dataclass
 class Measured:
-    """What stands in the report besides the queries: bytes a row by name, the steps of rows by policy in millions, seconds by the way of loading, those of
+    """What is in the report besides the queries: bytes a row by name, the steps of rows by policy in millions, seconds by the way of loading, those of
     counts after a load, statements a second by the sharing, seconds of asking and of gathering with receipts and witnessed, contests, what is fast in its
     own way, and what a Redis sorted set takes, if there is one."""
 

@@ -173,7 +173,7 @@ def totals(is_warm):
 
 
 def measured(runs):
-    """How many seconds each step takes in each of both, crackd's first, by its name; nothing where there is no Redis."""
+    """How many seconds each step takes in each of both, crackd's first, by its name; nothing if there is no Redis."""
     if shutil.which(REDIS) is None:
         print(f"{REDIS} isn't installed: crackd isn't compared with it")
         return {}
