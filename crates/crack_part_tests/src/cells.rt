@@ -4,8 +4,8 @@
 //! refused in turn.
 use crack_part::Partition;
 use crack_row::{
-    Command, GREATEST_LIMIT, Key, KeyNumber, KeyRange, Layout, Limits, Payload, PayloadNumber, Policy,
-    Refusal, Reply, Serial, Upkeep,
+    Command, GREATEST_LIMIT, Key, KeyNumber, KeyRange, Layout, Limits, Payload, PayloadNumber,
+    Policy, Refusal, Reply, Serial, Upkeep,
 };
 use std::process::Abort;
 
