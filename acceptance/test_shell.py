@@ -6,7 +6,6 @@ Most of it stands in shell.txt, and what it writes as a filter in cases/shell.ca
 import contextlib
 import functools
 import importlib.util
-import json
 import os
 import pathlib
 import re
@@ -204,15 +203,3 @@ class Files(fixtures.Case):
                 shell.type("\x10" * 4 + "\n")
                 shell.wait_for(r"count 0 10[ \x08]*\ncount 0" + TIME)
                 shell.leave(1, 0, 0, 0)
-
-    def test_json(self) -> None:
-        """Replies are written as JSON, a line each."""
-        asked = "insert 7 70\ninsert 8 -80\nsum 7 9\nselect 7 9\ndelete 0.0\nupdate 0.1 8 80\ncheckpoint 0\n"
-        asked = f".mode json\n{asked}policy complete\nlayout 9\nquit\n"
-        status, wrote, _ = ran([*SHELL, self.program], asked, env={**os.environ, **SHELL_ENVIRONMENT})
-        *lines, refusal, bye = map(json.loads, wrote.splitlines())
-        rows = [{"row": "0.0", "key": 7, "payload": 70}, {"row": "0.1", "key": 8, "payload": -80}]
-        wanted = [{"row": "0.0"}, {"row": "0.1"}, {"sum": -10}, rows, {"gone": {"key": 7, "payload": 70}}]
-        wanted += [{"changed": True}, {"folded": 6}, {"policy": "complete"}]
-        expect("json", (1, wanted, {"bye": True}), (status, lines, bye))
-        expect("a refusal", (5, []), (refusal["refused"], refusal["numbers"]))
