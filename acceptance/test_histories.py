@@ -301,18 +301,12 @@ class Texts(unittest.TestCase):
         self.assertRaises(Wrong, self.assert_passes, *given)
 
 
-def add_texts() -> None:
-    """Adds a check for each text of histories.txt, and for each that is altered so that it is wrong."""
-    whole = (fixtures.TOP / "acceptance" / "histories.txt").read_text(encoding="utf-8")
-    for section in whole.split("\n---- ")[1:]:
-        right, *wrong = section.split("\n== ")
-        name, asked, bounds = HEAD.match(right).groups()
-        text = right.partition("\n")[2].strip() + "\n"
-        fixtures.add(Texts, name, Texts.assert_passes, text, "", asked, bounds)
-        for it in wrong:
-            what, _, other = HEAD.match(f"{it}\n").groups()
-            fixtures.add(Texts, f"{name}, {what}", Texts.assert_found, text, it, asked, other or bounds)
-
-
-add_texts()
+# a check for each text of histories.txt, and for each that is altered so that it is wrong
+for head, texts in fixtures.sections("histories.txt").items():
+    right, *altered = texts.split("\n== ")
+    name, asked, bounds = HEAD.match(f"{head}\n").groups()
+    fixtures.add(Texts, name, Texts.assert_passes, f"{right.strip()}\n", "", asked, bounds)
+    for it in altered:
+        what, _, other = HEAD.match(f"{it}\n").groups()
+        fixtures.add(Texts, f"{name}, {what}", Texts.assert_found, f"{right.strip()}\n", it, asked, other or bounds)
 fixtures.add_seeds(Histories, SEEDS, check_seed)
