@@ -60,10 +60,7 @@ class Own:
 
     def parts_asked(self, said: Said) -> list[int]:
         """The numbers of the partitions that a command asks in turn, where a key isn't outside."""
-        return self.asked_of(said, self.session.parts_of(said))
-
-    def asked_of(self, said: Said, parts: list[Part]) -> list[int]:
-        """The same, of the partitions that it names."""
+        parts = self.session.parts_of(said)
         if said[0] in ("layout", "checkpoint") or (said[0] == "update" and parts and not parts[0].has(said[1][2])):
             return []
         return [part.number for part in parts]
@@ -71,8 +68,7 @@ class Own:
     def take(self, statement: str, lines: list[str]) -> None:
         """Holds a reply against the own rows, and does to them what the statement says."""
         said = said_in(statement)
-        parts = self.session.parts_of(said)
-        asked = self.asked_of(said, parts)
+        parts, asked = self.session.parts_of(said), self.parts_asked(said)
         is_over = len(asked) == 1 and (OVER, asked[0]) in self.refused
         refusal = self.refusal_of(said, asked, lines)
         if refusal == OVER or (refusal and not is_over):

@@ -27,7 +27,7 @@ ESCAPED = re.compile(rb"\\(x[0-9a-f]{2}|.)", re.DOTALL)
 PLAIN = {b"r": b"\r", b"t": b"\t", b"n": b"\n", b"s": b" ", b"\\": b"\\", b"c": b""}
 MARKED = re.compile(r"([$<>!=~+@#])(?: (.*))?")
 REPLY = re.compile(r"(.*?)\s*(?<!\S)\|(?: (.*))?")
-DEVICE = re.compile(r"(from|to) (\S+)|fits (\d+) (\d+)")
+DEVICE = re.compile(r"(from|to) (\S+)")
 SHELL = [sys.executable, "-m", "crackd", "shell", "--program"]
 SHELL_ENVIRONMENT = {"PYTHONPATH": str(fixtures.TOP / "python"), "CRACKD_HISTORY": ""}
 
@@ -60,7 +60,6 @@ class Case:
     status: Wanted | None = None
     source: str = ""
     target: str = ""
-    fits: tuple[int, int] | None = None
 
     def output(self) -> list[Wanted]:
         """The lines of output, those of a batch worker by worker."""
@@ -129,9 +128,7 @@ def take(to: Case, mark: str, rest: str, number: int) -> None:
             name, _, text = rest.partition(" ")
             to.files[name] = unescaped(text)
         case "@" if not device:
-            raise Misfit("no path and no size")
-        case "@" if device[3]:
-            to.fits = int(device[3]), int(device[4])
+            raise Misfit("no path")
         case "@":
             setattr(to, {"from": "source", "to": "target"}[device[1]], device[2])
 
@@ -253,14 +250,9 @@ def first_difference(of: Case, what: str, wanted: list[Wanted], wrote: bytes) ->
 
 def output_faults(of: Case, wrote: bytes) -> list[str]:
     """What is wrong with the output of a case, a line each."""
-    found = [f"{of.place(it.line)}: the output lacks {it.text!r}" for it in of.texts if it.text not in wrote]
     if not of.texts:
-        found = first_difference(of, "output", of.output(), wrote)
-    if of.fits:
-        lines, place = wrote.decode().splitlines(), of.place(of.line)
-        found += [f"{place}: {len(lines)} lines, and at most {of.fits[0]} are allowed"] * (len(lines) > of.fits[0])
-        found += [f"{place}: more than {of.fits[1]} columns: {it!r}" for it in lines if len(it) > of.fits[1]]
-    return found
+        return first_difference(of, "output", of.output(), wrote)
+    return [f"{of.place(it.line)}: the output lacks {it.text!r}" for it in of.texts if it.text not in wrote]
 
 
 def faults(program: str, of: Case) -> list[str]:

@@ -17,7 +17,6 @@ import random
 import sys
 import time
 import typing
-import unittest
 
 import fixtures
 import random_script
@@ -27,7 +26,6 @@ import test_devices
 import test_histories
 import test_lines
 import test_memory
-import test_server
 from fixtures import MOST_WORKERS, TOP
 from test_clients import WHOLE, Hour, Storm
 
@@ -71,14 +69,6 @@ class Kind:
             print(f"soak: {self.name} {seed} FAILED\n    {wrong}", flush=True)
 
 
-def check_limits(program: str, seed: int) -> None:
-    """The check of small limits that a seed names. Which client comes first is another matter in each run."""
-    names = unittest.defaultTestLoader.getTestCaseNames(test_server.SmallLimits)
-    case = test_server.SmallLimits(names[seed % len(names)])
-    case.program = program
-    getattr(case, names[seed % len(names)])()
-
-
 def kinds() -> dict[str, Kind]:
     """All kinds by their names."""
     many_clients = lambda program, seed: Storm(program, seed, 3000, MOST_WORKERS, 40).run()
@@ -88,7 +78,7 @@ def kinds() -> dict[str, Kind]:
         Kind("hours-whole", whole_hour, alone=True, once=True),
         Kind("clients", test_clients.check, alone=True),
         Kind("hours", lambda program, seed: Hour(program, seed).run(), alone=True),
-        Kind("limits", check_limits, alone=True),
+        Kind("limits", test_clients.check_small, alone=True),
         Kind("threads", test_histories.soak, "crack_histories", shares=4),
         Kind("lines", test_lines.check),
         Kind("csv", test_csv.check),

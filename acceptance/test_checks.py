@@ -18,7 +18,6 @@ import soak
 import test_csv
 import test_devices
 import test_memory
-import test_server
 from client_rows import Account, Counts, Own, come_to
 from compare import check_totals, compare
 from fixtures import Wrong, length_of
@@ -330,30 +329,6 @@ class StandIns(fixtures.Case):
         with unittest.mock.patch.dict(test_memory.WAYS, alone=lambda _: {"from": far, "to": far}):
             with self.assertRaisesRegex(Wrong, r"checkpoints that were never refused: wanted '\[\]', got '\[8"):
                 test_memory.sweep_script(self.program, it.words, test_memory.with_layouts(it.given), "alone")
-
-
-class Folds(unittest.TestCase):
-    """What the worker of a batch was answered that folds the partitions of all."""
-
-    def lines(self, *of_others: int) -> list[str]:
-        """The right lines, where so many entries of each other partition go at once at the first checkpoints."""
-        folds, found = iter([*of_others, *[0] * 1000]), []
-        for number in range(test_server.OWN_LINES):
-            found.append(f"row 0.{number}")
-            if number % 50 == 49:
-                others = [f"folded {next(folds)}" for _ in range(test_server.WORKERS - 1)]
-                found += ["folded 50", *others]
-        return [*found, "count 2500"]
-
-    def test_the_right_lines_pass_and_others_are_found(self) -> None:
-        test_server.check_folds(self.lines())
-        test_server.check_folds(self.lines(1001, 1, 1001))
-        right, wrong = self.lines(7, 8, 9), [self.lines(1000, 0, 0, 2)]
-        for at in [0, 49, 50, 54, 55, 103, len(right) - 1]:
-            others = [["row 0.7"], ["folded 49"], ["refused 8"], ["count 99"], ["count 4001"]]
-            wrong += [[*right[:at], *put, *right[at + 1 :]] for put in [[], [right[at]] * 2, *others]]
-        for lines in wrong:
-            self.assertRaises(FOUND, test_server.check_folds, lines)
 
 
 class Soak(unittest.TestCase):

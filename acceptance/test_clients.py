@@ -299,12 +299,21 @@ SPLITS, WAITING, BACKLOG = 7, 32, 16
 # and cells that run out
 LIMITS = [Limits(500, life=4000), Limits(), Limits(500, 1500)]
 # servers among clients of all kinds: where none of these asks for a checkpoint, with checkpoints amid the honest ones'
-# work, and where histories get full and cells may run out, or lives may end
+# work, where histories get full and cells may run out, or lives may end, and where silent ones hold all workers but one
 STORMS = {
     "among all kinds": {"folds": False},
     "among checkpoints": {},
     "under small limits": {"seed": SEED + 1},
     "under short lives": {"seed": SEED + 2},
+    "where all but one are silent": {"sessions": 225, "workers": 63, "kinds": [Kind(silent, 50, 31)] * 2},
+}
+# honest clients alone, as many at a time as share the two partitions of such a server, by what bounds these
+HONEST = {"sessions": 208, "workers": 8, "kinds": [], "splits": 1}
+SMALL = {
+    "many at a small limit": {"limits": Limits(50)},
+    "checkpoints that are due": {"limits": Limits(50, is_automatic=True), "folds": False},
+    "a life ends for all": {"limits": Limits(50, life=1000)},
+    "cells run out for all": {"limits": Limits(50, 100)},
 }
 # how many bytes a server may take for each, beyond those of its start
 BYTES_OF_A_COMMAND, BYTES_OF_A_LISTED_ROW, BYTES_OF_A_SESSION = 330, 60, 100_000
@@ -314,8 +323,7 @@ BYTES_OF_A_COMMAND, BYTES_OF_A_LISTED_ROW, BYTES_OF_A_SESSION = 330, 60, 100_000
 MAPPED_FROM = {"MALLOC_MMAP_THRESHOLD_": "131072"}
 Visit = typing.Callable[[Guest], None]
 # what bounds a partition in an hour: cells just enough for the rows that stand
-HISTORY = 1000
-LIMITS_OF_AN_HOUR = Limits(HISTORY, 2000, is_automatic=True)
+LIMITS_OF_AN_HOUR = Limits(1000, 2000, is_automatic=True)
 # how many steady clients there are, how many rows each keeps, how many statements it sends at a time, and into how many
 # steps it divides its keys; and how many statements there are in all
 STEADY, ROWS, AT_ONCE, STEPS = 48, 20, 50, 8
@@ -323,11 +331,12 @@ SHORT, WHOLE = 60_000, 3_600_000
 BEFORE = [it for it in KINDS[1:] if it.visit not in (pipelines, reads_nothing)]
 OFTEN = {"insert": 34, "delete": 16, "update": 12, "count": 20, "sum": 10, "select": 7, "any": 1}
 CHECKPOINTS = re.compile(r"crackd: (?:checkpoint|(\d+) checkpoints, the last) of partition (\d+): (\d+) entries")
+# how many entries checkpoints that were due have removed once they have a line
+TOLD = 1000
 CUT_OFF = re.compile(r"crackd: worker \d+: session cut off: refused (?:17|18): .*")
 ENDED = re.compile(r"crackd: ended: sessions (\d+), cut off (\d+)")
 # how many commands there are before and after a look at the memory, a thirtieth of what bench/ measures
 LIMIT, FEW, MANY = 2_184, 100_000, 1_000_000
-SERVED = 100
 
 
 class Peak(threading.Thread):
@@ -355,7 +364,7 @@ def wait_for_a_place(port: int) -> None:
         time.sleep(0.005)
 
 
-def planned(numbers: random.Random, sessions: int, workers: int, of: list[Kind] = KINDS[1:]) -> list[tuple[Visit, int]]:
+def planned(numbers: random.Random, sessions: int, workers: int, of: list[Kind]) -> list[tuple[Visit, int]]:
     """The kinds of a run, those that take long first, each with its number of sessions, honest ones beside these."""
     kinds, left = [], sessions
     for kind in of:
@@ -392,37 +401,37 @@ def wait_for(visits: typing.Iterable[concurrent.futures.Future]) -> None:
 class Storm:
     """A server, and clients that a seed gives; of the sessions one for each worker is kept for a last look.
 
-    The slow clients send `seconds` bytes, one a second; `folds` says whether honest ones ask for checkpoints.
+    The slow clients send `seconds` bytes, one a second; `folds` says whether honest ones ask for checkpoints. `how` may
+    have the kinds besides these, other limits than the seed's, and how many splits there are, and further clients.
     """
 
-    def __init__(self, program, seed=SEED, sessions=SESSIONS, workers=MOST_WORKERS, seconds=SLOW_SECONDS, folds=True):
+    def __init__(
+        self, program, seed=SEED, sessions=SESSIONS, workers=MOST_WORKERS, seconds=SLOW_SECONDS, folds=True, **how
+    ) -> None:
         self.program, self.workers, self.sessions = program, workers, sessions
-        self.seconds, self.folds = seconds, folds
+        self.seconds, self.folds, self.ends = seconds, folds, ["--sessions", str(sessions)]
         numbers = random.Random(seed)
-        self.plan = planned(numbers, sessions - workers, workers)
+        self.plan = planned(numbers, sessions - workers, workers, how.get("kinds", KINDS[1:]))
         # how many keys each client has, and where they begin
-        self.width = MOST // len(self.plan)
-        self.lows = [it * self.width for it in numbers.sample(range(len(self.plan)), len(self.plan))]
-        places = numbers.sample(range(1, len(self.plan)), min(SPLITS, len(self.plan) - 1))
+        owners = len(self.plan) + how.get("further", 0)
+        self.width = MOST // owners
+        self.lows = [it * self.width for it in numbers.sample(range(owners), owners)]
+        places = numbers.sample(range(1, owners), min(how.get("splits", SPLITS), owners - 1))
         # (some clients have a split amid their keys)
         self.splits = sorted(it * self.width + numbers.choice([0, self.width // 2]) for it in places)
         self.seed = numbers.randrange(MOST)
         self.policy = numbers.choice(POLICIES)
-        self.limits = LIMITS[seed % len(LIMITS)]
+        self.limits = how.get("limits", LIMITS[seed % len(LIMITS)])
         # (half of the servers keep receipts)
         self.audit = ["--audit"] if seed % 2 else []
         self.clients: list[Own] = []
         # how many entries were folded by checkpoints that were due
         self.due = 0
 
-    def words(self) -> list[str]:
-        """The options of its server."""
-        return ["--sessions", str(self.sessions), "--quiet", *self.audit, "--policy", self.policy, *self.limits.words()]
-
     def run(self) -> dict[str, object]:
         """Runs it. What it came to, as numbers by their names."""
-        before = time.monotonic()
-        words = [*self.words(), *map(str, self.splits)]
+        before, words = time.monotonic(), [*self.ends, *self.audit, "--policy", self.policy, *self.limits.words()]
+        words += [*([] if self.limits.is_automatic else ["--quiet"]), *map(str, self.splits)]
         with Server(self.program, self.workers, *words, environment=MAPPED_FROM if self.folds else {}) as server:
             peak, account = Peak(server.process.pid), Account(self.splits)
             self.visit(server, account, peak)
@@ -447,8 +456,21 @@ class Storm:
                 it.end()
 
     def check_end(self, status: int, complained: str) -> None:
-        """Holds how the server ended."""
-        expect("status and standard error", (0, ""), (status, complained))
+        """Holds how the server ended. Where checkpoints were made that were due its lines are those that it may write,
+        and they say how many entries these folded."""
+        expect("status", 0, status)
+        if not self.limits.is_automatic:
+            expect("standard error", "", complained)
+            return
+        first, *others, last = complained.splitlines() or [""]
+        told, history = [CHECKPOINTS.fullmatch(line) for line in others], self.limits.history
+        strange = [line for line, it in zip(others, told) if not it and not CUT_OFF.fullmatch(line)]
+        if not first.startswith("crackd: listening on ") or not ENDED.fullmatch(last) or strange:
+            raise Wrong(f"standard error: {first!r}, {strange[:3]}, {last!r}")
+        wrong = [it[0] for it in told if it and (int(it[3]) != history or int(it[2]) > len(self.splits))]
+        if wrong:
+            raise Wrong(f"a checkpoint that was due folded a history of {history} entries: {wrong[:3]}")
+        self.due = history * sum(int(it[1] or 1) for it in told if it)
 
     def guest(self, port: int, low: int, seed: int, visits: int, others_gone: threading.Event) -> Guest:
         """A client with the keys from this one on."""
@@ -470,9 +492,11 @@ class Storm:
         """Holds rows, totals and memory against what the clients were answered."""
         counts = come_to(account, self.clients) + account.counts
         accepted, listed = check_totals(wrote, counts), counts["listed"]
-        # (the last checkpoint of each partition came at the end)
+        # (each partition's last checkpoint came at the end; those of short histories that were due last have no line)
         folded = account.folded + self.due + sum(it.folded.total() for it in self.clients)
-        expect("entries that checkpoints folded", accepted, folded)
+        history = self.limits.history if self.limits.is_automatic else TOLD
+        if accepted - folded not in range(0, TOLD, history):
+            raise Wrong(f"{folded} entries were folded by checkpoints, and {accepted} commands accepted")
         took, most = peak.bytes - peak.first, BYTES_OF_A_COMMAND * accepted + BYTES_OF_A_LISTED_ROW * listed
         most += BYTES_OF_A_SESSION * self.sessions
         if took > most:
@@ -498,17 +522,10 @@ class Hour(Storm):
     """Such a server, and its clients, which ask about so many statements in all."""
 
     def __init__(self, program: str, seed: int = SEED, statements: int = SHORT) -> None:
-        super().__init__(program, seed, SESSIONS + MOST_WORKERS)
-        numbers = random.Random(seed)
-        self.plan = planned(numbers, SESSIONS, MOST_WORKERS, BEFORE)
-        owners = len(self.plan) + STEADY
-        self.width = MOST // owners
-        self.lows = [it * self.width for it in numbers.sample(range(owners), owners)]
-        self.limits, self.statements = LIMITS_OF_AN_HOUR, statements
-        self.policy = numbers.choice(["complete", "auto"])
-
-    def words(self) -> list[str]:
-        return ["--until-eof", *self.audit, "--policy", self.policy, *self.limits.words()]
+        how = {"kinds": BEFORE, "further": STEADY, "limits": LIMITS_OF_AN_HOUR}
+        super().__init__(program, seed, SESSIONS + MOST_WORKERS, **how)
+        self.ends, self.statements = ["--until-eof"], statements
+        self.policy = random.Random(seed).choice(["complete", "auto"])
 
     def visit(self, server: Server, account: Account, peak: Peak) -> None:
         with Client(server.port) as looking:
@@ -538,25 +555,17 @@ class Hour(Storm):
             server.close()
             wait_for(runs)
 
-    def check_end(self, status: int, complained: str) -> None:
-        """Its lines are those that it may write. How many entries its checkpoints folded that were due."""
-        first, *others, last = complained.splitlines() or [""]
-        expect("status", 0, status)
-        told = [CHECKPOINTS.fullmatch(line) for line in others]
-        strange = [line for line, it in zip(others, told) if not it and not CUT_OFF.fullmatch(line)]
-        if not first.startswith("crackd: listening on ") or not ENDED.fullmatch(last) or strange:
-            raise Wrong(f"standard error: {first!r}, {strange[:3]}, {last!r}")
-        wrong = [it[0] for it in told if it and (int(it[3]) != HISTORY or int(it[2]) > len(self.splits))]
-        if wrong:
-            raise Wrong(f"a checkpoint that was due folded a history of {HISTORY} entries: {wrong[:3]}")
-        self.due = HISTORY * sum(int(it[1] or 1) for it in told if it)
-
 
 def check(program: str, seed: int) -> None:
     """A run of a size that the seed draws."""
     numbers = random.Random(seed)
     workers = numbers.choice([4, 8, 32, MOST_WORKERS])
     Storm(program, seed, workers + numbers.randrange(250, 500), workers, numbers.randrange(1, 20)).run()
+
+
+def check_small(program: str, seed: int) -> None:
+    """Honest clients under limits that the seed draws. Which of them comes first is another matter in each run."""
+    Storm(program, seed, **HONEST, **list(SMALL.values())[seed % len(SMALL)]).run()
 
 
 class Clients(fixtures.Case):
@@ -574,23 +583,6 @@ class Clients(fixtures.Case):
         """A short hour: checkpoints that are due, an end by closed input amid a load, and totals of what was told."""
         self.report("hour", Hour(self.program).run())
 
-    def test_all_but_one_are_silent(self) -> None:
-        """Silent clients hold their own workers alone: with one left, a hundred clients are served one by one."""
-        sessions, others_gone = SERVED + MOST_WORKERS - 1, threading.Event()
-        width = MOST // sessions
-        guests = [Own([], number * width, (number + 1) * width) for number in range(sessions)]
-        words = ["--sessions", str(sessions), "--quiet"]
-        with Server(self.program, MOST_WORKERS, *words) as server, contextlib.ExitStack() as stack:
-            quiet = [stack.enter_context(Client(server.port)) for _ in guests[SERVED:]]
-            for number, own in enumerate(guests[:SERVED]):
-                honest(Guest(server.port, own, number, 1, 0, others_gone))
-            counts = sum((it.counts() for it in guests), Counts())
-            held = counts["inserted"] - counts["deleted"]
-            for it in quiet:
-                it.ask(f"count 0 {MOST}", f"count {held}")
-                it.end()
-            server.wait((counts["least"] + len(quiet), counts["inserted"], counts["deleted"], held))
-
     def test_memory_after_a_million_commands(self) -> None:
         """A server has at most a twentieth more in memory after a million commands than after a tenth of them."""
         early, late = fixtures.served_bytes(self.program, LIMIT, FEW, MANY - FEW)
@@ -598,5 +590,5 @@ class Clients(fixtures.Case):
         self.assertLessEqual(late, 1.05 * early)
 
 
-for name, how in STORMS.items():
+for name, how in [*STORMS.items(), *((name, HONEST | it) for name, it in SMALL.items())]:
     fixtures.add(Clients, name, Clients.run_storm, how)
