@@ -5,7 +5,8 @@ feed or 200,000 statements at once, say nothing, or have large lists written to 
 own; what it sends and reads stands in its `own`, and client_rows.py holds that, the rows that stand when all have gone,
 and the totals. Honest ones ask for checkpoints amid their work, but in one case, and where a history is full; of three
 seeds two have small limits. The server has to end by itself once its sessions are served. A seed gives the same clients
-again; in which order a server comes to them it doesn't say.
+again; in which order a server comes to them it doesn't say. Where honest ones alone share two partitions of small
+limits, these hold for all of them together, and each entry is folded once.
 
 An hour is scaled down. First come clients of all kinds but those that leave many rows; nobody has to ask for a
 checkpoint, and 6 is no reply. Then steady ones connect, whose rows come, change and go while few stand at a time; once
@@ -25,7 +26,7 @@ import time
 import typing
 
 import fixtures
-from client_rows import Account, Counts, Own, come_to
+from client_rows import Account, Own, come_to
 from compare import check_totals
 from fixtures import FAULTS, MOST_WORKERS, SECONDS, Client, Server, Wrong, bytes_of, expect
 from plain_session import LEAST_PAYLOAD, MOST, POLICIES, Limits, read_line
@@ -307,7 +308,7 @@ STORMS = {
     "under short lives": {"seed": SEED + 2},
     "where all but one are silent": {"sessions": 225, "workers": 63, "kinds": [Kind(silent, 50, 31)] * 2},
 }
-# honest clients alone, as many at a time as share the two partitions of such a server, by what bounds these
+# honest clients alone, eight at a time, which share two partitions; and what bounds these
 HONEST = {"sessions": 208, "workers": 8, "kinds": [], "splits": 1}
 SMALL = {
     "many at a small limit": {"limits": Limits(50)},
@@ -331,7 +332,7 @@ SHORT, WHOLE = 60_000, 3_600_000
 BEFORE = [it for it in KINDS[1:] if it.visit not in (pipelines, reads_nothing)]
 OFTEN = {"insert": 34, "delete": 16, "update": 12, "count": 20, "sum": 10, "select": 7, "any": 1}
 CHECKPOINTS = re.compile(r"crackd: (?:checkpoint|(\d+) checkpoints, the last) of partition (\d+): (\d+) entries")
-# how many entries checkpoints that were due have removed once they have a line
+# after how many entries checkpoints that were due have a line
 TOLD = 1000
 CUT_OFF = re.compile(r"crackd: worker \d+: session cut off: refused (?:17|18): .*")
 ENDED = re.compile(r"crackd: ended: sessions (\d+), cut off (\d+)")
@@ -402,7 +403,8 @@ class Storm:
     """A server, and clients that a seed gives; of the sessions one for each worker is kept for a last look.
 
     The slow clients send `seconds` bytes, one a second; `folds` says whether honest ones ask for checkpoints. `how` may
-    have the kinds besides these, other limits than the seed's, and how many splits there are, and further clients.
+    have other `kinds` besides honest ones, other `limits` than the seed's, the number of `splits`, and how many
+    `further` clients have keys.
     """
 
     def __init__(
@@ -430,8 +432,9 @@ class Storm:
 
     def run(self) -> dict[str, object]:
         """Runs it. What it came to, as numbers by their names."""
-        before, words = time.monotonic(), [*self.ends, *self.audit, "--policy", self.policy, *self.limits.words()]
-        words += [*([] if self.limits.is_automatic else ["--quiet"]), *map(str, self.splits)]
+        before = time.monotonic()
+        words = [*self.ends, *self.audit, "--policy", self.policy, *self.limits.words(), *map(str, self.splits)]
+        words += [] if self.limits.is_automatic else ["--quiet"]
         with Server(self.program, self.workers, *words, environment=MAPPED_FROM if self.folds else {}) as server:
             peak, account = Peak(server.process.pid), Account(self.splits)
             self.visit(server, account, peak)
@@ -564,7 +567,7 @@ def check(program: str, seed: int) -> None:
 
 
 def check_small(program: str, seed: int) -> None:
-    """Honest clients under limits that the seed draws. Which of them comes first is another matter in each run."""
+    """Honest clients under small limits, of which the seed draws some."""
     Storm(program, seed, **HONEST, **list(SMALL.values())[seed % len(SMALL)]).run()
 
 

@@ -288,9 +288,6 @@ class Sweeps(fixtures.Case):
 class Refused(Sweeps):
     """Sweeps over runs of the program. What a check is given stands in its name."""
 
-    def sweep(self, check: typing.Callable, *given: object) -> None:
-        check(self.program, *given)
-
 
 class Tests(Sweeps):
     """Sweeps over the tests named sweep_.. of the test programs that the gate has built."""
@@ -316,7 +313,7 @@ class Tests(Sweeps):
 def add(check: typing.Callable, *given: object, kind: str = "") -> None:
     """Adds a sweep over the program that is named by what it is given."""
     way, *others = map(str, given)
-    fixtures.add(Refused, " ".join([way, kind, *others]), Refused.sweep, check, *given)
+    fixtures.add(Refused, " ".join([way, kind, *others]), lambda self: check(self.program, *given))
 
 
 for crate, name in sweeps_of(CRATES):

@@ -16,7 +16,7 @@ import time
 import typing
 
 import fixtures
-from fixtures import CONTROL_C, CONTROL_D, SECONDS, expect, ran
+from fixtures import CONTROL_C, CONTROL_D, SECONDS, expect
 from plain_session import MOST
 from run import SHELL, SHELL_ENVIRONMENT
 
@@ -136,8 +136,8 @@ for head, lines in fixtures.sections("shell.txt").items():
     fixtures.add(Sessions, name, Sessions.assert_shows, words.split(), lines.split("\n"))
 
 
-class Interrupted(fixtures.Case):
-    """Control-C, and servers that leave."""
+class Typed(fixtures.Case):
+    """Control-C, and what is kept and completed of what is typed."""
 
     def test_control_c_at_the_prompt(self) -> None:
         """A line that was begun is left out, and a new prompt comes."""
@@ -174,10 +174,6 @@ class Interrupted(fixtures.Case):
             shell.ask(f"count {EVERYTHING}", f"count {rows}" + TIME)
             feeder.join(SECONDS)
             shell.leave(int(rows) + 1, rows, 0, rows)
-
-
-class Files(fixtures.Case):
-    """Files that the shell writes, and what it keeps of what was typed."""
 
     def test_history_and_completion(self) -> None:
         """What was typed is kept in a file, and comes back; words are completed by Tab."""
