@@ -1,4 +1,5 @@
-"""Compares the programs with those of an earlier commit, driven in turn with the same words and the same files. Both must answer the same."""
+"""Compares the programs with those of an earlier commit, driven in turn with the same words and the same files. Both
+must answer the same."""
 
 import dataclasses
 import pathlib
@@ -79,13 +80,19 @@ def session():
 
 
 def tcp():
-    yield of_function(f"{sizes.LINES} statements over TCP, sent at once", "ms", lambda programs: pipelined(programs.crackd) * 1e9)
-    yield of_function(f"{sizes.TURNS} statements over TCP, one by one", "ms", lambda programs: one_by_one(programs.crackd) * 1e9)
+    yield of_function(
+        f"{sizes.LINES} statements over TCP, sent at once", "ms", lambda programs: pipelined(programs.crackd) * 1e9
+    )
+    yield of_function(
+        f"{sizes.TURNS} statements over TCP, one by one", "ms", lambda programs: one_by_one(programs.crackd) * 1e9
+    )
 
 
 def csv():
     given, listed = records(sizes.PART_ROWS)
-    yield of_session(f"csv of {sizes.PART_ROWS} rows, with its export", lambda programs: [programs.crackd, "csv"], given)
+    yield of_session(
+        f"csv of {sizes.PART_ROWS} rows, with its export", lambda programs: [programs.crackd, "csv"], given
+    )
     yield of_session(f"script of {sizes.PART_ROWS} inserts and a select", by_script, listed)
 
 
@@ -93,7 +100,9 @@ def batch():
     it = Batch()
     for workers in sizes.WORKER_COUNTS:
         what = f"a batch of {it.accepted} statements, workers: {workers}"
-        yield of_session(what, lambda programs, workers=workers: it.words(programs.crackd, workers), it.source, time.perf_counter)
+        yield of_session(
+            what, lambda programs, workers=workers: it.words(programs.crackd, workers), it.source, time.perf_counter
+        )
 
 
 def instructions():
@@ -105,14 +114,18 @@ def instructions():
         yield of_function(what, "", lambda programs, word=word: read_instructions(programs.crackd, word), True)
     for where, behind in DELETED.items():
         what = f"instructions of {sizes.DELETES} deletes of {where}"
-        yield of_function(what, "M", lambda programs, behind=behind: deletes_instructions(programs.crackd, behind)[1], True)
+        yield of_function(
+            what, "M", lambda programs, behind=behind: deletes_instructions(programs.crackd, behind)[1], True
+        )
 
 
 def splits():
     for what, whole, front in split_files():
         told = f"{what}, {len(sizes.SPLITS)} splits, instructions"
         files = (whole, front)
-        yield of_function(told, "M", lambda programs, files=files: split_instructions(programs.crackd, sizes.SPLITS, *files), True)
+        yield of_function(
+            told, "M", lambda programs, files=files: split_instructions(programs.crackd, sizes.SPLITS, *files), True
+        )
 
 
 def memory():
@@ -126,7 +139,10 @@ def arena():
 
 
 def column():
-    lines = [(f"first crack of {sizes.ROWS} rows, keys by the arena", ["first"]), ("16 later cracks, over keys that are known", ["later"])]
+    lines = [
+        (f"first crack of {sizes.ROWS} rows, keys by the arena", ["first"]),
+        ("16 later cracks, over keys that are known", ["later"]),
+    ]
     yield of_bench(lines, "column", sizes.ROWS)
 
 
@@ -160,7 +176,10 @@ def steps():
 
 
 def folds():
-    lines = [(f"a checkpoint of {sizes.PART_ROWS} inserts", ["fold"]), (f"the same after {sizes.CHANGES} deletes and inserts", ["mixed_fold"])]
+    lines = [
+        (f"a checkpoint of {sizes.PART_ROWS} inserts", ["fold"]),
+        (f"the same after {sizes.CHANGES} deletes and inserts", ["mixed_fold"]),
+    ]
     yield of_bench(lines, "fold", "gradual", sizes.PART_ROWS, sizes.CHANGES)
 
 
@@ -221,6 +240,9 @@ def compare_words(words, before, runs):
             continue
         for thing in THINGS[word]():
             if thing.probe and not knows(before, thing.probe):
-                print(f"{thing.lines[0][0]}: the earlier crack_bench doesn't know `{thing.probe[0]}`, so it is passed over", flush=True)
+                print(
+                    f"{thing.lines[0][0]}: the earlier crack_bench doesn't know `{thing.probe[0]}`, so it is passed over",
+                    flush=True,
+                )
                 continue
             compare_thing(thing, before, runs)

@@ -1,8 +1,9 @@
 """Measures a table on a Dask cluster, and writes the times into docs/CLUSTER.md: cluster_rows.py [ROWS [RUNS]]
 
-The same rows in a `crackd.cluster.Table` over four worker processes of this machine, in a `crackd.Table` of one process, and in a dask.dataframe on
-the same workers, without an index. All in turn, each again in each run. The least seconds of each step are printed; all must answer the same. The page
-is written only for the number of rows that it speaks of. Wants numpy, pandas and Dask, and libcrackd.so.
+The same rows in a `crackd.cluster.Table` over four worker processes of this machine, in a `crackd.Table` of one
+process, and in a dask.dataframe on the same workers, without an index. All in turn, each again in each run. The least
+seconds of each step are printed; all must answer the same. The page is written only for the number of rows that it
+speaks of. Wants numpy, pandas and Dask, and libcrackd.so.
 """
 
 import pathlib
@@ -102,7 +103,9 @@ class Frame:
         return [int(it) for it in dask.compute(*(self.frame[self.inside(low)].payload.sum() for low in lows))]
 
     def change(self, keys, payloads, changed, gone, new):
-        after = pd.DataFrame({"number": len(keys) + np.arange(len(new)), "key": new, "payload": np.zeros(len(new), np.int64)})
+        after = pd.DataFrame(
+            {"number": len(keys) + np.arange(len(new)), "key": new, "payload": np.zeros(len(new), np.int64)}
+        )
         before = self.frame.map_partitions(changed_block, changed, gone, meta=self.frame._meta)
         self.frame = frames.concat([before, frames.from_pandas(after, npartitions=1).clear_divisions()]).persist()
         len(self.frame)
@@ -165,7 +168,13 @@ def least(client, rows, runs):
 def shown(seconds):
     if seconds is None:
         return "–"
-    return f"{seconds:.1f} s" if seconds >= 1 else f"{seconds * 1e3:.0f} ms" if seconds >= 0.01 else f"{seconds * 1e3:.1f} ms"
+    return (
+        f"{seconds:.1f} s"
+        if seconds >= 1
+        else f"{seconds * 1e3:.0f} ms"
+        if seconds >= 0.01
+        else f"{seconds * 1e3:.1f} ms"
+    )
 
 
 def lines_of(found):
@@ -176,7 +185,9 @@ def lines_of(found):
 
 
 def main(rows=ROWS, runs=RUNS):
-    with LocalCluster(n_workers=WORKERS, threads_per_worker=1, dashboard_address=None) as workers, Client(workers) as client:
+    with LocalCluster(n_workers=WORKERS, threads_per_worker=1, dashboard_address=None) as workers, Client(
+        workers
+    ) as client:
         table = "".join(lines_of(least(client, rows, runs)))
     print(table)
     if rows == ROWS:

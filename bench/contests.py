@@ -28,7 +28,13 @@ def counts_after_a_load(runs):
     """How long the load takes, the warm-up after it, and each count at once and after the warm-up, in seconds."""
     lines, counts = random_insert_lines(sizes.PART_ROWS), random_counts(sizes.RANGES)
     warm_up = ["policy complete", f"count {sizes.EVERYTHING}", "policy ripple"]
-    given = {"load": [], "cold": counts, "warmed": warm_up, "warm": [*warm_up, *counts], "again": [*warm_up, *counts, *(counts * sizes.REPEATS)]}
+    given = {
+        "load": [],
+        "cold": counts,
+        "warmed": warm_up,
+        "warm": [*warm_up, *counts],
+        "again": [*warm_up, *counts, *(counts * sizes.REPEATS)],
+    }
     pairs = [([CRACKD, "script"], script(f"after-a-load-{name}", [*lines, *more])) for name, more in given.items()]
     load, cold, warmed, warm, again = middles(pairs, runs)
     each = {"cold": cold - load, "warm": warm - warmed, "again": (again - warm) / sizes.REPEATS}
@@ -41,7 +47,10 @@ def worker_rates(runs):
     for sharing, where in sizes.SHARINGS:
         done = [4 * sizes.WORKER_STEPS * workers for workers in sizes.WORKER_COUNTS]
         times = worker_times(sharing, runs)
-        told[where] = [(workers, count / ours, count / theirs) for workers, count, (ours, theirs) in zip(sizes.WORKER_COUNTS, done, times)]
+        told[where] = [
+            (workers, count / ours, count / theirs)
+            for workers, count, (ours, theirs) in zip(sizes.WORKER_COUNTS, done, times)
+        ]
     return told
 
 
@@ -56,7 +65,9 @@ def lookup_contest(runs):
     theirs, wanted = report.sqlite_lookups(rows, keys, runs)
     if answers(crackd, source).split()[-2 * lookups + 1 :: 2] != [str(count).encode() for count in wanted]:
         sys.exit("crackd and SQLite don't count the same")
-    return report.Contest(f"each of {lookups} counts of one key", (whole - before) / lookups, "SQLite with an index", theirs / lookups)
+    return report.Contest(
+        f"each of {lookups} counts of one key", (whole - before) / lookups, "SQLite with an index", theirs / lookups
+    )
 
 
 def count_contests(runs):
@@ -141,17 +152,31 @@ def steps(program, kind, words):
 
 
 def moves(program, kind="{}"):
-    """The steps that rows take under each policy: while all rows are pending, and with deletes and inserts before each sum."""
+    """The steps that rows take under each policy: while all rows are pending, and with deletes and inserts before each
+    sum."""
     words = {
         f"{sizes.RANGES} sums, all rows pending": ["cold", sizes.PART_ROWS, sizes.RANGES],
         f"{sizes.RANGES} sums, 10 deletes and inserts before each": ["updates", sizes.PART_ROWS, sizes.RANGES, 10],
     }
-    return {f"{policy}: {what}": steps(program, kind.format(policy), it) for what, it in words.items() for policy in sizes.POLICIES}
+    return {
+        f"{policy}: {what}": steps(program, kind.format(policy), it)
+        for what, it in words.items()
+        for policy in sizes.POLICIES
+    }
 
 
 def write_report(folder, runs):
     """Measures what the page reports, and writes it with its plots into the folder."""
     contests = [*count_contests(runs), *([lookup_contest(runs)] if report.sqlite3 else [])]
     workers = (worker_rates(runs), (asking_times(runs), gathering_times(runs)))
-    measured = (bytes_a_row(CRACKD), moves(BENCH), loading(runs), counts_after_a_load(runs), *workers, contests, rivals(runs), set_contests(runs))
+    measured = (
+        bytes_a_row(CRACKD),
+        moves(BENCH),
+        loading(runs),
+        counts_after_a_load(runs),
+        *workers,
+        contests,
+        rivals(runs),
+        set_contests(runs),
+    )
     report.write(folder, BENCH, PEERS, report.Measured(sizes.PART_ROWS, sizes.RANGES, runs, *measured))

@@ -1,4 +1,5 @@
-"""The files that programs are given, always the same. Their keys and payloads are below 2**32, as those of the peers are."""
+"""The files that programs are given, always the same. Their keys and payloads are below 2**32, as those of the peers
+are."""
 
 import random
 
@@ -21,7 +22,10 @@ def inserts(lines):
 def random_inserts(lines):
     """A file of as many inserts of random keys and payloads."""
     numbers = random.Random(7)
-    return script(f"random-inserts-{lines}", (f"insert {numbers.randrange(2**32)} {numbers.randrange(2**32)}" for _ in range(lines)))
+    return script(
+        f"random-inserts-{lines}",
+        (f"insert {numbers.randrange(2**32)} {numbers.randrange(2**32)}" for _ in range(lines)),
+    )
 
 
 def random_insert_lines(lines):
@@ -36,33 +40,43 @@ def random_counts(count):
 
 
 def deletes(count, behind):
-    """A file of inserts, of these lines after them, and of as many deletes of the rows in random order, which end with these lines too."""
+    """A file of inserts, of these lines after them, and of as many deletes of the rows in random order, which end with
+    these lines too."""
     order = list(range(sizes.PART_ROWS))
     random.Random(5).shuffle(order)
     rows = random_insert_lines(sizes.PART_ROWS)
-    return script(f"deletes-{count}", [*rows, *behind, *(f"delete 0.{serial}" for serial in order[:count]), *(behind if count else [])])
+    return script(
+        f"deletes-{count}",
+        [*rows, *behind, *(f"delete 0.{serial}" for serial in order[:count]), *(behind if count else [])],
+    )
 
 
 def inserts_and_counts(lines):
-    """A file of as many lines: half of them random inserts, and after them counts that crack the column, and counts between its bounds."""
+    """A file of as many lines: half of them random inserts, and after them counts that crack the column, and counts
+    between its bounds."""
     cracks, counts = part_counts(lines // 2)
     return script(f"inserts-and-counts-{lines}", [*random_insert_lines(lines // 2), *cracks, *counts][:lines])
 
 
 def records(rows):
-    """A file of the records of as many random rows, and one of the same rows as inserts, with a select of everything after them."""
+    """A file of the records of as many random rows, and one of the same rows as inserts, with a select of everything
+    after them."""
     lines = random_insert_lines(rows)
     pairs = (line.split()[1:] for line in lines)
-    return script(f"records-{rows}", (",".join(pair) for pair in pairs)), script(f"listed-{rows}", [*lines, f"select {sizes.EVERYTHING}"])
+    return script(f"records-{rows}", (",".join(pair) for pair in pairs)), script(
+        f"listed-{rows}", [*lines, f"select {sizes.EVERYTHING}"]
+    )
 
 
 def part_counts(count):
-    """Counts that crack the parts between the splits into as many pieces of one width, and as many counts of random neighbouring pieces of one
-    part."""
+    """Counts that crack the parts between the splits into as many pieces of one width, and as many counts of random
+    neighbouring pieces of one part."""
     parts, width, numbers = range(len(sizes.SPLITS) + 1), sizes.PART_WIDTH // sizes.PART_PIECES, random.Random(9)
     pieces = [(part * sizes.PART_WIDTH, piece * width) for part in parts for piece in range(sizes.PART_PIECES)]
     cracks = [f"count {part + piece} {part + piece + width}" for part, piece in pieces]
-    ends = ((part, *sorted(numbers.sample(range(sizes.PART_PIECES + 1), 2))) for part, _ in numbers.choices(pieces, k=count))
+    ends = (
+        (part, *sorted(numbers.sample(range(sizes.PART_PIECES + 1), 2))) for part, _ in numbers.choices(pieces, k=count)
+    )
     return cracks, [f"count {part + low * width} {part + high * width}" for part, low, high in ends]
 
 
@@ -74,7 +88,8 @@ def reads(word):
 
 
 def split_files():
-    """What is measured with many splits and with none: its name, a file of it with what comes before, and a file of that alone."""
+    """What is measured with many splits and with none: its name, a file of it with what comes before, and a file of
+    that alone."""
     lines = sizes.LINES // 2
     yield f"{lines} inserts", script("inserts-whole", random_insert_lines(lines)), script("inserts-front", [])
     yield f"{lines} counts between bounds", *reads("count")
@@ -107,7 +122,9 @@ class Mix:
         return f"insert {key} {key}"
 
     def sum(self):
-        low = (self.first + self.next(sizes.PARTS_EACH)) * sizes.PART_WIDTH + self.next(sizes.PART_WIDTH - sizes.SUM_WIDTH)
+        low = (self.first + self.next(sizes.PARTS_EACH)) * sizes.PART_WIDTH + self.next(
+            sizes.PART_WIDTH - sizes.SUM_WIDTH
+        )
         return f"sum {low} {low + sizes.SUM_WIDTH}"
 
     def statements(self, rows, steps):
@@ -125,16 +142,22 @@ class Mix:
 
 
 class Batch:
-    """What the most workers of a batch ask: `rounds`, a line of each, the file of them with its `splits`, and how many statements they are."""
+    """What the most workers of a batch ask: `rounds`, a line of each, the file of them with its `splits`, and how many
+    statements they are."""
 
     def __init__(self):
         most = sizes.WORKER_COUNTS[-1]
         parts = most * sizes.PARTS_EACH
         self.splits = sizes.SPLITS[: parts - 1]
-        mixes = (Mix(worker).statements(sizes.PARTS_EACH * sizes.WORKER_ROWS, sizes.WORKER_STEPS) for worker in range(most))
+        mixes = (
+            Mix(worker).statements(sizes.PARTS_EACH * sizes.WORKER_ROWS, sizes.WORKER_STEPS) for worker in range(most)
+        )
         self.rounds = list(zip(*mixes))
-        # (a number counts around the workers, so one worker has all lines of the same file, and each of two has half of them)
-        self.source = script("batch", (f"{worker} {line}" for lines in self.rounds for worker, line in enumerate(lines)))
+        # (a number counts around the workers, so one worker has all lines of the same file, and each of two has half of
+        # them)
+        self.source = script(
+            "batch", (f"{worker} {line}" for lines in self.rounds for worker, line in enumerate(lines))
+        )
         held, came = parts * sizes.WORKER_ROWS, most * sizes.WORKER_STEPS
         self.accepted = held + parts + 4 * came
         self.totals = f"accepted {self.accepted} inserted {held + came} deleted {came} held {held}\n".encode()

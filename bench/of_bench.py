@@ -1,5 +1,6 @@
-"""What is measured of the arena, the column and a partition, beside plain Rust of the same representation, and beside what does the same in other
-ways: cracker columns with less to keep, one that is written for speed alone, a tree, a sorted array, a pass over the rows."""
+"""What is measured of the arena, the column and a partition, beside plain Rust of the same representation, and beside
+what does the same in other ways: cracker columns with less to keep, one that is written for speed alone, a tree, a
+sorted array, a pass over the rows."""
 
 import sys
 
@@ -75,8 +76,8 @@ def hold_work(words, ours, fast):
 
 
 def by_policy(word, numbers, runs, others=()):
-    """Runs a word under each policy. For each its name and what was reported: by ours, by plain Rust of the same policy, by the column that is
-    written for speed alone, by a tree, and by the others."""
+    """Runs a word under each policy. For each its name and what was reported: by ours, by plain Rust of the same
+    policy, by the column that is written for speed alone, by a tree, and by the others."""
     words = [word, *(str(number) for number in numbers)]
     for policy in sizes.POLICIES:
         kinds = [*others, "tree", f"fast-{policy}", policy]
@@ -98,18 +99,31 @@ def measure_cold(table, runs):
             ("a pass for each", rows, 1.0 if policy == "ripple" else None),
         ):
             table.line(f"{policy}: the same, beside {other}", cold, middle_of(theirs, "cold"), bound)
-        print("    " + ", ".join(f"{name.replace('_', ' ')} {ours[0][name]}" for name in ("put_in", "evicted", "moved")))
+        print(
+            "    " + ", ".join(f"{name.replace('_', ' ')} {ours[0][name]}" for name in ("put_in", "evicted", "moved"))
+        )
     through, fast, same, ours = passes(runs)
     alone = middle_of(ours, "pass")
-    table.line(f"{sizes.RANGES} sums of no row, all rows pending, beside keys by handles", alone, middle_of(through, "pass"), 0.3)
+    table.line(
+        f"{sizes.RANGES} sums of no row, all rows pending, beside keys by handles",
+        alone,
+        middle_of(through, "pass"),
+        0.3,
+    )
     table.line("the same, beside plain Rust", alone, middle_of(same, "pass"))
     table.line(f"the same, beside {FAST}", alone, middle_of(fast, "pass"))
 
 
 def passes(runs):
-    """What sums of no row reported, all rows pending: by handles, by the column that is written for speed alone, by plain Rust and by ours."""
+    """What sums of no row reported, all rows pending: by handles, by the column that is written for speed alone, by
+    plain Rust and by ours."""
     words = [str(sizes.PART_ROWS), str(sizes.RANGES)]
-    programs = [[PEERS, "pass", "through"], [PEERS, "pass", "fast-ripple"], [PEERS, "pass", "ripple"], [BENCH, "pass", "ripple"]]
+    programs = [
+        [PEERS, "pass", "through"],
+        [PEERS, "pass", "fast-ripple"],
+        [PEERS, "pass", "ripple"],
+        [BENCH, "pass", "ripple"],
+    ]
     return compare([[*program, *words] for program in programs], runs)
 
 
@@ -134,7 +148,8 @@ STEPS = [("a carry", "merge", "moved"), ("a pull", "pulls", "pulled")]
 
 
 def step_seconds(word, name, runs):
-    """What one step takes over many pieces, and what it takes the column that is written for speed alone, in seconds."""
+    """What one step takes over many pieces, and what it takes the column that is written for speed alone, in
+    seconds."""
     words = [str(sizes.PART_ROWS), str(sizes.STEP_PIECES), str(sizes.STEP_ROWS)]
     ours, fast = compare([[BENCH, word, "complete", *words], [PEERS, word, "fast-complete", *words]], runs)
     hold_work([word, *words], ours, fast)
@@ -165,7 +180,9 @@ def measure_folds(table, runs):
 
 def measure_growth(table, runs):
     for rows in (sizes.PART_ROWS, sizes.MOST_PART_ROWS):
-        programs = [[program, "counts", "gradual", str(size), "1"] for program in (BENCH, PEERS) for size in (rows // 2, rows)]
+        programs = [
+            [program, "counts", "gradual", str(size), "1"] for program in (BENCH, PEERS) for size in (rows // 2, rows)
+        ]
         half, whole, same_half, same = (times for _, times in in_turn(programs, runs))
         for what, names in (
             (f"{rows} inserts, beside {rows // 2}", ["load"]),

@@ -6,7 +6,18 @@ import sys
 import time
 
 import sizes
-from inputs import Batch, deletes, inserts, inserts_and_counts, random_insert_lines, random_inserts, reads, records, script, split_files
+from inputs import (
+    Batch,
+    deletes,
+    inserts,
+    inserts_and_counts,
+    random_insert_lines,
+    random_inserts,
+    reads,
+    records,
+    script,
+    split_files,
+)
 from programs import (
     CRACKD,
     PEERS,
@@ -60,8 +71,12 @@ def measure_tcp(table, runs):
         alone = session_seconds(crackd, source, time.perf_counter) - session_seconds(crackd, nothing, time.perf_counter)
         rounds.append((at_once, alone, one_by_one(CRACKD), echoed(inserts_and_counts(turns))))
     at_once, alone, each_waits, echo = (statistics.median(times) for times in zip(*rounds))
-    table.gain(f"statements a millisecond, {lines} over TCP, beside script", lines / at_once / 1000, lines / alone / 1000, 0.7)
-    table.gain(f"round trips a millisecond, {turns}, beside an echo", turns / each_waits / 1000, turns / echo / 1000, 0.8)
+    table.gain(
+        f"statements a millisecond, {lines} over TCP, beside script", lines / at_once / 1000, lines / alone / 1000, 0.7
+    )
+    table.gain(
+        f"round trips a millisecond, {turns}, beside an echo", turns / each_waits / 1000, turns / echo / 1000, 0.8
+    )
 
 
 def is_listed(csv, listing):
@@ -71,7 +86,8 @@ def is_listed(csv, listing):
 
 
 def csv_and_script():
-    """The words and the files by which the same rows are loaded and listed: as records, and as statements. Both must list the same."""
+    """The words and the files by which the same rows are loaded and listed: as records, and as statements. Both must
+    list the same."""
     given, listed = records(sizes.PART_ROWS)
     csv, same = ([CRACKD, "csv"], given), ([CRACKD, "script"], listed)
     if not is_listed(answers(*csv), answers(*same)):
@@ -85,7 +101,8 @@ def measure_csv(table, runs):
 
 
 def served(batch, workers):
-    """What a batch writes for its workers, of whom each alone asks its partitions: what a script of its statements does."""
+    """What a batch writes for its workers, of whom each alone asks its partitions: what a script of its statements
+    does."""
     for worker in range(workers):
         lines = script("served", (line for lines in batch.rounds for line in lines[worker::workers]))
         yield f"worker {worker}\n".encode() + answers([CRACKD, "script", *batch.splits], lines)
@@ -97,7 +114,10 @@ def measure_batch(table, runs):
     for workers, words in programs.items():
         if answers(words, batch.source) != b"".join(served(batch, workers)) + batch.totals:
             sys.exit(f"batch --workers {workers} doesn't answer what scripts of the workers' statements do")
-    rates = [batch.accepted / seconds / 1000 for seconds in middles([(words, batch.source) for words in programs.values()], runs)]
+    rates = [
+        batch.accepted / seconds / 1000
+        for seconds in middles([(words, batch.source) for words in programs.values()], runs)
+    ]
     processors = len(os.sched_getaffinity(0))
     least = next((gain for count, gain in BATCH_GAINS.items() if processors >= count), None)
     for workers, rate in zip(sizes.WORKER_COUNTS[1:], rates[1:]):

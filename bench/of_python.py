@@ -1,4 +1,5 @@
-"""What is measured of the Python package: a table in the process, beside arrays of numpy and SQLite in the same process."""
+"""What is measured of the Python package: a table in the process, beside arrays of numpy and SQLite in the same
+process."""
 
 import json
 import os
@@ -27,7 +28,11 @@ STEPS = {
 # (what is bounded, beside what, and by how much of it)
 RATIOS = [("load", SQLITE, 0.35), ("step", SORTED, 0.05), ("counts", MASKS, 0.03)]
 # the most nanoseconds
-MOST = [("warm count", "a count of a range that was asked before, nanoseconds", 6000), ("warm count of many", "the same, many in a call", 2500), ("select", "a select of {selected} rows, nanoseconds", 450_000)]
+MOST = [
+    ("warm count", "a count of a range that was asked before, nanoseconds", 6000),
+    ("warm count of many", "the same, many in a call", 2500),
+    ("select", "a select of {selected} rows, nanoseconds", 450_000),
+]
 
 
 def told(text):
@@ -36,7 +41,15 @@ def told(text):
 
 def milliseconds(seconds):
     number = seconds * 1e3
-    return f"{number:.0f}" if number >= 100 else f"{number:.1f}" if number >= 10 else f"{number:.2f}" if number >= 0.1 else f"{number:.3f}"
+    return (
+        f"{number:.0f}"
+        if number >= 100
+        else f"{number:.1f}"
+        if number >= 10
+        else f"{number:.2f}"
+        if number >= 0.1
+        else f"{number:.3f}"
+    )
 
 
 def lines_of(seconds):
@@ -59,7 +72,9 @@ def is_missing():
     if not LIBRARY.exists() and "CRACKD_LIBRARY" not in os.environ:
         print("libcrackd.so isn't built (`make lib`): the package isn't measured")
         return True
-    if subprocess.run([package.interpreter(), "-c", "import numpy, sqlite3"], capture_output=True, check=False).returncode:
+    if subprocess.run(
+        [package.interpreter(), "-c", "import numpy, sqlite3"], capture_output=True, check=False
+    ).returncode:
         print("numpy isn't installed: the package isn't measured")
         return True
     return False
@@ -69,7 +84,12 @@ def measure_python(table, runs):
     if is_missing():
         return
     words = [str(it) for it in (sizes.PART_ROWS, sizes.RANGES, runs)]
-    ran = subprocess.run([package.interpreter(), str(TOP / "bench" / "python_rows.py"), *words], capture_output=True, text=True, check=False)
+    ran = subprocess.run(
+        [package.interpreter(), str(TOP / "bench" / "python_rows.py"), *words],
+        capture_output=True,
+        text=True,
+        check=False,
+    )
     if ran.returncode:
         complaint = ran.stderr.strip().splitlines()[-1:] or ["it failed"]
         sys.exit(f"the package isn't measured: {complaint[0]}")

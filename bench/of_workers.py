@@ -6,7 +6,9 @@ from programs import PEERS, WORKERS, compare, compare_each, has_valgrind, instru
 
 def worker_times(sharing, runs):
     """What each number of workers takes for its steps, and what plain Rust does."""
-    words = [[sharing, str(workers), str(sizes.WORKER_ROWS), str(sizes.WORKER_STEPS)] for workers in sizes.WORKER_COUNTS]
+    words = [
+        [sharing, str(workers), str(sizes.WORKER_ROWS), str(sizes.WORKER_STEPS)] for workers in sizes.WORKER_COUNTS
+    ]
     return [[middle_of(it, "work") for it in both] for both in compare_each(WORKERS, words, runs)]
 
 
@@ -34,18 +36,28 @@ def measure_asking(table, _runs):
 def measure_gathering(table, runs):
     workers, most = sizes.GATHER_WORKERS, sizes.GATHER_ROWS
     words = [str(workers), str(most)]
-    ours, folded, theirs = compare([[WORKERS, "gathered", *words], [WORKERS, "folded", *words], [PEERS, "copies", *words]], runs)
+    ours, folded, theirs = compare(
+        [[WORKERS, "gathered", *words], [WORKERS, "folded", *words], [PEERS, "copies", *words]], runs
+    )
     what = f"gathering {workers} workers with {2 * workers * most} entries"
     table.line(f"{what}, beside copies of both lists", middle_of(ours, "gather"), middle_of(theirs, "copies"), 3.0)
-    table.line("the same after a checkpoint of each partition, beside none", middle_of(folded, "gather"), middle_of(ours, "gather"), 1.1)
+    table.line(
+        "the same after a checkpoint of each partition, beside none",
+        middle_of(folded, "gather"),
+        middle_of(ours, "gather"),
+        1.1,
+    )
     if has_valgrind():
         both = [[str(workers), str(rows)] for rows in (most // 2, most)]
-        half, whole = (instructions([WORKERS, "gathered", *size]) - instructions([WORKERS, "loaded", *size]) for size in both)
+        half, whole = (
+            instructions([WORKERS, "gathered", *size]) - instructions([WORKERS, "loaded", *size]) for size in both
+        )
         table.numbers(f"{what}, beside half, instructions", whole, half, 2.2)
 
 
 def asking_times(runs):
-    """What an insert and a statement of the steps take a worker with receipts, and one whose table witnesses its replies, in seconds."""
+    """What an insert and a statement of the steps take a worker with receipts, and one whose table witnesses its
+    replies, in seconds."""
     rows, steps = sizes.WORKER_ROWS, sizes.WORKER_STEPS
     words = ["ask", str(rows), str(steps)]
     both = compare([[WORKERS, *words], [WORKERS, "witnessed", *words]], runs)
@@ -54,10 +66,13 @@ def asking_times(runs):
 
 
 def gathering_times(runs):
-    """What gathering takes after this many commands, in seconds: of workers with receipts, whose partitions are then dropped, and of witnessed ones, before."""
+    """What gathering takes after this many commands, in seconds: of workers with receipts, whose partitions are then
+    dropped, and of witnessed ones, before."""
     workers, times = str(sizes.GATHER_WORKERS), {}
     for rows in sizes.WITNESSED_ROWS:
-        booked, witnessed = compare([[WORKERS, *kind, "gathered", workers, str(rows)] for kind in ([], ["witnessed"])], runs)
+        booked, witnessed = compare(
+            [[WORKERS, *kind, "gathered", workers, str(rows)] for kind in ([], ["witnessed"])], runs
+        )
         times[2 * sizes.GATHER_WORKERS * rows] = [middle_of(booked, "gather"), middle_of(witnessed, "settle")]
     return times
 
@@ -79,8 +94,18 @@ def measure_witnessed_workers(table, runs):
 
 def measure_witnessed_gathering(table, runs):
     for commands, (_, witnessed) in gathering_times(runs).items():
-        table.line(f"gathering {sizes.GATHER_WORKERS} witnessed workers after {commands} commands, beside a millisecond", witnessed, 1e-3, 1.0)
+        table.line(
+            f"gathering {sizes.GATHER_WORKERS} witnessed workers after {commands} commands, beside a millisecond",
+            witnessed,
+            1e-3,
+            1.0,
+        )
 
 
 WITNESSED = [measure_witnessed_asking, measure_witnessed_workers, measure_witnessed_gathering]
-MEASURES = {"workers": [measure_workers], "asking": [measure_asking], "gathering": [measure_gathering], "witnessed": WITNESSED}
+MEASURES = {
+    "workers": [measure_workers],
+    "asking": [measure_asking],
+    "gathering": [measure_gathering],
+    "witnessed": WITNESSED,
+}

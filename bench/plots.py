@@ -32,7 +32,10 @@ def curves(series):
     parts = [text(LEFT, HEIGHT - 8, "query, from the first one"), text(LEFT, 14, "microseconds")]
     for power in range(low, high + 1):
         _, y = place(1, 10**power)
-        parts += [f'<path d="M{LEFT} {y:.1f}H{CURVES_WIDTH - NAMES}" stroke="#ddd"/>', text(LEFT - 6, y + 4, f"{10**power:g}", "end")]
+        parts += [
+            f'<path d="M{LEFT} {y:.1f}H{CURVES_WIDTH - NAMES}" stroke="#ddd"/>',
+            text(LEFT - 6, y + 4, f"{10**power:g}", "end"),
+        ]
     for power in range(int(last) + 1):
         x, _ = place(10**power, 1)
         parts.append(text(x, HEIGHT - BELOW + 16, f"{10**power}", "middle"))
@@ -44,7 +47,8 @@ def curves(series):
 
 
 def smoothed(times):
-    """Times with their numbers, from 1 on, some of each power of ten: each as the median of those from it on to one in eight more."""
+    """Times with their numbers, from 1 on, some of each power of ten: each as the median of those from it on to one in
+    eight more."""
     last = 40 * math.log10(len(times))
     places = sorted({int(10 ** (step / 40)) for step in range(int(last) + 1)})
     return [(at, statistics.median(times[at - 1 : at + at // 8])) for at in places]

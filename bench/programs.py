@@ -101,7 +101,8 @@ def compare(programs, runs):
 
 
 def compare_each(program, all_words, runs):
-    """Runs a program and plain Rust with each of the words, all in turn. For each words what both reported; both must write the same."""
+    """Runs a program and plain Rust with each of the words, all in turn. For each words what both reported; both must
+    write the same."""
     ran = in_turn([[which, *words] for words in all_words for which in (program, PEERS)], runs)
     for words, (ours, _), (theirs, _) in zip(all_words, ran[::2], ran[1::2]):
         if len(ours | theirs) > 1:
@@ -125,7 +126,9 @@ def instructions(words, source=os.devnull):
     """How many instructions a program takes to answer the file, if any."""
     counting = ["valgrind", "--tool=callgrind", f"--callgrind-out-file={OUT / 'callgrind'}", *words]
     with open(source, "rb") as given:
-        ran = subprocess.run(counting, stdin=given, stdout=subprocess.DEVNULL, stderr=subprocess.PIPE, text=True, check=True)
+        ran = subprocess.run(
+            counting, stdin=given, stdout=subprocess.DEVNULL, stderr=subprocess.PIPE, text=True, check=True
+        )
     return int(re.search(r"Collected : (\d+)", ran.stderr)[1])
 
 
@@ -136,8 +139,8 @@ def status_of(process, name):
 
 
 def resident(crackd, source, name="VmHWM"):
-    """The greatest resident memory of the program over a file, in bytes, or, as VmRSS, what it has at the end: read while it waits for more, since
-    what a child is charged with at its end counts its parent's memory too."""
+    """The greatest resident memory of the program over a file, in bytes, or, as VmRSS, what it has at the end: read
+    while it waits for more, since what a child is charged with at its end counts its parent's memory too."""
     started = subprocess.Popen([crackd, "script"], stdin=subprocess.PIPE, stdout=subprocess.DEVNULL)
     started.stdin.write(source.read_bytes())
     started.stdin.flush()

@@ -1,7 +1,8 @@
 """Run by of_python.py, by an interpreter that has numpy: python_rows.py ROWS RANGES RUNS
 
-The same rows in a `crackd.Table`, in numpy arrays that are kept sorted, in numpy arrays that are asked by masks, and in an SQLite table in memory with an
-index, all in this process and in turn. Prints, as JSON, the median seconds of each step by its name, in that order; all must answer the same.
+The same rows in a `crackd.Table`, in numpy arrays that are kept sorted, in numpy arrays that are asked by masks, and in
+an SQLite table in memory with an index, all in this process and in turn. Prints, as JSON, the median seconds of each
+step by its name, in that order; all must answer the same.
 """
 
 import json
@@ -74,7 +75,9 @@ class Sorted:
 
     def step(self, keys, payloads, gone, low, high):
         places = [self.place(it) for it in gone]
-        self.keys, self.payloads, self.numbers = (np.delete(it, places) for it in (self.keys, self.payloads, self.numbers))
+        self.keys, self.payloads, self.numbers = (
+            np.delete(it, places) for it in (self.keys, self.payloads, self.numbers)
+        )
         numbers = np.arange(len(self.arrived), len(self.arrived) + len(keys))
         self.arrived.extend(keys)
         order = np.argsort(keys)
@@ -86,7 +89,9 @@ class Sorted:
         return int(self.payloads[first:end].sum())
 
     def place(self, number):
-        first, end = np.searchsorted(self.keys, self.arrived[number]), np.searchsorted(self.keys, self.arrived[number], side="right")
+        first, end = np.searchsorted(self.keys, self.arrived[number]), np.searchsorted(
+            self.keys, self.arrived[number], side="right"
+        )
         return first + int(np.flatnonzero(self.numbers[first:end] == number)[0])
 
     def close(self):
@@ -141,7 +146,12 @@ class Sqlite:
         self.count += len(keys)
 
     def one(self, what, low, high):
-        return self.base.execute(f"select {what} from rows where key >= ? and key < ?", (int(low), int(high))).fetchone()[0] or 0
+        return (
+            self.base.execute(f"select {what} from rows where key >= ? and key < ?", (int(low), int(high))).fetchone()[
+                0
+            ]
+            or 0
+        )
 
     def counts(self, lows, highs):
         return [self.one("count(*)", low, high) for low, high in zip(lows, highs)]
@@ -150,7 +160,9 @@ class Sqlite:
         return [self.one("sum(payload)", low, high) for low, high in zip(lows, highs)]
 
     def select(self, low, high):
-        rows = self.base.execute("select number, key, payload from rows where key >= ? and key < ?", (int(low), int(high))).fetchall()
+        rows = self.base.execute(
+            "select number, key, payload from rows where key >= ? and key < ?", (int(low), int(high))
+        ).fetchall()
         return sum(row[2] for row in rows)
 
     def step(self, keys, payloads, gone, low, high):
@@ -186,7 +198,11 @@ def run_of(kind, rows, ranges):
     others = rng.integers(0, KEYS - WIDTH, ranges)
     seconds, answers = {}, []
     it, seconds["load"] = timed(kind, keys, payloads)
-    steps = [("counts", it.counts, lows, lows + WIDTH), ("counts again", it.counts, lows, lows + WIDTH), ("sums", it.sums, others, others + WIDTH)]
+    steps = [
+        ("counts", it.counts, lows, lows + WIDTH),
+        ("counts again", it.counts, lows, lows + WIDTH),
+        ("sums", it.sums, others, others + WIDTH),
+    ]
     for name, call, *words in steps:
         answer, seconds[name] = timed(call, *words)
         answers.append(answer)
@@ -197,7 +213,11 @@ def run_of(kind, rows, ranges):
         seconds["warm count"], seconds["warm count of many"] = warm_counts(it.table, lows, lows + WIDTH)
     taken = []
     for at in range(STEPS):
-        new, gone, low = rng.integers(0, KEYS, BATCH), np.arange(at * BATCH, (at + 1) * BATCH), rng.integers(0, KEYS - WIDTH)
+        new, gone, low = (
+            rng.integers(0, KEYS, BATCH),
+            np.arange(at * BATCH, (at + 1) * BATCH),
+            rng.integers(0, KEYS - WIDTH),
+        )
         answer, second = timed(it.step, new, new % 1000, gone, low, low + WIDTH)
         answers.append(answer)
         taken.append(second)

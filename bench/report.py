@@ -1,4 +1,5 @@
-"""Writes docs/BENCHMARKS.md with its plots: what queries, loading, merges, workers and memory cost, and where others are ahead."""
+"""Writes docs/BENCHMARKS.md with its plots: what queries, loading, merges, workers and memory cost, and where others
+are ahead."""
 
 import dataclasses
 import os
@@ -57,7 +58,8 @@ class Contest:
 
 @dataclasses.dataclass
 class Rivalry:
-    """What `crackd`, a cracker column that is written for speed alone, and a tree take for the same, in seconds; a tree takes no steps."""
+    """What `crackd`, a cracker column that is written for speed alone, and a tree take for the same, in seconds; a tree
+    takes no steps."""
 
     what: str
     ours: float
@@ -79,9 +81,10 @@ class Rivals:
 
 @dataclasses.dataclass
 class Measured:
-    """What is in the report besides the queries: bytes a row by name, the steps of rows by policy in millions, seconds by the way of loading, those of
-    counts after a load, statements a second by the sharing, seconds of asking and of gathering with receipts and witnessed, contests, what is fast in its
-    own way, and what a Redis sorted set takes, if there is one."""
+    """What is in the report besides the queries: bytes a row by name, the steps of rows by policy in millions, seconds
+    by the way of loading, those of counts after a load, statements a second by the sharing, seconds of asking and of
+    gathering with receipts and witnessed, contests, what is fast in its own way, and what a Redis sorted set takes, if
+    there is one."""
 
     rows: int
     ranges: int
@@ -112,7 +115,8 @@ def program_series(words):
 
 
 def sqlite_series(rows, ranges, is_indexed):
-    """The same by SQLite, in memory; with an index on the keys, which is made before the first count, or without one."""
+    """The same by SQLite, in memory; with an index on the keys, which is made before the first count, or without
+    one."""
     numbers, database, told = Numbers(11), sqlite3.connect(":memory:"), 0
     database.execute("create table rows (key integer, payload integer)")
     given = [(numbers.word(), row) for row in range(rows)]
@@ -128,7 +132,9 @@ def sqlite_series(rows, ranges, is_indexed):
     for _ in range(ranges):
         low = numbers.low()
         start = time.perf_counter_ns()
-        [answer] = database.execute("select sum(payload) from rows where key >= ? and key < ?", (low, low + RANGE)).fetchone()
+        [answer] = database.execute(
+            "select sum(payload) from rows where key >= ? and key < ?", (low, low + RANGE)
+        ).fetchone()
         sums.append(time.perf_counter_ns() - start)
         told = mixed(told, answer or 0)
     return Series(load, made, sums, f"rows {everything}\neach {told}\n")
@@ -157,7 +163,10 @@ def middle_series(measure, runs):
 
 def table_of(series):
     """The same as numbers, a line for each."""
-    lines = ["| What | loading | first count of everything | first sum | median of the last hundred | all sums |", "|---|---|---|---|---|---|"]
+    lines = [
+        "| What | loading | first count of everything | first sum | median of the last hundred | all sums |",
+        "|---|---|---|---|---|---|",
+    ]
     for name, it in series.items():
         times = (it.load, it.everything, it.sums[0], statistics.median(it.sums[-100:]), sum(it.sums))
         lines.append(f"| {name} | " + " | ".join(milliseconds(time / 1e6) for time in times) + " |")
@@ -179,7 +188,9 @@ def query_series(bench, peers, measured):
     if sqlite3:
         measures["SQLite with an index"] = lambda: sqlite_series(measured.rows, measured.ranges, True)
         measures[UNINDEXED] = lambda: sqlite_series(measured.rows, measured.ranges, False)
-    series = {name: middle_series(measure, 1 if name == UNINDEXED else measured.runs) for name, measure in measures.items()}
+    series = {
+        name: middle_series(measure, 1 if name == UNINDEXED else measured.runs) for name, measure in measures.items()
+    }
     if len({it.told for it in series.values()}) > 1:
         raise SystemExit("not all answer the same")
     return series
@@ -195,7 +206,11 @@ def query_contests(series):
         "loading and all queries": lambda it: it.load + it.everything + sum(it.sums),
     }
     others = {name: it for name, it in series.items() if name != OURS}
-    return [Contest(what, mark(series[OURS]) / 1e9, name, mark(it) / 1e9) for what, mark in marks.items() for name, it in others.items()]
+    return [
+        Contest(what, mark(series[OURS]) / 1e9, name, mark(it) / 1e9)
+        for what, mark in marks.items()
+        for name, it in others.items()
+    ]
 
 
 def milliseconds(number):
@@ -262,7 +277,9 @@ def rival_text(measured):
 
 def loading_table(measured):
     lines = ["| By | time | rows a second |", "|---|---|---|"]
-    lines += [f"| {name} | {shown(seconds)} | {measured.rows / seconds:,.0f} |" for name, seconds in measured.loading.items()]
+    lines += [
+        f"| {name} | {shown(seconds)} | {measured.rows / seconds:,.0f} |" for name, seconds in measured.loading.items()
+    ]
     return "\n".join(lines)
 
 
@@ -295,10 +312,16 @@ The counts are of a hundredth of the keys, {measured.ranges} of them.
 
 
 def worker_table(workers):
-    lines = ["| Workers | where | crackd, statements a second | gain | plain Rust | gain |", "|---|---|---|---|---|---|"]
+    lines = [
+        "| Workers | where | crackd, statements a second | gain | plain Rust | gain |",
+        "|---|---|---|---|---|---|",
+    ]
     for where, rates in workers.items():
         _, alone, same_alone = rates[0]
-        lines += [f"| {count} | {where} | {it:,.0f} | {it / alone:.2f} | {same:,.0f} | {same / same_alone:.2f} |" for count, it, same in rates]
+        lines += [
+            f"| {count} | {where} | {it:,.0f} | {it / alone:.2f} | {same:,.0f} | {same / same_alone:.2f} |"
+            for count, it, same in rates
+        ]
     return "\n".join(lines)
 
 
@@ -306,7 +329,10 @@ def witnessed_table(witnessed):
     asking, gathering = witnessed
     lines = ["| | with receipts | witnessed |", "|---|---|---|"]
     lines += [f"| {what} | {booked * 1e9:,.0f} ns | {it * 1e9:,.0f} ns |" for what, (booked, it) in asking.items()]
-    lines += [f"| gathering after {commands:,} commands | {booked * 1e3:,.2f} ms | {it * 1e3:,.3f} ms |" for commands, (booked, it) in gathering.items()]
+    lines += [
+        f"| gathering after {commands:,} commands | {booked * 1e3:,.2f} ms | {it * 1e3:,.3f} ms |"
+        for commands, (booked, it) in gathering.items()
+    ]
     return "\n".join(lines)
 
 

@@ -2,20 +2,24 @@
 """Measures the proved programs beside others, and compares the ratios with their bounds:
 run.py [--once] [--small] [--report] [--before FOLDER] [WHAT ..]
 
-WHAT is session, tcp, csv, batch, instructions, splits, memory, served, arena, column, partition, cold, updates, steps, folds, growth, workers, asking,
-gathering, witnessed or python; all of them without a word. python is the package's table in the process, where numpy and libcrackd.so are there; its times go
-into docs/PYTHON.md, too. Wants a quiet machine, rustc, and the programs, which are built (and first proved, where they aren't) as
-`make run` does it. Each number is the median of five runs; with --once of one. The programs and their peers run in turn, so that all meet the same machine.
-Instructions are counted by valgrind where it is installed, and then once, since they are the same each time. Prints a table, and ends with status
-1 where a ratio is above its bound, or a gain below it, or where a program and its peer don't compute the same.
+WHAT is session, tcp, csv, batch, instructions, splits, memory, served, arena, column, partition, cold, updates, steps,
+folds, growth, workers, asking, gathering, witnessed or python; all of them without a word. python is the package's
+table in the process, where numpy and libcrackd.so are there; its times go into docs/PYTHON.md, too. Wants a quiet
+machine, rustc, and the programs, which are built (and first proved, where they aren't) as `make run` does it. Each
+number is the median of five runs; with --once of one. The programs and their peers run in turn, so that all meet the
+same machine. Instructions are counted by valgrind where it is installed, and then once, since they are the same each
+time. Prints a table, and ends with status 1 where a ratio is above its bound, or a gain below it, or where a program
+and its peer don't compute the same.
 
-With --before it compares crackd and crack_bench with those of another checkout, FOLDER, whose programs are built: both in turn, with the same words
-and the same files. Prints the ratio of this checkout's to those of FOLDER, a line for each thing; nothing is bounded. What FOLDER's crack_bench
-doesn't know is said and passed over.
+With --before it compares crackd and crack_bench with those of another checkout, FOLDER, whose programs are built: both
+in turn, with the same words and the same files. Prints the ratio of this checkout's to those of FOLDER, a line for each
+thing; nothing is bounded. What FOLDER's crack_bench doesn't know is said and passed over.
 
-With --report it writes docs/BENCHMARKS.md with its plots, and nothing else. A Redis sorted set is compared there, where `redis-server` is installed.
+With --report it writes docs/BENCHMARKS.md with its plots, and nothing else. A Redis sorted set is compared there, where
+`redis-server` is installed.
 
-With --small everything is so small that it shows only whether all runs and answers the same, once; a report then goes to bench/out.
+With --small everything is so small that it shows only whether all runs and answers the same, once; a report then goes
+to bench/out.
 """
 
 import sys
@@ -61,7 +65,9 @@ def measure_before(folder, words, runs):
     build(before.NAMES)
     before.compare_words(known, earlier, runs)
     if known != words:
-        print(f"not compared, since they run crack_bench_workers: {', '.join(word for word in words if word not in known)}")
+        print(
+            f"not compared, since they run crack_bench_workers: {', '.join(word for word in words if word not in known)}"
+        )
 
 
 def given(words):

@@ -10,7 +10,8 @@ REPEATS, SET_REPEATS = 100, 10
 POLICIES = ["complete", "gradual", "ripple"]
 # how many sums, and how many deletes and inserts before each
 BATCHES = [(1000, 10), (100, 1000)]
-# how many deletes and inserts there are between two checkpoints; and, as crack_bench counts them, commands of one kind before one and after it
+# how many deletes and inserts there are between two checkpoints; and, as crack_bench counts them, commands of one kind
+# before one and after it
 CHANGES, NEXT = 100_000, 1000
 PIECES, PENDING = 1000, 1000
 # over how many pieces rows go step by step, and how many rows
@@ -30,14 +31,17 @@ MOST_PART_ROWS = 998_000
 # statements that each wait for the reply to the last one, and counts of one key each
 TURNS, LOOKUPS = 20_000, 10_000
 EVERYTHING = f"0 {2**64}"
-# of a server whose clients count at full speed: how long its histories are, and after how many commands its memory is read
+# of a server whose clients count at full speed: how long its histories are, and after how many commands its memory is
+# read
 SERVED_LIMIT, SERVED = 65_536, (3_000_000, 30_000_000)
-# as crack_bench_workers has them: partitions of each worker, how far apart the numbers lie at which the workers begin, and how wide a sum's range is
+# as crack_bench_workers has them: partitions of each worker, how far apart the numbers lie at which the workers begin,
+# and how wide a sum's range is
 PARTS_EACH, APART, SUM_WIDTH = 2, 50_000_000, PART_WIDTH // 100
 
 
 def shrink():
-    """Makes all of them so small that a run takes a minute: it shows that everything runs and answers the same, and its figures mean nothing."""
+    """Makes all of them so small that a run takes a minute: it shows that everything runs and answers the same, and its
+    figures mean nothing."""
     small = {
         "STEPS": 10_000,
         "SERVED_LIMIT": 2_184,

@@ -1,4 +1,5 @@
-"""The same rows, counts and deletes over TCP by `crackd serve` and by a Redis sorted set, asked by one client, where `redis-server` is installed."""
+"""The same rows, counts and deletes over TCP by `crackd serve` and by a Redis sorted set, asked by one client, where
+`redis-server` is installed."""
 
 import contextlib
 import random
@@ -126,8 +127,8 @@ def crackd(program, totals):
 
 
 def steps(kind, is_warm):
-    """What is asked of a server, in turn: a name, the requests, and whether each waits for the reply to the last one. Without a warm-up the counts
-    are the last ones."""
+    """What is asked of a server, in turn: a name, the requests, and whether each waits for the reply to the last one.
+    Without a warm-up the counts are the last ones."""
     numbers = random.Random(17)
     rows = [[int(word) for word in line.split()[1:]] for line in random_insert_lines(sizes.PART_ROWS)]
     counts = [kind.count(*(int(word) for word in line.split()[1:])) for line in random_counts(sizes.RANGES)]

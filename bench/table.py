@@ -21,17 +21,26 @@ class Table:
         """A line of seconds beside others."""
         ratio = measured / beside
         shown = "-" if bound is None else f"{bound:.1f}" if bound >= 1 else f"{bound:.2f}"
-        print(f"{what:{WIDTH}} {measured * 1e3:9.2f} ms {beside * 1e3:9.2f} ms {ratio:7.2f} {shown:>6}{self.above(ratio, bound)}", flush=True)
+        print(
+            f"{what:{WIDTH}} {measured * 1e3:9.2f} ms {beside * 1e3:9.2f} ms {ratio:7.2f} {shown:>6}{self.above(ratio, bound)}",
+            flush=True,
+        )
 
     def step(self, what, measured, beside, bound):
         """A line of what one of many steps takes, in seconds, beside others."""
         ratio = measured / beside
-        print(f"{what:{WIDTH}} {measured * 1e9:9.2f} ns {beside * 1e9:9.2f} ns {ratio:7.2f} {bound:6.1f}{self.above(ratio, bound)}", flush=True)
+        print(
+            f"{what:{WIDTH}} {measured * 1e9:9.2f} ns {beside * 1e9:9.2f} ns {ratio:7.2f} {bound:6.1f}{self.above(ratio, bound)}",
+            flush=True,
+        )
 
     def numbers(self, what, measured, beside, bound):
         """A line of instructions beside others."""
         ratio = measured / beside
-        print(f"{what:{WIDTH}} {measured / 1e6:9.1f} M {beside / 1e6:9.1f} M {ratio:7.2f} {bound:>6}{self.above(ratio, bound)}", flush=True)
+        print(
+            f"{what:{WIDTH}} {measured / 1e6:9.1f} M {beside / 1e6:9.1f} M {ratio:7.2f} {bound:>6}{self.above(ratio, bound)}",
+            flush=True,
+        )
 
     def gain(self, what, gained, beside, least=None):
         """A line of how many times as much is done in the same time."""

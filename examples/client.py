@@ -38,7 +38,8 @@ class Session:
         return self.reply()
 
     def insert_all(self, rows):
-        """Inserts rows of a key and a payload, and gives their row numbers. It reads while it writes, so that neither side waits for ever."""
+        """Inserts rows of a key and a payload, and gives their row numbers. It reads while it writes, so that neither
+        side waits for ever."""
         text = "".join(f"insert {key} {payload}\n" for key, payload in rows)
         writer = threading.Thread(target=self.send, args=[text])
         writer.start()
@@ -47,7 +48,8 @@ class Session:
         return numbers
 
     def set_policy(self, name):
-        """Sets how pending rows are merged from now on in this session. Under `auto` the first query after a load merges all rows at once."""
+        """Sets how pending rows are merged from now on in this session. Under `auto` the first query after a load
+        merges all rows at once."""
         self.ask(f"policy {name}")
 
     def count(self, low, high):

@@ -1,4 +1,5 @@
-"""Builds the wheel by the standard library alone, so that `pip install ./python` downloads nothing. The library goes along where it was built."""
+"""Builds the wheel by the standard library alone, so that `pip install ./python` downloads nothing. The library goes
+along where it was built."""
 
 import base64
 import hashlib
@@ -19,7 +20,10 @@ def field(name):
 def extras():
     """The optional dependencies, by the name of their extra."""
     section = (HERE / "pyproject.toml").read_text(encoding="utf-8").partition("[project.optional-dependencies]\n")[2]
-    return {name: re.findall(r'"(.*?)"', listed) for name, listed in re.findall(r"^(\w+) = \[(.*)\]$", section, re.MULTILINE)}
+    return {
+        name: re.findall(r'"(.*?)"', listed)
+        for name, listed in re.findall(r"^(\w+) = \[(.*)\]$", section, re.MULTILINE)
+    }
 
 
 def packed():

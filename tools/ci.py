@@ -1,8 +1,8 @@
 #!/usr/bin/env python3
 """What a change must pass: `make test`, and then the must-fail edits that are due.
 
-If more are due than fit into the time, those of changed crates go first, and those that are left are named. The last line is the sum of all,
-'N passed, M failed'; the status is 0 only where nothing failed.
+If more are due than fit into the time, those of changed crates go first, and those that are left are named. The last
+line is the sum of all, 'N passed, M failed'; the status is 0 only where nothing failed.
 """
 
 import pathlib

@@ -1,4 +1,5 @@
-"""Names of code that docs/PROOFS.md cites in a crate's section, and that neither are in its texts nor are those of a function or a public type."""
+"""Names of code that docs/PROOFS.md cites in a crate's section, and that neither are in its texts nor are those of a
+function or a public type."""
 
 import pathlib
 import re
@@ -15,14 +16,24 @@ PLAIN = {"quit", "policy", "auto", "csv"}
 
 def texts(crate):
     """All that a crate's folders of code, definitions and proofs have."""
-    paths = (it for folder in ("src", "specs", "proofs") for it in sorted((crate / folder).rglob("*")) if it.suffix in (".rt", ".antt"))
+    paths = (
+        it
+        for folder in ("src", "specs", "proofs")
+        for it in sorted((crate / folder).rglob("*"))
+        if it.suffix in (".rt", ".antt")
+    )
     return "\n".join(it.read_text(encoding="utf-8") for it in paths)
 
 
 def strangers(text, top=crates.TOP):
     """The names of a page that are nowhere, each with the crate whose section cites it."""
     folders = {it.name: it for it in sorted((pathlib.Path(top) / "crates").iterdir())}
-    functions = {name for it in folders.values() for path in sorted(it.glob("src/**/*.rt")) for name in NAMED.findall(path.read_text(encoding="utf-8"))}
+    functions = {
+        name
+        for it in folders.values()
+        for path in sorted(it.glob("src/**/*.rt"))
+        for name in NAMED.findall(path.read_text(encoding="utf-8"))
+    }
     wrong = []
     for crate, section in SECTION.findall(text):
         known = set(NAME.findall(texts(folders[crate]))) if crate in folders else set()

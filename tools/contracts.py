@@ -1,9 +1,9 @@
 """Types, ghost members and calls of src/ as items, with what they cite.
 
-A type is its text, without attributes and comments; if it has a model, what clauses see is the model's value. A field that other crates don't see is
-left out where the model doesn't read it, or without a model no clause, definition or ghost member. A ghost member is one statement of a trait or of a
-block `impl`: of a model each is an item, else those of a block are one. A call is its clauses: it cites what they name, and the types and traits of its
-signature.
+A type is its text, without attributes and comments; if it has a model, what clauses see is the model's value. A field
+that other crates don't see is left out where the model doesn't read it, or without a model no clause, definition or
+ghost member. A ghost member is one statement of a trait or of a block `impl`: of a model each is an item, else those of
+a block are one. A call is its clauses: it cites what they name, and the types and traits of its signature.
 """
 
 import dataclasses
@@ -13,8 +13,9 @@ import definitions
 import functions
 import sources
 
-# the members of a model that are read with its type: the others say that values can be distinguished, and which fields make a value. What a
-# type keeps of its own fields, its invariant, is a private clause: no value breaks it, and where a promise rests on it a call says so by a clause.
+# the members of a model that are read with its type: the others say that values can be distinguished, and which fields
+# make a value. What a type keeps of its own fields, its invariant, is a private clause: no value breaks it, and where a
+# promise rests on it a call says so by a clause.
 READ = ("Value", "view")
 CLAUSE = re.compile(r"^\s*(requires|ensures)\*?\s+(\w*)")
 VARIANT = re.compile(r"(?m)^    \w+")
@@ -61,24 +62,34 @@ def fields_read(items):
 
 
 def unread(source, span, read):
-    """The numbers of the lines of a span, from 1, that have fields which other crates don't see and that aren't read, and of their comments."""
+    """The numbers of the lines of a span, from 1, that have fields which other crates don't see and that aren't read,
+    and of their comments."""
     found = [at for at in span if (field := HIDDEN.match(source.lines[at])) and field[1] not in read]
     return {at + 1 for at in found} | {number for at in found for number, _ in source.remarks(range(at, at + 1))}
 
 
 def type_items(source, names, models, read):
-    """The types and constants of a file. One that has a model cites the model's members, else the types of those fields that are read."""
+    """The types and constants of a file. One that has a model cites the model's members, else the types of those fields
+    that are read."""
     found = []
     for at, (_, keyword, name) in source.types().items():
         span, item = source.whole(at, ("}", ";")), source.named(name)
         model = models.get(item)
         hidden = unread(source, span, fields_read(model) if model else read) if keyword == "struct" else set()
-        lines, beside = (tuple(it for it in these if it[0] not in hidden) for these in (source.said(span), source.remarks(span)))
+        lines, beside = (
+            tuple(it for it in these if it[0] not in hidden) for these in (source.said(span), source.remarks(span))
+        )
         text = text_of(lines).partition(name)[2]
-        cites = {it.name for it in model or ()} or types_cited(VARIANT.sub("", text) if keyword == "enum" else text, source.scope) - {item}
+        cites = {it.name for it in model or ()} or types_cited(
+            VARIANT.sub("", text) if keyword == "enum" else text, source.scope
+        ) - {item}
         kind = "constant" if keyword in ("const", "static") else "type"
         if keyword != "trait":
-            found.append(definitions.Item(item, kind, source.crate, source.path, lines, beside, frozenset(cites), item in names.public))
+            found.append(
+                definitions.Item(
+                    item, kind, source.crate, source.path, lines, beside, frozenset(cites), item in names.public
+                )
+            )
     return found
 
 
@@ -91,7 +102,12 @@ def is_owner_public(source, block, names):
 def read_fields(source, block, text):
     """The types of those fields of a block's type that a text reads."""
     read = set(re.findall(r"\.(\w+)", text))
-    return {item for name, of in source.fields(block.owner).items() if name in read for item in types_cited(of, source.scope)}
+    return {
+        item
+        for name, of in source.fields(block.owner).items()
+        if name in read
+        for item in types_cited(of, source.scope)
+    }
 
 
 def ghost_items(source, block, names):
@@ -105,14 +121,18 @@ def ghost_items(source, block, names):
             text = text_of(source.said(span)).partition("{")[2]
             cites = definitions.cited(text, block.scope, definitions.bound_in(text)) - {source.named(block.owner)}
             cites |= read_fields(source, block, text) if is_model else types_cited(block.trait, block.scope)
-            found.append((f"{source.named(block.title)}::{match[1]}", source.said(span), source.remarks(span), tuple(cites)))
+            found.append(
+                (f"{source.named(block.title)}::{match[1]}", source.said(span), source.remarks(span), tuple(cites))
+            )
     if found and not is_model:
         found = [(source.named(block.title), *(sum(these, ()) for these in list(zip(*found))[1:]))]
     kind = "trait" if block.is_trait else "model" if is_model else "ghost"
     is_public = is_owner_public(source, block, names)
     invariant = source.named(block.title) + "::invariant"
     return [
-        definitions.Item(it, kind, source.crate, source.path, lines, beside, frozenset(cites), is_public and it != invariant)
+        definitions.Item(
+            it, kind, source.crate, source.path, lines, beside, frozenset(cites), is_public and it != invariant
+        )
         for it, lines, beside, cites in found
     ]
 
@@ -128,7 +148,18 @@ def ghost_fields(source, names):
                 text = text_of(source.said(span)).partition("{")[2]
                 cites = definitions.cited(text, source.scope, definitions.bound_in(text)) - {item}
                 lines, beside = source.said(span), source.remarks(span)
-                found.append(definitions.Item(f"{item} as ghost::{match[1]}", "model", source.crate, source.path, lines, beside, frozenset(cites), item in names.public))
+                found.append(
+                    definitions.Item(
+                        f"{item} as ghost::{match[1]}",
+                        "model",
+                        source.crate,
+                        source.path,
+                        lines,
+                        beside,
+                        frozenset(cites),
+                        item in names.public,
+                    )
+                )
     return found
 
 
@@ -165,10 +196,13 @@ def signature_at(source, at):
 
 
 def is_call_public(source, text, short, block, names):
-    """Whether a function is public: it says so or is of a trait, and its type, or else its module, is public, or the crate hands it on."""
+    """Whether a function is public: it says so or is of a trait, and its type, or else its module, is public, or the
+    crate hands it on."""
     if not block:
         return text.startswith("pub ") and (source.is_open or (source.crate, short) in names.handed)
-    return (block.is_trait or block.trait != "" or text.lstrip().startswith("pub ")) and is_owner_public(source, block, names)
+    return (block.is_trait or block.trait != "" or text.lstrip().startswith("pub ")) and is_owner_public(
+        source, block, names
+    )
 
 
 def call_at(source, span, block, names):
@@ -196,7 +230,9 @@ def call_at(source, span, block, names):
 def calls_of(source, blocks, names):
     """The functions of a file that have clauses."""
     spans = [signature_at(source, at) for at, line in enumerate(source.lines) if functions.FUNCTION.match(line)]
-    return [call_at(source, span, next((it for it in blocks if span[0] in it.span), None), names) for span in spans if span]
+    return [
+        call_at(source, span, next((it for it in blocks if span[0] in it.span), None), names) for span in spans if span
+    ]
 
 
 def items_of(files, names, others):

@@ -50,7 +50,8 @@ class Crate:
 
 
 def parsed(text):
-    """The lines of a crates.txt by the names of their crates, in their order: each line, and the words after its colon."""
+    """The lines of a crates.txt by the names of their crates, in their order: each line, and the words after its
+    colon."""
     lines = [it.partition("#")[0].strip() for it in text.splitlines()]
     parted = [(line, line.partition(":")) for line in lines if line]
     return {before.split()[0]: (line, after.split()) for line, (before, _, after) in parted}
@@ -97,7 +98,8 @@ def toolchain():
 
 @functools.lru_cache(maxsize=None)
 def sum_of(name):
-    """A sum of all that a crate's proof rests on: the toolchain, its line and its files, and the same of the crates below it."""
+    """A sum of all that a crate's proof rests on: the toolchain, its line and its files, and the same of the crates
+    below it."""
     crate = listed()[name]
     told = hashlib.sha256(f"{toolchain()}\n{crate.line}\n".encode())
     for it in crate.sources():

@@ -1,8 +1,9 @@
 #!/usr/bin/env python3
 """Writes docs/DEFINITIONS.md from the comments in specs/, or says whether it is up to date: defined.py [--check]
 
-Each definition of specs/ stands there with the comment above it, crate by crate and file by file; one without a comment shares that of the definition before
-it. Modules that private clauses alone cite are left out, as nobody has to read them to know what is promised.
+Each definition of specs/ stands there with the comment above it, crate by crate and file by file; one without a comment
+shares that of the definition before it. Modules that private clauses alone cite are left out, as nobody has to read
+them to know what is promised.
 """
 
 import itertools

@@ -1,8 +1,9 @@
 """The definitions of specs/ as items, with what each of them cites, and the names that a text cites.
 
-What the crates say is read into items: definitions here, and types, ghost members and calls in contracts.py. Each has a name:
-`crack_part.Parts.IsSound` is a definition, `crack_part::partition::Partition` a type. Names are distinguished by the file's own definitions and its `use`
-lines; what a text binds itself, and fields after a full stop, are none. What is of no crate of the repository is no item.
+What the crates say is read into items: definitions here, and types, ghost members and calls in contracts.py. Each has a
+name: `crack_part.Parts.IsSound` is a definition, `crack_part::partition::Partition` a type. Names are distinguished by
+the file's own definitions and its `use` lines; what a text binds itself, and fields after a full stop, are none. What
+is of no crate of the repository is no item.
 """
 
 import dataclasses
@@ -25,8 +26,8 @@ ASSIGNED = re.compile(r"(?m)(?:[{;]|^)\s*(\w+) =(?=\s)")
 
 @dataclasses.dataclass(frozen=True, eq=False)
 class Item:
-    """What is in a crate's texts under one name. Its lines, each with its number, are those that count; beside them are comments, and the first
-    lines of a function. It cites other items by their names."""
+    """What is in a crate's texts under one name. Its lines, each with its number, are those that count; beside them are
+    comments, and the first lines of a function. It cites other items by their names."""
 
     name: str
     kind: str
@@ -44,7 +45,8 @@ class Item:
 
 
 def named_by(crate, module, name=""):
-    """The item that a name of a module of definitions is. A module below `declared` is that of a type or of constants of src/."""
+    """The item that a name of a module of definitions is. A module below `declared` is that of a type or of constants
+    of src/."""
     first, *parts = module.split(".")
     if first != "declared":
         return f"{crate}.{module}.{name}"
@@ -53,7 +55,8 @@ def named_by(crate, module, name=""):
 
 
 def used(line):
-    """The names that a `use` line brings, each with the item that it is, or, with a full stop after it, with the module."""
+    """The names that a `use` line brings, each with the item that it is, or, with a full stop after it, with the
+    module."""
     found = USE.match(line)
     if not found:
         return {}
@@ -71,7 +74,8 @@ def plain(text):
 
 
 def bound_in(text):
-    """The names that a text binds: variables of λ, of `let` and with a type, fields of a record, and fields that it gives values."""
+    """The names that a text binds: variables of λ, of `let` and with a type, fields of a record, and fields that it
+    gives values."""
     names = {*FIELD.findall(text), *LET.findall(text), *ASSIGNED.findall(text)}
     for binders in BINDERS.findall(text):
         names.update(re.sub(r"\(([^():]*)(?::[^()]*)?\)", r"\1", binders).split())
@@ -144,4 +148,8 @@ def definitions_of(folder):
     """The definitions of a crate."""
     specs = folder / "specs"
     files = [it for it in sorted(specs.rglob("*.antt")) if it.name != "Lib.antt"]
-    return [it for path in files for it in definitions_in(path, folder.name, ".".join(path.relative_to(specs).with_suffix("").parts))]
+    return [
+        it
+        for path in files
+        for it in definitions_in(path, folder.name, ".".join(path.relative_to(specs).with_suffix("").parts))
+    ]

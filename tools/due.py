@@ -1,9 +1,10 @@
 """Which must-fail edits are due: those of the crates that changed since all were tried, and a tenth of the others.
 
-A crate has changed where its own text has (sources, definitions or proofs, without lines of comment), or where it names something of a crate below it
-whose meaning has: a definition, the statement of a law, a type, or a function's contract, be it that its own text changed or that of something which
-it names in turn. What is in a function's body or in a law's proof is of no meaning for the crates above. Of a crate that hasn't changed, the
-edits are due that are new or changed themselves.
+A crate has changed where its own text has (sources, definitions or proofs, without lines of comment), or where it names
+something of a crate below it whose meaning has: a definition, the statement of a law, a type, or a function's contract,
+be it that its own text changed or that of something which it names in turn. What is in a function's body or in a law's
+proof is of no meaning for the crates above. Of a crate that hasn't changed, the edits are due that are new or changed
+themselves.
 """
 
 import hashlib
@@ -16,7 +17,9 @@ import functions
 WORD = re.compile(r"[^\W\d][\w'⁻₀-₉-]*")
 ITEM = re.compile(r"^(?:(?:pub|abbrev|unfoldable|opaque|data|record|syntax|instance)\s+)*([^\s:(){},]+)")
 COMMENT_LINE = re.compile(r"(?m)^[ \t]*(?://|--).*\n?")
-RUST_ITEM = re.compile(r"^\s*(?:pub(?:\([^)]*\))?\s+)?(?:struct|enum|trait|const|static|type|mod|macro_rules!|ghost)\s+(\w+)")
+RUST_ITEM = re.compile(
+    r"^\s*(?:pub(?:\([^)]*\))?\s+)?(?:struct|enum|trait|const|static|type|mod|macro_rules!|ghost)\s+(\w+)"
+)
 
 
 def words_of(text):
@@ -64,7 +67,13 @@ def faces(text):
         found[name] = found.get(name, "") + line.strip() + "\n"
         opens = re.match(r"(\s*)(?:.*\S)?\s*\{$", line)
         indent = re.match(r"\s*", line)[0]
-        is_body = opens and (function or line.strip() == "{" or re.match(r"\s*\)\s*(->.*)?\{$", line)) and name and not block and not item
+        is_body = (
+            opens
+            and (function or line.strip() == "{" or re.match(r"\s*\)\s*(->.*)?\{$", line))
+            and name
+            and not block
+            and not item
+        )
         closes = indent + "}" if is_body else None
     return found
 
@@ -86,7 +95,9 @@ def texts_before(commit, crate):
 
 def texts_now(crate):
     """A crate's files as they are, by path, without lines of comment."""
-    return {str(it.relative_to(crate.folder)): without_comments(it.read_text(errors="replace")) for it in crate.sources()}
+    return {
+        str(it.relative_to(crate.folder)): without_comments(it.read_text(errors="replace")) for it in crate.sources()
+    }
 
 
 def stated(texts):

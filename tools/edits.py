@@ -1,17 +1,19 @@
 #!/usr/bin/env python3
 """Tries must-fail edits, wrong bodies that the prover has to refuse: edits.py [CRATE..]
 
-All of them, or those of the crates that are named. The crates are proved first, as far as they aren't up to date. Then edits are tried side by side, as
-many as there are processors and memory for, each over what a check of its crate kept.
+All of them, or those of the crates that are named. The crates are proved first, as far as they aren't up to date. Then
+edits are tried side by side, as many as there are processors and memory for, each over what a check of its crate kept.
 
-Edits that change different functions are tried together, in one check: a function's proof may cite what the others promise and nothing of their bodies,
-and a check says of each function whether its own proof stands, or lacks only that of another. An edit is refused where the function that it changes isn't
-proved itself. So functions of which one may call the other are tried apart. Where a check of several leaves an edit open all the same (its function lacks
-another's proof, or is proved), that one is tried again among fewer, and at last by itself: then it is refused where the crate isn't proved. An edit
-that cannot be applied or read is a failure, as one that isn't refused is.
+Edits that change different functions are tried together, in one check: a function's proof may cite what the others
+promise and nothing of their bodies, and a check says of each function whether its own proof stands, or lacks only that
+of another. An edit is refused where the function that it changes isn't proved itself. So functions of which one may
+call the other are tried apart. Where a check of several leaves an edit open all the same (its function lacks another's
+proof, or is proved), that one is tried again among fewer, and at last by itself: then it is refused where the crate
+isn't proved. An edit that cannot be applied or read is a failure, as one that isn't refused is.
 
-At the end stands a table of the processor seconds that an edit takes, with its share of the check without edits that its crate pays first. Where all
-edits of all crates were refused, and the crates are those of the last commit, tools/edits-tried names that commit. The last line is 'N passed, M failed'.
+At the end stands a table of the processor seconds that an edit takes, with its share of the check without edits that
+its crate pays first. Where all edits of all crates were refused, and the crates are those of the last commit,
+tools/edits-tried names that commit. The last line is 'N passed, M failed'.
 """
 
 import collections
@@ -40,7 +42,8 @@ ERROR = re.compile(r"(?:\./)?(\S+?):\d+:\d+: error: (?:(`[^`]*`): )?(.*)")
 
 @dataclasses.dataclass(frozen=True)
 class Edit:
-    """An edit: its crate, its name, its changes (the file, the old text and the new), and the function that it changes if it is one alone."""
+    """An edit: its crate, its name, its changes (the file, the old text and the new), and the function that it changes
+    if it is one alone."""
 
     crate: str
     name: str
@@ -67,7 +70,13 @@ def read(path, crate):
                 return Edit(crate.name, path.name, (), None, f"there is no file {file}")
             text = texts.setdefault(file, (crate.folder / file).read_text())
             if text.count(old) != 1:
-                return Edit(crate.name, path.name, (), None, f"an 'old:' text is in {file} {text.count(old)} times, and not once")
+                return Edit(
+                    crate.name,
+                    path.name,
+                    (),
+                    None,
+                    f"an 'old:' text is in {file} {text.count(old)} times, and not once",
+                )
             at = text.find(old) + len(old) - len(old.lstrip())
             places.add(functions.function_at(file, text, at) if file.startswith("src/") else None)
             texts[file] = text.replace(old, new)
@@ -82,7 +91,10 @@ def edits_of(crate):
     """The edits of a crate; a file that is none has its fault."""
     folder = crate.folder / "must-fail"
     others = [it for it in folder.rglob("*") if it.is_file() and it.suffix != ".md" and it not in crate.edits()]
-    wrong = [Edit(crate.name, it.name, (), None, "an edit stands right in must-fail/, and its name ends in .edit") for it in sorted(others)]
+    wrong = [
+        Edit(crate.name, it.name, (), None, "an edit stands right in must-fail/, and its name ends in .edit")
+        for it in sorted(others)
+    ]
     return [*(read(it, crate) for it in crate.edits()), *wrong]
 
 
@@ -101,7 +113,9 @@ def applied(edits):
 def reached_in(name):
     """For each function of a crate those that it may come to call."""
     crate = crates.listed()[name]
-    return functions.reached({str(it.relative_to(crate.folder)): it.read_text() for it in crate.sources() if it.suffix == ".rt"})
+    return functions.reached(
+        {str(it.relative_to(crate.folder)): it.read_text() for it in crate.sources() if it.suffix == ".rt"}
+    )
 
 
 def are_apart(one, other):
@@ -113,10 +127,15 @@ def are_apart(one, other):
 
 
 def batches(edits, size):
-    """Parts these edits of one crate into lists of at most this many, each of edits that can be tried together: first those that go with the fewest."""
+    """Parts these edits of one crate into lists of at most this many, each of edits that can be tried together: first
+    those that go with the fewest."""
     made = []
     for edit in sorted(edits, key=lambda it: sum(are_apart(it, other) for other in edits)):
-        fits = lambda batch: len(batch) < size and all(are_apart(edit, it) for it in batch) and applied([*batch, edit]) is not None
+        fits = (
+            lambda batch: len(batch) < size
+            and all(are_apart(edit, it) for it in batch)
+            and applied([*batch, edit]) is not None
+        )
         batch = next(filter(fits, made), None)
         if batch is None:
             made.append([edit])
@@ -135,7 +154,8 @@ def is_kept(crate):
 
 
 class Check:
-    """What a check of a crate with some edits, or with none, said. If it has none, what it keeps is what checks with edits begin with."""
+    """What a check of a crate with some edits, or with none, said. If it has none, what it keeps is what checks with
+    edits begin with."""
 
     def __init__(self, crate, edits, jobs):
         texts = applied(edits) if edits else {}
@@ -161,7 +181,8 @@ class Check:
 
     @staticmethod
     def is_unread(line, texts):
-        """Whether a text of src/, specs/ or a changed file could not be read, where an edit that only makes a statement false reads well."""
+        """Whether a text of src/, specs/ or a changed file could not be read, where an edit that only makes a statement
+        false reads well."""
         found = ERROR.match(line)
         if not found or not (found[1] in texts or found[1].startswith(("src/", "specs/"))):
             return False
@@ -175,7 +196,9 @@ class Check:
         """Whether the function that an edit changes isn't proved itself."""
         named = [said for name, said in self.functions.items() if edit.function.is_named(name.split("::"))]
         # (one that no file answers has no proof, and is told what to answer; what lacks another's proof is told whose)
-        return self.is_refused and any(it == "not proved" or it.startswith("no proof: expected answers") for it in named)
+        return self.is_refused and any(
+            it == "not proved" or it.startswith("no proof: expected answers") for it in named
+        )
 
     def reason(self, edit):
         """The first error about the function, as far as that can be seen."""
@@ -221,7 +244,9 @@ class Trials:
             check = Check(crate, [], jobs)
             self.kept_seconds[crate.name] = check.seconds
             if check.status:
-                self.unkept[crate.name] = next((it for it in check.lines if ERROR.match(it)), check.lines[-1] if check.lines else "")
+                self.unkept[crate.name] = next(
+                    (it for it in check.lines if ERROR.match(it)), check.lines[-1] if check.lines else ""
+                )
         return []
 
     def try_batch(self, batch, jobs):
@@ -290,7 +315,8 @@ class Trials:
         self.waiting = [edit for batch in open_ones.values() for edit in batch]
 
     def table(self):
-        """The processor seconds of the edits, by crate, with those of the check without edits that a crate pays first, and those that took most."""
+        """The processor seconds of the edits, by crate, with those of the check without edits that a crate pays first,
+        and those that took most."""
         by_crate = collections.defaultdict(list)
         for it in self.results:
             by_crate[it.edit.crate].append(it)

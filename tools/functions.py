@@ -75,7 +75,9 @@ def function_at(path, text, at):
     found = FUNCTION.match(lines[row])
     if not found[1]:
         return Function(module_of(path), "", "", found[2])
-    above = next((it for it in reversed(lines[:row]) if it[:1].strip() and not it.startswith(("//", "#", "}", ")", "{"))), "")
+    above = next(
+        (it for it in reversed(lines[:row]) if it[:1].strip() and not it.startswith(("//", "#", "}", ")", "{"))), ""
+    )
     block = BLOCK.match(above)
     if not block:
         return None
@@ -84,7 +86,8 @@ def function_at(path, text, at):
 
 
 def reached(texts):
-    """For each function of these texts, by path, the functions that it may come to call: all whose names it calls, and what these call in turn."""
+    """For each function of these texts, by path, the functions that it may come to call: all whose names it calls, and
+    what these call in turn."""
     names, of_name = collections.defaultdict(set), collections.defaultdict(set)
     for path, text in texts.items():
         for found in CALL.finditer(text):

@@ -30,7 +30,8 @@ def need_of(crate, below):
 
 
 class Task:
-    """A task: the keys of those that it waits for, its weight, the memory that it needs, and a call that is given a number of jobs."""
+    """A task: the keys of those that it waits for, its weight, the memory that it needs, and a call that is given a
+    number of jobs."""
 
     def __init__(self, waits, weight, need, call, most_jobs=MOST_JOBS):
         self.waits, self.weight, self.need, self.call, self.most_jobs = waits, weight, need, call, most_jobs
@@ -53,8 +54,9 @@ def ranks(tasks):
 def run(tasks, is_over=lambda: False):
     """Runs the tasks, each once those that it waits for are done, and yields each key with what its call gave.
 
-    Of those that are ready each gets half of the processors, as long as some are idle, and the last of them all that are idle: a check gains little
-    from more than two, and what others wait for longest goes first. Once is_over says so, no task is begun.
+    Of those that are ready each gets half of the processors, as long as some are idle, and the last of them all that
+    are idle: a check gains little from more than two, and what others wait for longest goes first. Once is_over says
+    so, no task is begun.
     """
     lanes, room, rank = processors(), 0.85 * memory(), ranks(tasks)
     left, running, done = sorted(tasks, key=lambda it: -rank[it]), {}, set()

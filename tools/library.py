@@ -1,9 +1,10 @@
 #!/usr/bin/env python3
 """Builds the library for C and Python, libcrackd.so: library.py, or library.py --unproved
 
-The crate crackd_c and those below it are proved as `make run` does, and what is proved is linked into lib/libcrackd.so. With --unproved nothing is
-proved: the same code is compiled, with tests of each index, sum and cast as it runs, into lib/libcrackd-unproved.so, whose version says so. crackd.h is put
-beside it, and the library itself also into the Python package.
+The crate crackd_c and those below it are proved as `make run` does, and what is proved is linked into lib/libcrackd.so.
+With --unproved nothing is proved: the same code is compiled, with tests of each index, sum and cast as it runs, into
+lib/libcrackd-unproved.so, whose version says so. crackd.h is put beside it, and the library itself also into the Python
+package.
 """
 
 import pathlib
@@ -70,14 +71,22 @@ def exports(text):
 def caller_of(functions):
     """A test that calls each export once, so that all of them are compiled."""
     calls = [f"    let _ = {name}({', '.join(GIVEN[it] for it in types)});" for name, types in functions.items()]
-    before = ["#[test]", "fn calls_each_export(rt: HostRuntime) {", "    let mut handle = Handle::empty();", f"    let mut totals = {TOTALS};"]
+    before = [
+        "#[test]",
+        "fn calls_each_export(rt: HostRuntime) {",
+        "    let mut handle = Handle::empty();",
+        f"    let mut totals = {TOTALS};",
+    ]
     return "\n".join(["", *before, *calls, "}", ""])
 
 
 def exported(text, functions):
-    """The text of a module with these functions, and no others, to be seen from outside, and without the tests of each access to memory."""
+    """The text of a module with these functions, and no others, to be seen from outside, and without the tests of each
+    access to memory."""
     for name in functions:
-        text = text.replace(f'define internal noundef i32 @"{CRATE}::{name}"(', f"define noundef i32 @{name}(").replace(f'@"{CRATE}::{name}"(', f"@{name}(")
+        text = text.replace(f'define internal noundef i32 @"{CRATE}::{name}"(', f"define noundef i32 @{name}(").replace(
+            f'@"{CRATE}::{name}"(', f"@{name}("
+        )
     return text.replace(" sanitize_address", "").replace("define i32 @main(", "define internal i32 @main(")
 
 
@@ -88,7 +97,9 @@ def compiler(rt):
 
 def run(*words, **how):
     """Runs a command, and ends all where it fails."""
-    ran = subprocess.run([str(it) for it in words], stdout=subprocess.PIPE, stderr=subprocess.STDOUT, text=True, check=False, **how)
+    ran = subprocess.run(
+        [str(it) for it in words], stdout=subprocess.PIPE, stderr=subprocess.STDOUT, text=True, check=False, **how
+    )
     if ran.returncode:
         sys.exit(f"{ran.stdout[-4000:]}\n{words[0]} failed")
 
@@ -104,7 +115,18 @@ def unproved_object(rt, room):
     step.module(rt, str(folder), str(made))
     run(compiler(rt), "-x", "ir", made, "-S", "-emit-llvm", "-o", text)
     text.write_text(exported(text.read_text(encoding="utf-8"), functions), encoding="utf-8")
-    run(compiler(rt), "--target=x86_64-unknown-linux-gnu", "-O2", "-fPIC", "-c", "-x", "ir", text, "-o", room / "module.o")
+    run(
+        compiler(rt),
+        "--target=x86_64-unknown-linux-gnu",
+        "-O2",
+        "-fPIC",
+        "-c",
+        "-x",
+        "ir",
+        text,
+        "-o",
+        room / "module.o",
+    )
     return room / "module.o"
 
 
@@ -113,7 +135,9 @@ def copy_sources(room):
     crate = crates.listed()[CRATE]
     for it in [*crates.below(CRATE), crate]:
         shutil.copytree(it.folder / "src", room / "crates" / it.name / "src")
-    (room / "crates.txt").write_text("\n".join(it.line for it in [*crates.below(CRATE), crate]) + "\n", encoding="utf-8")
+    (room / "crates.txt").write_text(
+        "\n".join(it.line for it in [*crates.below(CRATE), crate]) + "\n", encoding="utf-8"
+    )
     shutil.copyfile(crates.TOP / "HANDLES", room / "HANDLES")
 
 
@@ -123,9 +147,33 @@ def link(rt, room, code, is_proved):
     said = f"crackd {version()}" + ("" if is_proved else " (unproved)")
     (room / "version.c").write_text(f'const char *crackd_version(void) {{ return "{said}"; }}\n', encoding="utf-8")
     (room / "crackd.map").write_text("{ global: crackd_*; local: *; };\n", encoding="utf-8")
-    run(compiler(rt), "--target=x86_64-unknown-linux-gnu", "-O2", "-fPIC", "-c", room / "version.c", "-o", room / "version.o")
+    run(
+        compiler(rt),
+        "--target=x86_64-unknown-linux-gnu",
+        "-O2",
+        "-fPIC",
+        "-c",
+        room / "version.c",
+        "-o",
+        room / "version.o",
+    )
     tools, kit = f"{rt.rtlib.KIT}/toolchain", rt.rtlib.KIT
-    words = ["-shared", "-soname", name, "-z", "defs", "-z", "relro", "-z", "now", "--gc-sections", "--version-script", room / "crackd.map", "-o", room / name]
+    words = [
+        "-shared",
+        "-soname",
+        name,
+        "-z",
+        "defs",
+        "-z",
+        "relro",
+        "-z",
+        "now",
+        "--gc-sections",
+        "--version-script",
+        room / "crackd.map",
+        "-o",
+        room / name,
+    ]
     whole = ["--whole-archive", code, "--no-whole-archive"]
     run(f"{tools}/bin/ld.lld", *words, *whole, room / "version.o", f"{kit}/c/liblibc_c.a", f"{tools}/lib/libc.so.6")
     LIB.mkdir(exist_ok=True)

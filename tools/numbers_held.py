@@ -1,7 +1,9 @@
-"""Numbers of the documents that are constants of the code: what is in a document is held to the constant that the source names.
+"""Numbers of the documents that are constants of the code: what is in a document is held to the constant that the
+source names.
 
-A line of NUMBERS is a document, a text of it in which {} stands for the number, and the crate and the constant. The text is in the document once, on
-one line or over several, with the number in digits, in threes by commas or in one row. `mismatches` says which lines don't hold.
+A line of NUMBERS is a document, a text of it in which {} stands for the number, and the crate and the constant. The
+text is in the document once, on one line or over several, with the number in digits, in threes by commas or in one row.
+`mismatches` says which lines don't hold.
 """
 
 import itertools
@@ -62,7 +64,12 @@ NUMBERS = [
 ]
 
 # of README's table of figures: the row of docs/BENCHMARKS.md for each column, and the column there for each row
-SERIES = {"crackd": "crackd's partition", "a sorted array": "a sorted array", "a BTreeMap": "a BTreeMap", "a scan": "a scan"}
+SERIES = {
+    "crackd": "crackd's partition",
+    "a sorted array": "a sorted array",
+    "a BTreeMap": "a BTreeMap",
+    "a scan": "a scan",
+}
 FIGURES = {
     "load": ["loading"],
     "first count of everything": ["first count of everything"],
@@ -97,17 +104,23 @@ def mismatches(numbers=None, top=TOP):
 
 
 def table(text, first):
-    """The table of a text whose first row begins with these cells: its cells by the first of a row and the first of a column."""
-    rows = [[it.strip() for it in line.strip("|").split("|")] if line.startswith("|") else [] for line in text.splitlines()]
+    """The table of a text whose first row begins with these cells: its cells by the first of a row and the first of a
+    column."""
+    rows = [
+        [it.strip() for it in line.strip("|").split("|")] if line.startswith("|") else [] for line in text.splitlines()
+    ]
     start = next(at for at, row in enumerate(rows) if row[: len(first)] == first)
     body = itertools.takewhile(bool, rows[start + 2 :])
     return {row[0]: dict(zip(rows[start][1:], row[1:])) for row in body}
 
 
 def figure_mismatches(top=TOP):
-    """The figures of README's table that aren't those of docs/BENCHMARKS.md, in milliseconds, to as many digits as they are written with."""
+    """The figures of README's table that aren't those of docs/BENCHMARKS.md, in milliseconds, to as many digits as they
+    are written with."""
     ours = table((top / "README.md").read_text(encoding="utf-8"), ["", "crackd"])
-    measured = table((top / "docs" / "BENCHMARKS.md").read_text(encoding="utf-8"), ["What", "loading", "first count of everything"])
+    measured = table(
+        (top / "docs" / "BENCHMARKS.md").read_text(encoding="utf-8"), ["What", "loading", "first count of everything"]
+    )
     wrong = [] if list(ours) == list(FIGURES) else [f"README has rows {list(ours)}"]
     for row, columns in FIGURES.items():
         for name, cell in ours.get(row, {}).items():

@@ -1,9 +1,10 @@
 #!/usr/bin/env python3
 """Proves crates side by side, each as soon as those below it are, and builds programs: prove.py NAME.. [-- WORD..]
 
-Each is proved as the gate proves it, but that what didn't change isn't proved again: crates that are up to date are passed over, and start nothing of the
-toolchain. What is done is reported on standard error. A crate that fails ends all; what was proved is kept. With words after `--` the one program that is
-named is then run with them, on standard input and output.
+Each is proved as the gate proves it, but that what didn't change isn't proved again: crates that are up to date are
+passed over, and start nothing of the toolchain. What is done is reported on standard error. A crate that fails ends
+all; what was proved is kept. With words after `--` the one program that is named is then run with them, on standard
+input and output.
 """
 
 import hashlib
@@ -87,7 +88,9 @@ class Prover:
         if self.failed:
             return
         self.failed = crate.name
-        lines = [it for it in said.splitlines() if it.strip() and not it.startswith(NOISE) and not it.endswith(": proved")]
+        lines = [
+            it for it in said.splitlines() if it.strip() and not it.startswith(NOISE) and not it.endswith(": proved")
+        ]
         self.say("\n".join([*lines[-60:], f"{crate.name} is not proved: mend what is said above, and run this again"]))
         for it in self.running.values():
             it.terminate()
@@ -110,7 +113,9 @@ class Prover:
             under = crates.below(crate.name)
             weight = crate.lines(".rt") + crate.lines(".antt") / 2 + 500
             waits = [it.name for it in under if it in stale]
-            tasks[crate.name] = lanes.Task(waits, weight, lanes.need_of(crate, under), lambda jobs, it=crate: self.prove(it, jobs))
+            tasks[crate.name] = lanes.Task(
+                waits, weight, lanes.need_of(crate, under), lambda jobs, it=crate: self.prove(it, jobs)
+            )
         for _ in lanes.run(tasks, lambda: bool(self.failed)):
             pass
         return not self.failed

@@ -1,8 +1,10 @@
-"""What must be read to know what a promise says: the clauses of the calls that docs/PROOFS.md names for it, and what these cite, in turn.
+"""What must be read to know what a promise says: the clauses of the calls that docs/PROOFS.md names for it, and what
+these cite, in turn.
 
-A table there whose last column is headed `Its calls` names calls in it by their paths, row by row; in brackets after one are the names of
-those of its clauses that carry the promise, where not all do. What callers must see to is read in any case. A type is read with the value and the
-view of its model, and with the types of the fields that these read; a trait's ghost members with those that each public type has of it.
+A table there whose last column is headed `Its calls` names calls in it by their paths, row by row; in brackets after
+one are the names of those of its clauses that carry the promise, where not all do. What callers must see to is read in
+any case. A type is read with the value and the view of its model, and with the types of the fields that these read; a
+trait's ghost members with those that each public type has of it.
 """
 
 import collections
@@ -27,7 +29,8 @@ def is_left_out(crate):
 
 
 class Reading:
-    """All items of the crates by name, and what each of them leads a reader to. The crates are given in their order, the lowest first."""
+    """All items of the crates by name, and what each of them leads a reader to. The crates are given in their order,
+    the lowest first."""
 
     def __init__(self, items, order):
         self.items = {it.name: it for it in items}
@@ -58,7 +61,8 @@ class Reading:
         return self.rank[item.crate], item.path.as_posix(), item.first
 
     def ordered(self, items):
-        """These items crate by crate, the lowest first, each after those that it cites, and a model's members right after its type."""
+        """These items crate by crate, the lowest first, each after those that it cites, and a model's members right
+        after its type."""
         chosen = {it.name: it for it in items}
         met, found = set(), []
 
@@ -88,14 +92,16 @@ class Reading:
         return found[0]
 
     def read_for(self, roots):
-        """What must be read for calls, each with the names of the clauses that are asked for or nothing, in the order in which it's read."""
+        """What must be read for calls, each with the names of the clauses that are asked for or nothing, in the order
+        in which it's read."""
         calls = [narrowed(self.call(path), names) for path, names in roots.items()]
         named = {it.name for it in calls}
         return self.ordered([*calls, *(self.items[it] for it in self.reached(calls) - named)])
 
 
 def narrowed(call, names):
-    """A call with those alone of its clauses that have these names or that callers must see to; with all of them where no name is given."""
+    """A call with those alone of its clauses that have these names or that callers must see to; with all of them where
+    no name is given."""
     kept = tuple(it for it in call.clauses if not names or it.is_required or it.name in names)
     missing = set(names) - {it.name for it in kept}
     if missing:
@@ -105,7 +111,8 @@ def narrowed(call, names):
 
 
 def roots_in(text):
-    """The calls of each promise that a text's tables name, the headline's under a name of its own: each with the names of clauses, none for all."""
+    """The calls of each promise that a text's tables name, the headline's under a name of its own: each with the names
+    of clauses, none for all."""
     promises, first = {}, ""
     for line in text.splitlines():
         cells = [it.strip() for it in line.strip().strip("|").split("|")] if line.startswith("|") else []
@@ -122,7 +129,8 @@ def roots_in(text):
 
 
 def joined(many):
-    """The calls of several promises. One of which each asks for some clauses is asked for all of these; if one asks for the whole, for that."""
+    """The calls of several promises. One of which each asks for some clauses is asked for all of these; if one asks for
+    the whole, for that."""
     found = {}
     for calls in many:
         for path, names in calls.items():

@@ -1,8 +1,8 @@
 """Rooms: copies of a crate, with what was built of those below it, in which this crate alone is worked on.
 
-Two runs of `rt` in one folder wait for each other wherever they stand on the same crates. In rooms they don't: each has copies of its own. What was
-built is handed on by hard links, or by copies where the room lies on another disk. What is kept of a crate is in the folder proved of its out/,
-apart from what `rt` keeps there by itself.
+Two runs of `rt` in one folder wait for each other wherever they stand on the same crates. In rooms they don't: each has
+copies of its own. What was built is handed on by hard links, or by copies where the room lies on another disk. What is
+kept of a crate is in the folder proved of its out/, apart from what `rt` keeps there by itself.
 """
 
 import os

@@ -1,9 +1,9 @@
 #!/usr/bin/env python3
 """Lists the rules of docs/SPECIFICATION.md that no case shows: rules.py
 
-A word after a § marks the rule that it follows, and stands in the name of a case of acceptance/cases, of a section of a page of acceptance/, or of a
-test of acceptance/ or of the crates of tests, there with underscores. Each item of a list and each row of a table of rules has to have one. The status is 1 where a rule lacks its mark, or a mark its
-case.
+A word after a § marks the rule that it follows, and stands in the name of a case of acceptance/cases, of a section of a
+page of acceptance/, or of a test of acceptance/ or of the crates of tests, there with underscores. Each item of a list
+and each row of a table of rules has to have one. The status is 1 where a rule lacks its mark, or a mark its case.
 """
 
 import pathlib
@@ -24,7 +24,12 @@ ITEM = re.compile(r"(?:- |\d+\. )")
 def names(top=TOP):
     """The names of all cases and tests, in words between hyphens."""
     found = set()
-    for pattern in ("acceptance/cases/*.cases", "acceptance/*.txt", "acceptance/test_*.py", "crates/*_tests/src/**/*.rt"):
+    for pattern in (
+        "acceptance/cases/*.cases",
+        "acceptance/*.txt",
+        "acceptance/test_*.py",
+        "crates/*_tests/src/**/*.rt",
+    ):
         for path in top.glob(pattern):
             given = re.findall(NAMES[path.suffix], path.read_text(encoding="utf-8"), re.MULTILINE)
             found |= {re.sub("[ _]", "-", it) for it in given}
@@ -50,9 +55,13 @@ def faults(top=TOP):
     """The rules without a mark, and the marks that no case has."""
     text = (top / PAGE).read_text(encoding="utf-8")
     known = names(top)
-    lacking = [f"{PAGE}:{number}: this rule has no mark: {rule[:60]}" for number, rule in rules(text) if not MARK.search(rule)]
+    lacking = [
+        f"{PAGE}:{number}: this rule has no mark: {rule[:60]}" for number, rule in rules(text) if not MARK.search(rule)
+    ]
     marks = [(number, it) for number, line in enumerate(text.splitlines(), 1) for it in MARK.findall(line)]
-    return lacking + [f"{PAGE}:{number}: no case's name has {it}" for number, it in marks if not any(it in name for name in known)]
+    return lacking + [
+        f"{PAGE}:{number}: no case's name has {it}" for number, it in marks if not any(it in name for name in known)
+    ]
 
 
 if __name__ == "__main__":

@@ -19,8 +19,8 @@ REMARK = re.compile(r"^\s*//")
 
 @dataclasses.dataclass(frozen=True)
 class Block:
-    """An `impl` or a trait: where it is, its type (of a trait the trait itself), its trait with its arguments (of a trait none), and the items
-    that its names are."""
+    """An `impl` or a trait: where it is, its type (of a trait the trait itself), its trait with its arguments (of a
+    trait none), and the items that its names are."""
 
     span: range
     is_trait: bool
@@ -84,7 +84,8 @@ class Source:
 
 
 class Names:
-    """Which item a name of Rust is: the modules of each crate, its types, constants and traits, what its root hands on, and what is public."""
+    """Which item a name of Rust is: the modules of each crate, its types, constants and traits, what its root hands on,
+    and what is public."""
 
     def __init__(self):
         self.modules = {}
@@ -116,7 +117,8 @@ def rust_names(text):
 
 
 def read(folder, names):
-    """The files of src/ of a crate. Notes among the names which modules and types it has, and which of them are public."""
+    """The files of src/ of a crate. Notes among the names which modules and types it has, and which of them are
+    public."""
     root = next(it for it in (folder / "src" / "lib.rt", folder / "src" / "main.rt") if it.exists())
     text, paths = root.read_text(), sorted((folder / "src").rglob("*.rt"))
     handed = rust_names("\n".join(it[0] for it in re.finditer(r"(?m)^pub use [^;]+;", text)))
@@ -133,7 +135,8 @@ def read(folder, names):
 
 
 def fill_scope(source, names):
-    """Notes in a file's scope what its `use` lines, its own types, and the `use` lines of its contracts bring; the last ones go first."""
+    """Notes in a file's scope what its `use` lines, its own types, and the `use` lines of its contracts bring; the last
+    ones go first."""
     paths = rust_names(source.text)
     source.scope.update({name: item for name, path in paths.items() if (item := names.item(source.crate, path))})
     source.scope.update({name: source.named(name) for _, _, name in source.types().values()})

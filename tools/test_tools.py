@@ -1,5 +1,6 @@
 #!/usr/bin/env python3
-"""Cases of the tools: which function a place lies in, which edits are tried together, what a change touches, and what is read for a promise."""
+"""Cases of the tools: which function a place lies in, which edits are tried together, what a change touches, and what
+is read for a promise."""
 
 import pathlib
 import re
@@ -219,7 +220,9 @@ class Functions(unittest.TestCase):
 
     def test_a_function_reaches_what_it_calls_and_what_that_calls(self):
         text = "fn a() {\n    b();\n}\n\nfn b() {\n    c(1);\n}\n\nfn c(n: u64) {\n    d(n);\n}\n"
-        found = {it.name: {of.name for of in reached} for it, reached in functions.reached({"src/lib.rt": text}).items()}
+        found = {
+            it.name: {of.name for of in reached} for it, reached in functions.reached({"src/lib.rt": text}).items()
+        }
         self.assertEqual(found, {"a": {"b", "c"}, "b": {"c"}, "c": set()})
 
     def test_its_first_line_is_in_a_function_and_a_type_is_in_none(self):
@@ -235,19 +238,29 @@ class Batches(unittest.TestCase):
             self.assertEqual(sorted(it.name for batch in made for it in batch), sorted(it.name for it in every))
             for batch in made:
                 self.assertTrue(len(batch) <= 8)
-                self.assertTrue(all(edits.are_apart(one, other) for one in batch for other in batch if one is not other))
+                self.assertTrue(
+                    all(edits.are_apart(one, other) for one in batch for other in batch if one is not other)
+                )
 
     def test_each_edit_can_be_applied(self):
-        self.assertEqual([it.label for crate in crates.listed().values() for it in edits.edits_of(crate) if it.fault], [])
+        self.assertEqual(
+            [it.label for crate in crates.listed().values() for it in edits.edits_of(crate) if it.fault], []
+        )
 
 
 class Due(unittest.TestCase):
     def test_a_body_is_of_no_meaning_for_the_crates_above(self):
-        self.assertEqual(due.faces(SOURCE), due.faces(SOURCE.replace("a + 1", "a + 2").replace("self.places.len()", "0")))
+        self.assertEqual(
+            due.faces(SOURCE), due.faces(SOURCE.replace("a + 1", "a + 2").replace("self.places.len()", "0"))
+        )
 
     def test_a_clause_and_a_type_are(self):
         before = due.faces(SOURCE)
-        for old, new, name in [("a ≤ 8", "a ≤ 9", "alone"), ("Vec<T>", "List<T>", "Column"), ("(&self)", "(self)", "len")]:
+        for old, new, name in [
+            ("a ≤ 8", "a ≤ 9", "alone"),
+            ("Vec<T>", "List<T>", "Column"),
+            ("(&self)", "(self)", "len"),
+        ]:
             after = due.faces(SOURCE.replace(old, new))
             self.assertEqual({it for it in {*before, *after} if before.get(it) != after.get(it)}, {name})
 
@@ -260,7 +273,9 @@ class Due(unittest.TestCase):
     def test_a_line_of_comment_changes_nothing(self):
         told = "/// Its length.\nfn len() -> u64 {\n    // (counted)\n    4 - 1\n}\n"
         self.assertEqual(due.without_comments(told), "fn len() -> u64 {\n    4 - 1\n}")
-        self.assertEqual(due.without_comments("-- a law\nlaw : 1 ≡ 1\n  -- by itself\nlaw = refl\n"), "law : 1 ≡ 1\nlaw = refl")
+        self.assertEqual(
+            due.without_comments("-- a law\nlaw : 1 ≡ 1\n  -- by itself\nlaw = refl\n"), "law : 1 ≡ 1\nlaw = refl"
+        )
 
     def test_a_line_that_is_laid_out_anew_changes_no_meaning(self):
         before = {"twice": "twice n = size (n + n)\n"}
@@ -291,11 +306,19 @@ class Reading(unittest.TestCase):
     def test_a_call_is_read_behind_what_its_clauses_cite(self):
         names = [it.name for it in self.shelf.read_for({"a::put": frozenset()})]
         definitions_first = ["a.Sizes.IsThing", "a.Sizes.count", "a::PLACES", "a.Sizes.IsFull"]
-        of_shelf = ["a::inside::Thing", "a::inside::Shelf", "a::inside::Shelf as Model::Value", "a::inside::Shelf as Model::view"]
+        of_shelf = [
+            "a::inside::Thing",
+            "a::inside::Shelf",
+            "a::inside::Shelf as Model::Value",
+            "a::inside::Shelf as Model::view",
+        ]
         self.assertEqual(names, [*definitions_first, *of_shelf, "a::put"])
 
     def test_of_a_call_those_clauses_are_read_that_are_asked_for(self):
-        read = {it.name: [line.strip() for _, line in it.lines] for it in self.shelf.read_for({"a::put": frozenset({"size"})})}
+        read = {
+            it.name: [line.strip() for _, line in it.lines]
+            for it in self.shelf.read_for({"a::put": frozenset({"size"})})
+        }
         self.assertEqual(read["a::put"], ["requires { size < PLACES }", "ensures size { shelf.new.size ≡ size }"])
         self.assertNotIn("a.Sizes.IsFull", read)
 
@@ -317,7 +340,10 @@ class Reading(unittest.TestCase):
 
     def test_of_a_type_without_a_model_no_field_is_read_that_nothing_reads(self):
         label = self.shelf.items["a::inside::Label"]
-        self.assertEqual(([line for _, line in label.lines], label.cites), (["pub struct Label {", "    text: u64,", "}"], frozenset()))
+        self.assertEqual(
+            ([line for _, line in label.lines], label.cites),
+            (["pub struct Label {", "    text: u64,", "}"], frozenset()),
+        )
 
     def test_a_trait_is_read_with_what_public_types_have_of_it(self):
         names = [it.name for it in self.shelf.read_for({"a::inside::Scale::weigh": frozenset()})]
@@ -341,8 +367,14 @@ class Reading(unittest.TestCase):
         for roots in promises.values():
             items = whole.read_for(roots)
             place = {it.name: at for at, it in enumerate(items)}
-            late = ((it, name) for it in items for name in it.cites if place.get(name, 0) > place[it.name] and not name.startswith(f"{it.name} as "))
-            # (of items that cite one another, as the model of a recursive type and what that holds do, one must come first)
+            late = (
+                (it, name)
+                for it in items
+                for name in it.cites
+                if place.get(name, 0) > place[it.name] and not name.startswith(f"{it.name} as ")
+            )
+            # (of items that cite one another, as the model of a recursive type and what that holds do, one must come
+            # first)
             behind = [it for it, name in late if it.name not in whole.reached([whole.items[name]])]
             self.assertEqual((len(place), behind), (len(items), []))
 
@@ -373,8 +405,13 @@ class Numbers(unittest.TestCase):
             (top / "crates" / "a" / "src").mkdir(parents=True)
             (top / "crates" / "a" / "src" / "lib.rt").write_text("pub const PLACES: u64 = 4096;\n", encoding="utf-8")
             (top / "page.md").write_text("It has 4,096\nplaces, and 4097 names.\n", encoding="utf-8")
-            lines = [("page.md", text, "a", name) for text, name in [("has {} places", "PLACES"), ("and {} names", "PLACES"), ("has {}", "NAMES")]]
-            self.assertEqual(numbers_held.mismatches(lines, top), ["page.md doesn't say 'and 4096 names'", "a has 0 values of NAMES"])
+            lines = [
+                ("page.md", text, "a", name)
+                for text, name in [("has {} places", "PLACES"), ("and {} names", "PLACES"), ("has {}", "NAMES")]
+            ]
+            self.assertEqual(
+                numbers_held.mismatches(lines, top), ["page.md doesn't say 'and 4096 names'", "a has 0 values of NAMES"]
+            )
 
 
 class Documents(unittest.TestCase):
@@ -392,12 +429,18 @@ class Documents(unittest.TestCase):
         self.assertLessEqual(len((crates.TOP / "README.md").read_text(encoding="utf-8").splitlines()), 120)
 
     def test_pages_that_are_written_by_hand_stay_short(self):
-        pages = [it for it in [*crates.TOP.glob("*.md"), *crates.TOP.glob("docs/*.md")] if it.name not in ("DEFINITIONS.md", "BENCHMARKS.md")]
+        pages = [
+            it
+            for it in [*crates.TOP.glob("*.md"), *crates.TOP.glob("docs/*.md")]
+            if it.name not in ("DEFINITIONS.md", "BENCHMARKS.md")
+        ]
         self.assertLessEqual(sum(len(it.read_text(encoding="utf-8").split()) for it in pages), 32_130)
 
     def test_definitions_are_the_comments_of_specs(self):
         self.assertEqual(defined.main(["--check"]), 0, "python3 tools/defined.py writes docs/DEFINITIONS.md anew")
-        self.assertLessEqual(set(defined.uncommented()), {"crack_arena.Links.content_value", "crackd_c.Handles.CoreState"})
+        self.assertLessEqual(
+            set(defined.uncommented()), {"crack_arena.Links.content_value", "crackd_c.Handles.CoreState"}
+        )
 
     def test_tests_that_proofs_name_are_where_their_links_lead(self):
         self.assertEqual(tested.main(["--check"]), 0, "python3 tools/tested.py has them lead there")
@@ -413,10 +456,14 @@ class Documents(unittest.TestCase):
         self.assertEqual(tested.linked(page), (page, ["no_such_test", "no_file.py"]))
 
     def test_the_guide_has_each_refusal_and_each_statement(self):
-        guide, rules = ((crates.TOP / "docs" / it).read_text(encoding="utf-8") for it in ("GUIDE.md", "SPECIFICATION.md"))
+        guide, rules = (
+            (crates.TOP / "docs" / it).read_text(encoding="utf-8") for it in ("GUIDE.md", "SPECIFICATION.md")
+        )
         asked = [re.findall(r"\d+", row) for row in numbers_held.table(guide, ["No.", "Cause"])]
         self.assertEqual(sum(asked, []), list(numbers_held.table(rules, ["No.", "Comes where"])))
-        named = [{row.strip("`").split(" ")[0] for row in numbers_held.table(text, ["Statement"])} for text in (guide, rules)]
+        named = [
+            {row.strip("`").split(" ")[0] for row in numbers_held.table(text, ["Statement"])} for text in (guide, rules)
+        ]
         self.assertEqual(*named)
 
     def test_each_rule_has_a_case(self):
@@ -429,8 +476,14 @@ class Documents(unittest.TestCase):
             (top / "acceptance" / "cases").mkdir(parents=True)
             (top / "acceptance" / "cases" / "rows.cases").write_text("== a-row-comes\n$ script\n", encoding="utf-8")
             rows = "| No. | Where |\n|---|---|\n| 1 | gone §a-row-goes |\n| 2 | none |\n"
-            (top / rules.PAGE).write_text(f"Words.\n\n- It comes. §a-row\n- It goes,\n  and comes.\n\n{rows}", encoding="utf-8")
-            wanted = ["4: this rule has no mark: - It goes,\n  and comes.", "10: this rule has no mark: | 2 | none |", "9: no case's name has a-row-goes"]
+            (top / rules.PAGE).write_text(
+                f"Words.\n\n- It comes. §a-row\n- It goes,\n  and comes.\n\n{rows}", encoding="utf-8"
+            )
+            wanted = [
+                "4: this rule has no mark: - It goes,\n  and comes.",
+                "10: this rule has no mark: | 2 | none |",
+                "9: no case's name has a-row-goes",
+            ]
             self.assertEqual(rules.faults(top), [f"{rules.PAGE}:{it}" for it in wanted])
 
     def test_links_lead_somewhere(self):
@@ -440,7 +493,9 @@ class Documents(unittest.TestCase):
         with tempfile.TemporaryDirectory() as room:
             top = pathlib.Path(room)
             (top / "page.md").write_text("# A page\n\n## The `end`, at last\n", encoding="utf-8")
-            (top / "other.md").write_text("[a](page.md#the-end-at-last) [b](page.md#begin) [c](none.md) [d](https://e.org)\n", encoding="utf-8")
+            (top / "other.md").write_text(
+                "[a](page.md#the-end-at-last) [b](page.md#begin) [c](none.md) [d](https://e.org)\n", encoding="utf-8"
+            )
             self.assertEqual(links.broken(top), ["other.md leads to page.md#begin", "other.md leads to none.md"])
 
 

@@ -1,8 +1,8 @@
 #!/usr/bin/env python3
 """Has the names of tests in docs/PROOFS.md lead to the files where they stand: tested.py [--check]
 
-In its section 'What is only tested' each name in backquotes that is a test's, or a file's of acceptance/ or of the crates of tests, becomes a link. The status
-is 1 where a name is neither, or with --check where a link leads elsewhere.
+In its section 'What is only tested' each name in backquotes that is a test's, or a file's of acceptance/ or of the
+crates of tests, becomes a link. The status is 1 where a name is neither, or with --check where a link leads elsewhere.
 """
 
 import pathlib

@@ -1,16 +1,17 @@
 #!/usr/bin/env python3
 """Prints and counts what a reader must read to know what is promised: trust.py [--count] [--each] [--all] [PROMISE ..]
 
-For the promises of docs/PROOFS.md and the sentence above them (PROMISE: their names, or `headline`; else all) it prints the clauses of their calls
-and the definitions, types and ghost members that these cite, in turn, each after what it cites, with its file and line. Counted are the lines of
-clauses, definitions and ghost members; those of types and constants, which are code, are counted apart, beside them. Comments and the first lines of
-functions are printed and not counted; the names that a file brings from others, and what is in a library, are neither. --count leaves the text
-out, --each adds the numbers of each crate, and --all those of all that is in specs/, including comments and `use` lines, and in public clauses, with the
-ghost members of public types.
+For the promises of docs/PROOFS.md and the sentence above them (PROMISE: their names, or `headline`; else all) it prints
+the clauses of their calls and the definitions, types and ghost members that these cite, in turn, each after what it
+cites, with its file and line. Counted are the lines of clauses, definitions and ghost members; those of types and
+constants, which are code, are counted apart, beside them. Comments and the first lines of functions are printed and not
+counted; the names that a file brings from others, and what is in a library, are neither. --count leaves the text out,
+--each adds the numbers of each crate, and --all those of all that is in specs/, including comments and `use` lines, and
+in public clauses, with the ghost members of public types.
 
-The status is 1 if a definition of specs/ is reached by no clause of any crate; if private clauses alone reach it, of functions that a crate
-keeps to itself, of tests, or what a type keeps of its own fields, and its module doesn't say so in its first line; or where its module says so and
-public clauses reach it.
+The status is 1 if a definition of specs/ is reached by no clause of any crate; if private clauses alone reach it, of
+functions that a crate keeps to itself, of tests, or what a type keeps of its own fields, and its module doesn't say so
+in its first line; or where its module says so and public clauses reach it.
 """
 
 import signal
@@ -49,8 +50,11 @@ def place_of(item):
 
 
 def row(name, items):
-    """A line of a table: how many lines of items are counted, of each kind, and how many lines of types are beside them."""
-    return "".join([f"{name:20}", f"{count(items):8}", *(f"{count(items, kinds):15}" for kinds in (*KINDS.values(), BESIDE))])
+    """A line of a table: how many lines of items are counted, of each kind, and how many lines of types are beside
+    them."""
+    return "".join(
+        [f"{name:20}", f"{count(items):8}", *(f"{count(items, kinds):15}" for kinds in (*KINDS.values(), BESIDE))]
+    )
 
 
 def table(whole, promises, chosen, with_crates):
@@ -94,7 +98,9 @@ def misplaced(whole):
         "are reached by private clauses alone, in a module that doesn't say so": [
             it for it in found if it.name in every - public and it.path not in marked
         ],
-        "are reached by public clauses, in a module that is for private ones": [it for it in found if it.name in public and it.path in marked],
+        "are reached by public clauses, in a module that is for private ones": [
+            it for it in found if it.name in public and it.path in marked
+        ],
     }
 
 
@@ -107,7 +113,11 @@ def main(words):
         sys.exit(f"{unknown[0]} is none of {', '.join([*OPTIONS, *promises])}")
     if "--count" not in words:
         print(text_of(whole.read_for(reading.joined([promises[name] for name in chosen]))))
-    print("\n".join([*table(whole, promises, chosen, "--each" in words), *([all_lines(whole)] if "--all" in words else [])]))
+    print(
+        "\n".join(
+            [*table(whole, promises, chosen, "--each" in words), *([all_lines(whole)] if "--all" in words else [])]
+        )
+    )
     found = {fault: items for fault, items in misplaced(whole).items() if items}
     for fault, items in found.items():
         print(f"\n{len(items)} definitions, {count(items)} lines, {fault}:")

@@ -24,10 +24,24 @@ def splits(words: list[str]) -> int:
     """Prints splits that cut the keys of a CSV file into nearly equal parts."""
     about = "Prints splits that cut the keys of a CSV file into N nearly equal parts, for `crackd serve` and the other subcommands."
     parser = argparse.ArgumentParser(prog="python3 -m crackd splits", description=about)
-    parser.add_argument("file", metavar="FILE.csv", help="a file whose keys are integers from 0 to 18446744073709551615")
-    parser.add_argument("parts", metavar="N", type=int, help=f"how many partitions, 1 to {MOST_PARTS}; there are fewer if there are few different keys")
-    parser.add_argument("--key", metavar="COLUMN", default="0", help="the column of the keys: a name of the header, or a number from 0 [default: 0]")
-    parser.add_argument("--delimiter", metavar="CHARACTER", default=",", help="the character between fields [default: ,]")
+    parser.add_argument(
+        "file", metavar="FILE.csv", help="a file whose keys are integers from 0 to 18446744073709551615"
+    )
+    parser.add_argument(
+        "parts",
+        metavar="N",
+        type=int,
+        help=f"how many partitions, 1 to {MOST_PARTS}; there are fewer if there are few different keys",
+    )
+    parser.add_argument(
+        "--key",
+        metavar="COLUMN",
+        default="0",
+        help="the column of the keys: a name of the header, or a number from 0 [default: 0]",
+    )
+    parser.add_argument(
+        "--delimiter", metavar="CHARACTER", default=",", help="the character between fields [default: ,]"
+    )
     options = parser.parse_args(words)
     if not 1 <= options.parts <= MOST_PARTS:
         parser.error(f"N must be 1 to {MOST_PARTS}")

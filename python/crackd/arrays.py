@@ -52,7 +52,9 @@ def from_ints(code: str, numbers: Iterable[int], what: str) -> Any:
     except TypeError:
         raise TypeError(f"{what} must be integers") from None
     except OverflowError:
-        raise OverflowError(f"{what} must fit into {'signed' if code == 'q' else 'unsigned'} integers of 64 bits") from None
+        raise OverflowError(
+            f"{what} must fit into {'signed' if code == 'q' else 'unsigned'} integers of 64 bits"
+        ) from None
     return np.frombuffer(found, dtype=DTYPES[code]) if np is not None else found
 
 

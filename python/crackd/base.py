@@ -90,7 +90,9 @@ class AnyTable(abc.ABC):
         """
         if not len(rows) == len(keys) == len(payloads):
             raise ValueError(f"{len(rows)} row numbers, {len(keys)} keys and {len(payloads)} payloads")
-        return flags(self._update_many(ints("Q", rows, "row numbers"), self._keys.many(keys), ints("q", payloads, "payloads")))
+        return flags(
+            self._update_many(ints("Q", rows, "row numbers"), self._keys.many(keys), ints("q", payloads, "payloads"))
+        )
 
     def count(self, low: Any = None, high: Any = None) -> int:
         """How many rows have keys in the range."""
@@ -121,7 +123,8 @@ class AnyTable(abc.ABC):
         self._settle()
 
     def checkpoint(self) -> int:
-        """Empties the histories, which frees their memory; rows and their numbers stay. Returns how many entries they had."""
+        """Empties the histories, which frees their memory; rows and their numbers stay. Returns how many entries they
+        had."""
         return self._checkpoint()
 
     def layout(self) -> Layout:

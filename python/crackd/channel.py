@@ -14,8 +14,8 @@ SECONDS_OF_A_STEP = 0.2
 
 
 class Channel:
-    """A connection with a server. It receives while it sends, so that neither side waits forever. `on_wait` is called when
-    nothing came for a moment."""
+    """A connection with a server. It receives while it sends, so that neither side waits forever. `on_wait` is called
+    when nothing came for a moment."""
 
     def __init__(self, host: str, port: int, on_wait: Callable[[], None] = lambda: None):
         self.on_wait = on_wait

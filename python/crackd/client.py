@@ -39,8 +39,8 @@ class Client(AnyTable):
             raise Closed("the connection is closed")
 
     def _exchange(self, text: bytes, lines: int) -> bytes:
-        """Sends statements, and returns that many lines of replies. An error in between ends the connection, since later replies
-        would no longer match."""
+        """Sends statements, and returns that many lines of replies. An error in between ends the connection, since
+        later replies would no longer match."""
         self._check_open()
         try:
             self._channel.send(text)
@@ -58,8 +58,8 @@ class Client(AnyTable):
         return said
 
     def _ask(self, form: str, *columns: Any) -> bytes:
-        """The replies to a statement for each row of the columns. When a history is full, a checkpoint is made, and refused
-        statements are sent again."""
+        """The replies to a statement for each row of the columns. When a history is full, a checkpoint is made, and
+        refused statements are sent again."""
         parts = []
         for at in range(0, len(columns[0]), STATEMENTS_AT_ONCE):
             some = [it[at : at + STATEMENTS_AT_ONCE] for it in columns]
@@ -196,23 +196,26 @@ class Client(AnyTable):
 
 
 def _check(said: bytes, before: int = 0, parts: Sequence[bytes] = ()) -> None:
-    """Raises an error if a reply is a refusal: `done` also counts the `before` earlier items, and `answers` are the other replies."""
+    """Raises an error if a reply is a refusal: `done` also counts the `before` earlier items, and `answers` are the
+    other replies."""
     if b"refused" not in said:
         return
     lines = said.splitlines(keepends=True)
     is_refused = [line.startswith(b"refused") for line in lines]
     first = is_refused.index(True)
     error = refused(int(lines[first].split()[1]), before + first, is_refused[first:].count(False))
-    error.answers = b"".join(line for it in parts for line in it.splitlines(keepends=True) if not line.startswith(b"refused"))
+    error.answers = b"".join(
+        line for it in parts for line in it.splitlines(keepends=True) if not line.startswith(b"refused")
+    )
     raise error
 
 
 def connect(host: str = "127.0.0.1", port: int = 4000, *, key_type: Any = "uint64", policy: str = "auto") -> Client:
     """Connects to a table behind `crackd serve`.
 
-    `key_type` is the type of the keys: "uint64", which the server itself has, or "int64", "float64", "datetime64[s]" ..;
-    all clients of a table must give the same. `policy` says how rows are merged. Raises `Disconnected` if there is no
-    server.
+    `key_type` is the type of the keys: "uint64", which the server itself has, or "int64", "float64", "datetime64[s]"
+    ..; all clients of a table must give the same. `policy` says how rows are merged. Raises `Disconnected` if there is
+    no server.
     """
     if policy not in POLICIES:
         raise ValueError(f"policy must be one of {', '.join(POLICIES)}, not {policy}")

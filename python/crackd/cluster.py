@@ -259,7 +259,8 @@ class Table(AnyTable):
         return rows
 
     def _faults(self, rows: Any, keys: Any = None) -> Any:
-        """The code of the refusal of each row, or 0: its partition doesn't exist, or its new key is of another shard."""
+        """The code of the refusal of each row, or 0: its partition doesn't exist, or its new key is of another
+        shard."""
         shards = rows >> np.uint64(SHARD_SHIFT)
         parts = rows >> np.uint64(SHIFT) & np.uint64(MOST_PARTS - 1)
         is_nowhere = parts >= self._parts[np.minimum(shards, np.uint64(self.shards)).astype(np.int64)]
@@ -379,8 +380,8 @@ class Table(AnyTable):
     def save(self, folder: Any) -> dict:
         """Writes the rows of each shard where it is, to a folder that the client and all workers share.
 
-        What was saved there before stays until everything is written. Each file is an array of numpy with the fields `key` and
-        `payload`. Returns the manifest.
+        What was saved there before stays until everything is written. Each file is an array of numpy with the fields
+        `key` and `payload`. Returns the manifest.
         """
         folder = pathlib.Path(folder).resolve()
         folder.mkdir(parents=True, exist_ok=True)

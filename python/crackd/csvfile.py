@@ -110,7 +110,9 @@ class CsvFile:
             is_header = self._is_header(first, columns)
             names = first if is_header and first else []
             places = [self._place(place, names) for place, _ in columns]
-            fields = [(at, column.reader(), names[at] if at < len(names) else "") for at, (_, column) in zip(places, columns)]
+            fields = [
+                (at, column.reader(), names[at] if at < len(names) else "") for at, (_, column) in zip(places, columns)
+            ]
             if first and not is_header:
                 yield self._row(first, fields, records.line_num)
             try:
@@ -131,7 +133,9 @@ class CsvFile:
     def _place(self, place: Place, names: list) -> int:
         if isinstance(place, str):
             if place not in names:
-                raise CsvError(self.path, 1, 1, "", f"there is no column {place!r}; the header has {', '.join(names) or 'none'}")
+                raise CsvError(
+                    self.path, 1, 1, "", f"there is no column {place!r}; the header has {', '.join(names) or 'none'}"
+                )
             return names.index(place)
         if place < 0:
             raise ValueError(f"columns are numbered from 0, not {place}")
@@ -141,7 +145,9 @@ class CsvFile:
         numbers = []
         for at, read, name in fields:
             if at >= len(record):
-                raise CsvError(self.path, line, at + 1, name, f"the line has only {len(record)} field{'s' * (len(record) != 1)}")
+                raise CsvError(
+                    self.path, line, at + 1, name, f"the line has only {len(record)} field{'s' * (len(record) != 1)}"
+                )
             try:
                 numbers.append(read(record[at]))
             except ValueError as error:
@@ -149,7 +155,9 @@ class CsvFile:
         return tuple(numbers)
 
 
-def read_columns(file: CsvFile, key: Place, key_column: Column, payload: Optional[Place], payload_column: Column) -> tuple[Any, Any]:
+def read_columns(
+    file: CsvFile, key: Place, key_column: Column, payload: Optional[Place], payload_column: Column
+) -> tuple[Any, Any]:
     """The keys and payloads of a file; without a column of payloads these are 0, 1, 2 .."""
     keys = array.array("d" if key_column.is_float else "Q" if key_column.least == 0 else "q")
     if payload is None:
@@ -185,8 +193,8 @@ def load_csv(
     `key_type` is "int64", "uint64" or "float64". `key_decimals=2` reads 12.34 as the integer 1234, and refuses 12.345.
 
     `key_format` is that of `datetime.strptime`: such keys are microseconds since 1970, as datetime64[us] where numpy is
-    installed; such payloads are microseconds as integers. A time zone in the field (%z) is respected. A field that can't
-    be read is a `CsvError`, and nothing is loaded. `options` are those of `Table`.
+    installed; such payloads are microseconds as integers. A time zone in the field (%z) is respected. A field that
+    can't be read is a `CsvError`, and nothing is loaded. `options` are those of `Table`.
     """
     if key_type not in ("int64", "uint64", "float64", int, float):
         raise ValueError(f"key_type must be int64, uint64 or float64, not {key_type}")

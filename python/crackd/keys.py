@@ -42,7 +42,8 @@ def kind_of(keys: Any) -> "Keys":
 
 
 class Keys:
-    """A kind of keys: 'u' unsigned and 'i' signed integers of 64 bits, 'f' floats, 'M' numpy's dates and times in one unit."""
+    """A kind of keys: 'u' unsigned and 'i' signed integers of 64 bits, 'f' floats, 'M' numpy's dates and times in one
+    unit."""
 
     def __init__(self, kind: str, dtype: Any = None):
         self.kind, self.dtype = kind, dtype
@@ -59,7 +60,8 @@ class Keys:
 
     @staticmethod
     def named(name: Any) -> "Keys":
-        """The kind with a name such as "uint64", "int64", "float64" or "datetime64[ns]", of int or float, or of a numpy type."""
+        """The kind with a name such as "uint64", "int64", "float64" or "datetime64[ns]", of int or float, or of a numpy
+        type."""
         if isinstance(name, Keys):
             return name
         if name is int or name is float:
@@ -82,14 +84,18 @@ class Keys:
     @property
     def name(self) -> str:
         """The name by which `named` gives this kind."""
-        return str(self.dtype) if self.kind == "M" else next(name for name, kind in BY_NAME.items() if kind == self.kind)
+        return (
+            str(self.dtype) if self.kind == "M" else next(name for name, kind in BY_NAME.items() if kind == self.kind)
+        )
 
     def one(self, key: Any) -> int:
         """The number of a key."""
         if type(key) is int and self.kind in "ui":
             number = key if self.kind == "u" else key + SIGN
             if not 0 <= number < TOP:
-                raise OverflowError(f"the key {key} doesn't fit into {'an unsigned' if self.kind == 'u' else 'a signed'} integer of 64 bits")
+                raise OverflowError(
+                    f"the key {key} doesn't fit into {'an unsigned' if self.kind == 'u' else 'a signed'} integer of 64 bits"
+                )
             return number
         return int(self.many([key])[0])
 
@@ -111,7 +117,11 @@ class Keys:
             given = as_flat(keys)
             if given.size and (given.dtype.kind not in "uif" or given.dtype.itemsize > 8):
                 raise TypeError(f"keys must be floats, not {given.dtype}")
-            if given.size and given.dtype.kind in "ui" and (given.max() > GREATEST_EXACT or given.min() < -GREATEST_EXACT):
+            if (
+                given.size
+                and given.dtype.kind in "ui"
+                and (given.max() > GREATEST_EXACT or given.min() < -GREATEST_EXACT)
+            ):
                 raise OverflowError("a key isn't exact as a float")
             # (0.0 is added so that -0.0 and 0.0 are one key)
             floats = given.astype(np.float64) + 0.0
@@ -211,7 +221,8 @@ class Keys:
         date = given.astype(self.dtype)
         if date.astype(given.dtype) == given:
             return int(date.view(np.int64)) + SIGN
-        # (a finer unit is cut off, so the least key that isn't below it is the next one; a far date that wraps is an error)
+        # (a finer unit is cut off, so the least key that isn't below it is the next one; a far date that wraps is an
+        # error)
         if abs(date.astype(given.dtype) - given) > np.timedelta64(1, np.datetime_data(self.dtype)[0]):
             raise OverflowError(f"{given} doesn't fit into {self.dtype}")
         return int(date.view(np.int64)) + SIGN + (1 if date < given else 0)
@@ -221,7 +232,8 @@ class Keys:
         return 0 if low is None else self.bound(low), TOP if high is None else self.bound(high)
 
     def ends_many(self, lows: Any, highs: Any) -> tuple[Any, Any]:
-        """The first and the last number of each range, in new arrays; where a range is empty the first is above the last."""
+        """The first and the last number of each range, in new arrays; where a range is empty the first is above the
+        last."""
         if lows is None and highs is None:
             raise TypeError("low ends or high ends must be given, or both")
         count = len(highs if lows is None else lows)
@@ -247,9 +259,13 @@ class Keys:
         if self.kind == "u" and given.dtype.kind in "ui":
             return np.maximum(given, 0).astype(np.uint64)
         # (a whole number that is above all signed ones is an end, though no key)
-        if self.kind == "i" and (given.dtype.kind == "i" or given.dtype.kind == "u" and not (given.size and given.max() >= SIGN)):
+        if self.kind == "i" and (
+            given.dtype.kind == "i" or given.dtype.kind == "u" and not (given.size and given.max() >= SIGN)
+        ):
             return given.astype(np.int64).view(np.uint64) ^ np.uint64(SIGN)
-        is_same = given.dtype.kind == "f" and given.dtype.itemsize <= 8 if self.kind == "f" else given.dtype == self.dtype
+        is_same = (
+            given.dtype.kind == "f" and given.dtype.itemsize <= 8 if self.kind == "f" else given.dtype == self.dtype
+        )
         return self.many(given) if self.kind in "fM" and is_same else None
 
     def _ends_of_list(self, ends: Any) -> Any:

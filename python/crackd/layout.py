@@ -28,15 +28,17 @@ def keys_text(keys: Keys, low: int, high: int) -> str:
         offset = SIGN if keys.kind == "i" else 0
         return f"{low - offset} to {high - 1 - offset}"
     if low == 0 or high == TOP:
-        ends = [f"from {keys.back_one(low)}"] if low else [f"below {keys.back_one(high)}"] if high < TOP else ["all keys"]
+        ends = (
+            [f"from {keys.back_one(low)}"] if low else [f"below {keys.back_one(high)}"] if high < TOP else ["all keys"]
+        )
         return ends[0]
     return f"{keys.back_one(low)} up to {keys.back_one(high)}"
 
 
 @dataclass(frozen=True)
 class Piece:
-    """A piece of a column, or neighbours that are drawn as one: its keys, as numbers from `low` up to and without `high`, and
-    how many rows it has."""
+    """A piece of a column, or neighbours that are drawn as one: its keys, as numbers from `low` up to and without
+    `high`, and how many rows it has."""
 
     low: int
     high: int
@@ -49,8 +51,8 @@ class PartLayout:
     """The layout of a partition.
 
     `rows` is how many rows it has, and `column` the length of its column. `pending_out` of these are deleted and not
-    taken out yet, and `pending_in` rows are inserted and not merged yet. `free` of its `cells` are free. `pieces` are the
-    pieces of the column.
+    taken out yet, and `pending_in` rows are inserted and not merged yet. `free` of its `cells` are free. `pieces` are
+    the pieces of the column.
     """
 
     partition: int
@@ -69,7 +71,17 @@ class PartLayout:
         words = lines[0].split(" ")
         told = dict(zip(words[::2], map(int, words[1::2])))
         pieces = tuple(Piece(*map(int, line.split(" ")[1:])) for line in lines[1:])
-        return cls(told["layout"], told["rows"], told["column"], told["out"], told["in"], told["cells"], told["free"], pieces, keys)
+        return cls(
+            told["layout"],
+            told["rows"],
+            told["column"],
+            told["out"],
+            told["in"],
+            told["cells"],
+            told["free"],
+            pieces,
+            keys,
+        )
 
     @property
     def ends(self) -> tuple[int, int]:
@@ -84,18 +96,28 @@ class PartLayout:
 
     def drawn(self) -> Iterator[str]:
         """The layout as lines: a bar for each piece of the column, and for what isn't merged yet."""
-        bars = [(keys_text(self.keys, it.low, it.high), it.rows, "#", f" in {it.joined} pieces" if it.joined > 1 else "") for it in self.bars()]
-        bars += [("pending insertions", self.pending_in, "+", ""), ("pending deletions", self.pending_out, "-", ""), ("free cells", self.free, ".", "")]
+        bars = [
+            (keys_text(self.keys, it.low, it.high), it.rows, "#", f" in {it.joined} pieces" if it.joined > 1 else "")
+            for it in self.bars()
+        ]
+        bars += [
+            ("pending insertions", self.pending_in, "+", ""),
+            ("pending deletions", self.pending_out, "-", ""),
+            ("free cells", self.free, ".", ""),
+        ]
         most = max(count for _, count, _, _ in bars)
         width = max(NAME_WIDTH, *(len(name) for name, _, _, _ in bars))
         whose = keys_text(self.keys, *self.ends)
         yield f"partition {self.partition}: keys {whose}, {rows_text(self.rows)}; {self.column} in the column, its pieces:"
         for name, count, mark, also in bars:
-            yield bar(f"  {name:>{width}} {count:>9}{also} ", min(BAR_WIDTH, LINE_WIDTH - width - 13), count, most, mark)
+            yield bar(
+                f"  {name:>{width}} {count:>9}{also} ", min(BAR_WIDTH, LINE_WIDTH - width - 13), count, most, mark
+            )
 
 
 def bar(text: str, width: int, count: int, most: int, mark: str) -> str:
-    """A line with a bar, which is as long as its count is beside the greatest one; a count above 0 has at least one mark."""
+    """A line with a bar, which is as long as its count is beside the greatest one; a count above 0 has at least one
+    mark."""
     length = max(1, count * width // most) if count else 0
     return f"{text}{mark * length}".rstrip()
 
@@ -118,12 +140,14 @@ class Layout:
         return "\n".join(line for it in self.parts for line in it.drawn())
 
     def svg(self) -> str:
-        """The layout as an SVG image: a bar for each partition, with its pieces in two colours in turn, and then what isn't
-        merged yet."""
+        """The layout as an SVG image: a bar for each partition, with its pieces in two colours in turn, and then what
+        isn't merged yet."""
         most = max((it.column + it.pending_in for it in self.parts), default=0) or 1
         scale = (SVG_WIDTH - SVG_LEFT) / most
         height = len(self.parts) * (SVG_ROW + SVG_GAP) + SVG_GAP
-        lines = [f'<svg xmlns="http://www.w3.org/2000/svg" width="{SVG_WIDTH}" height="{height}" font-family="sans-serif" font-size="11">']
+        lines = [
+            f'<svg xmlns="http://www.w3.org/2000/svg" width="{SVG_WIDTH}" height="{height}" font-family="sans-serif" font-size="11">'
+        ]
         for at, part in enumerate(self.parts):
             lines += _svg_row(part, SVG_GAP + at * (SVG_ROW + SVG_GAP), scale)
         return "\n".join([*lines, "</svg>\n"])

@@ -21,7 +21,9 @@ class Handle(ctypes.Structure):
 class Totals(ctypes.Structure):
     """The layout of a partition, in numbers."""
 
-    _fields_ = [(name, ctypes.c_uint64) for name in ("rows", "column", "pending_out", "pending_in", "cells", "free", "pieces")]
+    _fields_ = [
+        (name, ctypes.c_uint64) for name in ("rows", "column", "pending_out", "pending_in", "cells", "free", "pieces")
+    ]
 
 
 _HANDLE, _U32, _U64, _I64 = ctypes.POINTER(Handle), ctypes.c_uint32, ctypes.c_uint64, ctypes.c_int64
@@ -62,8 +64,8 @@ _loaded: Optional[Library] = None
 
 
 def find_library() -> Optional[str]:
-    """The path of the library: what the variable CRACKD_LIBRARY says, or else the file in this package, if there is one, the
-    proved one before the other."""
+    """The path of the library: what the variable CRACKD_LIBRARY says, or else the file in this package, if there is
+    one, the proved one before the other."""
     named = os.environ.get("CRACKD_LIBRARY")
     return named or next((str(HERE / it) for it in NAMES if (HERE / it).exists()), None)
 
@@ -74,7 +76,9 @@ def library() -> Library:
     if _loaded is None:
         path = find_library()
         if path is None:
-            raise ImportError(f"{NAMES[0]} isn't built: run `make lib` in the repository, which puts it into {HERE}, or set CRACKD_LIBRARY to its path")
+            raise ImportError(
+                f"{NAMES[0]} isn't built: run `make lib` in the repository, which puts it into {HERE}, or set CRACKD_LIBRARY to its path"
+            )
         try:
             _loaded = Library(path)
         except (OSError, AttributeError) as error:

@@ -1,7 +1,7 @@
 """Pictures of a column as queries crack it: python3 -m crackd picture SCRIPT.
 
-The script is run by `crackd script`, with a layout before and after each count, sum and select, which changes nothing. A
-picture is the same on every machine: no time is measured.
+The script is run by `crackd script`, with a layout before and after each count, sum and select, which changes nothing.
+A picture is the same on every machine: no time is measured.
 """
 
 from __future__ import annotations
@@ -36,7 +36,8 @@ class ScriptError(Error):
 
 @dataclass(frozen=True)
 class Query:
-    """A query of a script: its text, the ends of its range, the first line of its reply, and the layouts before and after it."""
+    """A query of a script: its text, the ends of its range, the first line of its reply, and the layouts before and
+    after it."""
 
     text: str
     low: int
@@ -52,7 +53,9 @@ class Query:
 
     def merged(self) -> int:
         """How many rows the query merged at least: how many fewer are pending."""
-        return abs(self.before.pending_in - self.after.pending_in) + max(0, self.before.pending_out - self.after.pending_out)
+        return abs(self.before.pending_in - self.after.pending_in) + max(
+            0, self.before.pending_out - self.after.pending_out
+        )
 
     def cracked(self) -> int:
         """How many rows the pieces had that the query cracked."""
@@ -94,7 +97,13 @@ def replies(lines: Iterator[str]) -> Iterator[list[str]]:
 def run(program: str, statements: Sequence[str], partition: int, words: Sequence[str]) -> list[Query]:
     """Runs a script, and returns its queries with what the program answered."""
     asked = [it for it in with_layouts(statements, partition) if it.strip()]
-    ran = subprocess.run([program, "script", *words], input="".join(f"{it}\n" for it in asked), capture_output=True, text=True, check=False)
+    ran = subprocess.run(
+        [program, "script", *words],
+        input="".join(f"{it}\n" for it in asked),
+        capture_output=True,
+        text=True,
+        check=False,
+    )
     if ran.returncode:
         raise ScriptError(ran.stderr.strip())
     told = list(replies(iter(ran.stdout.splitlines())))
@@ -105,13 +114,19 @@ def run(program: str, statements: Sequence[str], partition: int, words: Sequence
             raise ScriptError(f"{text}: {told[at][0]}")
         if name in QUERIES:
             low, high = map(int, ends)
-            found.append(Query(text, low, high, told[at][0], PartLayout.read(told[at - 1]), PartLayout.read(told[at + 1])))
+            found.append(
+                Query(text, low, high, told[at][0], PartLayout.read(told[at - 1]), PartLayout.read(told[at + 1]))
+            )
     return found
 
 
 def keys_in(statements: Iterable[str]) -> tuple[int, int]:
     """The least key that a script inserts, and one past the greatest."""
-    keys = [int(words[1 if words[0] == "insert" else 2]) for words in map(str.split, statements) if words and words[0] in ("insert", "update")]
+    keys = [
+        int(words[1 if words[0] == "insert" else 2])
+        for words in map(str.split, statements)
+        if words and words[0] in ("insert", "update")
+    ]
     if not keys:
         raise ScriptError("the script inserts no row")
     return min(keys), max(keys) + 1
@@ -128,7 +143,9 @@ def words(x: float, y: float, text: str, anchor: str = "start", fill: str = "#33
 
 def box(x: float, y: float, width: float, height: float, fill: str, title: str = "") -> str:
     said = f"<title>{html.escape(title)}</title>" if title else ""
-    return f'<rect x="{x:.1f}" y="{y:.1f}" width="{max(width, 0):.1f}" height="{height:.1f}" fill="{fill}">{said}</rect>'
+    return (
+        f'<rect x="{x:.1f}" y="{y:.1f}" width="{max(width, 0):.1f}" height="{height:.1f}" fill="{fill}">{said}</rect>'
+    )
 
 
 def document(height: int, parts: Iterable[str]) -> str:
@@ -137,7 +154,8 @@ def document(height: int, parts: Iterable[str]) -> str:
 
 
 def strip(query: Query, top: float, low: int, high: int, rows: int) -> Iterator[str]:
-    """The pieces after a query, each as wide as its keys and darker with more rows; the query's range and its new bounds."""
+    """The pieces after a query, each as wide as its keys and darker with more rows; the query's range and its new
+    bounds."""
 
     def across(key: int) -> float:
         return LEFT + (min(max(key, low), high) - low) / (high - low) * STRIP_WIDTH
@@ -146,7 +164,14 @@ def strip(query: Query, top: float, low: int, high: int, rows: int) -> Iterator[
         left, right = across(it.low), across(it.high)
         if right > left:
             gap = 0.8 if right - left > 3 else 0.3
-            yield box(left, top, right - left - gap, STRIP, colour(it.rows / rows), f"{it.low} to {it.high - 1}: {rows_text(it.rows)}")
+            yield box(
+                left,
+                top,
+                right - left - gap,
+                STRIP,
+                colour(it.rows / rows),
+                f"{it.low} to {it.high - 1}: {rows_text(it.rows)}",
+            )
     yield box(across(query.low), top - 3, across(query.high) - across(query.low), 2, MARK)
     for bound in query.new_bounds():
         if low < bound < high:
@@ -164,7 +189,10 @@ def cracking(queries: Sequence[Query], low: int, high: int) -> str:
         parts.append(words(LEFT - 10, top + 13, it.text.replace(str(TOP), "end"), "end"))
         parts += strip(it, top, low, high, rows)
         width = it.work() / most * BAR_WIDTH
-        parts += [box(BAR_LEFT, top + 2, max(width, 1), STRIP - 4, BAR), words(BAR_LEFT + width + 6, top + 13, f"{it.work():,}")]
+        parts += [
+            box(BAR_LEFT, top + 2, max(width, 1), STRIP - 4, BAR),
+            words(BAR_LEFT + width + 6, top + 13, f"{it.work():,}"),
+        ]
     foot = HEAD + len(queries) * ROW + 16
     parts.append(box(LEFT, foot - 9, 12, 10, colour(1)))
     parts.append(words(LEFT + 18, foot, "a piece: the darker, the more rows in no order"))
@@ -174,7 +202,9 @@ def cracking(queries: Sequence[Query], low: int, high: int) -> str:
 
 def pending(by_policy: dict[str, list[Query]]) -> str:
     """How many rows are pending after each query, under each policy."""
-    counts = {name: [it.after.pending_in + it.after.pending_out for it in queries] for name, queries in by_policy.items()}
+    counts = {
+        name: [it.after.pending_in + it.after.pending_out for it in queries] for name, queries in by_policy.items()
+    }
     most = max([1, *(it for line in counts.values() for it in line)])
     last = max([1, *(len(line) - 1 for line in counts.values())])
     left, right, top, bottom = 70, WIDTH - 130, 30, CHART_HEIGHT - 40
@@ -185,7 +215,10 @@ def pending(by_policy: dict[str, list[Query]]) -> str:
     parts = [words(left, 18, "rows that wait to be merged, after each query")]
     for share in (0, 0.5, 1):
         y = bottom - share * (bottom - top)
-        parts += [box(left, y, right - left, 0.7, "#ddd"), words(left - 8, y + 4, f"{round(share * most):,}", "end", "#777")]
+        parts += [
+            box(left, y, right - left, 0.7, "#ddd"),
+            words(left - 8, y + 4, f"{round(share * most):,}", "end", "#777"),
+        ]
     parts += [words(left, bottom + 18, "first query", fill="#777"), words(right, bottom + 18, "last", "end", "#777")]
     for (name, line), stroke, at in zip(counts.items(), LINES, itertools.count()):
         path = "L".join("{:.1f} {:.1f}".format(*place(*it)) for it in enumerate(line))
@@ -201,10 +234,22 @@ def options_of(arguments: Sequence[str]) -> argparse.Namespace:
     parser.add_argument("script", metavar="SCRIPT", nargs="?", help="a file of statements, one a line")
     parser.add_argument("splits", metavar="SPLIT", nargs="*", help="where partitions begin")
     parser.add_argument("--csv", metavar="FILE", help="rows to load first, one key,payload a line")
-    parser.add_argument("--policy", metavar="NAME", choices=POLICIES, default="auto", help="how rows are merged, unless the script says so [default: auto]")
-    parser.add_argument("--policies", action="store_true", help="draw how many rows are pending after each query, under each policy")
+    parser.add_argument(
+        "--policy",
+        metavar="NAME",
+        choices=POLICIES,
+        default="auto",
+        help="how rows are merged, unless the script says so [default: auto]",
+    )
+    parser.add_argument(
+        "--policies", action="store_true", help="draw how many rows are pending after each query, under each policy"
+    )
     parser.add_argument("--partition", metavar="P", type=int, default=0, help="the partition to draw [default: 0]")
-    parser.add_argument("--program", metavar="PATH", help="the program crackd [default: the one built in this checkout, else that of PATH]")
+    parser.add_argument(
+        "--program",
+        metavar="PATH",
+        help="the program crackd [default: the one built in this checkout, else that of PATH]",
+    )
     options = parser.parse_intermixed_args(arguments)
     if options.script is None:
         parser.error("SCRIPT is missing")
@@ -222,7 +267,9 @@ def drawn(options: argparse.Namespace) -> str:
     program = find_program(options.program)
     if options.policies:
         statements = [it for it in statements if not it.startswith("policy ")]
-        by_policy = {name: run(program, [f"policy {name}", *statements], options.partition, options.splits) for name in POLICIES}
+        by_policy = {
+            name: run(program, [f"policy {name}", *statements], options.partition, options.splits) for name in POLICIES
+        }
         return pending(by_policy)
     queries = run(program, [f"policy {options.policy}", *statements], options.partition, options.splits)
     if not queries:

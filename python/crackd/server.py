@@ -31,7 +31,10 @@ def find_program(path: Optional[str] = None) -> str:
     found = path or os.environ.get("CRACKD") or (str(BUILT) if BUILT.exists() else shutil.which("crackd"))
     if found is None:
         is_checkout = BUILT.parent.parent.exists()
-        raise NoServer((f"{BUILT} isn't built, and " if is_checkout else "") + "PATH has no crackd; `make run` in the repository builds it")
+        raise NoServer(
+            (f"{BUILT} isn't built, and " if is_checkout else "")
+            + "PATH has no crackd; `make run` in the repository builds it"
+        )
     return str(found)
 
 
@@ -135,11 +138,12 @@ def serve(
     cells: Optional[int] = None,
     program: Optional[str] = None,
 ) -> Server:
-    """Starts `crackd serve` as a child of this process, with an empty table for about `rows` rows whose keys look like those
-    of `sample`.
+    """Starts `crackd serve` as a child of this process, with an empty table for about `rows` rows whose keys look like
+    those of `sample`.
 
-    In a `with` the server ends with the block. `workers`, 1 to 64, is how many connections it serves at a time. `history`
-    and `cells` are the limits of each partition, and `program` is the path of crackd. The other options are those of `Table`.
+    In a `with` the server ends with the block. `workers`, 1 to 64, is how many connections it serves at a time.
+    `history` and `cells` are the limits of each partition, and `program` is the path of crackd. The other options are
+    those of `Table`.
     """
     if policy not in POLICIES:
         raise ValueError(f"policy must be one of {', '.join(POLICIES)}, not {policy}")

@@ -47,15 +47,19 @@ class Table(AnyTable):
 
         `key_type` gives the type if there is no sample: "int64" by default, "uint64", "float64", "datetime64[s]" ..
         There are `partitions` of them, 1 to 64, by default one for each 4,096 rows; quantiles of the sample divide the
-        keys, or `splits` does. `policy` says how rows are merged, `history` after how many commands a partition's history is
-        emptied, and `cells` how many rows a partition may have.
+        keys, or `splits` does. `policy` says how rows are merged, `history` after how many commands a partition's
+        history is emptied, and `cells` how many rows a partition may have.
         """
         if policy not in POLICIES:
             raise ValueError(f"policy must be one of {', '.join(POLICIES)}, not {policy}")
         self._handle = Handle()
         self._library, self._ref, self._lock = library(), byref(self._handle), threading.RLock()
         self._keys, self._policy = kind_of(sample) if key_type is None else Keys.named(key_type), POLICIES.index(policy)
-        cuts = splits_of(self._keys, sample, rows, partitions) if splits is None else [int(it) for it in self._keys.many(splits)]
+        cuts = (
+            splits_of(self._keys, sample, rows, partitions)
+            if splits is None
+            else [int(it) for it in self._keys.many(splits)]
+        )
         limits = [it if 0 <= it < TOP else 0 for it in (history, cells, MOST_LIFE)]
         self._check(self._run(self._library.open, from_ints("Q", cuts, "splits"), *limits))
         self.partitions, self._cuts = len(cuts) + 1, cuts
@@ -80,7 +84,8 @@ class Table(AnyTable):
         return table
 
     def _run(self, call: Any, *words: Any) -> int:
-        """Calls a function of the library with numbers, pointers and arrays, which stay until it returns. Returns the status."""
+        """Calls a function of the library with numbers, pointers and arrays, which stay until it returns. Returns the
+        status."""
         flat: list = []
         for it in words:
             flat.extend(address(it) if isinstance(it, ARRAYS) else (it,))
@@ -124,7 +129,9 @@ class Table(AnyTable):
 
     def _update_many(self, rows: Any, keys: Any, payloads: Any) -> Any:
         (parts, serials), found, done = _parted(rows), empty("B", len(rows)), c_uint64()
-        self._check(self._run(self._library.update_many, parts, serials, keys, payloads, found, byref(done)), done.value)
+        self._check(
+            self._run(self._library.update_many, parts, serials, keys, payloads, found, byref(done)), done.value
+        )
         return found
 
     def _count(self, first: int, last: int) -> int:
@@ -223,7 +230,9 @@ def _parted(rows: Any) -> tuple[Any, Any]:
     """The partitions and the serials of row numbers."""
     if np is not None:
         return (rows >> np.uint64(SHIFT)).astype(np.uint32), rows & np.uint64(SERIAL)
-    return from_ints("I", [it >> SHIFT for it in rows], "partitions"), from_ints("Q", [it & SERIAL for it in rows], "serials")
+    return from_ints("I", [it >> SHIFT for it in rows], "partitions"), from_ints(
+        "Q", [it & SERIAL for it in rows], "serials"
+    )
 
 
 def _joined(parts: Any, serials: Any) -> Any:

@@ -1,4 +1,5 @@
-"""Runs all tests: python3 python/tests. Prints last 'N passed, M failed, K skipped'; the status is 0 only where nothing failed."""
+"""Runs all tests: python3 python/tests. Prints last 'N passed, M failed, K skipped'; the status is 0 only where nothing
+failed."""
 
 import pathlib
 import sys

@@ -121,7 +121,11 @@ class Pair:
     def select(self):
         low, high = self.range()
         got = self.table.select(low, high)
-        expect("select", self.inside(low, high), dict(zip(numbers(got.rows), zip(numbers(got.keys), numbers(got.payloads)))))
+        expect(
+            "select",
+            self.inside(low, high),
+            dict(zip(numbers(got.rows), zip(numbers(got.keys), numbers(got.payloads)))),
+        )
 
     def others(self):
         self.table.settle()
@@ -150,7 +154,8 @@ def by_chance(steps):
 
 
 def each_in_turn(steps):
-    """The same few calls again and again, with each allocation refused in turn, until none is left to refuse. How many were refused."""
+    """The same few calls again and again, with each allocation refused in turn, until none is left to refuse. How many
+    were refused."""
     number = 0
     while True:
         number += 1

@@ -1,4 +1,5 @@
-"""Tables on a Dask cluster of this machine: the cases of a table, what is sent to which shard, and what is saved and restored."""
+"""Tables on a Dask cluster of this machine: the cases of a table, what is sent to which shard, and what is saved and
+restored."""
 
 import contextlib
 import json
@@ -48,9 +49,17 @@ class OnACluster(OnWorkers, Cases, unittest.TestCase):
     """The cases of a table."""
 
     def test_bad_openings(self):
-        wrong = [({"history": 0}, crackd.BadLimit), ({"cells": 2**21}, crackd.BadLimit), ({"splits": [5, 5]}, crackd.BadSplits)]
+        wrong = [
+            ({"history": 0}, crackd.BadLimit),
+            ({"cells": 2**21}, crackd.BadLimit),
+            ({"splits": [5, 5]}, crackd.BadSplits),
+        ]
         wrong += [({"policy": "none"}, ValueError), ({"partitions": 0}, ValueError), ({"partitions": 2000}, ValueError)]
-        wrong += [({"splits": range(1024)}, ValueError), ({"splits": [LEAST]}, crackd.BadSplits), ({"splits": [2**63]}, OverflowError)]
+        wrong += [
+            ({"splits": range(1024)}, ValueError),
+            ({"splits": [LEAST]}, crackd.BadSplits),
+            ({"splits": [2**63]}, OverflowError),
+        ]
         wrong += [({"key_type": it}, TypeError) for it in ("text", "complex128", complex)] + [({"limit": 5}, TypeError)]
         for options, kind in wrong:
             with self.subTest(options), self.assertRaises(kind), self.table(**options):
@@ -87,7 +96,15 @@ class RandomSteps:
 
     def __init__(self, test, table, rng):
         self.test, self.table, self.rng, self.model, self.gone = test, table, rng, PlainTable(), []
-        changes = [self.insert_many, self.insert, self.delete_many, self.delete, self.update_many, self.update, self.far_update]
+        changes = [
+            self.insert_many,
+            self.insert,
+            self.delete_many,
+            self.delete,
+            self.update_many,
+            self.update,
+            self.far_update,
+        ]
         questions = [self.count, self.sum, self.many, self.select]
         self.calls = changes * 2 + questions * 3 + [self.others]
 
@@ -119,7 +136,9 @@ class RandomSteps:
     def delete_many(self):
         rows = self.rows(3)
         given = rows + rows[:1] + self.gone[-2:]
-        self.test.assertEqual(list(self.table.delete_many(given)), [True] * len(rows) + [False] * (len(given) - len(rows)))
+        self.test.assertEqual(
+            list(self.table.delete_many(given)), [True] * len(rows) + [False] * (len(given) - len(rows))
+        )
         self.gone += rows
         for row in rows:
             del self.model.rows[row]
@@ -240,7 +259,13 @@ class Messages(OnWorkers, unittest.TestCase):
 
     def test_only_shards_that_a_range_meets_are_asked(self):
         with self.recorded() as (table, log):
-            for ends, shards in [((None, 100), [0]), ((99, 101), [0, 1]), ((100, 200), [1]), ((200, None), [2]), ((5, 5), [])]:
+            for ends, shards in [
+                ((None, 100), [0]),
+                ((99, 101), [0, 1]),
+                ((100, 200), [1]),
+                ((200, None), [2]),
+                ((5, 5), []),
+            ]:
                 for call, name in [(table.count, "_count"), (table.sum, "_sum"), (table.select, "_select")]:
                     call(*ends)
                     self.expect(log, [(name, it, 1) for it in shards])
@@ -276,8 +301,17 @@ class Refusals(OnWorkers, unittest.TestCase):
             far, nowhere = int(rows[1]) | 1 << 60, int(rows[0]) | 5 << 48
             for row in (far, nowhere):
                 self.expect(crackd.NoSuchPartition, (5, 1, 0), table.delete_many, [int(rows[0]) + 1, row, rows[1]])
-                self.expect(crackd.NoSuchPartition, (5, 1, 0), table.update_many, [rows[0], row, rows[1]], [1, 150, 1], [1, 2, 3])
-            self.expect(crackd.WrongPartition, (4, 1, 0), table.update_many, [rows[1], rows[0], far], [150, 100, 1], [3, 4, 5])
+                self.expect(
+                    crackd.NoSuchPartition,
+                    (5, 1, 0),
+                    table.update_many,
+                    [rows[0], row, rows[1]],
+                    [1, 150, 1],
+                    [1, 2, 3],
+                )
+            self.expect(
+                crackd.WrongPartition, (4, 1, 0), table.update_many, [rows[1], rows[0], far], [150, 100, 1], [3, 4, 5]
+            )
             self.expect(crackd.WrongPartition, (4, 0, 0), table.update_many, [int(rows[0]) + 9], [100], [4])
             self.assertEqual((table.count(), table.sum()), (2, 4))
 
@@ -294,7 +328,9 @@ class Refusals(OnWorkers, unittest.TestCase):
         np.random.default_rng(2).shuffle(keys)
         with self.table([0, 5, 9], partitions=3) as table:
             rows = table.insert_many(keys, np.ones(len(keys), np.int64))
-            self.assertEqual((table.shards, table.count(), table.sum(0, 6), len(np.unique(rows))), (3, 200_002, 200_001, 200_002))
+            self.assertEqual(
+                (table.shards, table.count(), table.sum(0, 6), len(np.unique(rows))), (3, 200_002, 200_001, 200_002)
+            )
             self.assertEqual(table.count_many([0, 5, 9], [1, 6, 10]).tolist(), [200_000, 1, 1])
             got = table.select()
             self.assertEqual((np.sort(got.rows) == np.sort(rows)).all(), True)
@@ -337,7 +373,9 @@ class Saves(OnWorkers, unittest.TestCase):
                 self.assertEqual(found, (shards or WORKERS, 20_000, wanted))
                 got = table.select()
                 order, first = np.lexsort((got.payloads, got.keys)), np.lexsort((payloads, keys))
-                self.assertTrue((got.keys[order] == keys[first]).all() and (got.payloads[order] == payloads[first]).all())
+                self.assertTrue(
+                    (got.keys[order] == keys[first]).all() and (got.payloads[order] == payloads[first]).all()
+                )
                 self.assertEqual(sum(it.pending_in for it in table.layout().parts), 0)
 
     def test_on_another_cluster(self):
@@ -351,7 +389,9 @@ class Saves(OnWorkers, unittest.TestCase):
         self.assertEqual((manifest["keys"], manifest["splits"]), ("int64", [2**63 - 50, 2**63 + 50]))
         self.assertEqual((manifest["counts"], manifest["sums"]), ([100] * 3, [5050, 15050, 25050]))
         shards = [np.load(self.folder / it) for it in manifest["files"]]
-        self.assertEqual([sorted(it["key"].tolist()) for it in shards], [[*range(it, it + 100)] for it in (-150, -50, 50)])
+        self.assertEqual(
+            [sorted(it["key"].tolist()) for it in shards], [[*range(it, it + 100)] for it in (-150, -50, 50)]
+        )
         self.assertEqual([int(it["payload"].sum()) for it in shards], manifest["sums"])
 
     def test_kinds_of_keys(self):
@@ -380,10 +420,20 @@ class Saves(OnWorkers, unittest.TestCase):
         manifest = self.saved()
         path, first = self.folder / "manifest.json", self.folder / manifest["files"][0]
         whole, content = path.read_text(), first.read_bytes()
-        for text in ("", "[]", "{", whole.replace('"form": 2', '"form": 1'), whole.replace('"sums"', '"sum"'), whole.replace("int64", "text")):
+        for text in (
+            "",
+            "[]",
+            "{",
+            whole.replace('"form": 2', '"form": 1'),
+            whole.replace('"sums"', '"sum"'),
+            whole.replace("int64", "text"),
+        ):
             path.write_text(text)
             self.expect_bad("manifest.json is no manifest")
-        for name, text in [("counts", whole.replace("100,\n", "101,\n", 1)), ("sums", whole.replace("5050,\n", "5051,\n", 1))]:
+        for name, text in [
+            ("counts", whole.replace("100,\n", "101,\n", 1)),
+            ("sums", whole.replace("5050,\n", "5051,\n", 1)),
+        ]:
             self.assertNotEqual(text, whole)
             path.write_text(text)
             self.expect_bad("101" if name == "counts" else "the sums of the saved shards are")
@@ -425,7 +475,11 @@ class Saves(OnWorkers, unittest.TestCase):
 
     def test_samples_of_blocks_count_by_their_rows(self):
         keys = np.arange(10_000)
-        for rows, wanted in [([10_000, 10_000], [10_000] * 2), ([1_000_000, 10_000], [10_000, 100]), ([10**9, 10], [10_000, 1])]:
+        for rows, wanted in [
+            ([10_000, 10_000], [10_000] * 2),
+            ([1_000_000, 10_000], [10_000, 100]),
+            ([10**9, 10], [10_000, 1]),
+        ]:
             samples = [(each, keys[:each]) for each in rows]
             self.assertEqual([len(it) for it in cluster.evened(samples)], wanted)
         self.assertEqual([len(it) for it in cluster.evened([(0, keys[:0]), (5, keys[:5])])], [5])
@@ -488,7 +542,10 @@ class OfDask(OnWorkers, unittest.TestCase):
     def test_no_block_comes_to_the_client(self):
         from distributed.protocol import serialize
 
-        frame, client = self.frame({"key": np.arange(400_000), "payload": np.ones(400_000, np.int64)}, 8), MODULE["client"]
+        frame, client = (
+            self.frame({"key": np.arange(400_000), "payload": np.ones(400_000, np.int64)}, 8),
+            MODULE["client"],
+        )
         held = client.persist(frame)
         real, gathered = client.gather, []
 
@@ -518,10 +575,14 @@ class Imports(unittest.TestCase):
 
     def test_without_numpy_or_dask(self):
         for name in ("numpy", "distributed"):
-            code = f"import sys; sys.path.insert(0, {str(PAGE.parents[1] / 'python')!r}); sys.modules[{name!r}] = None\n"
+            code = (
+                f"import sys; sys.path.insert(0, {str(PAGE.parents[1] / 'python')!r}); sys.modules[{name!r}] = None\n"
+            )
             code += "try: import crackd.cluster\nexcept ImportError as error: print(error)"
             ran = subprocess.run([sys.executable, "-c", code], capture_output=True, text=True, check=True)
-            self.assertEqual(ran.stdout, "crackd.cluster needs numpy and dask.distributed: pip install numpy distributed\n")
+            self.assertEqual(
+                ran.stdout, "crackd.cluster needs numpy and dask.distributed: pip install numpy distributed\n"
+            )
 
 
 @wants_library

@@ -73,8 +73,18 @@ class Losses(unittest.TestCase):
 
     def each_call_that_meets_it_fails(self, table, rows):
         gone = rows[40:41]
-        calls = [(table.sum, 150, 160), (table.select, 50, 250), (table.count_many, [0, 150], [1, 160]), (table.insert, 150, 1)]
-        calls += [(table.sum_many, [150], None), (table.delete_many, gone), (table.update_many, gone, [120], [1]), (len, table)]
+        calls = [
+            (table.sum, 150, 160),
+            (table.select, 50, 250),
+            (table.count_many, [0, 150], [1, 160]),
+            (table.insert, 150, 1),
+        ]
+        calls += [
+            (table.sum_many, [150], None),
+            (table.delete_many, gone),
+            (table.update_many, gone, [120], [1]),
+            (len, table),
+        ]
         calls += [(it,) for it in (table.settle, table.layout, table.checkpoint)] + [(table.save, self.folder)]
         for call, *words in calls:
             with self.subTest(call=call):
@@ -137,13 +147,18 @@ class Losses(unittest.TestCase):
             self.assertEqual(restored.count_many(lows, lows + 10).tolist(), [10] * 2000)
 
     def load(self, has_shard):
-        """Loads a table, and kills amid it the worker of shard 1, or one without a shard: all rows are placed once, or the shard is lost."""
+        """Loads a table, and kills amid it the worker of shard 1, or one without a shard: all rows are placed once, or
+        the shard is lost."""
         import dask.array
 
         rows, load = dask.array.from_array(np.arange(600_000), chunks=10_000), cluster.Table._loaded
 
         def loaded(table, *words):
-            victims = {worker_of(table, 1)} if has_shard else set(self.client.nthreads()) - {worker_of(table, it) for it in (0, 1)}
+            victims = (
+                {worker_of(table, 1)}
+                if has_shard
+                else set(self.client.nthreads()) - {worker_of(table, it) for it in (0, 1)}
+            )
             self.timer = self.killed_soon(*victims, 0.2)
             return load(table, *words)
 
@@ -164,7 +179,9 @@ class WithoutMemory(unittest.TestCase):
     """Memory is refused to one shard of two."""
 
     def test_random_calls_of_which_some_are_refused(self):
-        with tempfile.TemporaryDirectory() as room, local(2, **refusing(room, REFUSE_ONE_IN=str(ONE_IN), REFUSE_SEED="3")) as client:
+        with tempfile.TemporaryDirectory() as room, local(
+            2, **refusing(room, REFUSE_ONE_IN=str(ONE_IN), REFUSE_SEED="3")
+        ) as client:
             with cluster.Table(client, splits=[500], history=40) as table:
                 on(client, worker_of(table, 1), clusters.refuse_memory)
                 steps = RefusedSteps(self, table, random.Random(6))
@@ -176,7 +193,8 @@ class WithoutMemory(unittest.TestCase):
 
 
 class RefusedSteps:
-    """Random calls of a table, whose shard 1 is refused memory now and then, and of a plain list. Keys from 500 are that shard's."""
+    """Random calls of a table, whose shard 1 is refused memory now and then, and of a plain list. Keys from 500 are
+    that shard's."""
 
     def __init__(self, test, table, rng):
         self.test, self.table, self.rng, self.model, self.refused = test, table, rng, PlainTable(), 0
@@ -184,7 +202,9 @@ class RefusedSteps:
     def step(self):
         """A call. One that is refused has changed nothing but what it says."""
         try:
-            self.rng.choice([self.insert, self.insert, self.delete, self.update, self.count, self.sum, self.many, self.select])()
+            self.rng.choice(
+                [self.insert, self.insert, self.delete, self.update, self.count, self.sum, self.many, self.select]
+            )()
         except crackd.OutOfMemory as error:
             self.test.assertEqual((error.code, error.later), (8, 0))
             self.test.assertLess(error.done, 3)
@@ -195,7 +215,8 @@ class RefusedSteps:
         return low, low + self.rng.randrange(400)
 
     def done_of(self, shards, error):
-        """Whether each row of a refused call is done: all of shard 0, and of shard 1 those before the one that was refused."""
+        """Whether each row of a refused call is done: all of shard 0, and of shard 1 those before the one that was
+        refused."""
         self.refused += 1
         left = error.done + error.later - shards.count(0)
         is_done = []
@@ -206,7 +227,9 @@ class RefusedSteps:
         return is_done
 
     def insert(self):
-        rows = [(self.rng.randrange(1000), self.rng.randrange(-(2**63), 2**63)) for _ in range(self.rng.randrange(1, 8))]
+        rows = [
+            (self.rng.randrange(1000), self.rng.randrange(-(2**63), 2**63)) for _ in range(self.rng.randrange(1, 8))
+        ]
         try:
             placed = self.table.insert_many(*zip(*rows))
         except crackd.OutOfMemory as error:
@@ -253,7 +276,9 @@ class RefusedSteps:
     def select(self):
         ends = self.range()
         got = self.table.select(*ends)
-        self.test.assertEqual(dict(zip(numbers(got.rows), zip(numbers(got.keys), numbers(got.payloads)))), self.model.inside(*ends))
+        self.test.assertEqual(
+            dict(zip(numbers(got.rows), zip(numbers(got.keys), numbers(got.payloads)))), self.model.inside(*ends)
+        )
 
 
 if __name__ == "__main__":

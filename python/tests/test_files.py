@@ -20,7 +20,9 @@ class Files(unittest.TestCase):
         with tempfile.TemporaryDirectory() as room:
             path = pathlib.Path(room) / "rows.csv"
             path.write_bytes(text if isinstance(text, bytes) else text.encode("utf-8"))
-            keys, payloads = read_columns(CsvFile(path, delimiter, header, "utf-8-sig"), key, key_column, payload, payload_column)
+            keys, payloads = read_columns(
+                CsvFile(path, delimiter, header, "utf-8-sig"), key, key_column, payload, payload_column
+            )
             return list(keys), list(payloads)
 
     def wrong(self, wanted, *words, **options):
@@ -40,17 +42,26 @@ class Files(unittest.TestCase):
 
     def test_decimals_dates_and_floats(self):
         cents = Column(decimals=2)
-        self.assertEqual(self.read("12.34,1.5\n-0.1,7\n.5,0\n3.,-.05\n", key_column=cents, payload_column=cents), ([1234, -10, 50, 300], [150, 700, 0, -5]))
+        self.assertEqual(
+            self.read("12.34,1.5\n-0.1,7\n.5,0\n3.,-.05\n", key_column=cents, payload_column=cents),
+            ([1234, -10, 50, 300], [150, 700, 0, -5]),
+        )
         day = Column(format="%d.%m.%Y")
-        self.assertEqual(self.read("2.1.1970,01.01.1970\n", key_column=day, payload_column=day), ([86_400_000_000], [0]))
+        self.assertEqual(
+            self.read("2.1.1970,01.01.1970\n", key_column=day, payload_column=day), ([86_400_000_000], [0])
+        )
         zone = Column(format="%Y-%m-%d %H:%M %z")
         self.assertEqual(self.read("1970-01-01 02:00 +0100,1\n", key_column=zone), ([3_600_000_000], [1]))
         self.assertEqual(self.read("1e3,1\n-2.5,2\n", key_column=Column(is_float=True)), ([1000.0, -2.5], [1, 2]))
-        self.assertEqual(self.read("18446744073709551615,1\n", key_column=Column(least=0, most=2**64 - 1)), ([2**64 - 1], [1]))
+        self.assertEqual(
+            self.read("18446744073709551615,1\n", key_column=Column(least=0, most=2**64 - 1)), ([2**64 - 1], [1])
+        )
 
     def test_fields_that_are_no_numbers_are_named_by_line_and_column(self):
         self.assertEqual(self.wrong("line 2, column 1: 'x' isn't an integer", "1,10\nx,20\n").line, 2)
-        self.assertEqual(self.wrong("line 3, column 3 (c): '1.5' isn't an integer", "a,b,c\n1,x,10\n2,x,1.5\n", "a", "c").column, 3)
+        self.assertEqual(
+            self.wrong("line 3, column 3 (c): '1.5' isn't an integer", "a,b,c\n1,x,10\n2,x,1.5\n", "a", "c").column, 3
+        )
         self.wrong("line 1, column 2: the line has only 1 field", "1\n")
         self.wrong("line 1, column 1: '' isn't an integer", ",1\n")
         self.wrong("line 1, column 1: there is no column 'z'; the header has a, b", "a,b\n1,2\n", "z")
@@ -58,10 +69,18 @@ class Files(unittest.TestCase):
         self.wrong("line 1, column 1: '1_0' isn't an integer", "1_0,1\n")
         self.wrong("line 1, column 1: '٣' isn't an integer", "٣,1\n")
         self.wrong(f"line 1, column 2: '{2**63}' isn't {-(2**63)} to {2**63 - 1}", f"1,{2**63}\n")
-        self.wrong(f"line 1, column 1: '-1' isn't 0 to {2**64 - 1}", "-1,1\n", key_column=Column(least=0, most=2**64 - 1))
-        self.wrong("line 1, column 1: '12.345' has more than 2 decimal places", "12.345,1\n", key_column=Column(decimals=2))
+        self.wrong(
+            f"line 1, column 1: '-1' isn't 0 to {2**64 - 1}", "-1,1\n", key_column=Column(least=0, most=2**64 - 1)
+        )
+        self.wrong(
+            "line 1, column 1: '12.345' has more than 2 decimal places", "12.345,1\n", key_column=Column(decimals=2)
+        )
         self.wrong("line 1, column 1: '1e5' isn't a decimal number", "1e5,1\n", key_column=Column(decimals=2))
-        self.wrong("line 1, column 1: '2020-02-30' isn't a date of the form '%Y-%m-%d'", "2020-02-30,1\n", key_column=Column(format="%Y-%m-%d"))
+        self.wrong(
+            "line 1, column 1: '2020-02-30' isn't a date of the form '%Y-%m-%d'",
+            "2020-02-30,1\n",
+            key_column=Column(format="%Y-%m-%d"),
+        )
         self.wrong("line 1, column 1: NaN can't be a key", "nan,1\n", key_column=Column(is_float=True))
         self.wrong("line 1, column 1: '" + "9" * 40 + "..' isn't " + f"{-(2**63)} to {2**63 - 1}", "9" * 5000 + ",1\n")
         # (a field of several lines, and the line at which a record ends)
@@ -119,8 +138,15 @@ class LoadsInProcess(Loads, InProcess, unittest.TestCase):
 
     @wants_numpy
     def test_dates_of_a_file(self):
-        with crackd.load_csv(self.path("when,what\n2020-02-01 12:00,5\n2020-03-01 00:00,7\n"), "when", "what", key_format="%Y-%m-%d %H:%M") as table:
-            self.assertEqual((table.sum(np.datetime64("2020-02-01"), np.datetime64("2020-03-01")), table.count()), (5, 2))
+        with crackd.load_csv(
+            self.path("when,what\n2020-02-01 12:00,5\n2020-03-01 00:00,7\n"),
+            "when",
+            "what",
+            key_format="%Y-%m-%d %H:%M",
+        ) as table:
+            self.assertEqual(
+                (table.sum(np.datetime64("2020-02-01"), np.datetime64("2020-03-01")), table.count()), (5, 2)
+            )
             self.assertEqual(table.select().keys.dtype, np.dtype("datetime64[us]"))
 
 
@@ -142,12 +168,19 @@ class Splits(unittest.TestCase):
         self.assertEqual(self.splits("7,1\n7,2\n7,3\n", "rows.csv", "5"), (0, "7\n", ""))
         self.assertEqual(self.splits("0,1\n0,2\n", "rows.csv", "5"), (0, "\n", ""))
         self.assertEqual(self.splits("", "rows.csv", "5"), (0, "\n", ""))
-        self.assertEqual(self.splits("a;b\nx;1\nx;5\nx;9\n", "rows.csv", "3", "--key", "b", "--delimiter", ";"), (0, "5 9\n", ""))
+        self.assertEqual(
+            self.splits("a;b\nx;1\nx;5\nx;9\n", "rows.csv", "3", "--key", "b", "--delimiter", ";"), (0, "5 9\n", "")
+        )
         self.assertEqual(self.splits("x,1\nx,5\nx,9\n", "rows.csv", "3", "--key", "1"), (0, "5 9\n", ""))
 
     def test_bad_words_and_files(self):
-        self.assertEqual(self.splits("-1,1\n", "rows.csv", "3")[::2], (1, f"crackd: rows.csv, line 1, column 1: '-1' isn't 0 to {2**64 - 1}\n"))
-        self.assertEqual(self.splits("", "missing.csv", "3")[::2], (1, "crackd: missing.csv: No such file or directory\n"))
+        self.assertEqual(
+            self.splits("-1,1\n", "rows.csv", "3")[::2],
+            (1, f"crackd: rows.csv, line 1, column 1: '-1' isn't 0 to {2**64 - 1}\n"),
+        )
+        self.assertEqual(
+            self.splits("", "missing.csv", "3")[::2], (1, "crackd: missing.csv: No such file or directory\n")
+        )
         for words in (["rows.csv", "0"], ["rows.csv", "65"], ["rows.csv", "x"], ["rows.csv"], []):
             with self.subTest(words):
                 self.assertEqual(self.splits("1,1\n", *words)[:2], (2, ""))

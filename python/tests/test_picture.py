@@ -31,15 +31,31 @@ class Pictures(unittest.TestCase):
 
     def test_the_pictures_of_the_documents_are_those_of_the_examples(self):
         self.assertEqual(self.drawn(*OF_EXAMPLES), (TOP / "docs" / "cracking.svg").read_text(encoding="utf-8"))
-        self.assertEqual(self.drawn("--policies", *OF_EXAMPLES), (TOP / "docs" / "policies.svg").read_text(encoding="utf-8"))
+        self.assertEqual(
+            self.drawn("--policies", *OF_EXAMPLES), (TOP / "docs" / "policies.svg").read_text(encoding="utf-8")
+        )
 
     def test_what_a_query_cracked_and_merged(self):
-        statements = ["policy auto", "insert 30 3", "insert 10 1", "insert 40 4", "sum 15 35", "insert 20 2", "count 20 35", "count 20 35"]
+        statements = [
+            "policy auto",
+            "insert 30 3",
+            "insert 10 1",
+            "insert 40 4",
+            "sum 15 35",
+            "insert 20 2",
+            "count 20 35",
+            "count 20 35",
+        ]
         found = picture.run(crackd.server.find_program(), statements, 0, [])
-        self.assertEqual([(it.reply, it.new_bounds(), it.cracked(), it.merged()) for it in found], [("sum 3", [15, 35], 0, 3), ("count 2", [20], 1, 1), ("count 2", [], 0, 0)])
+        self.assertEqual(
+            [(it.reply, it.new_bounds(), it.cracked(), it.merged()) for it in found],
+            [("sum 3", [15, 35], 0, 3), ("count 2", [20], 1, 1), ("count 2", [], 0, 0)],
+        )
 
     def test_a_partition_is_drawn_within_its_ends(self):
-        drawn = self.of_script("insert 10 1\ninsert 150 2\ninsert 300 3\ncount 120 160\n", "--partition", "1", "100", "200")
+        drawn = self.of_script(
+            "insert 10 1\ninsert 150 2\ninsert 300 3\ncount 120 160\n", "--partition", "1", "100", "200"
+        )
         self.assertIn(">100</text>", drawn)
         self.assertIn(">199</text>", drawn)
 
@@ -58,6 +74,10 @@ class Pictures(unittest.TestCase):
             self.assertIn(wanted, printed.getvalue())
 
     def test_scripts_that_cannot_be_drawn(self):
-        for text, wanted in [("insert 1 1\n", "no count, sum or select"), ("count 0 1\n", "inserts no row"), ("insert 1 1\nfetch\ncount 0 9\n", "fetch: refused 1")]:
+        for text, wanted in [
+            ("insert 1 1\n", "no count, sum or select"),
+            ("count 0 1\n", "inserts no row"),
+            ("insert 1 1\nfetch\ncount 0 9\n", "fetch: refused 1"),
+        ]:
             with self.assertRaisesRegex(picture.ScriptError, wanted):
                 self.of_script(text)

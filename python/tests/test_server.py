@@ -65,7 +65,10 @@ class Connections(unittest.TestCase):
         error = crackd.Full(9, 3, 1)
         error.answers = [1, 2]
         back = pickle.loads(pickle.dumps(error))
-        self.assertEqual((type(back), back.code, back.done, back.later, back.answers, str(back)), (crackd.Full, 9, 3, 1, [1, 2], str(error)))
+        self.assertEqual(
+            (type(back), back.code, back.done, back.later, back.answers, str(back)),
+            (crackd.Full, 9, 3, 1, [1, 2], str(error)),
+        )
 
     def test_wrong_words(self):
         self.assertRaises(ValueError, crackd.connect, policy="none")
@@ -85,7 +88,9 @@ class Servers(unittest.TestCase):
             self.assertEqual(one.count(), 0)
 
     def test_keys_are_those_of_the_sample(self):
-        with crackd.serve([0.5, 1.5], partitions=2) as served, served.connect() as table, served.connect(key_type="uint64") as plain:
+        with crackd.serve([0.5, 1.5], partitions=2) as served, served.connect() as table, served.connect(
+            key_type="uint64"
+        ) as plain:
             table.insert_many([-1.0, 1.5], [1, 2])
             self.assertEqual((table.sum(0.0), table.partitions, plain.count(2**63)), (2, 2, 1))
 

@@ -20,7 +20,9 @@ class PlainTable:
         self.rows = {}
 
     def inside(self, low, high):
-        return {row: it for row, it in self.rows.items() if (low is None or low <= it[0]) and (high is None or it[0] < high)}
+        return {
+            row: it for row, it in self.rows.items() if (low is None or low <= it[0]) and (high is None or it[0] < high)
+        }
 
     def count(self, low, high):
         return len(self.inside(low, high))
@@ -43,8 +45,13 @@ class Cases:
 
     def test_no_rows(self):
         with self.table() as table:
-            self.assertEqual((table.count(), table.sum(), len(table.select().rows), len(table), bool(table)), (0, 0, 0, 0, True))
-            self.assertEqual((len(table.insert_many([], [])), len(table.delete_many([])), len(table.update_many([], [], []))), (0, 0, 0))
+            self.assertEqual(
+                (table.count(), table.sum(), len(table.select().rows), len(table), bool(table)), (0, 0, 0, 0, True)
+            )
+            self.assertEqual(
+                (len(table.insert_many([], [])), len(table.delete_many([])), len(table.update_many([], [], []))),
+                (0, 0, 0),
+            )
             self.assertEqual((len(table.count_many([], [])), table.sum_many([], None)), (0, []))
             table.settle()
             self.assertEqual(table.layout().rows, 0)
@@ -52,7 +59,9 @@ class Cases:
     def test_empty_and_turned_ranges_have_no_rows(self):
         with self.table() as table:
             table.insert_many([1, 2, 3], [1, 2, 3])
-            self.assertEqual((table.count(2, 2), table.count(3, 1), table.sum(3, 1), len(table.select(3, 1).rows)), (0, 0, 0, 0))
+            self.assertEqual(
+                (table.count(2, 2), table.count(3, 1), table.sum(3, 1), len(table.select(3, 1).rows)), (0, 0, 0, 0)
+            )
             self.assertEqual(numbers(table.count_many([2, 3, 1], [2, 1, 3])), [0, 0, 2])
             self.assertEqual(table.sum_many([2, 3, 1, 9], [2, 1, 3, -9]), [0, 0, 3, 0])
 
@@ -68,8 +77,19 @@ class Cases:
     def test_ends_that_are_no_keys(self):
         with self.table() as table:
             table.insert_many([-(2**63), 0, 7, GREATEST], [1, 2, 4, 8])
-            self.assertEqual((table.sum(-(10**30), 10**30), table.sum(0.5, 7.5), table.sum(7.5), table.sum(None, 7.5)), (15, 4, 8, 7))
-            self.assertEqual((table.sum(float("-inf"), 0), table.sum(8, float("inf")), table.sum(2**63, 2**64), table.sum(8, 2**63)), (1, 8, 0, 8))
+            self.assertEqual(
+                (table.sum(-(10**30), 10**30), table.sum(0.5, 7.5), table.sum(7.5), table.sum(None, 7.5)),
+                (15, 4, 8, 7),
+            )
+            self.assertEqual(
+                (
+                    table.sum(float("-inf"), 0),
+                    table.sum(8, float("inf")),
+                    table.sum(2**63, 2**64),
+                    table.sum(8, 2**63),
+                ),
+                (1, 8, 0, 8),
+            )
             self.assertRaises(ValueError, table.count, float("nan"))
             self.assertRaises(TypeError, table.count, "5")
             self.assertRaises(TypeError, table.count, 1, [2])
@@ -80,19 +100,27 @@ class Cases:
             self.assertEqual(list(table.delete_many([rows[0], rows[0]])), [True, False])
             self.assertEqual(list(table.update_many([rows[1], rows[0]], [20, 1], [80, 1])), [True, False])
             self.assertEqual((table.count(), table.sum(20, 21)), (2, 80))
-            self.assertEqual((table.update(int(rows[2]), 4, -4), table.delete(int(rows[2])), table.delete(int(rows[2]))), (True, True, False))
+            self.assertEqual(
+                (table.update(int(rows[2]), 4, -4), table.delete(int(rows[2])), table.delete(int(rows[2]))),
+                (True, True, False),
+            )
             self.assertEqual((table.count(), table.delete(12345), table.update(12345, 1, 1)), (1, False, False))
 
     def test_sums_beyond_64_bits_are_exact(self):
         for payload in (GREATEST, -(2**63)):
             with self.table() as table:
                 table.insert_many([1, 2, 3], [payload] * 3)
-                self.assertEqual((table.sum(), table.sum_many([1, 2, 9], [4, 3, 10])), (3 * payload, [3 * payload, payload, 0]))
+                self.assertEqual(
+                    (table.sum(), table.sum_many([1, 2, 9], [4, 3, 10])), (3 * payload, [3 * payload, payload, 0])
+                )
 
     def test_keys_without_a_sign(self):
         with self.table(key_type="uint64") as table:
             table.insert_many([0, 2**63, UNSIGNED], [1, 2, 4])
-            self.assertEqual((table.sum(2**63, UNSIGNED), table.sum(UNSIGNED), table.sum(None, 1), table.sum(-5, 2**64)), (2, 4, 1, 7))
+            self.assertEqual(
+                (table.sum(2**63, UNSIGNED), table.sum(UNSIGNED), table.sum(None, 1), table.sum(-5, 2**64)),
+                (2, 4, 1, 7),
+            )
             self.assertEqual(numbers(table.select().keys), [0, 2**63, UNSIGNED])
             self.assertRaises(OverflowError, table.insert, -1, 0)
             self.assertRaises(OverflowError, table.insert, 2**64, 0)
@@ -109,8 +137,12 @@ class Cases:
         keys = [-float("inf"), -2.5, -0.0, 0.0, 5e-324, 1e-300, 2.5, float("inf")]
         with self.table(keys) as table:
             table.insert_many(keys, [1] * len(keys))
-            self.assertEqual((table.count(0.0, 1.0), table.count(-3.0, 0.0), table.count(), table.count(2.5, None)), (4, 1, 8, 2))
-            self.assertEqual((table.count(0, 1), table.count(None, -(10**400)), table.count(-(10**400), 10**400)), (4, 0, 8))
+            self.assertEqual(
+                (table.count(0.0, 1.0), table.count(-3.0, 0.0), table.count(), table.count(2.5, None)), (4, 1, 8, 2)
+            )
+            self.assertEqual(
+                (table.count(0, 1), table.count(None, -(10**400)), table.count(-(10**400), 10**400)), (4, 0, 8)
+            )
             self.assertEqual([float(it) for it in table.select(-3.0, 1.0).keys], [-2.5, 0.0, 0.0, 5e-324, 1e-300])
             self.assertEqual(numbers(table.count_many([0.0, -3], [1, 0.0])), [4, 1])
             self.assertRaises(ValueError, table.insert, float("nan"), 1)
@@ -121,9 +153,22 @@ class Cases:
 
     def test_wrong_kinds_of_keys_and_payloads(self):
         with self.table() as table:
-            for keys, payloads in [([1.5], [1]), (["1"], [1]), ([None], [1]), ([1], [1.5]), ([1], ["1"]), ([1], [None]), ([[1]], [1])]:
+            for keys, payloads in [
+                ([1.5], [1]),
+                (["1"], [1]),
+                ([None], [1]),
+                ([1], [1.5]),
+                ([1], ["1"]),
+                ([1], [None]),
+                ([[1]], [1]),
+            ]:
                 self.assertRaises(TypeError, table.insert_many, keys, payloads)
-            for keys, payloads in [([2**63], [1]), ([-(2**63) - 1], [1]), ([1], [2**63]), ([1], [-(2**63) - 1])]:
+            for keys, payloads in [
+                ([2**63], [1]),
+                ([-(2**63) - 1], [1]),
+                ([1], [2**63]),
+                ([1], [-(2**63) - 1]),
+            ]:
                 self.assertRaises(OverflowError, table.insert_many, keys, payloads)
             self.assertRaises(TypeError, table.insert, 1, 1.5)
             self.assertRaises(OverflowError, table.insert, 1, 2**63)
@@ -161,7 +206,11 @@ class Cases:
             self.assertEqual(list(table.delete_many(caught.exception.answers)), [True] * 3)
 
     def test_bad_openings(self):
-        for options, kind in [({"history": 0}, crackd.BadLimit), ({"cells": 2**21}, crackd.BadLimit), ({"splits": [5, 5]}, crackd.BadSplits)]:
+        for options, kind in [
+            ({"history": 0}, crackd.BadLimit),
+            ({"cells": 2**21}, crackd.BadLimit),
+            ({"splits": [5, 5]}, crackd.BadSplits),
+        ]:
             with self.subTest(options), self.assertRaises(kind), self.table(**options):
                 pass
         for options in ({"policy": "none"}, {"partitions": 65}, {"partitions": 0}, {"splits": [2**63]}):
@@ -204,7 +253,9 @@ class Cases:
             layout = table.layout()
             self.assertEqual((layout.rows, len(layout.parts), table.partitions), (997, 3, 3))
             self.assertEqual([it.partition for it in layout.parts], [0, 1, 2])
-            self.assertEqual(sum(piece.rows for it in layout.parts for piece in it.pieces), sum(it.column for it in layout.parts))
+            self.assertEqual(
+                sum(piece.rows for it in layout.parts for piece in it.pieces), sum(it.column for it in layout.parts)
+            )
             self.assertGreater(sum(len(it.pieces) for it in layout.parts), 3)
             ends = [it.ends for it in layout.parts]
             self.assertEqual((ends[0][0], ends[-1][1], ends[0][1], ends[1][1]), (0, 2**64, ends[1][0], ends[2][0]))
@@ -220,9 +271,28 @@ class Cases:
             row = table.insert(1, 1)
             table.close()
             table.close()
-            calls = [(table.count,), (table.sum,), (table.select,), (table.insert, 1, 1), (table.insert_many, [1], [1]), (table.delete_many, [row])]
-            calls += [(table.update_many, [row], [1], [1]), (table.count_many, [1], [2]), (table.sum_many, [1], [2]), (table.settle,)]
-            calls += [(table.checkpoint,), (table.layout,), (table.count, 2, 1), (table.select, 2, 1), (table.sum, 2, 1), (len, table)]
+            calls = [
+                (table.count,),
+                (table.sum,),
+                (table.select,),
+                (table.insert, 1, 1),
+                (table.insert_many, [1], [1]),
+                (table.delete_many, [row]),
+            ]
+            calls += [
+                (table.update_many, [row], [1], [1]),
+                (table.count_many, [1], [2]),
+                (table.sum_many, [1], [2]),
+                (table.settle,),
+            ]
+            calls += [
+                (table.checkpoint,),
+                (table.layout,),
+                (table.count, 2, 1),
+                (table.select, 2, 1),
+                (table.sum, 2, 1),
+                (len, table),
+            ]
             for call, *words in calls:
                 with self.subTest(call=call):
                     self.assertRaises(crackd.Closed, call, *words)
@@ -240,7 +310,9 @@ class Cases:
             draw, low = rng.random(), rng.randrange(-20, 1020)
             high = low + rng.randrange(0, 300)
             if draw < 0.4:
-                keys, payloads = zip(*[(rng.randrange(-10, 1010), rng.randrange(-100, 100)) for _ in range(rng.randrange(1, 8))])
+                keys, payloads = zip(
+                    *[(rng.randrange(-10, 1010), rng.randrange(-100, 100)) for _ in range(rng.randrange(1, 8))]
+                )
                 model.rows.update(zip(numbers(table.insert_many(keys, payloads)), zip(keys, payloads)))
             elif draw < 0.5 and model.rows:
                 rows = rng.sample(sorted(model.rows), min(3, len(model.rows)))
@@ -252,14 +324,18 @@ class Cases:
                 model.rows[row] = (model.rows[row][0], rng.randrange(-100, 100))
                 self.assertTrue(table.update(row, *model.rows[row]))
             elif draw < 0.8:
-                self.assertEqual((table.count(low, high), table.sum(low, high)), (model.count(low, high), model.sum(low, high)))
+                self.assertEqual(
+                    (table.count(low, high), table.sum(low, high)), (model.count(low, high), model.sum(low, high))
+                )
             elif draw < 0.9:
                 lows, highs = [low, None, high, 3], [high, high, low, 4]
                 self.assertEqual(numbers(table.count_many(lows, highs)), [model.count(*it) for it in zip(lows, highs)])
                 self.assertEqual(table.sum_many(lows, highs), [model.sum(*it) for it in zip(lows, highs)])
             else:
                 got = table.select(low, high)
-                self.assertEqual(dict(zip(numbers(got.rows), zip(numbers(got.keys), numbers(got.payloads)))), model.inside(low, high))
+                self.assertEqual(
+                    dict(zip(numbers(got.rows), zip(numbers(got.keys), numbers(got.payloads)))), model.inside(low, high)
+                )
 
     @wants_numpy
     def test_arrays_of_numpy(self):
@@ -292,7 +368,14 @@ class Cases:
                     table.insert_many(np.asfortranarray(keys)[1::2], np.array([4, 8], dtype=">u2"))
                     self.assertEqual((table.sum(1, 2), table.sum(keys[2], keys[0]), table.count()), (12, 2, 4))
                     self.assertEqual(numbers(table.count_many(keys, keys + 1)), [1, 2, 1, 2])
-        for keys in (np.zeros(2, bool), np.zeros(2, complex), np.array(["a", "b"]), np.array([1, None]), np.zeros(2, np.longdouble), np.zeros(2, "m8[s]")):
+        for keys in (
+            np.zeros(2, bool),
+            np.zeros(2, complex),
+            np.array(["a", "b"]),
+            np.array([1, None]),
+            np.zeros(2, np.longdouble),
+            np.zeros(2, "m8[s]"),
+        ):
             with self.subTest(keys.dtype), self.assertRaises(TypeError), self.table(keys):
                 pass
         with self.assertRaises(TypeError), self.table(np.zeros(1, "M8")):
@@ -325,14 +408,31 @@ class Cases:
     def test_ends_of_numpy_that_no_float_has(self):
         with self.table(key_type="int64") as table:
             table.insert_many([2**62, 2**62 + 1, GREATEST], [1, 2, 4])
-            self.assertEqual((table.sum(np.int64(2**62 + 1)), table.sum(None, np.int64(2**62 + 1)), table.sum(np.int64(GREATEST))), (6, 1, 4))
+            self.assertEqual(
+                (
+                    table.sum(np.int64(2**62 + 1)),
+                    table.sum(None, np.int64(2**62 + 1)),
+                    table.sum(np.int64(GREATEST)),
+                ),
+                (6, 1, 4),
+            )
             self.assertEqual(table.sum_many([np.int64(2**62 + 1), None], [None, np.uint64(2**63)]), [6, 7])
         with self.table(key_type="uint64") as table:
             table.insert_many([2**63, 2**63 + 1, UNSIGNED], [1, 2, 4])
-            self.assertEqual((table.sum(np.uint64(2**63 + 1)), table.sum(np.uint64(UNSIGNED)), table.count(np.int64(-1), np.uint64(2**63 + 1))), (6, 4, 1))
+            self.assertEqual(
+                (
+                    table.sum(np.uint64(2**63 + 1)),
+                    table.sum(np.uint64(UNSIGNED)),
+                    table.count(np.int64(-1), np.uint64(2**63 + 1)),
+                ),
+                (6, 4, 1),
+            )
         with self.table(key_type="float64") as table:
             table.insert_many([2.0**53, 2.0**53 + 2], [1, 2])
-            self.assertEqual((table.sum(np.int64(2**53 + 1)), table.sum(None, np.int64(2**53 + 1)), table.sum(np.float32(1))), (2, 1, 3))
+            self.assertEqual(
+                (table.sum(np.int64(2**53 + 1)), table.sum(None, np.int64(2**53 + 1)), table.sum(np.float32(1))),
+                (2, 1, 3),
+            )
 
     @wants_numpy
     def test_one_array_for_all(self):
@@ -349,7 +449,9 @@ class Cases:
         with self.table(days.astype("datetime64[s]")) as table:
             table.insert_many(days, np.arange(1000))
             self.assertEqual(table.count(np.datetime64("2020-02-01"), np.datetime64("2020-03-01")), 29)
-            self.assertEqual(table.count(np.datetime64("2020-01-01T00:00:00.5"), np.datetime64("2020-01-03T00:00:00.001")), 2)
+            self.assertEqual(
+                table.count(np.datetime64("2020-01-01T00:00:00.5"), np.datetime64("2020-01-03T00:00:00.001")), 2
+            )
             got = table.select(np.datetime64("1990-01-01"), np.datetime64("2020-01-03"))
             self.assertEqual(got.keys.dtype, np.dtype("datetime64[s]"))
             self.assertEqual(list(got.keys.astype("datetime64[D]").astype(str)), ["2020-01-01", "2020-01-02"])

@@ -26,7 +26,9 @@ class Sharing:
                         row = table.insert(at * 1000 + it, 1)
                         if it % 10 == 0:
                             table.insert_many([at * 1000 + it] * 3, [1, 1, 1])
-                            faults.append("count") if table.count(at * 1000, at * 1000 + 1000) != it + 1 + 3 * (it // 10 + 1) - it // 10 else None
+                            faults.append("count") if table.count(at * 1000, at * 1000 + 1000) != it + 1 + 3 * (
+                                it // 10 + 1
+                            ) - it // 10 else None
                             table.delete(row)
                 except Exception as error:
                     faults.append(error)
@@ -90,7 +92,12 @@ class SharingInProcess(Sharing, InProcess, unittest.TestCase):
             try:
                 numbers = table._keys.many(keys)
                 before = steps[0]
-                table._insert_many(numbers, numbers.view("int64") if hasattr(numbers, "view") else crackd.arrays.from_ints("q", keys, "payloads"))
+                table._insert_many(
+                    numbers,
+                    numbers.view("int64")
+                    if hasattr(numbers, "view")
+                    else crackd.arrays.from_ints("q", keys, "payloads"),
+                )
                 table.settle()
                 meanwhile = steps[0] - before
             finally:

@@ -31,7 +31,11 @@ wants_program = unittest.skipUnless(has_program(), "the program crackd isn't bui
 
 def refusing(room, **environment):
     """The environment of a program whose library is refused memory, and whose files are in this folder."""
-    source, made, told = pathlib.Path(crackd.__file__).parents[2] / "acceptance" / "refusing.c", f"{room}/refusing.so", f"{room}/told"
+    source, made, told = (
+        pathlib.Path(crackd.__file__).parents[2] / "acceptance" / "refusing.c",
+        f"{room}/refusing.so",
+        f"{room}/told",
+    )
     subprocess.run(["gcc", "-shared", "-fPIC", "-O2", "-o", made, source, "-ldl"], check=True)
     pathlib.Path(told).write_bytes(bytes(16))
     return {"LD_PRELOAD": made, "REFUSE_TELLS": told, "REFUSE_SWITCHED": "1", **environment}

@@ -66,10 +66,29 @@ class Server:
 
     def started(self, words):
         """The process of a server, as it begins."""
-        command = [self.program, "serve", "--port", str(self.port), "--workers", "1", "--sessions", "1", "--quiet", *words]
+        command = [
+            self.program,
+            "serve",
+            "--port",
+            str(self.port),
+            "--workers",
+            "1",
+            "--sessions",
+            "1",
+            "--quiet",
+            *words,
+        ]
         pipe = subprocess.PIPE
         try:
-            return subprocess.Popen(command, stdin=subprocess.DEVNULL, stdout=pipe, stderr=pipe, text=True, errors="replace", start_new_session=True)
+            return subprocess.Popen(
+                command,
+                stdin=subprocess.DEVNULL,
+                stdout=pipe,
+                stderr=pipe,
+                text=True,
+                errors="replace",
+                start_new_session=True,
+            )
         except (OSError, ValueError) as error:
             raise Ended(f"no server: {fault_text(self.program, error)}") from error
 
@@ -86,7 +105,11 @@ class Server:
         status = self.process.returncode
         if complaint:
             return in_words(complaint.splitlines()[-1].replace("crackd: ", "", 1))
-        return f"{self.program} was ended by signal {-status}" if status < 0 else f"{self.program} ended with status {status}"
+        return (
+            f"{self.program} was ended by signal {-status}"
+            if status < 0
+            else f"{self.program} ended with status {status}"
+        )
 
     def totals(self):
         """The server's last line, once it has ended."""

@@ -1,10 +1,10 @@
-"""A shell over `crackd serve`: python3 -m crackd shell [--program PATH] [--limit N] [--cells N] [--life N] [--policy NAME] [SPLIT ..], or
-python3 -m crackd shell --port N
+"""A shell over `crackd serve`: python3 -m crackd shell [--program PATH] [--limit N] [--cells N] [--life N] [--policy
+NAME] [SPLIT ..], or python3 -m crackd shell --port N
 
-Without a port it starts a server of its own, which ends with it. On a terminal it prompts, says what a refusal means and
-how long each statement took, keeps typed lines in a file, and completes words by Tab; `help` lists the statements. Without
-a terminal it is a filter, which answers line by line. The status is 0; it is 1 if there is no server, if the server left,
-or if a filter had a refused statement or a failed command; it is 2 for a bad command line.
+Without a port it starts a server of its own, which ends with it. On a terminal it prompts, says what a refusal means
+and how long each statement took, keeps typed lines in a file, and completes words by Tab; `help` lists the statements.
+Without a terminal it is a filter, which answers line by line. The status is 0; it is 1 if there is no server, if the
+server left, or if a filter had a refused statement or a failed command; it is 2 for a bad command line.
 """
 
 import argparse
@@ -130,7 +130,9 @@ class Shell:
             elif name in self.others:
                 self.others[name](argument)
             else:
-                raise Fault(f"{name} needs a file" if name in self.of_files else f"there is no {name}; .help lists the commands")
+                raise Fault(
+                    f"{name} needs a file" if name in self.of_files else f"there is no {name}; .help lists the commands"
+                )
         except Fault as fault:
             self.fail(fault)
 
@@ -148,8 +150,8 @@ class Shell:
         self.show(reply)
 
     def show(self, reply):
-        """Shows a reply in the current mode. On a terminal it also says what a refusal means, and the time: after a reply of one
-        line, below others."""
+        """Shows a reply in the current mode. On a terminal it also says what a refusal means, and the time: after a
+        reply of one line, below others."""
         lines = modes.shown(reply.lines, self.mode, self.most_rows)
         if not self.is_terminal:
             print("\n".join(lines))
@@ -160,7 +162,11 @@ class Shell:
                 self.interrupts.check("the rest is left out")
                 print(line)
             hidden = modes.hidden(reply.lines, self.most_rows)
-            print(f"({rows_text(hidden)} more; .limit off shows all)  {time_text(reply.seconds)}" if hidden else time_text(reply.seconds))
+            print(
+                f"({rows_text(hidden)} more; .limit off shows all)  {time_text(reply.seconds)}"
+                if hidden
+                else time_text(reply.seconds)
+            )
 
     def say(self, text, seconds):
         """Says what was done, and on a terminal how long it took."""
@@ -360,18 +366,36 @@ def talk_to_own(options, interrupts):
 
 def options_of(words):
     """The options of the command line."""
-    parser = argparse.ArgumentParser(prog="python3 -m crackd shell", description="A shell over `crackd serve`. Without a port it starts a server of its own.")
-    parser.add_argument("--program", metavar="PATH", help="the program crackd [default: the one built in this checkout, else that of PATH]")
+    parser = argparse.ArgumentParser(
+        prog="python3 -m crackd shell",
+        description="A shell over `crackd serve`. Without a port it starts a server of its own.",
+    )
+    parser.add_argument(
+        "--program",
+        metavar="PATH",
+        help="the program crackd [default: the one built in this checkout, else that of PATH]",
+    )
     parser.add_argument("--port", metavar="N", type=int, help="the port of a server on this machine")
-    parser.add_argument("--limit", metavar="N", help="how many commands a partition answers between two checkpoints, 1 to 1000000")
+    parser.add_argument(
+        "--limit", metavar="N", help="how many commands a partition answers between two checkpoints, 1 to 1000000"
+    )
     parser.add_argument("--cells", metavar="N", help="how many cells for rows a partition has, 1 to 1048576")
     parser.add_argument("--life", metavar="N", help="how many commands a partition answers in all, 1 to 1099511627776")
-    parser.add_argument("--policy", metavar="NAME", choices=POLICIES, help="how inserts and deletes are merged: complete, gradual, ripple or auto [default: auto, for a server that is started]")
-    parser.add_argument("splits", metavar="SPLIT", nargs="*", help="where partitions begin: rising keys, each 1 to 18446744073709551615")
+    parser.add_argument(
+        "--policy",
+        metavar="NAME",
+        choices=POLICIES,
+        help="how inserts and deletes are merged: complete, gradual, ripple or auto [default: auto, for a server that is started]",
+    )
+    parser.add_argument(
+        "splits", metavar="SPLIT", nargs="*", help="where partitions begin: rising keys, each 1 to 18446744073709551615"
+    )
     options = parser.parse_args(words)
     if options.port is not None and not 1 <= options.port <= GREATEST_PORT:
         parser.error(f"a port must be 1 to {GREATEST_PORT}")
-    if options.port is not None and (options.program or options.limit or options.cells or options.life or options.splits):
+    if options.port is not None and (
+        options.program or options.limit or options.cells or options.life or options.splits
+    ):
         parser.error("with --port there is a server already: program, limits and splits can't be given")
     return options
 
@@ -380,7 +404,11 @@ def main(words):
     options, interrupts = options_of(words), Interrupts()
     sys.stdout.reconfigure(errors="backslashreplace")
     try:
-        is_done = talk_to_own(options, interrupts) if options.port is None else talk(options.port, options.policy, False, interrupts)
+        is_done = (
+            talk_to_own(options, interrupts)
+            if options.port is None
+            else talk(options.port, options.policy, False, interrupts)
+        )
         sys.stdout.flush()
         return 0 if is_done else 1
     except Disconnected as left:

@@ -99,7 +99,8 @@ class Records:
 
 @dataclasses.dataclass
 class Loaded:
-    """How far a load is: how many rows were sent, answered and inserted; the first refusal, and how many were inserted before."""
+    """How far a load is: how many rows were sent, answered and inserted; the first refusal, and how many were inserted
+    before."""
 
     sent: int = 0
     answered: int = 0
@@ -154,8 +155,9 @@ class Session:
         return reply
 
     def load(self, records, progress):
-        """Sends an insert for each row of the records, and counts what is answered. A control-C ends it; what was sent is still answered. Where the policy
-        isn't known, `auto` is asked for first, so that the next query merges all rows at once."""
+        """Sends an insert for each row of the records, and counts what is answered. A control-C ends it; what was sent
+        is still answered. Where the policy isn't known, `auto` is asked for first, so that the next query merges all
+        rows at once."""
         if self.policy is None:
             self.demand(f"policy {POLICY}")
         loaded = Loaded()
@@ -164,7 +166,9 @@ class Session:
                 rows = records.next_rows(self.interrupts)
                 if not rows:
                     break
-                self.channel.send(("insert %s %s\n" * len(rows) % tuple(itertools.chain.from_iterable(rows))).encode("ascii"))
+                self.channel.send(
+                    ("insert %s %s\n" * len(rows) % tuple(itertools.chain.from_iterable(rows))).encode("ascii")
+                )
                 loaded.sent += len(rows)
                 self.settle(loaded, ROWS_UNANSWERED)
                 progress.show(rows_text(loaded.placed))

@@ -7,7 +7,20 @@ import os
 from ..base import POLICIES
 from .modes import MODES
 
-WORDS = ["insert", "delete", "update", "count", "sum", "select", "layout", "checkpoint", "policy", "quit", "exit", "help"]
+WORDS = [
+    "insert",
+    "delete",
+    "update",
+    "count",
+    "sum",
+    "select",
+    "layout",
+    "checkpoint",
+    "policy",
+    "quit",
+    "exit",
+    "help",
+]
 COMMANDS = [".load", ".save", ".read", ".layout", ".mode", ".limit", ".bail", ".help", ".quit"]
 # what may follow a word
 AFTER = {"policy": list(POLICIES), ".mode": list(MODES), ".bail": ["on", "off"], ".limit": ["off"]}
@@ -40,7 +53,9 @@ def edited():
         yield
         return
     readline.set_completer_delims(" ")
-    readline.set_completer(lambda word, at: [*completions(readline.get_line_buffer()[: readline.get_endidx()], word), None][at])
+    readline.set_completer(
+        lambda word, at: [*completions(readline.get_line_buffer()[: readline.get_endidx()], word), None][at]
+    )
     readline.parse_and_bind("bind ^I rl_complete" if "libedit" in (readline.__doc__ or "") else "tab: complete")
     path = history_file()
     if path:
