@@ -1,4 +1,4 @@
-"""Runs the checks that unittest finds, side by side, and those that want the machine to themselves in turn."""
+"""Runs the checks that unittest finds, in parallel, and then those that need the machine to themselves, one by one."""
 
 import collections
 import concurrent.futures
@@ -9,18 +9,18 @@ import unittest
 from fixtures import TOP
 
 FOLDERS = [TOP / "acceptance", TOP / "tools"]
-# a module whose checks take longest, so that they begin first
+# the module whose checks take longest, so they are started first
 LONGEST = "test_memory"
 
 
 def flat(suite: unittest.TestSuite) -> typing.Iterator[unittest.TestCase]:
-    """The checks of a suite."""
+    """The checks of a suite, as a flat list."""
     for it in suite:
         yield from flat(it) if isinstance(it, unittest.TestSuite) else [it]
 
 
 def outcome(name: str) -> tuple[str, str, str]:
-    """Runs a check by its name: the name, what is wrong, if that is anything, and why it was skipped, if it was."""
+    """Runs a check by its name. Returns the name, what is wrong (or None), and why it was skipped (or None)."""
     result = unittest.TestResult()
     unittest.TestLoader().loadTestsFromName(name).run(result)
     wrong = "\n".join(trace for _, trace in [*result.failures, *result.errors])
@@ -28,7 +28,7 @@ def outcome(name: str) -> tuple[str, str, str]:
 
 
 def outcomes(checks: list[unittest.TestCase]) -> typing.Iterator[tuple[str, str, str]]:
-    """What comes of these checks."""
+    """The outcomes of these checks."""
     alone = [it.id() for it in checks if getattr(it, "alone", False)]
     others = sorted({it.id() for it in checks} - set(alone), key=lambda it: (not it.startswith(LONGEST), it))
     with concurrent.futures.ProcessPoolExecutor(os.cpu_count()) as pool:
@@ -37,7 +37,7 @@ def outcomes(checks: list[unittest.TestCase]) -> typing.Iterator[tuple[str, str,
 
 
 def run_all() -> tuple[int, int]:
-    """Runs all checks. How many passed, and how many failed."""
+    """Runs all checks. Returns how many passed, and how many failed."""
     suites = [unittest.TestLoader().discover(str(it), top_level_dir=str(it)) for it in FOLDERS]
     passed, failed = collections.Counter(), collections.Counter()
     for name, wrong, skipped in outcomes([check for suite in suites for check in flat(suite)]):

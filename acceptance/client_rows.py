@@ -1,12 +1,12 @@
-"""What a client of a shared server has to be answered about its own rows, and what the rows and counts of all clients
-have to come to.
+"""What a client of a shared server must be answered about its own rows, and what the rows and counts of all clients
+must add up to.
 
-Each client has keys of its own, so its rows are known to it whatever the others do: each reply is held against the
-lists of plain_session.py, which take the numbers of rows from the replies. Of statements whose replies weren't read a
-front was accepted, since a session answers in order; how long a front, the rows that stand in the end show. Where
-limits are small a command may be refused with 6, 9 or 10 by what others did, and then changes nothing; that these come
-for their causes is held against what all clients were answered. A checkpoint folds what all have asked of a partition,
-each entry once: what all checkpoints report comes to all that was accepted.
+Each client has its own keys, so it knows its rows whatever the others do: each reply is compared with the lists of
+plain_session.py, which take row numbers from the replies. If replies weren't read, the server accepted a prefix of
+these statements, since a session answers in order; the rows left at the end show how long it is. With small limits a
+command may be refused with 6, 9 or 10 because of what others did, and then changes nothing; that these refusals have a
+cause is checked against the replies to all clients. A checkpoint removes the entries of all clients in a partition,
+each once: the numbers that all checkpoints report add up to what was accepted.
 """
 
 import bisect
@@ -19,7 +19,7 @@ from plain_session import MOST, MOST_CELLS, MOST_ENTRIES, MOST_LIFE, RANGES, Lim
 FULL, NO_CELL, OVER = 6, 9, 10
 Number = tuple[int, int]
 Row = tuple[int, int]
-# a count for each partition
+# a count per partition
 ByPart = collections.Counter[int]
 
 
@@ -28,19 +28,19 @@ def said_in(statement: str) -> Said:
 
 
 class Own:
-    """The rows of one client, with the keys from `low` to below `high`; `folds`: it asks for checkpoints."""
+    """The rows of one client, with keys from `low` up to but not including `high`. `folds`: it asks for checkpoints."""
 
     def __init__(self, splits: list[int], low: int, high: int, limits: Limits = Limits(), folds: bool = True) -> None:
         self.low, self.high, self.limits, self.folds = low, high, limits, folds
-        # (what bounds the partitions of all is held elsewhere)
+        # (the limits of the partitions are checked elsewhere)
         self.session = Session(splits)
         self.given: list[Number] = []
-        # rows that went, and entries that checkpoints folded
+        # rows that were deleted, and entries that checkpoints removed
         self.gone, self.folded = ByPart(), ByPart()
-        # which refusals came of which partition alone
+        # the refusals that came from a single partition, by partition
         self.refused: set[tuple[int, int]] = set()
         self.listed = 0
-        # statements that were sent, in order, and whose replies weren't read
+        # statements that were sent, in order, whose replies weren't read
         self.unread: list[str] = []
 
     @property
@@ -49,30 +49,30 @@ class Own:
         return {(part.number, serial): row for part in self.session.parts for serial, row in part.rows.items()}
 
     def accepted(self, with_untold: bool = False) -> ByPart:
-        """Commands that were accepted; also those that may have been besides, if they are wanted."""
+        """How many commands were accepted. `with_untold` also counts those that may have been accepted."""
         return ByPart({part.number: part.kept + with_untold * part.untold for part in self.session.parts})
 
     def counts(self) -> Counts:
-        """What its replies say of the totals."""
+        """The totals, as far as its replies show them."""
         least, most = self.accepted().total(), self.accepted(with_untold=True).total()
         inserted, deleted = len(self.given), self.gone.total()
         return Counts(least=least, most=most, inserted=inserted, deleted=deleted, listed=self.listed)
 
     def parts_asked(self, said: Said) -> list[int]:
-        """The numbers of the partitions that a command asks in turn, where a key isn't outside."""
+        """The numbers of the partitions that a command asks, in order, if its key isn't outside."""
         parts = self.session.parts_of(said)
         if said[0] in ("layout", "checkpoint") or (said[0] == "update" and parts and not parts[0].has(said[1][2])):
             return []
         return [part.number for part in parts]
 
     def take(self, statement: str, lines: list[str]) -> None:
-        """Holds a reply against the own rows, and does to them what the statement says."""
+        """Compares a reply with the client's rows, and changes them as the statement says."""
         said = said_in(statement)
         parts, asked = self.session.parts_of(said), self.parts_asked(said)
         is_over = len(asked) == 1 and (OVER, asked[0]) in self.refused
         refusal = self.refusal_of(said, asked, lines)
         if refusal == OVER or (refusal and not is_over):
-            # (of a range the partitions before the one that refused have kept their parts)
+            # (of a range, the partitions before the one that refused have kept their parts)
             self.refused.update({(refusal, asked[0])} if len(asked) == 1 else ())
             self.session.leave_without_memory(said)
         elif is_over:
@@ -92,7 +92,7 @@ class Own:
                 self.gone[asked[0]] += 1
 
     def refusal_of(self, said: Said, asked: list[int], lines: list[str]) -> int | None:
-        """The number of a refusal for a limit that may come; None where it is none of these."""
+        """The number of a refusal for a limit that may occur here; None if the lines are none of these."""
         if not asked or len(lines) != 1 or not lines[0].startswith("refused "):
             return None
         (kind, numbers), limits = said, self.limits
@@ -106,14 +106,14 @@ class Own:
         return number if may else None
 
     def fold(self, statement: str, part: int, lines: list[str]) -> None:
-        """Holds the reply to a checkpoint, which reports how many entries went, of all clients together."""
+        """Checks the reply to a checkpoint, which reports how many entries of all clients it removed."""
         folded = numbers_of(lines[0], FOLDED) if len(lines) == 1 else []
         if not folded or folded[0] > self.limits.history:
             raise Wrong(f"{statement}: wanted at most {self.limits.history} entries, got {lines}")
         self.folded[part] += folded[0]
 
     def take_number(self, statement: str, part: Part, lines: list[str]) -> None:
-        """Takes the number of a row from the reply. It is the partition's, and greater than those before it."""
+        """Takes a row number from the reply. It is of the right partition, and greater than the earlier ones."""
         number, *serial = numbers_of(lines[0], "row #.#") or [-1]
         if number != part.number or serial[0] < part.next:
             raise Wrong(f"{statement}: wanted a row number of partition {part.number} from {part.next}, got {lines}")
@@ -121,10 +121,11 @@ class Own:
         self.given.append((number, part.next))
 
     def front(self, standing: dict[Number, Row], closed=()) -> tuple[ByPart, ByPart, int]:
-        """What became of the statements whose replies weren't read, given the own rows that stand, but for closed ones.
+        """What happened to the statements whose replies weren't read, given which of the client's rows are left; closed
+        partitions are left out.
 
-        By partition the least and the greatest number of commands that were accepted of them, and the most rows that
-        their selects listed. Where limits are small any of them may have been refused.
+        By partition: the least and the greatest number of these commands that were accepted, and the most rows that
+        their selects listed. With small limits any of them may have been refused.
         """
         own = {number: row for number, row in self.rows.items() if number[0] not in closed}
         expect("own rows", own, {number: row for number, row in standing.items() if number in own})
@@ -140,7 +141,7 @@ class Own:
             elif said[0] == "insert":
                 (part,) = self.session.parts_of(said)
                 left = found[part.number]
-                # (a partition numbers its rows in the order of their coming)
+                # (a partition numbers its rows in the order of their insertion)
                 if left and standing[left[0]] == tuple(said[1]):
                     self.keep(part, left.popleft(), said[1])
                     most[part.number] += 1
@@ -154,7 +155,7 @@ class Own:
         return least, most, listed
 
     def keep(self, part: Part, number: Number, row: Row) -> None:
-        """Keeps a row that stands though its reply wasn't read."""
+        """Adds a row that is there although the reply to its insert wasn't read."""
         if number[1] < part.next:
             raise Wrong(f"the row {row} has the number {number}, below the next one of its client {part.next}")
         part.put(number[1], *row)
@@ -163,20 +164,21 @@ class Own:
 
 
 class Account:
-    """What stands once all have gone: the rows, how many each partition was given, and how many closed ones have.
+    """What is left once all clients have gone: the rows, how many each partition placed, and of closed ones how many
+    they have.
 
-    In those that are closed, whose life is over, nobody reads the rows.
+    In closed partitions, whose life is over, nobody can read the rows.
     """
 
     def __init__(self, splits: list[int]) -> None:
         self.splits, self.rows, self.given, self.closed = splits, {}, [0] * (len(splits) + 1), {}
-        # what the look itself asked, and how many entries it folded
+        # what this reading itself asked, and how many entries its checkpoints removed
         self.counts, self.folded = Counts(), 0
 
     def look(self, connection: Client, clients: list[Own], limits: Limits) -> None:
-        """Reads all rows by a session that is alone, and learns how many each partition was given.
+        """Reads all rows in a session without other clients, and finds out how many rows each partition placed.
 
-        It does so after checkpoints, so that no history is full.
+        It makes checkpoints first, so that no history is full.
         """
         ends = [0, *self.splits, MOST]
         self.fold(connection)
@@ -186,7 +188,7 @@ class Account:
         for part in range(len(self.given) if limits.life < MOST_LIFE else 0):
             lines = connection.answer(f"select {ends[part]} {ends[part + 1]}")
             if lines == ["refused 10"]:
-                # (where its life is over its layout says how many rows there are)
+                # (if its life is over, its layout gives the number of rows)
                 self.closed[part] = int(connection.answer(f"layout {part}")[0].split(" ")[3])
             else:
                 self.read_rows(lines)
@@ -198,13 +200,13 @@ class Account:
         self.counts["listed"] += len(self.rows)
 
     def fold(self, connection: Client) -> None:
-        """Folds each history."""
+        """Makes a checkpoint of each partition."""
         for part in range(len(self.given)):
             (line,) = connection.answer(f"checkpoint {part}")
             self.folded += int(line.removeprefix("folded "))
 
     def given_to(self, part: int, key: int, connection: Client, clients: list[Own], limits: Limits) -> int:
-        """How many rows a partition was given: the number of one more, or those that it has and those that went."""
+        """How many rows a partition placed: the number of one more row, or those that it has and those deleted."""
         (line,) = [""] if part in self.closed else connection.answer(f"insert {key} 0")
         if number := numbers_of(line, f"row {part}.#"):
             self.counts.update(least=1, most=1, inserted=1)
@@ -215,13 +217,13 @@ class Account:
         return self.rows_of(part) + sum(client.gone[part] for client in clients)
 
     def read_rows(self, lines: list[str]) -> None:
-        """Takes the lines of a select of all keys, or of those of partitions in turn."""
+        """Takes the lines of a select of all keys, or of selects of the partitions in order."""
         expect("lines of all rows", f"rows {len(lines) - 1}", lines[0])
         before = max(self.rows, default=(0, -1))
         for line in lines[1:]:
             number, *row = line.split(" ")
             number, (key, payload) = tuple(map(int, number.split("."))), map(int, row)
-            # (Python reads more as a number than is ever written)
+            # (Python accepts more spellings of a number than are ever written)
             expect("how a row is written", f"{number[0]}.{number[1]} {key} {payload}", line)
             if number <= before or bisect.bisect_right(self.splits, key) != number[0]:
                 raise Wrong(f"the row {line!r} stands after the row {before}")
@@ -229,7 +231,7 @@ class Account:
             before = number
 
     def of_owners(self, owners: list[Own]) -> list[dict[Number, Row]]:
-        """The rows of each owner, in order. Wrong where a row is nobody's."""
+        """The rows of each owner, in order. Wrong if a row has no owner."""
         lows, parted = [it.low for it in owners], [{} for _ in owners]
         for number, row in self.rows.items():
             at = bisect.bisect_right(lows, row[0]) - 1
@@ -244,7 +246,7 @@ class Account:
 
 
 def check_numbers(account: Account, clients: list[Own]) -> None:
-    """Each number of a row was given once; in a closed partition some to inserts whose replies weren't read."""
+    """Each row number was given once; in a closed partition some were given to inserts whose replies weren't read."""
     given = sorted(number for client in clients for number in client.given)
     right = [(part, it) for part, count in enumerate(account.given) for it in range(count)]
     if not account.closed:
@@ -261,7 +263,7 @@ def check_numbers(account: Account, clients: list[Own]) -> None:
 
 
 def check_causes(account: Account, clients: list[Own], least: ByPart, most: ByPart) -> None:
-    """No partition has accepted more than its life, and one that refused for a limit as many as that, at least."""
+    """No partition accepted more than its life, and one that refused because of a limit accepted at least that many."""
     refused, limits = set().union(*(client.refused for client in clients)), clients[0].limits
     refused |= {(OVER, part) for part in account.closed}
     bounds = {FULL: limits.history, NO_CELL: limits.cells, OVER: limits.life}
@@ -273,7 +275,7 @@ def check_causes(account: Account, clients: list[Own], least: ByPart, most: ByPa
 
 
 def come_to(account: Account, clients: list[Own]) -> Counts:
-    """Holds the clients' rows against all that stands: the counts that the totals have to agree with."""
+    """Compares the clients' rows with all rows that are left. Returns the counts that the totals must agree with."""
     clients = sorted(clients, key=lambda it: it.low)
     least, most, counts = ByPart(), ByPart(), Counts()
     for client, standing in zip(clients, account.of_owners(clients)):

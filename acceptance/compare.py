@@ -1,12 +1,12 @@
-"""Holds what a session wrote against the lists of plain_session.py, also where some statements found no memory.
+"""Compares what a session wrote with the lists of plain_session.py, even if memory ran out for some statements.
 
-Each statement that is answered `refused 8` must be one that asks a partition, and one that nothing else refuses before;
-the lists then never see it. (A range over several partitions may have been answered in part: that is kept in their
-histories, so a checkpoint may report so many entries more, and changes no row.) All else that is written must be the
-list's answer, to the last byte. A layout is held against its equations, since no rule fixes more of it: the pieces'
-sizes add up to the column; column, pending insertions and free cells make up the cells; the rows are the column less
-the pending deletions and with the pending insertions, and as many as the list has; the pieces join from one end of the
-partition's keys to the other; and there are as many of each as are known, at least.
+Each statement that is answered `refused 8` must ask a partition, and must not be refused for an earlier cause; the
+lists then never see it. (A range over several partitions may have been answered in part. That part is in their
+histories, so a checkpoint may report that many entries more; no row changes.) Everything else must be the list's
+answer, to the last byte. A layout is checked by its equations, since no rule fixes more of it: the sizes of the pieces
+add up to the column; column, pending insertions and free cells add up to the cells; the rows are the column minus the
+pending deletions plus the pending insertions, and as many as the list has; the pieces join from one end of the
+partition's keys to the other; and each number is at least what is known.
 """
 
 import collections
@@ -18,24 +18,24 @@ from fixtures import Wrong, expect
 from plain_session import NO_CELL, RANGES, Part, Said, Session
 
 SHORT = "refused 8"
-# lines with numbers, each of which stands for a #
+# lines with numbers; each # stands for a number
 LAYOUT, PIECE = "layout # rows # column # out # in # cells # free # pieces #", "piece # # #"
 TOTALS, FOLDED = "accepted # inserted # deleted # held #", "folded #"
-# what replies say of the totals: `least` and `most` commands that histories keep, since a range that was refused may
-# have been answered in part, and rows that were `inserted`, `deleted` and `listed`
+# the totals, as replies show them: `least` and `most` commands in histories (since a refused range may have been
+# answered in part), and rows that were `inserted`, `deleted` and `listed`
 Counts = collections.Counter[str]
 
 
 @dataclasses.dataclass
 class Seen:
-    """How many statements found no memory, the answers, and what they say of the totals."""
+    """How many statements found no memory, the answers, and the totals as these show them."""
 
     short: int = 0
     answers: list[list[str]] = dataclasses.field(default_factory=list)
     counts: Counts = dataclasses.field(default_factory=collections.Counter)
 
     def count(self, said: Said, parts: int, answer: list[str] | Part) -> None:
-        """Counts the answer to a statement that asks so many partitions."""
+        """Counts the answer to a statement that asks this many partitions."""
         is_kept = parts and not isinstance(answer, Part) and said[0] != "checkpoint"
         if is_kept and not answer[0].startswith("refused"):
             inserted, deleted = said[0] == "insert", answer[0].startswith("gone")
@@ -48,13 +48,13 @@ def pattern_of(form: str) -> re.Pattern[str]:
 
 
 def numbers_of(line: str, form: str) -> list[int]:
-    """The numbers of a line, written without zeros before them; none where it has another form."""
+    """The numbers of a line, written without leading zeros; None if it has another form."""
     found = pattern_of(form).fullmatch(line)
     return [int(it) for it in found.groups()] if found else []
 
 
 def check_totals(line: str, counts: Counts) -> int:
-    """Holds a totals line. The number of accepted commands."""
+    """Checks a totals line. Returns the number of accepted commands."""
     accepted, *others = numbers_of(line.removesuffix("\n"), TOTALS) or [-1]
     right = [counts["inserted"], counts["deleted"], counts["inserted"] - counts["deleted"]]
     if not counts["least"] <= accepted <= counts["most"] or others != right:
@@ -63,9 +63,9 @@ def check_totals(line: str, counts: Counts) -> int:
 
 
 def check_layout(lines: list[str], part: Part, rows: int | None = None) -> list[int]:
-    """Holds the layout at the front of these lines, of a partition with so many rows, if that is known.
+    """Checks the layout at the start of these lines, of a partition with this many rows, if their number is known.
 
-    The numbers of its first line.
+    Returns the numbers of its first line.
     """
     head = numbers_of(lines[0] if lines else "", LAYOUT)
     pieces = [numbers_of(it, PIECE) for it in lines[1 : head[-1] + 1]] if head else []
@@ -81,9 +81,9 @@ def check_layout(lines: list[str], part: Part, rows: int | None = None) -> list[
 
 
 def look(lines: list[str], part: Part) -> int:
-    """The same, beside what is known of the partition's cells. It reports whether there is one for one row more.
+    """The same, and what is known of the partition's cells. Notes whether there is a cell for one more row.
 
-    How many lines it has.
+    Returns how many lines it has.
     """
     _, _, column, out, pending, cells, free, pieces = check_layout(lines, part, len(part.rows))
     is_right = part.waiting <= out <= len(part.doomed) and cells <= part.limits.cells
@@ -95,7 +95,7 @@ def look(lines: list[str], part: Part) -> int:
 
 
 def answer_of(session: Session, said: Said, line: str) -> list[str] | Part:
-    """The list's answer to what was said, where that may depend on the first line that was written."""
+    """The list's answer to a statement. It may depend on the first line that was written."""
     parts = session.parts_of(said)
     if parts and said[0] == "checkpoint":
         # (as many entries as the list has kept, or more by some of those that were never reported)
@@ -108,7 +108,7 @@ def answer_of(session: Session, said: Said, line: str) -> list[str] | Part:
 
 
 def take(session: Session, said: Said, lines: list[str], seen: Seen, may_be_first: bool) -> int:
-    """Holds the answer at the front of these lines; see `compare`. How many lines it has."""
+    """Checks the answer at the start of these lines; see `compare`. Returns how many lines it has."""
     line, parts = lines[0] if lines else "", len(session.parts_of(said))
     if line == SHORT:
         seen.short += 1
@@ -128,9 +128,9 @@ def take(session: Session, said: Said, lines: list[str], seen: Seen, may_be_firs
 def compare(
     said: list[Said], wrote: bytes, session: Session | None = None, short: int = 0, may_be_first: bool = False
 ) -> Seen:
-    """Holds what a session wrote against what was said in it: `short` statements at most found no memory.
+    """Compares what a session wrote with what it was sent: at most `short` statements found no memory.
 
-    Where that `may_be_first` it may come before another refusal that is due as well, as it does at a desk.
+    If `may_be_first`, this refusal may come before another one that is due, as it does at a desk.
     """
     if not wrote.isascii() or wrote[-1:] not in (b"", b"\n"):
         raise Wrong(f"no lines of text: {wrote[-80:]!r}")

@@ -1,8 +1,8 @@
-"""What checks stand on: the program, a server and its clients, a child that ends, one on a terminal, and one that is
-refused memory.
+"""What checks use: the program, a server and its clients, a child that ends, one on a terminal, and one that is refused
+memory.
 
 `python3 -m unittest acceptance.test_NAME` runs a module of checks on the program of this checkout, or on the one that
-CRACKD names; `-k WORD` runs those whose name has the word.
+CRACKD names; `-k WORD` runs those whose name contains the word.
 """
 
 import atexit
@@ -29,38 +29,38 @@ import unittest
 
 TOP = pathlib.Path(__file__).resolve().parent.parent
 CRATES = TOP / "crates"
-# how long a child or a server may take, and a client wait for a worker; and how often another port is tried
+# how long a child or a server may take, how long a client may wait for a worker, and how often another port is tried
 SECONDS, PATIENT_SECONDS, TRIES, MOST_WORKERS = 60, 120, 5, 64
 COMPILERS = ["cc", "gcc", "clang", "tcc"]
 PORT_IS_TAKEN = "crackd: refused 17\n"
 CONTROL_C, CONTROL_D = "\x03", "\x04"
-# (a terminal that can do nothing is sent no marks for the editing of a line)
+# (a dumb terminal gets no escape sequences for line editing)
 DUMB = {"TERM": "dumb", "INPUTRC": "/dev/null"}
 Ended = tuple[int, typing.Any, typing.Any]
 
 
 class Wrong(AssertionError):
-    """What came in place of what was wanted."""
+    """Something other than what was wanted."""
 
 
-# what ends a check that meets a wrong reply, a lost connection or a silent program
+# what ends a check that finds a wrong reply, a lost connection or a silent program
 FAULTS = (Wrong, OSError, ValueError, IndexError, subprocess.TimeoutExpired)
 
 
 def expect(what: object, wanted: object, got: object) -> None:
-    """Wrong, where what came isn't what was wanted."""
+    """Raises Wrong if the result isn't what was wanted."""
     if wanted != got:
         raise Wrong(f"{what}: wanted {str(wanted)[:200]!r}, got {str(got)[:200]!r}")
 
 
 def built(name: str = "crackd", top: pathlib.Path | None = None) -> str:
-    """The path of a program, of this checkout or of another; CRACKD may name that of this one's `crackd`."""
+    """The path of a program of this checkout or of another. CRACKD may name that of this checkout's `crackd`."""
     own = (top or TOP) / "crates" / name / "out" / name
     return str(pathlib.Path(os.environ.get("CRACKD", own) if name == "crackd" and not top else own).resolve())
 
 
 def sections(name: str) -> dict[str, str]:
-    """The sections of a text of this folder, which begin with lines `---- NAME`, without its comments."""
+    """The sections of a text in this folder, without its comments. Each begins with a line `---- NAME`."""
     text = re.sub(r"^#.*\n", "", (TOP / "acceptance" / name).read_text(encoding="utf-8"), flags=re.MULTILINE)
     return dict(it.strip().split("\n", 1) for it in f"\n{text}".split("\n---- ")[1:])
 
@@ -68,7 +68,7 @@ def sections(name: str) -> dict[str, str]:
 class Case(unittest.TestCase):
     """Checks of the program."""
 
-    # whether it wants the machine to itself
+    # whether it needs the machine to itself
     alone = False
     needs = "crackd"
 
@@ -79,19 +79,19 @@ class Case(unittest.TestCase):
 
 
 def add(of: type[unittest.TestCase], name: str, check: typing.Callable, *given: object) -> None:
-    """Adds a check of this name, which calls a function of the case and of what is given."""
+    """Adds a check with this name, which calls a function with the case and what is given."""
     words = "_".join("".join(it if it.isalnum() else " " for it in name).split())
     setattr(of, f"test_{words}", lambda self: check(self, *given))
 
 
 def add_seeds(of: type[Case], seeds: typing.Iterable[int], check: typing.Callable[[str, int], object]) -> None:
-    """Adds a check for each seed, which calls a function of the program and of the seed."""
+    """Adds a check for each seed, which calls a function with the program and the seed."""
     for seed in seeds:
         add(of, f"seed {seed:02}", lambda self, seed: check(self.program, seed), seed)
 
 
 def ran(command: typing.Iterable[object], given: str | bytes | None = b"", seconds: float = SECONDS, **how) -> Ended:
-    """Runs a child to its end: its status, and what it wrote and complained; as text, if it is given a text."""
+    """Runs a child to its end. Returns its status, output and standard error, as text if it was given text."""
     streams = {} if {"stdout", "stderr"} & how.keys() else {"capture_output": True}
     how = streams | ({} if "stdin" in how else {"input": given}) | how
     it = subprocess.run(list(map(str, command)), text=isinstance(given, str), timeout=seconds, check=False, **how)
@@ -100,7 +100,7 @@ def ran(command: typing.Iterable[object], given: str | bytes | None = b"", secon
 
 @contextlib.contextmanager
 def side_by_side(work: typing.Callable[[], object]) -> typing.Iterator[None]:
-    """Has a function run on a thread of its own in the meantime, and waits for its end."""
+    """Runs a function on its own thread during the block, and waits for its end."""
     thread = threading.Thread(target=work)
     thread.start()
     try:
@@ -110,17 +110,17 @@ def side_by_side(work: typing.Callable[[], object]) -> typing.Iterator[None]:
 
 
 def all_at_once(work: typing.Callable, given: typing.Sequence) -> list:
-    """What a function returns for each of what is given, each on a thread of its own."""
+    """What a function returns for each of these arguments, each on its own thread."""
     with concurrent.futures.ThreadPoolExecutor(len(given)) as pool:
         return list(pool.map(work, given))
 
 
 def fed(command: list[str], given: bytes, piece: int = 65536) -> Ended:
-    """Runs a child that is given bytes in pieces of so many: its status, what it wrote, and what it complained."""
+    """Runs a child that is given bytes in pieces of this size. Returns its status, output and standard error."""
     source, target = os.pipe()
 
     def feed() -> None:
-        # (a session that has ended reads no more)
+        # (a session that has ended reads nothing more)
         with contextlib.suppress(BrokenPipeError), open(target, "wb", buffering=0) as file:
             for at in range(0, len(given), piece):
                 file.write(given[at : at + piece])
@@ -136,11 +136,11 @@ def free_port() -> int:
 
 
 class Server:
-    """A server that listens, and its port; it is killed at the end if it is there. With `may_end` it needn't listen."""
+    """A server that listens, and its port. It is killed at the end if it still runs. `may_end`: it needn't listen."""
 
     def __init__(self, program: str, workers: int, *words: str, environment={}, may_end: bool = False) -> None:
         pipes = {"stdin": subprocess.PIPE, "stdout": subprocess.PIPE, "env": {**os.environ, **environment}}
-        # (another program may take the port in the meantime; and the server may complain before anybody reads that)
+        # (another program may take the port in the meantime, and the server may write an error before anybody reads it)
         for _ in range(TRIES):
             self.port, self.log = free_port(), tempfile.TemporaryFile("a+", encoding="ascii")
             command = [program, "serve", "--port", str(self.port), "--workers", str(workers), *words]
@@ -171,7 +171,7 @@ class Server:
         self.process.stdin.close()
 
     def ended(self) -> Ended:
-        """Waits for the server's end: its status, what it wrote after its first line, and what it complained."""
+        """Waits for the server's end. Returns its status, its output after the first line, and its standard error."""
         try:
             status = self.process.wait(SECONDS)
         except subprocess.TimeoutExpired as error:
@@ -180,21 +180,21 @@ class Server:
         return status, self.process.stdout.read(), self.log.read()
 
     def wait(self, totals: typing.Sequence[object], *notes: str) -> None:
-        """Waits for the server's end, which must have these totals, and these lines on standard error in any order."""
+        """Waits for the server's end. It must have these totals, and these lines on standard error in any order."""
         status, wrote, complained = self.ended()
         expect("totals", "accepted {} inserted {} deleted {} held {}\n".format(*totals), wrote)
         expect("standard error", sorted(notes), sorted(complained.splitlines()))
         expect("status", 0, status)
 
     def notes(self, sessions: int, *cut_off: str) -> list[str]:
-        """What standard error must have for so many sessions, those that were cut off among them."""
+        """The lines that standard error must have after this many sessions, including those that were cut off."""
         end = f"crackd: ended: sessions {sessions}, cut off {len(cut_off)}"
         return [f"crackd: listening on 127.0.0.1:{self.port}", *cut_off, end]
 
 
 @contextlib.contextmanager
 def serving(program: str, totals: typing.Sequence, workers: int, sessions: int, *words: str) -> typing.Iterator[int]:
-    """The port of a server that must end by itself once its clients have, with totals that are there by then."""
+    """The port of a server that must end by itself once its clients have, with these totals."""
     with Server(program, workers, "--sessions", str(sessions), "--quiet", *words) as it:
         yield it.port
         it.wait(totals)
@@ -225,11 +225,11 @@ class Client:
         self.socket.shutdown(socket.SHUT_WR)
 
     def reset(self) -> None:
-        """Has the connection end by a reset once it is closed."""
+        """Makes closing the connection reset it."""
         self.socket.setsockopt(socket.SOL_SOCKET, socket.SO_LINGER, struct.pack("ii", 1, 0))
 
     def reply(self) -> list[str]:
-        """The lines of the next reply. Wrong where the server closed the connection before it came whole."""
+        """The lines of the next reply. Wrong if the server closed the connection in the middle of it."""
         lines = [self.lines.readline()]
         lines += [self.lines.readline() for _ in range(length_of(lines[0]) - 1)]
         if not lines[-1].endswith("\n"):
@@ -237,7 +237,7 @@ class Client:
         return [it[:-1] for it in lines]
 
     def answer(self, statement: str) -> list[str]:
-        """Sends a statement: the lines of its reply."""
+        """Sends a statement. Returns the lines of its reply."""
         self.send(f"{statement}\n")
         return self.reply()
 
@@ -254,13 +254,13 @@ class Client:
 
 
 def length_of(head: str) -> int:
-    """How many lines a reply has that begins so."""
+    """How many lines a reply has, from its first line."""
     words = head.split()
     return 1 + int(words[-1]) if words[:1] in (["rows"], ["layout"]) else 1
 
 
 def bytes_of(process: int, name: str) -> int:
-    """The bytes that a process's status has under a name; 0 once it has ended."""
+    """The number of bytes that a process's status has under this name; 0 once it has ended."""
     try:
         text = pathlib.Path(f"/proc/{process}/status").read_text(encoding="ascii")
     except (FileNotFoundError, ProcessLookupError):
@@ -270,8 +270,8 @@ def bytes_of(process: int, name: str) -> int:
 
 
 def served_bytes(program: str, limit: int, *commands: int) -> list[int]:
-    """How many bytes a server of this limit has in memory once so many commands were answered, and so many more: counts
-    of four clients, 5,000 at a time."""
+    """How many bytes of memory a server with this limit uses after this many commands, and after this many more: counts
+    by four clients, 5,000 at a time."""
     words = ["--until-eof", "--quiet", "--policy", "auto", "--auto-checkpoint", "--limit", str(limit)]
     rows, at_once, bytes_then = 1000, 5000, []
     replies = b"count 800\n" * at_once
@@ -297,7 +297,7 @@ def served_bytes(program: str, limit: int, *commands: int) -> list[int]:
 
 @functools.cache
 def refusing_library() -> str | None:
-    """The library that refuses memory, compiled from refusing.c; None where that can't be done."""
+    """The library that refuses memory, compiled from refusing.c; None if that can't be done."""
     room = tempfile.mkdtemp(prefix="crackd-refusing-")
     atexit.register(shutil.rmtree, room, ignore_errors=True)
     made, source = pathlib.Path(room) / "refusing.so", TOP / "acceptance" / "refusing.c"
@@ -309,8 +309,8 @@ def refusing_library() -> str | None:
 
 @contextlib.contextmanager
 def refusing(**which: int) -> typing.Iterator[tuple[dict[str, str], typing.Callable[[], tuple[int, int]]]]:
-    """The environment of a child that is refused these calls for memory, and what then reads how many calls there were,
-    and how many were refused."""
+    """The environment of a child that is refused these calls for memory, and a function that then reads how many calls
+    were made, and how many were refused."""
     words = {f"REFUSE_{name.upper()}": str(it) for name, it in which.items()}
     with tempfile.NamedTemporaryFile(prefix="crackd-refused-") as file:
         file.truncate(16)
@@ -319,7 +319,7 @@ def refusing(**which: int) -> typing.Iterator[tuple[dict[str, str], typing.Calla
 
 
 class Terminal:
-    """A pseudo-terminal, and a program that it controls, in a folder. What is typed is shown where it `echoes`."""
+    """A pseudo-terminal, and a program that it controls, in a folder. It shows what is typed if it `echoes`."""
 
     def __init__(self, command: list[str], folder: str, environment={}, stderr=None, ignored=(), echoes=True) -> None:
         self.shown = ""
@@ -330,7 +330,7 @@ class Terminal:
             termios.tcsetattr(other, termios.TCSANOW, attributes)
 
         def control() -> None:
-            # (so that a control-C reaches the program, and it is told when the terminal hangs up)
+            # (so that a control-C reaches the program, and a hang-up of the terminal as well)
             fcntl.ioctl(0, termios.TIOCSCTTY, 0)
             for number in (signal.SIGHUP, signal.SIGINT):
                 signal.signal(number, signal.SIG_IGN if number in ignored else signal.SIG_DFL)
@@ -361,14 +361,14 @@ class Terminal:
         """Whether more was shown within this time."""
         given = b""
         if select.select([self.end], [], [], seconds)[0]:
-            # (a terminal says by an error that its program has ended)
+            # (reading from a terminal whose program has ended is an error)
             with contextlib.suppress(OSError):
                 given = os.read(self.end, 65536)
         self.shown += given.decode().replace("\r\n", "\n")
         return bool(given)
 
     def wait_for(self, pattern: str) -> re.Match[str]:
-        """Waits until a pattern is shown, and forgets what was shown up to its end. The match."""
+        """Waits until a pattern is shown, and drops what was shown up to its end. Returns the match."""
         until = time.monotonic() + SECONDS
         while not (found := re.search(pattern, self.shown)):
             if not self.read(max(0, until - time.monotonic())):

@@ -1,8 +1,8 @@
 """Runs the tests of the Python package, over a server of the program and in the process: package.py PROGRAM
 
-They run by an interpreter that has numpy and Dask, or else numpy, where there is one: this one, or that of the system.
-Prints what unittest does, and last 'package: N passed, M failed'; tests that are skipped, and why, are printed, and
-counted nowhere.
+They run with an interpreter that has numpy and Dask, or else numpy, if there is one: this one, or that of the system.
+Prints what unittest prints, and last 'package: N passed, M failed'. Skipped tests are printed with the reason, and not
+counted.
 """
 
 import functools
@@ -33,7 +33,7 @@ def interpreter() -> str:
 
 
 def run(program: str | pathlib.Path) -> tuple[int, int]:
-    """Runs all tests. How many passed, and how many failed. A run that fails and says nothing is one failure."""
+    """Runs all tests. Returns how many passed, and how many failed. A run that fails without a count is one failure."""
     how = {"env": {**os.environ, "CRACKD": str(pathlib.Path(program).resolve())}, "stdout": subprocess.PIPE}
     try:
         command = [interpreter(), str(PACKAGE / "tests")]

@@ -1,29 +1,29 @@
-"""The plain model of a session, and of CSV: bytes are read by the grammar of docs/SPECIFICATION.md, and statements are
-answered by lists of rows. Written from the rules alone.
+"""The plain model of a session, and of CSV: it reads bytes by the grammar of docs/SPECIFICATION.md and answers
+statements from lists of rows. It is written from the rules alone.
 
-A statement that was read is the text of a refusal, or a kind with its numbers. All four policies answer alike. Cells
-are what the rows take, one each, and rows that went or were changed where they stood in a column, until a range that
-has their key buries them. A row that came or was changed since the last range waits beside the column; one whose key
-was in that range stands there. So an insert is refused with 9 where rows, and those that went from the column since
-the last range, are as many as there may be cells; it isn't where rows and all that may wait for their burial are fewer;
-after a layout of its partition it is so exactly where that reported as many cells as there may be, and none free. An
-update is refused so where an insert is, if its row stands in the column, and isn't if that waits beside it. Where
-checkpoints are made when they are due, rows that wait for their burial are buried where a cell lacks, so an insert is
-refused with 9 exactly where rows are as many as there may be cells.
+A statement that was read is the text of a refusal, or a kind with its numbers. All four policies answer alike. Each row
+takes a cell; so does a row that was deleted or updated in the column, until a range that has its key frees it. A row
+that was inserted or updated since the last range waits beside the column; one whose key was in that range is in it. So
+an insert is refused with 9 if rows, and those that left the column since the last range, are as many as there may be
+cells; it isn't if rows and all that may wait to be freed are fewer; after a layout of its partition it is refused
+exactly if the layout had as many cells as there may be, and none free. An update is refused under the same conditions
+if its row is in the column, and isn't if its row waits beside it. With automatic checkpoints, rows that wait to be
+freed are freed when a cell is missing, so an insert is refused with 9 exactly if there are as many rows as there may be
+cells.
 """
 
 import bisect
 import re
 import typing
 
-# the ends of keys and payloads; a range may end at the first number above all keys
+# the least and greatest keys and payloads; a range may end at the first number above all keys
 MOST, LEAST_PAYLOAD, MOST_PAYLOAD = 2**64, -(2**63), 2**63 - 1
 LINE_BYTES, DIGITS = 200, 20
 MOST_ENTRIES, MOST_CELLS, MOST_LIFE = 1000000, 1048576, 1099511627776
 POLICIES = ["complete", "gradual", "ripple", "auto"]
 RANGES = ("count", "sum", "select")
 BLANK, NO_CELL = "blank", "refused 9"
-# the least and the greatest number that may stand in a field, and the fields of each statement
+# the least and the greatest number of each field, and the fields of each statement
 KEY, PAYLOAD, PART, SERIAL = (0, MOST - 1), (LEAST_PAYLOAD, MOST_PAYLOAD), (0, 2**32 - 1), (0, 2**64 - 1)
 END = (0, 10**DIGITS)
 FIELDS = {
@@ -36,16 +36,16 @@ FIELDS = {
 }
 Said = str | tuple[str, list]
 HEADER, MARK = b"key,payload\n", b"\xef\xbb\xbf"
-# what is quoted of a field of CSV, the rest of it, and what ends it
+# the quoted part of a field of CSV, its rest, and what ends it
 FIELD = re.compile(rb'(?:"([^"]*(?:""[^"]*)*)(?:"|\Z))?([^,\r\n]*)([,\r\n]|\Z)')
 
 
 class Refused(Exception):
-    """What a refused statement is answered."""
+    """The answer to a refused statement."""
 
 
 class Limits(typing.NamedTuple):
-    """What bounds each partition, and whether it makes the checkpoints that are due."""
+    """The limits of each partition, and whether it makes checkpoints that are due by itself."""
 
     history: int = MOST_ENTRIES
     cells: int = MOST_CELLS
@@ -53,13 +53,13 @@ class Limits(typing.NamedTuple):
     is_automatic: bool = False
 
     def words(self) -> list[str]:
-        """The options of a command line."""
+        """The options of the command line."""
         upkeep = ["--auto-checkpoint"] if self.is_automatic else []
         return ["--limit", str(self.history), "--cells", str(self.cells), "--life", str(self.life), *upkeep]
 
 
 def bounds_of(words: typing.Sequence[str]) -> tuple[list[int], Limits]:
-    """The splits and the limits of a command line."""
+    """The splits and the limits in the words of a command line."""
     names, bounds, splits = {"--limit": "history", "--cells": "cells", "--life": "life"}, {}, []
     words = " ".join(words).replace("=", " ").split(" ")
     for before, word in zip(words, words[1:]):
@@ -71,26 +71,26 @@ def bounds_of(words: typing.Sequence[str]) -> tuple[list[int], Limits]:
 
 
 def lines(given: bytes) -> list[bytes]:
-    """The lines of a session's input, without what ends them."""
+    """The lines of a session's input, without their line ends."""
     return [it.removesuffix(b"\r") for it in given.removesuffix(b"\n").split(b"\n")] if given else []
 
 
 def value(word: bytes, least: int, most: int) -> int | None:
-    """The number in a field: digits, with a `-` before them where there are numbers below 0; None where it is none."""
-    # (int() would take spaces, signs and underscores as well)
+    """The number in a field: digits, with a `-` before them if numbers below 0 are allowed; None if it isn't one."""
+    # (int() also accepts spaces, signs and underscores)
     digits = word.removeprefix(b"-") if least < 0 else word
     is_number = digits.isdigit() and len(digits) <= DIGITS
     return int(word) if is_number and least <= int(word) <= most else None
 
 
 def values(words: list[bytes], fields: list[tuple[int, int]]) -> list[int] | None:
-    """The numbers in fields; None where one is none, or there are more words or fewer."""
+    """The numbers in fields; None if one isn't a number, or the number of words differs."""
     found = [value(word, *it) for word, it in zip(words, fields)]
     return None if len(words) != len(fields) or None in found else found
 
 
 def read_line(line: bytes) -> Said:
-    """What a line says: `BLANK`, the text of a refusal, or a kind and its numbers."""
+    """What a line is: `BLANK`, the text of a refusal, or a kind and its numbers."""
     words = [it for it in line.split(b" ") if it]
     if not words and len(line) <= LINE_BYTES:
         return BLANK
@@ -98,7 +98,7 @@ def read_line(line: bytes) -> Said:
     if kind == "policy" and len(names) == 1 and names[0] in POLICIES:
         return kind, names
     if kind in ("delete", "update"):
-        # (one without a row number has one field too few, or one that is empty)
+        # (without a row number there is one field too few, or an empty one)
         row = words[1].split(b".") if len(words) > 1 else []
         words[1:2] = row if len(row) == 2 else [b"", b""]
     found = values(words[1:], FIELDS[kind]) if kind in FIELDS else None
@@ -110,7 +110,7 @@ def read_line(line: bytes) -> Said:
 
 
 def statements(given: bytes) -> list[Said]:
-    """What the lines of a session's input say, up to a `quit`, without those that are blank."""
+    """What the lines of a session's input are, up to a `quit`, without blank ones."""
     found = []
     for line in lines(given):
         said = read_line(line)
@@ -122,7 +122,7 @@ def statements(given: bytes) -> list[Said]:
 
 
 def told(kind: str, rows: list) -> list[str]:
-    """What a count, a sum or a select reports of these rows, each a number, a key and a payload."""
+    """The reply of a count, a sum or a select of these rows, each a number, a key and a payload."""
     if kind == "count":
         return [f"count {len(rows)}"]
     if kind == "sum":
@@ -131,19 +131,19 @@ def told(kind: str, rows: list) -> list[str]:
 
 
 class Part:
-    """The rows of a partition by their serial, what bounds them, and what is known of their cells."""
+    """The rows of a partition by their serial, its limits, and what is known of its cells."""
 
     def __init__(self, number: int, low: int, high: int, limits: Limits = Limits()) -> None:
         self.number, self.low, self.high, self.limits = number, low, high, limits
         # the rows, and their keys with their serials in order
         self.rows: dict[int, tuple[int, int]] = {}
         self.keys: list[tuple[int, int]] = []
-        # entries of the history, those that were folded, and those that may have been kept and were never reported
+        # entries in the history, checkpointed ones, and those that may have been kept but were never reported
         self.next = self.kept = self.folded = self.untold = 0
-        # whether there is a cell for one row more, as a layout reported; None where none did since the last command
+        # whether there is a cell for one more row, as a layout reported; None if there was none since the last command
         self.has_cell: bool | None = None
-        # the serials of rows that stand in no column, and of those that stand there; how many went from there since
-        # the last range; and the keys of all that may wait for their burial
+        # the serials of rows beside the column, and of rows in it; how many left it since the last range; and the keys
+        # of all that may wait to be freed
         self.fresh: set[int] = set()
         self.settled: set[int] = set()
         self.waiting, self.doomed = 0, []
@@ -152,32 +152,32 @@ class Part:
         return self.low <= key < self.high
 
     def is_shut(self) -> bool:
-        """Whether its history is full, and no checkpoint is made that is due."""
+        """Whether its history is full, and no checkpoint is made by itself."""
         return self.kept == self.limits.history and not self.limits.is_automatic
 
     def is_over(self) -> bool:
         return self.folded + self.kept == self.limits.life
 
     def has_no_cell(self) -> bool:
-        """Whether it is known that there is no cell for one row more, and that upkeep frees none."""
+        """Whether there is certainly no cell for one more row, and upkeep frees none."""
         if self.limits.is_automatic:
             return len(self.rows) >= self.limits.cells
         return self.has_cell is False or len(self.rows) + self.waiting >= self.limits.cells
 
     def has_a_cell(self) -> bool:
-        """Whether it is known that there is a cell for one row more, or that upkeep frees one."""
+        """Whether there certainly is a cell for one more row, or upkeep frees one."""
         if self.limits.is_automatic:
             return not self.has_no_cell()
         return self.has_cell or len(self.rows) + len(self.doomed) < self.limits.cells
 
     def clear(self) -> None:
-        """Where a cell may lack, upkeep may bury all that wait for it, and put all rows into the column."""
+        """If a cell may be missing, upkeep may free all that wait, and move all rows into the column."""
         if self.limits.is_automatic and len(self.rows) + len(self.doomed) >= self.limits.cells:
             self.fresh.clear()
             self.waiting = 0
 
     def test(self, key: int | None = None) -> None:
-        """Refuses a command that brings this key, or none, where no more is accepted."""
+        """Refuses a command with this key, or with none, if no more is accepted."""
         if key is not None and not self.has(key):
             raise Refused("refused 4")
         if self.is_shut():
@@ -186,7 +186,7 @@ class Part:
             raise Refused("refused 10")
 
     def keep(self) -> None:
-        """Counts a command that is answered, after the checkpoint that is due."""
+        """Counts an answered command, after a checkpoint if that is due."""
         self.test()
         if self.kept == self.limits.history:
             self.checkpoint()
@@ -199,7 +199,7 @@ class Part:
         return [f"folded {count}"]
 
     def lack_cell(self, serial: int | None, key: int) -> None:
-        """An insert, or an update of a serial, that is refused with 9, if it may be."""
+        """Takes a refusal with 9 of an insert, or of an update of a serial, if it may occur."""
         self.test(key)
         if self.has_a_cell():
             raise Refused(f"no {NO_CELL}: there is a cell")
@@ -208,13 +208,13 @@ class Part:
         raise Refused(NO_CELL)
 
     def put(self, serial: int, key: int, payload: int) -> None:
-        """A row comes, and waits beside the column."""
+        """Adds a row, which waits beside the column."""
         self.rows[serial] = key, payload
         bisect.insort(self.keys, (key, serial))
         self.fresh.add(serial)
 
     def take(self, serial: int) -> tuple[int, int]:
-        """A row leaves its cell. Where it may stand in the column, the cell may wait for its burial."""
+        """Removes a row. If it may be in the column, its cell may wait to be freed."""
         row = self.rows.pop(serial)
         del self.keys[bisect.bisect_left(self.keys, (row[0], serial))]
         if serial not in self.fresh:
@@ -225,7 +225,7 @@ class Part:
         return row
 
     def forget(self) -> None:
-        """A range may move rows to the column and out of it, and bury those that went."""
+        """A range may move rows into the column and out of it, and free deleted ones."""
         self.fresh.clear()
         self.settled.clear()
         self.waiting, self.has_cell = 0, None
@@ -269,14 +269,14 @@ class Part:
         return [(f"{self.number}.{serial}", *self.rows[serial]) for serial in serials]
 
     def answer(self, kind: str, numbers: list[int]) -> list[str]:
-        """The lines of the answer to a statement that asks this partition, as far as a range is its own."""
+        """The lines of this partition's answer to a statement, as far as the range is its own."""
         if kind in RANGES:
             return told(kind, self.between(*numbers))
         return getattr(self, kind)(*(numbers if kind == "insert" else numbers[1:]))
 
 
 class Session:
-    """The partitions of a session's table, and what its statements are answered."""
+    """The partitions of a session's table, and the answers to its statements."""
 
     def __init__(self, splits: typing.Iterable[int] = (), limits: Limits = Limits()) -> None:
         self.splits = list(splits)
@@ -284,11 +284,11 @@ class Session:
         self.parts = [Part(number, *both, limits) for number, both in enumerate(zip(ends, ends[1:]))]
 
     def part_of(self, key: int) -> Part:
-        """The partition of a key; of the bound above all keys the last one."""
+        """The partition of a key; for the bound above all keys the last one."""
         return self.parts[bisect.bisect_right(self.splits, key)]
 
     def parts_of(self, said: Said) -> list[Part]:
-        """The partitions that what was said asks: of an empty range that of its low end."""
+        """The partitions that a statement asks: for an empty range that of its low end."""
         if isinstance(said, str) or said[0] in ("policy", "quit"):
             return []
         kind, numbers = said
@@ -297,7 +297,7 @@ class Session:
         return [self.part_of(numbers[0])] if kind in ("insert", *RANGES) else self.parts[numbers[0] : numbers[0] + 1]
 
     def answer(self, said: Said) -> list[str] | Part:
-        """The lines that what was said is answered, or the partition whose layout is to be reported."""
+        """The lines of the answer to a statement, or the partition whose layout it asks for."""
         if isinstance(said, str) or said[0] in ("policy", "quit"):
             return [said] if isinstance(said, str) else [f"policy {said[1][0]}" if said[1] else "bye"]
         (kind, numbers), parts = said, self.parts_of(said)
@@ -319,7 +319,7 @@ class Session:
             return [str(refused)]
 
     def is_refused_without_memory(self, said: Said) -> bool:
-        """Whether a cause that goes before want of memory refuses what was said, in the one partition that it asks."""
+        """Whether the one partition that a statement asks refuses it for a cause tested before memory."""
         parts = self.parts_of(said)
         if len(parts) != 1 or said[0] in ("layout", "checkpoint"):
             return False
@@ -329,8 +329,8 @@ class Session:
         return is_outside or part.is_shut() or part.is_over() or (needs_cell and part.has_no_cell())
 
     def leave_without_memory(self, said: Said) -> None:
-        """What was said is refused for want of memory. Partitions of a range may have merged their rows, and those
-        before the last one have kept it; one whose cells were to be freed may have merged them, too."""
+        """A statement is refused for lack of memory. The partitions of a range may have merged their rows, and those
+        before the last one have kept it; one whose cells were to be freed may also have merged them."""
         parts = self.parts_of(said)
         for part in parts if said[0] in RANGES else []:
             part.forget()
@@ -341,7 +341,7 @@ class Session:
 
 
 def text_of(lines: typing.Iterable[str]) -> bytes:
-    """The bytes of lines."""
+    """These lines as bytes."""
     return "".join(f"{it}\n" for it in lines).encode("ascii")
 
 
@@ -352,10 +352,10 @@ def replies(given: bytes, splits: typing.Iterable[int] = ()) -> bytes:
 
 
 def records(given: bytes) -> list[list[bytes]]:
-    """The records of CSV, each as the list of its fields, as RFC 4180 has them.
+    """The records of CSV, each a list of its fields, by RFC 4180.
 
-    A field that begins with a quote goes on to the next quote that isn't doubled, and what stands after that quote
-    belongs to it; a line feed or a carriage return ends a record; a line without anything is none.
+    A field that begins with a quote ends at the next quote that isn't doubled, and what follows that quote belongs to
+    it; a line feed or a carriage return ends a record; an empty line is no record.
     """
     found, fields = [], []
     for it in FIELD.finditer(given.removeprefix(MARK)):
@@ -369,9 +369,9 @@ def records(given: bytes) -> list[list[bytes]]:
 
 
 def exported(given: bytes, splits: typing.Iterable[int] = (), limits: Limits = Limits()) -> tuple[int, bytes, bytes]:
-    """What comes of CSV that is loaded and exported: the status, the export, and the complaint.
+    """The result of loading CSV and exporting it: status, export and standard error.
 
-    Refused are the first record that is no row, by its number, and a row of a partition that is at a limit.
+    It refuses the first record that isn't a row, by its number, and a row of a partition that is at a limit.
     """
     wrote, session = b"", Session(splits, limits)
     try:

@@ -1,8 +1,8 @@
 """Runs the program on the acceptance cases: run.py PROGRAM [WORD ..]
 
-With words only the cases whose name, or whose file's name, has one of them; cases/README.txt says how one is written.
-Prints for each case that fails its file, the first line of it that differs, what was wanted there and what came, and
-last 'acceptance: N passed, M failed'.
+With words, only the cases whose name or file name contains one of them; cases/README.txt describes the format. For each
+case that fails it prints the file, the first line that differs, what was wanted there and what came, and last
+'acceptance: N passed, M failed'.
 """
 
 import contextlib
@@ -33,11 +33,11 @@ SHELL_ENVIRONMENT = {"PYTHONPATH": str(fixtures.TOP / "python"), "CRACKD_HISTORY
 
 
 class Misfit(Exception):
-    """What a file of cases says that it can't."""
+    """Something in a file of cases that isn't allowed there."""
 
 
 class Wanted(typing.NamedTuple):
-    """A line that must come: its bytes, the line of the file that says so, and the worker of a batch whose it is."""
+    """A line that is wanted: its bytes, the line of the file that says so, and its worker in a batch."""
 
     text: bytes
     line: int
@@ -62,7 +62,7 @@ class Case:
     target: str = ""
 
     def output(self) -> list[Wanted]:
-        """The lines of output, those of a batch worker by worker."""
+        """The lines of output; in a batch, worker by worker."""
         is_batch = self.wanted and "batch" in self.words[:2]
         workers = int(dict(zip(self.words, self.words[1:])).get("--workers", 0)) if is_batch else 0
         heads = [Wanted(b"worker %d\n" % it, self.line, it) for it in range(workers)]
@@ -71,18 +71,18 @@ class Case:
         return said + [it for it in self.wanted if it.worker is None]
 
     def place(self, line: int) -> str:
-        """A line of its file, as it is printed."""
+        """The file and a line of it, as text."""
         return f"{self.path.relative_to(fixtures.TOP)}:{line}"
 
 
 def unescaped(text: str) -> bytes:
-    """The bytes of a line, with its line feed, if it has one."""
+    """The bytes of a line, with its line feed if it has one."""
 
     def byte(found: re.Match[bytes]) -> bytes:
         if len(found[1]) == 3:
             return bytes.fromhex(found[1][1:].decode())
         if found[1] not in PLAIN:
-            raise Misfit(f"no escape: {found[0].decode(errors='replace')!r}")
+            raise Misfit(f"not an escape: {found[0].decode(errors='replace')!r}")
         return PLAIN[found[1]]
 
     times = lambda it: b"".join(it[2].replace(b"#", b"%d" % number) for number in range(int(it[1])))
@@ -95,10 +95,10 @@ def inputs(section: str) -> list[bytes]:
 
 
 def take_statement(to: Case, text: str, number: int) -> None:
-    """Takes a statement with a line of its reply, or a further line of one."""
+    """Takes a statement with a line of its reply, or a further line of a reply."""
     found = REPLY.fullmatch(text)
     if not found:
-        raise Misfit("no statement with its reply")
+        raise Misfit("not a statement with its reply")
     statement = unescaped(found[1].strip()) if found[1].strip() else b""
     to.given += statement
     worker = to.wanted[-1].worker if to.wanted else None
@@ -111,7 +111,7 @@ def take_statement(to: Case, text: str, number: int) -> None:
 
 
 def take(to: Case, mark: str, rest: str, number: int) -> None:
-    """Takes a line of a case that begins with a mark."""
+    """Takes a line of a case, which begins with a mark."""
     device = DEVICE.fullmatch(rest)
     match mark:
         case "$":
@@ -134,7 +134,7 @@ def take(to: Case, mark: str, rest: str, number: int) -> None:
 
 
 def held(it: Case) -> Case:
-    """A case that is read whole. A misfit where what it says doesn't go together."""
+    """A case that was read whole. A misfit if its lines don't go together."""
     place = f"{it.path.name}:{it.line}"
     if it.words is None:
         raise Misfit(f"{place}: no line with the words of the command line")
@@ -164,7 +164,7 @@ def cases_of(path: pathlib.Path) -> typing.Iterator[Case]:
 
 
 def all_cases(*words: str) -> list[Case]:
-    """The cases of all files in their order; with words those whose name, or whose file's name, has one of them."""
+    """The cases of all files, in order; with words, those whose name or file name contains one of them."""
     found = [it for path in sorted(CASES.glob("*.cases")) for it in cases_of(path)]
     names = [it.name for it in found]
     twice = sorted({it for it in names if names.count(it) > 1})
@@ -174,7 +174,7 @@ def all_cases(*words: str) -> list[Case]:
 
 
 def said(client: fixtures.Client, statement: str) -> str:
-    """What a client is answered to a statement, or to something else that it does."""
+    """The reply to a client's statement, or what follows something else that it does."""
     word, _, text = statement.partition(" ")
     if not word.startswith("."):
         return "".join(f"{it}\n" for it in client.answer(statement))
@@ -197,7 +197,7 @@ def said(client: fixtures.Client, statement: str) -> str:
 
 
 def served(program: str, of: Case) -> fixtures.Ended:
-    """What came of a server, whose clients are answered one statement after the other."""
+    """The outcome of a server whose clients are answered one statement after the other."""
     lines = [it.partition(" ")[::2] for it in of.given.decode().splitlines()]
     ends = ["--sessions", str(len({number for number, _ in lines})), "--quiet"]
     if "--until-eof" in of.words:
@@ -219,7 +219,7 @@ def served(program: str, of: Case) -> fixtures.Ended:
 
 
 def ran(program: str, of: Case) -> fixtures.Ended:
-    """What came: the status, standard output (None where it went elsewhere) and standard error."""
+    """The outcome: the status, standard output (None if it went elsewhere) and standard error."""
     if of.words[:2] == ["serve", "--workers"] and of.given:
         return served(program, of)
     command, how = [program, *of.words], {}
@@ -249,14 +249,14 @@ def first_difference(of: Case, what: str, wanted: list[Wanted], wrote: bytes) ->
 
 
 def output_faults(of: Case, wrote: bytes) -> list[str]:
-    """What is wrong with the output of a case, a line each."""
+    """What is wrong with the output of a case, one line each."""
     if not of.texts:
         return first_difference(of, "output", of.output(), wrote)
     return [f"{of.place(it.line)}: the output lacks {it.text!r}" for it in of.texts if it.text not in wrote]
 
 
 def faults(program: str, of: Case) -> list[str]:
-    """What is wrong with a case, a line each."""
+    """What is wrong with a case, one line each."""
     try:
         status, wrote, complained = ran(program, of)
     except fixtures.FAULTS as error:
@@ -270,7 +270,7 @@ def faults(program: str, of: Case) -> list[str]:
 
 
 def run_all(program: str | pathlib.Path, *words: str) -> tuple[int, int]:
-    """Runs the cases whose name, or whose file's name, has one of the words. How many passed, and how many failed."""
+    """Runs the cases whose name or file name contains a word. Returns how many passed, and how many failed."""
     program = str(pathlib.Path(program).resolve())
     passed = failed = 0
     for it in all_cases(*words):

@@ -1,11 +1,11 @@
-"""Runs cases of hostile use with new seeds, side by side, until the time is over: soak.py SECONDS [--top FOLDER]
-[--seed N] [--only KIND ..] [--failures FOLDER]; or one case again: soak.py --again KIND SEED
+"""Runs cases of hostile use with new seeds, in parallel, until the time is over: soak.py SECONDS [--top FOLDER] [--seed
+N] [--only KIND ..] [--failures FOLDER]; or one case again: soak.py --again KIND SEED
 
-Kinds that want the machine to themselves run one at a time, and beside them as many others as there are further
-processors, of which histories have the most of the time. Each case has a seed of its own; a soak's first one is drawn
-anew, and printed. What is wrong with a case that fails is written to FOLDER, or to soak-failures/, with the command
-that repeats it, as far as the schedule of threads allows. --top names another checkout whose programs are tried. Cases
-that were begun are ended once the time is over. Prints counts by kind, and last 'N passed, M failed'.
+Kinds that need the machine to themselves run one at a time, and beside them as many others as there are further
+processors; histories get most of the time. Each case has its own seed; the first seed is random, and printed. What is
+wrong with a case that fails is written to FOLDER, or to soak-failures/, with the command that repeats it, as far as the
+schedule of threads allows. --top names another checkout whose programs are tested. Cases that have begun are finished
+once the time is over. It prints counts by kind, and last 'N passed, M failed'.
 """
 
 import argparse
@@ -31,19 +31,19 @@ from test_clients import WHOLE, Hour, Storm
 
 FAILURES = TOP / "soak-failures"
 SEEDS = 2**32
-# a kind that has failed so often isn't run any more
+# a kind that has failed this often isn't run again
 MOST_FAILURES = 10
 
 
 @dataclasses.dataclass
 class Kind:
-    """A kind of cases: what checks the program with a seed, its shares of time, and what was seen."""
+    """A kind of cases: what checks the program with a seed, its share of the time, and its results."""
 
     name: str
     check: typing.Callable[[str, int], object] | None
     needs: str = "crackd"
     shares: int = 1
-    # whether only one case of all such kinds runs at a time, and whether it runs once
+    # whether only one case of all such kinds runs at a time, and whether it runs only once
     alone: bool = False
     once: bool = False
     passed: int = 0
@@ -58,7 +58,7 @@ class Kind:
         return f"soak: {self.name} {self.passed} passed, {self.failed} failed, {self.seconds:.0f} seconds"
 
     def take_result(self, seed: int, wrong: str | None, seconds: float, failures: pathlib.Path) -> None:
-        """Counts a case that has ended, and writes what is wrong with it, and how it is repeated."""
+        """Counts a case that has ended, and writes down what is wrong with it, and how to repeat it."""
         self.seconds += seconds
         self.passed += wrong is None
         self.failed += wrong is not None
@@ -91,7 +91,7 @@ def kinds() -> dict[str, Kind]:
 
 
 def chosen(top: pathlib.Path, only: list[str] | None) -> list[Kind]:
-    """The kinds that are wanted and can be run. It prints which can't."""
+    """The requested kinds that can be run. Prints which can't."""
     can = []
     for kind in (it for it in kinds().values() if not only or it.name in only):
         lacks = "" if os.path.exists(fixtures.built(kind.needs, top)) else f"{kind.needs} isn't built"
@@ -103,23 +103,23 @@ def chosen(top: pathlib.Path, only: list[str] | None) -> list[Kind]:
 
 
 def run_case(name: str, top: pathlib.Path, seed: int) -> tuple[str | None, float]:
-    """Runs one case. What is wrong, or None, and how many seconds it took."""
+    """Runs one case. Returns what is wrong, or None, and how many seconds it took."""
     began, wrong = time.monotonic(), None
     try:
         kinds()[name].check(fixtures.built("crackd", top), seed)
-    # (whatever ends a case is told, so that the others go on)
+    # (whatever ends a case is reported, so that the others go on)
     except Exception as error:  # noqa: BLE001
         wrong = f"{type(error).__name__}: {error}"
     return wrong, time.monotonic() - began
 
 
 def next_kind(of: list[Kind]) -> Kind | None:
-    """The kind that has had the least of its shares of the time, of those that aren't over."""
+    """The kind that has had the smallest part of its share of the time, of those that aren't over."""
     return min((it for it in of if not it.is_over), key=lambda it: it.seconds / it.shares, default=None)
 
 
 def soak(seconds: float, top: pathlib.Path, of: list[Kind], first: int, failures: pathlib.Path) -> None:
-    """Runs cases until the time is over: on one lane those that are alone, and on the others the rest."""
+    """Runs cases until the time is over: one lane has those that run alone, the other lanes the rest."""
     end, seeds, lanes = time.monotonic() + seconds, random.Random(first), max(2, os.cpu_count())
 
     def run_lane(number: int) -> None:

@@ -2,8 +2,8 @@
 """Runs the gate without the must-fail edits (tools/gate.py), and then, on the program that it built, the acceptance
 cases, all checks of acceptance/ and tools/, and the tests of the Python package.
 
-Before the last line stands the processor time of each crate, for its proof and its tests, as far as that was seen. The
-last line is the sum of all, 'N passed, M failed'; the status is 0 only where nothing failed.
+Before the last line it prints the processor time of each crate, for its proof and its tests, as far as it was observed.
+The last line is the sum of all, 'N passed, M failed'; the status is 0 only if nothing failed.
 """
 
 import os
@@ -23,7 +23,7 @@ PROGRAM, HISTORIES = (CRATES / name / "out" / name for name in ("crackd", "crack
 
 
 def test_all() -> tuple[int, int]:
-    """Runs everything. How many passed, and how many failed."""
+    """Runs everything. Returns how many passed, and how many failed."""
     passed, failed, times = gate.run()
     # (the gate proves the library for C and Python, and doesn't build it)
     library = [sys.executable, str(TOP / "tools" / "library.py")]

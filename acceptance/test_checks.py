@@ -1,4 +1,4 @@
-"""Checks of the checks: right answers pass, and one that is dropped, doubled, changed or has no cause is found."""
+"""Tests of the checks: right answers pass, and dropped, doubled, changed and unfounded ones are found."""
 
 import contextlib
 import io
@@ -30,7 +30,7 @@ FOUND, FAULTS = (Wrong, ValueError, IndexError), ["drop", "double", "change", "s
 
 
 class Kind(typing.NamedTuple):
-    """A kind of doctored.txt: its name, what bounds the partitions, and its lines, each with its mark."""
+    """A kind of doctored.txt: its name, the limits of the partitions, and its lines, each with its mark."""
 
     name: str
     bounds: dict[str, int]
@@ -42,7 +42,7 @@ class Kind(typing.NamedTuple):
 
 
 def kinds(section: str) -> list[Kind]:
-    """The kinds of a section, in which words in capitals have been replaced by what they stand for."""
+    """The kinds of a section, with words in capitals replaced by what they stand for."""
     found, words = [], {}
     for line in fixtures.sections("doctored.txt")[section].splitlines():
         mark, _, rest = line.partition(" ")
@@ -62,7 +62,7 @@ def parted(lines: str) -> list[str]:
 
 
 def answered(one: Own, asked: str, told: str) -> Own:
-    """A client that was answered these lines to statements."""
+    """A client that was given these lines as answers to statements."""
     left = parted(told)
     for statement in parted(asked):
         count = length_of(left[0])
@@ -73,10 +73,10 @@ def answered(one: Own, asked: str, told: str) -> Own:
 
 
 class Replies(unittest.TestCase):
-    """The kinds of replies of doctored.txt."""
+    """The kinds of replies in doctored.txt."""
 
     def hold(self, mark: str, check: typing.Callable, *given: object) -> typing.Any:
-        """What a check returns for what has the mark +; anything else it must find wrong."""
+        """What a check returns for lines marked +; it must find all others wrong."""
         if mark == "+":
             return check(*given)
         return self.assertRaises(FOUND, check, *given)
@@ -105,7 +105,7 @@ class Replies(unittest.TestCase):
                     self.assertEqual([came[it] for it in names], list(map(int, counts.split())))
 
     def come_to(self, kind: Kind, rows: str) -> Counts:
-        """What the clients of a kind of the section `ends` come to where these rows stand."""
+        """The counts of the clients of a kind in the section `ends` if these rows are left."""
         clients, account = [], Account([150])
         for mark, text in kind.lines:
             if mark in "12":
@@ -191,7 +191,7 @@ class Reference(unittest.TestCase):
 
 
 def altered(lines: list[bytes], *more: typing.Callable) -> typing.Iterator[bytes]:
-    """The text of these lines with each line in turn dropped, doubled, changed, or with more; or another number."""
+    """The text of these lines, with each line in turn dropped, doubled, changed or extended; or another number."""
     for at, line in enumerate(lines):
         puts = [[], [line, line], [line[:-2] + b"x\n"], *(it(line) for it in more)]
         for it in re.finditer(rb"\d+", line):
@@ -200,7 +200,7 @@ def altered(lines: list[bytes], *more: typing.Callable) -> typing.Iterator[bytes
 
 
 class Comparison(fixtures.Case):
-    """What is found wrong where something else stands in what the program wrote."""
+    """What is found wrong if something else is in what the program wrote."""
 
     GIVEN = (
         b"insert 1 -10\ninsert 2 -20\ndelete 0.7\nselect 0 5\nlayout 0\ncheckpoint 0\nnonsense\ndelete 0.0\nsum 0 5\n"
@@ -256,14 +256,14 @@ class Comparison(fixtures.Case):
         check = lambda wrote: test_memory.check_layouts(given, compare(given, wrote, short=1), whole)
         kept = b"row 0.0\ncount 0\n" + pending
         check(kept + b"refused 8\n" + pending)
-        # (a row that was refused isn't there)
+        # (a refused row isn't there)
         check(b"refused 8\ncount 0\n" + none + b"folded 1\n" + none)
         self.assert_found(check, [kept + b"refused 8\n" + merged, kept + b"folded 2\n" + merged])
 
 
 def doctored(text: bytes, fault: str) -> bytes:
     """A text with a fault: its last line but one is dropped, doubled or changed; or its last statement is refused with
-    8, though memory is there; or a byte is missing."""
+    8 though there is memory; or a byte is missing."""
     *front, line, last = [b"", b"", *text.splitlines(keepends=True)]
     put = {
         "drop": [last],
@@ -279,7 +279,7 @@ class StandIns(fixtures.Case):
     """The checks themselves, over what the program writes, and over the same with a fault."""
 
     def with_fault(self, fault: str, check: typing.Callable, *given: object) -> None:
-        """Has a check run over children whose output, or the file that they write to, has a fault."""
+        """Runs a check over children whose output, or the file that they write to, has a fault."""
 
         def faulty(run: typing.Callable) -> typing.Callable:
             def ended(*words: typing.Any, **how: typing.Any) -> fixtures.Ended:
@@ -319,7 +319,7 @@ class StandIns(fixtures.Case):
     def test_memory(self) -> None:
         given = test_memory.with_layouts(test_memory.scripts()["rows are updated"].given)
         check = lambda wrote, refused: compare(statements(given), wrote, short=refused)
-        # (no call that is made has so high a number)
+        # (there are fewer calls than this number)
         which = {"from": test_memory.FOR_EVER, "to": test_memory.FOR_EVER}
         self.assert_finds(test_memory.run_once, ["script"], given, check, which)
 

@@ -1,18 +1,18 @@
-"""A server among clients of all kinds, most of them bad ones; its hour; and its memory.
+"""A server with clients of all kinds, most of them bad ones; its hour; and its memory.
 
-Some connect and close, reset the connection, send half a line, one byte a second, random bytes, 64 MB without a line
-feed or 200,000 statements at once, say nothing, or have large lists written to them and read none. Each has keys of its
-own; what it sends and reads stands in its `own`, and client_rows.py holds that, the rows that stand when all have gone,
-and the totals. Honest ones ask for checkpoints amid their work, but in one case, and where a history is full; of three
-seeds two have small limits. The server has to end by itself once its sessions are served. A seed gives the same clients
-again; in which order a server comes to them it doesn't say. Where honest ones alone share two partitions of small
-limits, these hold for all of them together, and each entry is folded once.
+Some clients connect and close, reset the connection, send half a line, one byte a second, random bytes, 64 MB without a
+line feed or 200,000 statements at once, say nothing, or request large lists and read none. Each has its own keys; what
+it sends and reads is noted in its `own`, and client_rows.py checks that, the rows that are left when all have gone, and
+the totals. Honest clients request checkpoints in the middle of their work, except in one case, and if a history is
+full; two of three seeds have small limits. The server must end by itself once its sessions are served. A seed always
+gives the same clients, but not the order in which a server takes them. If only honest clients share two partitions with
+small limits, the limits hold for all of them together, and each entry is checkpointed once.
 
-An hour is scaled down. First come clients of all kinds but those that leave many rows; nobody has to ask for a
-checkpoint, and 6 is no reply. Then steady ones connect, whose rows come, change and go while few stand at a time; once
-each has been answered the server's input ends. They go on until they have asked as much as they want, and are answered
-all of it. A session that was there from the beginning takes the last look. By standard error each checkpoint that was
-due folded as many entries as a history may have, and each entry was folded once.
+An hour is scaled down. First come clients of all kinds except those that leave many rows; checkpoints are automatic,
+and 6 is no reply. Then steady clients connect, whose rows come, change and go while there are few at a time; once each
+has been answered the server's input ends. They go on until they have asked as much as they want, and get all of their
+answers. A session that was open from the beginning reads the table at the end. By standard error each automatic
+checkpoint removed as many entries as a history may have, and each entry was checkpointed once.
 """
 
 import concurrent.futures
@@ -34,28 +34,27 @@ from random_script import kind_of, statement
 
 PIPELINED = 200_000
 FLOODED, CHUNK = 64 * 2**20, 2**20
-# a client that reads nothing: how many rows it lists, how often, how many bytes its system takes for it, and how long
-# it waits
+# a client that reads nothing: how many rows it lists, how often, its receive buffer in bytes, and how long it waits
 LISTED, LISTINGS, FEW_BYTES, PATIENCE = 2000, 150, 4096, 1
 # how often a client makes room in a history that others fill again
 ROUNDS = 20
-# no line of random bytes may begin so, since it might be a statement
+# no line of random bytes may begin like this, since it might be a statement
 WORDS = re.compile(rb" *(insert|delete|update|count|sum|select|layout|checkpoint|policy|quit)\b")
 LIKELY = b"cdeinorstu0123456789-  \r\n\n\0\xff"
-# of a hundred statements of an honest client: how many of each kind
+# out of a hundred statements of an honest client, how many of each kind
 STATEMENTS = {"insert": 40, "delete": 12, "update": 12, "count": 12, "sum": 8, "select": 8, "layout": 3}
 STATEMENTS |= {"checkpoint": 2, "policy": 2, "no statement": 2, "bad range": 1}
 
 
 class Guest:
-    """A client of a server, with keys of its own."""
+    """A client of a server, with its own keys."""
 
     def __init__(self, port: int, own: Own, seed: int, visits: int, seconds: int, others_gone: threading.Event) -> None:
         self.port, self.own, self.visits, self.seconds, self.others_gone = port, own, visits, seconds, others_gone
         self.numbers, self.payload = random.Random(seed), 0
 
     def row(self) -> tuple[int, int]:
-        """An own key, and a payload. No two rows have one payload, so that each shows whose it is."""
+        """A key of its own, and a payload. No two rows have the same payload, so each row shows its owner."""
         self.payload += 1
         return self.numbers.randrange(self.own.low, self.own.high), LEAST_PAYLOAD + self.own.low + self.payload
 
@@ -69,7 +68,7 @@ class Guest:
         return f"{kind} {self.own.low} {self.own.high}"
 
     def read(self, connection: Client, statements: list[str]) -> list[str]:
-        """Takes the replies to statements that were sent. Those that a full history refused."""
+        """Takes the replies to statements that were sent. Returns those that a full history refused."""
         refused = []
         for it in statements:
             lines = connection.reply()
@@ -78,7 +77,7 @@ class Guest:
         return refused
 
     def ask_once(self, connection: Client, statements: list[str]) -> list[str]:
-        """Sends statements at once, cut anywhere, and takes their replies. Those that a full history refused."""
+        """Sends statements at once, cut anywhere, and takes the replies. Returns those that a full history refused."""
         text = "".join(f"{it}\n" for it in statements)
         cuts = sorted(self.numbers.randrange(len(text) + 1) for _ in range(self.numbers.randrange(4)))
         for low, high in zip([0, *cuts], [*cuts, len(text)]):
@@ -86,7 +85,7 @@ class Guest:
         return self.read(connection, statements)
 
     def ask(self, connection: Client, *statements: str) -> None:
-        """The same. Those that a full history refused are sent again after checkpoints."""
+        """The same, but those that a full history refused are sent again after checkpoints."""
         left = list(statements)
         for _ in range(ROUNDS):
             left = self.ask_once(connection, left)
@@ -121,7 +120,7 @@ class Guest:
 
 
 class Sending(threading.Thread):
-    """Sends statements, and a front of another, for as long as the connection takes them, and counts the bytes."""
+    """Sends statements, and the beginning of another, as long as the connection takes them, and counts the bytes."""
 
     def __init__(self, connection: Client, statements: list[str], last: str = "") -> None:
         super().__init__()
@@ -141,7 +140,7 @@ class Sending(threading.Thread):
 
 
 def any_statement(guest: Guest) -> str:
-    """A statement of any kind, of own rows alone."""
+    """A statement of any kind about the client's own rows."""
     numbers, own, kind = guest.numbers, guest.own, kind_of(guest.numbers, STATEMENTS)
     low, high = sorted(numbers.choice([numbers.randrange(own.low, own.high), own.low, own.high]) for _ in range(2))
     part, serial = numbers.choice(own.given or [(own.session.part_of(own.low).number, 10**15)])
@@ -157,7 +156,7 @@ def any_statement(guest: Guest) -> str:
 
 
 def honest(guest: Guest) -> None:
-    """Asks all kinds of statements of its own rows, in one session or in several, one after the other."""
+    """Sends all kinds of statements about its own rows, in one session or in several, one after the other."""
     for _ in range(guest.visits):
         with Client(guest.port) as it:
             guest.ask(it, guest.all_own("select"))
@@ -182,7 +181,7 @@ def resets(guest: Guest) -> None:
 
 
 def half_a_line(guest: Guest) -> None:
-    """Sends a front of a line after whole ones, and leaves: it waits for the replies, closes, or resets."""
+    """Sends the beginning of a line after whole ones, and leaves: it waits for the replies, closes, or resets."""
     statements, last = guest.inserts(20), guest.insert()
     last = last[: guest.numbers.randrange(1, len(last))]
     with Client(guest.port) as it:
@@ -204,7 +203,7 @@ def slow(guest: Guest) -> None:
 
 
 def silent(guest: Guest) -> None:
-    """Says nothing until all others have gone, and then asks as an honest client does."""
+    """Says nothing until all others have gone, and then works as an honest client does."""
     with Client(guest.port) as it:
         guest.others_gone.wait()
         guest.ask(it, *guest.inserts(20))
@@ -213,7 +212,7 @@ def silent(guest: Guest) -> None:
 
 
 def reads_nothing(guest: Guest) -> None:
-    """Has large lists written to it and reads none, so that its worker can't go on; then leaves, or reads all."""
+    """Requests large lists and reads none, so that its worker can't go on; then leaves, or reads all."""
     with Client(guest.port, FEW_BYTES) as it:
         for _ in range(LISTED // 200):
             guest.ask(it, *(guest.insert() for _ in range(200)))
@@ -225,7 +224,7 @@ def reads_nothing(guest: Guest) -> None:
 
 
 def random_bytes(guest: Guest) -> None:
-    """Sends random bytes of which no line is a statement. It reads the replies, each a refusal, or resets."""
+    """Sends random bytes in which no line is a statement. It reads the replies, each a refusal, or resets."""
     numbers = guest.numbers
     size = numbers.randrange(1, 30_000)
     text = numbers.randbytes(size) if numbers.random() < 0.5 else bytes(numbers.choices(LIKELY, k=size))
@@ -242,7 +241,7 @@ def random_bytes(guest: Guest) -> None:
 
 
 def floods(guest: Guest) -> None:
-    """Sends 64 MB without a line feed, which are one bad line, or leaves amid them."""
+    """Sends 64 MB without a line feed, which are one bad line, or leaves in the middle."""
     numbers = guest.numbers
     chunk = numbers.choice([b"x", b" ", b"insert 1 1 ", b"\0", b"\r"]) * CHUNK
     with Client(guest.port) as it:
@@ -271,7 +270,7 @@ def pipelines(guest: Guest) -> None:
 
 
 class Kind(typing.NamedTuple):
-    """A kind of clients, its share of a hundred sessions, and how many there are at most of one that takes long."""
+    """A kind of clients, its share of a hundred sessions, and the greatest number of those that take long."""
 
     visit: typing.Callable[[Guest], None]
     share: int
@@ -291,16 +290,16 @@ KINDS = [
     Kind(pipelines, 1, 4),
 ]
 TAKE_LONG = {it.visit for it in KINDS if it.most}
-# those that may be gone before a worker has come to them
+# those that may be gone before a worker takes them
 ABRUPT = {closes, resets, half_a_line, random_bytes}
 SEED, SESSIONS, SLOW_SECONDS = 1, 400, 8
 # how many splits there are, and how many connections may wait for a worker
 SPLITS, WAITING, BACKLOG = 7, 32, 16
-# what bounds a partition, by the seed: histories that get full, and lives that end; nothing that is reached; histories,
-# and cells that run out
+# the limits of a partition, by the seed: histories that get full, and lives that end; no limit that is reached;
+# histories, and cells that run out
 LIMITS = [Limits(500, life=4000), Limits(), Limits(500, 1500)]
-# servers among clients of all kinds: where none of these asks for a checkpoint, with checkpoints amid the honest ones'
-# work, where histories get full and cells may run out, or lives may end, and where silent ones hold all workers but one
+# servers with clients of all kinds: without checkpoints; with checkpoints in the middle of the honest ones' work; with
+# histories that get full and cells that may run out, or lives that may end; and with silent ones at all workers but one
 STORMS = {
     "among all kinds": {"folds": False},
     "among checkpoints": {},
@@ -308,7 +307,7 @@ STORMS = {
     "under short lives": {"seed": SEED + 2},
     "where all but one are silent": {"sessions": 225, "workers": 63, "kinds": [Kind(silent, 50, 31)] * 2},
 }
-# honest clients alone, eight at a time, which share two partitions; and what bounds these
+# only honest clients, eight at a time, which share two partitions; and the limits of these
 HONEST = {"sessions": 208, "workers": 8, "kinds": [], "splits": 1}
 SMALL = {
     "many at a small limit": {"limits": Limits(50)},
@@ -316,32 +315,32 @@ SMALL = {
     "a life ends for all": {"limits": Limits(50, life=1000)},
     "cells run out for all": {"limits": Limits(50, 100)},
 }
-# how many bytes a server may take for each, beyond those of its start
+# how many bytes of memory a server may use for each of these, beyond those at its start
 BYTES_OF_A_COMMAND, BYTES_OF_A_LISTED_ROW, BYTES_OF_A_SESSION = 330, 60, 100_000
-# from this size on a block of memory is mapped by itself; else the C library raises that size to that of the greatest
-# block that was given back, as the one of a folded history is, and what grows in smaller blocks leaves holes, which
-# aren't what the server asks for. Without checkpoints nothing is given back.
+# blocks of memory from this size on are mapped separately; else the C library raises that size to that of the greatest
+# block that was freed, such as that of an emptied history, and what grows in smaller blocks leaves holes, which the
+# server doesn't ask for. Without checkpoints nothing is freed.
 MAPPED_FROM = {"MALLOC_MMAP_THRESHOLD_": "131072"}
 Visit = typing.Callable[[Guest], None]
-# what bounds a partition in an hour: cells just enough for the rows that stand
+# the limits of a partition in an hour: cells just enough for its rows
 LIMITS_OF_AN_HOUR = Limits(1000, 2000, is_automatic=True)
-# how many steady clients there are, how many rows each keeps, how many statements it sends at a time, and into how many
-# steps it divides its keys; and how many statements there are in all
+# how many steady clients there are, how many rows each keeps, how many statements it sends at a time, into how many
+# steps it divides its keys, and how many statements there are in all
 STEADY, ROWS, AT_ONCE, STEPS = 48, 20, 50, 8
 SHORT, WHOLE = 60_000, 3_600_000
 BEFORE = [it for it in KINDS[1:] if it.visit not in (pipelines, reads_nothing)]
 OFTEN = {"insert": 34, "delete": 16, "update": 12, "count": 20, "sum": 10, "select": 7, "any": 1}
 CHECKPOINTS = re.compile(r"crackd: (?:checkpoint|(\d+) checkpoints, the last) of partition (\d+): (\d+) entries")
-# after how many entries checkpoints that were due have a line
+# how many entries automatic checkpoints remove before a line reports them
 TOLD = 1000
 CUT_OFF = re.compile(r"crackd: worker \d+: session cut off: refused (?:17|18): .*")
 ENDED = re.compile(r"crackd: ended: sessions (\d+), cut off (\d+)")
-# how many commands there are before and after a look at the memory, a thirtieth of what bench/ measures
+# how many commands there are before and after the memory is read, a thirtieth of what bench/ measures
 LIMIT, FEW, MANY = 2_184, 100_000, 1_000_000
 
 
 class Peak(threading.Thread):
-    """Looks again and again at the most memory that a process has taken, until it ends."""
+    """Reads repeatedly how much memory a process has used at most, until it ends."""
 
     def __init__(self, process: int) -> None:
         super().__init__(daemon=True)
@@ -356,7 +355,7 @@ class Peak(threading.Thread):
 
 
 def wait_for_a_place(port: int) -> None:
-    """Waits until few connections wait: where too many do one that goes may be lost, and the server lacks a session."""
+    """Waits until few connections wait: if too many do, one that leaves may be lost, and the server lacks a session."""
     # (the port in hexadecimal digits, the state of a listener, and how many connections wait for it)
     listener, end = re.compile(rf":{port:04X} \S+ 0A \w+:(\w+)"), time.monotonic() + SECONDS
     while (found := listener.search(pathlib.Path("/proc/net/tcp").read_text())) and int(found[1], 16) > WAITING:
@@ -366,11 +365,11 @@ def wait_for_a_place(port: int) -> None:
 
 
 def planned(numbers: random.Random, sessions: int, workers: int, of: list[Kind]) -> list[tuple[Visit, int]]:
-    """The kinds of a run, those that take long first, each with its number of sessions, honest ones beside these."""
+    """The kinds of a run, those that take long first, each with its number of sessions, and honest ones besides."""
     kinds, left = [], sessions
     for kind in of:
         count = max(1, round(sessions * kind.share / 100))
-        # (fewer than half of the workers are held by each kind)
+        # (each kind holds fewer than half of the workers)
         count = min(count, kind.most or count, (workers - 1) // 2 if kind.most else count)
         kinds += [(kind.visit, 1)] * count
         left -= count
@@ -384,7 +383,7 @@ def planned(numbers: random.Random, sessions: int, workers: int, of: list[Kind])
 
 
 def visit(guest: Guest, kind: Visit) -> None:
-    """Runs a client. Wrong where something is."""
+    """Runs a client. Wrong if something about it is."""
     try:
         if kind in ABRUPT:
             wait_for_a_place(guest.port)
@@ -394,15 +393,15 @@ def visit(guest: Guest, kind: Visit) -> None:
 
 
 def wait_for(visits: typing.Iterable[concurrent.futures.Future]) -> None:
-    """Waits for clients. Wrong where something is wrong with one."""
+    """Waits for clients. Wrong if something is wrong with one."""
     faults = [str(it.exception()) for it in visits if it.exception()]
     expect("faults of clients", [], faults[:5])
 
 
 class Storm:
-    """A server, and clients that a seed gives; of the sessions one for each worker is kept for a last look.
+    """A server, and clients that a seed determines; one session per worker is kept for a last reading.
 
-    The slow clients send `seconds` bytes, one a second; `folds` says whether honest ones ask for checkpoints. `how` may
+    The slow clients send `seconds` bytes, one a second; `folds` says whether honest ones request checkpoints. `how` may
     have other `kinds` besides honest ones, other `limits` than the seed's, the number of `splits`, and how many
     `further` clients have keys.
     """
@@ -419,7 +418,7 @@ class Storm:
         self.width = MOST // owners
         self.lows = [it * self.width for it in numbers.sample(range(owners), owners)]
         places = numbers.sample(range(1, owners), min(how.get("splits", SPLITS), owners - 1))
-        # (some clients have a split amid their keys)
+        # (some clients have a split inside their keys)
         self.splits = sorted(it * self.width + numbers.choice([0, self.width // 2]) for it in places)
         self.seed = numbers.randrange(MOST)
         self.policy = numbers.choice(POLICIES)
@@ -427,11 +426,11 @@ class Storm:
         # (half of the servers keep receipts)
         self.audit = ["--audit"] if seed % 2 else []
         self.clients: list[Own] = []
-        # how many entries were folded by checkpoints that were due
+        # how many entries automatic checkpoints removed
         self.due = 0
 
     def run(self) -> dict[str, object]:
-        """Runs it. What it came to, as numbers by their names."""
+        """Runs it. Returns its results, as numbers by their names."""
         before = time.monotonic()
         words = [*self.ends, *self.audit, "--policy", self.policy, *self.limits.words(), *map(str, self.splits)]
         words += [] if self.limits.is_automatic else ["--quiet"]
@@ -444,9 +443,9 @@ class Storm:
         return self.hold(account, wrote, peak) | {"seconds": round(time.monotonic() - before, 1)}
 
     def visit(self, server: Server, account: Account, peak: Peak) -> None:
-        """Has all clients come, and sees what stands once they have gone, by as many as are served at once."""
+        """Runs all clients, and reads what is left once they have gone, with as many sessions as are served at once."""
         self.visit_all(server.port)
-        # (so no worker is at an earlier session)
+        # (so no worker is still in an earlier session)
         last = [Client(server.port) for _ in range(self.workers)]
         for it in last:
             it.send("nonsense\n")
@@ -459,8 +458,8 @@ class Storm:
                 it.end()
 
     def check_end(self, status: int, complained: str) -> None:
-        """Holds how the server ended. Where checkpoints were made that were due its lines are those that it may write,
-        and they say how many entries these folded."""
+        """Checks how the server ended. With automatic checkpoints its lines must be those that it may write, and they
+        say how many entries these removed."""
         expect("status", 0, status)
         if not self.limits.is_automatic:
             expect("standard error", "", complained)
@@ -476,12 +475,12 @@ class Storm:
         self.due = history * sum(int(it[1] or 1) for it in told if it)
 
     def guest(self, port: int, low: int, seed: int, visits: int, others_gone: threading.Event) -> Guest:
-        """A client with the keys from this one on."""
+        """A client whose keys start here."""
         self.clients.append(Own(self.splits, low, low + self.width, self.limits, self.folds))
         return Guest(port, self.clients[-1], seed, visits, self.seconds, others_gone)
 
     def visit_all(self, port: int) -> None:
-        """Has all clients come, few more at a time than workers; the silent ones speak once the others have gone."""
+        """Runs all clients, few more at a time than workers; the silent ones speak once the others have gone."""
         others_gone, visits = threading.Event(), []
         with concurrent.futures.ThreadPoolExecutor(self.workers + min(self.workers, BACKLOG)) as pool:
             for number, ((kind, times), low) in enumerate(zip(self.plan, self.lows)):
@@ -492,10 +491,10 @@ class Storm:
             wait_for(it for _, it in visits)
 
     def hold(self, account: Account, wrote: str, peak: Peak) -> dict[str, object]:
-        """Holds rows, totals and memory against what the clients were answered."""
+        """Compares rows, totals and memory with the answers to the clients."""
         counts = come_to(account, self.clients) + account.counts
         accepted, listed = check_totals(wrote, counts), counts["listed"]
-        # (each partition's last checkpoint came at the end; those of short histories that were due last have no line)
+        # (each partition's last checkpoint was at the end; the last automatic ones of short histories have no line)
         folded = account.folded + self.due + sum(it.folded.total() for it in self.clients)
         history = self.limits.history if self.limits.is_automatic else TOLD
         if accepted - folded not in range(0, TOLD, history):
@@ -508,7 +507,7 @@ class Storm:
 
 
 def steady_statement(guest: Guest) -> str:
-    """A statement of own rows, of which few stand at a time. Ranges end at few keys, so that pieces stay few."""
+    """A statement about the client's own rows, always few. Ranges end at few keys, so that pieces stay few."""
     numbers, own, kind = guest.numbers, guest.own, kind_of(guest.numbers, OFTEN)
     if kind == "any":
         return any_statement(guest)
@@ -522,7 +521,7 @@ def steady_statement(guest: Guest) -> str:
 
 
 class Hour(Storm):
-    """Such a server, and its clients, which ask about so many statements in all."""
+    """Such a server, and its clients, which send about this many statements in all."""
 
     def __init__(self, program: str, seed: int = SEED, statements: int = SHORT) -> None:
         how = {"kinds": BEFORE, "further": STEADY, "limits": LIMITS_OF_AN_HOUR}
@@ -540,7 +539,7 @@ class Hour(Storm):
             looking.ask("quit", "bye")
 
     def go_on(self, server: Server) -> None:
-        """Has the steady clients come, and ends the server's input once each of them is served."""
+        """Runs the steady clients, and ends the server's input once each of them is served."""
 
         def ask_all(guest: Guest) -> None:
             with connections[guest] as it:
@@ -560,14 +559,14 @@ class Hour(Storm):
 
 
 def check(program: str, seed: int) -> None:
-    """A run of a size that the seed draws."""
+    """A run whose size the seed determines."""
     numbers = random.Random(seed)
     workers = numbers.choice([4, 8, 32, MOST_WORKERS])
     Storm(program, seed, workers + numbers.randrange(250, 500), workers, numbers.randrange(1, 20)).run()
 
 
 def check_small(program: str, seed: int) -> None:
-    """Honest clients under small limits, of which the seed draws some."""
+    """Honest clients under small limits, some of which the seed determines."""
     Storm(program, seed, **HONEST, **list(SMALL.values())[seed % len(SMALL)]).run()
 
 
@@ -583,11 +582,11 @@ class Clients(fixtures.Case):
         self.report("clients", Storm(self.program, **how).run())
 
     def test_an_hour(self) -> None:
-        """A short hour: checkpoints that are due, an end by closed input amid a load, and totals of what was told."""
+        """A short hour: automatic checkpoints, an input that ends during a load, and totals of what was answered."""
         self.report("hour", Hour(self.program).run())
 
     def test_memory_after_a_million_commands(self) -> None:
-        """A server has at most a twentieth more in memory after a million commands than after a tenth of them."""
+        """After a million commands a server uses at most a twentieth more memory than after a tenth of them."""
         early, late = fixtures.served_bytes(self.program, LIMIT, FEW, MANY - FEW)
         self.report("memory of a server", {f"after {FEW} commands": early, f"after {MANY}": late})
         self.assertLessEqual(late, 1.05 * early)

@@ -1,4 +1,4 @@
-"""CSV of all kinds, cut anywhere: what is exported is what plain_session.py exports."""
+"""CSV of all kinds, cut anywhere: the export must be that of plain_session.py."""
 
 import random
 import typing
@@ -10,27 +10,27 @@ from fixtures import expect
 from plain_session import HEADER, MARK, Limits, exported
 
 SMALL = b"key,payload\n150,6\n50,5\n"
-# fields past the limits, of keys and of payloads; and what is no field of either
+# fields past the limits, of keys and of payloads; and what is neither
 PAST = [[b"18446744073709551616", b"-1"], [b"9223372036854775808", b"-9223372036854775809"]]
 NONE = [b"", b" 1", b"+1", b"- 1", b"-", b"x", b"0" * 21, b'1"2', MARK + b"1"]
 
 
 def refused(record: int) -> fixtures.Ended:
-    """What comes of an input whose record of this number is none."""
+    """The result of an input whose record with this number isn't a row."""
     return 1, b"", b"crackd: refused 19 %d\n" % record
 
 
 def check_input(
     program: str, given: bytes, splits=(), limits: Limits = Limits(), piece: int = 65536, wanted: typing.Any = None
 ) -> None:
-    """Holds what comes of these bytes, given in pieces."""
+    """Checks the result of these bytes, given in pieces."""
     words = ["csv", *limits.words(), *map(str, splits)]
     what = f"{given[:80]!r} (of {len(given)} bytes, in pieces of {piece}), {' '.join(words)}"
     expect(what, wanted or exported(given, splits, limits), fixtures.fed([program, *words], given, piece))
 
 
 def random_field(numbers: random.Random, place: int) -> bytes:
-    """A key, or at another place than the first a payload, often at a limit; seldom none; at times quoted."""
+    """A key, or at another place than the first a payload, often at a limit; rarely another text; sometimes quoted."""
     drawn = numbers.random()
     if place:
         text = random_script.payload_text(numbers, random_script.random_payload(numbers)).encode("ascii")
@@ -53,7 +53,7 @@ def random_input(numbers: random.Random) -> bytes:
 
 
 def check(program: str, seed: int) -> None:
-    """Holds what comes of the random records of a seed, whole, cut off, and changed in a byte."""
+    """Checks the results of the random records of a seed, whole, cut off, and with a byte changed."""
     numbers = random.Random(seed)
     splits = random_script.random_splits(numbers, numbers.choice([300, 2**64 - 1]), numbers.randrange(4))
     limits = numbers.choice([Limits()] * 5 + [Limits(100), Limits(cells=100), Limits(life=100)])
@@ -69,8 +69,8 @@ class Csv(fixtures.Case):
     """CSV of all kinds."""
 
     def test_cut_anywhere(self) -> None:
-        """A small input is cut after each byte: by the specification's own table, and as it is read here."""
-        # (by the length, the number of the record that is refused, or 0, and how many rows are exported)
+        """A small input is cut after each byte; the specification's table and plain_session.py have the results."""
+        # (by the length: the number of the refused record, or 0, and how many rows are exported)
         ends = [(0, 0)] + [(1, 0)] * 10 + [(0, 0)] * 2 + [(2, 0)] * 4 + [(0, 1)] * 2 + [(3, 1)] * 3 + [(0, 2)] * 2
         rows = [b"150,6\n", b"50,5\n"]
         for size, (record, count) in enumerate(ends):
@@ -81,7 +81,7 @@ class Csv(fixtures.Case):
             check_input(self.program, SMALL[:size], [100])
 
     def test_quotes_and_ends_of_all_kinds(self) -> None:
-        """Quotes, ends of lines, byte order marks and signs where they may stand and where not, cut after each byte."""
+        """Quotes, line ends, byte order marks and signs, where they are allowed and where not, cut after each byte."""
         for it in run.inputs("csv"):
             for size in range(1, len(it) + 1):
                 check_input(self.program, it[:size])

@@ -1,8 +1,8 @@
-"""The program over devices that fail.
+"""The program with devices that fail.
 
-What was written when a device failed must be a front of what would have been written: where reading failed, whole
-replies alone; where writing failed, as much as the device took. The program then ends with 17 or 18, or by the signal
-that the system sends it.
+What was written when a device failed must be a prefix of what would have been written: if reading failed, whole replies
+only; if writing failed, as much as the device took. The program then ends with 17 or 18, or by the signal that the
+system sends it.
 """
 
 import random
@@ -31,7 +31,7 @@ SUBCOMMANDS = [
 
 
 def check_file(program: str, words: list[str], given: bytes, wanted: bytes, size: int) -> None:
-    """Holds what stands in a file that takes so many bytes of this text."""
+    """Checks the contents of a file that takes this many bytes of this text."""
 
     def limit() -> None:
         signal.signal(signal.SIGXFSZ, signal.SIG_IGN)
@@ -46,7 +46,7 @@ def check_file(program: str, words: list[str], given: bytes, wanted: bytes, size
 
 
 def check(program: str, seed: int) -> None:
-    """Holds what comes where the replies to the random session of a seed go to a file that takes some of them."""
+    """Checks the result if the replies to the random session of a seed go to a file that takes some of them."""
     numbers = random.Random(seed)
     splits = sorted(numbers.sample(range(1, 1000), numbers.randrange(4)))
     text = random_script.random_text(numbers, Session(splits), random_script.STATEMENTS // 5, 1000)
@@ -61,13 +61,13 @@ class Devices(fixtures.Case):
     """Devices that fail, by kind."""
 
     def test_a_file_that_is_full_behind_each_byte(self) -> None:
-        """What a file takes of a session, a batch and an export is a front of their text, whatever its size."""
+        """What a file takes of a session, a batch and an export is a prefix of their text, whatever its size."""
         for one in SUBCOMMANDS:
             for size in range(len(one[2]) + 1):
                 check_file(self.program, *one, size)
 
     def test_a_terminal_that_hangs_up(self) -> None:
-        """Where a terminal hangs up the signal ends the program; where that is ignored, its input's end, or a fault."""
+        """If a terminal hangs up, the signal ends the program; if that is ignored, the end of the input or a fault."""
         ends = {True: [(-signal.SIGHUP, b"")], False: [(0, b""), (1, READ_FAULT), (1, WRITE_FAULT)]}
         for heeds, right in ends.items():
             with tempfile.TemporaryFile() as complaints:

@@ -1,17 +1,16 @@
-"""Runs the commands of README, the guide, docs/C.md and the pages of this folder, a check a section, and compares what
-comes with what stands there.
+"""Runs the commands of README, the guide, docs/C.md and the pages of this folder, one check per section, and compares
+their output with what the page says.
 
-Of a page these fenced blocks are run, those of a section in one shell, in a folder that has `events.csv`, and `lib`:
+These fenced blocks of a page are run, those of a section in one shell, in a folder that has `events.csv` and `lib`:
 
-    console   what follows a `$ ` is given to the shell; the lines up to the next `$ ` are what it must write
-    pycon     a session of Python, as doctest reads it
-    python    a program, which must end well, followed by a block `text` if it writes something
-    c         a program, which stands in rows.c then
+    console   what follows a `$ ` is a command for the shell; the lines up to the next `$ ` are its output pycon     a
+    session of Python, as doctest reads it python    a program, which must succeed, followed by a block `text` if it
+    writes something c         a program, which is written to rows.c
 
-In what must be written `...` stands for any text. `crackd` and the package are found, and the port 4000 of a server is
-another one, which is free. A word `needs=NAME` after the kind of a block names what it can't be run without: a program
-of the path, a module of Python, or `library`, which is what `make lib` builds. A section of which a block can't be run
-counts as skipped where its others pass. The library is the one that isn't proved, if only that is there.
+In output `...` stands for any text. `crackd` and the package are found, and the port 4000 of a server is replaced by a
+free one. A word `needs=NAME` after the kind of a block names what it can't be run without: a program on the path, a
+module of Python, or `library`, which `make lib` builds. A section with a block that can't be run counts as skipped if
+its other blocks pass. The unproved library is used if there is no proved one.
 """
 
 import contextlib
@@ -36,12 +35,12 @@ SECONDS, PORT = 120, "4000"
 FENCE = re.compile(r"^```(\w+)(.*)\n((?:.*\n)*?)```$(?:\n+```text\n((?:.*\n)*?)```$)?", re.MULTILINE)
 COMMAND = re.compile(r"^\$ (.*\n(?:> .*\n)*)((?:(?!\$ ).*\n)*)", re.MULTILINE)
 END = "-- end of a command --"
-# what runs a program of a block, which the shell has put into a file
+# what runs the program of a block, which the shell has put into a file
 PROGRAMS = {"python": "python3 block", "pycon": "python3 -m doctest -o ELLIPSIS block", "c": "mv block rows.c"}
 
 
 class Block(typing.NamedTuple):
-    """A fenced block: where it begins, what it needs, and commands of the shell, each with what it must write."""
+    """A fenced block: where it begins, what it needs, and the shell's commands, each with its output."""
 
     place: str
     needs: list[str]
@@ -49,7 +48,7 @@ class Block(typing.NamedTuple):
 
 
 def sections(page: pathlib.Path) -> dict[str, list[Block]]:
-    """The blocks that are run, by the headings of their sections. A line after `> ` goes on with a command."""
+    """The blocks that are run, by the headings of their sections. A line that begins with `> ` continues a command."""
     found: dict[str, list[Block]] = {}
     whole = page.read_text(encoding="utf-8")
     for fence in FENCE.finditer(whole):
@@ -68,14 +67,14 @@ def sections(page: pathlib.Path) -> dict[str, list[Block]]:
 
 @functools.cache
 def is_there(needed: str) -> bool:
-    """Whether what a block needs is there."""
+    """Whether something that a block needs is available."""
     if needed == "library":
         return package.LIBRARY.exists()
     return shutil.which(needed) is not None or fixtures.ran([package.interpreter(), "-c", f"import {needed}"])[0] == 0
 
 
 def fits(wanted: str, came: str) -> bool:
-    """Whether a text is the one that is wanted, in which `...` stands for any text."""
+    """Whether a text is the wanted one, in which `...` stands for any text."""
     return re.fullmatch(".*".join(map(re.escape, wanted.split("..."))), came, re.DOTALL) is not None
 
 
@@ -83,7 +82,7 @@ def environment_for(program: str, folder: str) -> dict[str, str]:
     """An environment in which `crackd` is the program, and package and library are found, by files in a folder."""
     links = {"crackd": program, "crackd.h": TOP / "include" / "crackd.h"}
     for made in sorted((TOP / "lib").glob("libcrackd*.so")):
-        # (the proved one is the last of them)
+        # (the proved one comes last)
         links |= {"libcrackd.so": made, made.name: made}
     for name, target in links.items():
         (pathlib.Path(folder) / name).symlink_to(target)
@@ -96,14 +95,14 @@ def environment_for(program: str, folder: str) -> dict[str, str]:
 
 
 def wrote_in_shell(commands: list[str], folder: str, environment: dict[str, str]) -> list[str]:
-    """What each command writes in one shell, where what it could read is empty."""
+    """What each command writes in one shell, with nothing to read."""
     script = "".join(f"{{ {it}\n}} < /dev/null\necho '{END}'\n" for it in commands)
     with tempfile.TemporaryFile("w+", errors="replace") as output:
         how = {"stdin": subprocess.PIPE, "stdout": output, "stderr": subprocess.STDOUT, "start_new_session": True}
         shell = subprocess.Popen(["bash"], cwd=folder, env=environment, text=True, **how)
         with contextlib.suppress(subprocess.TimeoutExpired):
             shell.communicate(script, SECONDS)
-        # (and whatever it left)
+        # (and whatever it left running)
         with contextlib.suppress(ProcessLookupError):
             os.killpg(shell.pid, signal.SIGKILL)
         shell.wait()
@@ -114,7 +113,7 @@ def wrote_in_shell(commands: list[str], folder: str, environment: dict[str, str]
 
 
 def run(blocks: list[Block], program: str) -> tuple[int, list[str], list[str]]:
-    """Runs the blocks of a section: how many commands passed, what is wrong with the others, and what was skipped."""
+    """Runs the blocks of a section. Returns how many commands passed, what is wrong, and what was skipped."""
     has_port = any(f"--port {PORT}" in command for it in blocks for command, _ in it.commands)
     port, asked, skipped = str(fixtures.free_port()) if has_port else PORT, [], []
     for it in blocks:
@@ -138,7 +137,7 @@ PAGE = (TOP / "acceptance" / "page.txt").read_text(encoding="utf-8")
 
 
 class Checker(unittest.TestCase):
-    """What is taken for commands, and that one is found that writes something else."""
+    """What counts as a command, and that one with other output is found."""
 
     def assert_counts(self, passed: int, failed: int, *changes: str) -> list[str]:
         with tempfile.TemporaryDirectory() as folder:

@@ -1,17 +1,17 @@
-"""Histories of workers on threads: what `crack_histories` says that they were answered is replayed.
+"""Histories of workers on threads: the answers that `crack_histories` prints are replayed.
 
-Its workers ask a table of three partitions, each on a thread of its own, and it prints what each was answered, its
-receipts, and the histories. What must come: there is one order of all entries that each history and each worker keeps;
-in that order the lists of plain_session.py give each reply; each worker's receipts are of the replies that it was
-given; refusals come for their causes; and the totals are those of the histories. So whatever the schedule was, one
-thread could have answered the same. Each seed is tried under each policy, with checkpoints amid the work; by the seed
-histories get full, cells run out, or lives end. A run's line says how often an entry follows one of another worker:
-that is up to the schedule, and nothing is claimed of it.
+Its workers ask a table of three partitions, each on its own thread, and it prints each one's answers and receipts, and
+the histories. It must hold that there is one order of all entries that each history and each worker keeps; in that
+order the lists of plain_session.py give each reply; each worker's receipts are of the replies that it was given;
+refusals have their causes; and the totals are those of the histories. So whatever the schedule was, one thread could
+have answered the same. Each seed is tried under each policy, with checkpoints in between; by the seed histories get
+full, cells run out, or lives end. The line of a run says how often an entry follows one of another worker: that depends
+on the schedule, and is not checked.
 
-A partition that was folded is printed with its base, `partition P folded N inserted I deleted D rows R` and R lines
-`P.S K V`, and then with what it kept since. The entries that went are those of the receipts at the places before: each
-has exactly one, they are answered and ordered as all others, they come to the base's rows and counts, and they are as
-many as all checkpoints of the partition reported. The texts of histories.txt pass, or are found to be wrong.
+A checkpointed partition is printed with its base, `partition P folded N inserted I deleted D rows R` and R lines `P.S K
+V`, and then with the entries that it has kept since. The removed entries are those of the receipts at earlier places:
+each has exactly one, they are answered and ordered like all others, they lead to the base's rows and counts, and there
+are as many as all checkpoints of the partition reported. The texts of histories.txt pass, or are found to be wrong.
 """
 
 import collections
@@ -28,21 +28,21 @@ from plain_session import MOST_ENTRIES, POLICIES, Limits, Session, read_line
 SPLITS = [2**63, 2**64 - 1000]
 PARTS = range(len(SPLITS) + 1)
 WORKERS = 4
-# a section, which may have a base; and a statement of one, after numbers, with the lines of its reply
+# a section, which may have a base; and one of its statements, after numbers, with the lines of its reply
 SECTION = re.compile(
     r"^(worker|receipts|partition) (\d+)(?: folded (\d+) inserted (\d+) deleted (\d+) rows (\d+))?\n", re.MULTILINE
 )
 ENTRY = re.compile(r"^((?:\d+ )+)([a-z]+ .*)\n(.*(?:\n\d+\.\d+ .*)*)\n", re.MULTILINE)
-# the head of a text of histories.txt, or of what is changed in it: a name, how much was asked, and limits
+# the head of a text of histories.txt, or of a change to it: a name, how many statements there were, and limits
 HEAD = re.compile(r"(.*?)(?:: (\d+))?(?:[:,] (\w+ \d+.*))?\n")
 STATEMENTS, STATEMENTS_OF_A_SOAK = 1000, 10000
 SEEDS = range(1, 11)
-# the program's gate refuses one of so many commands of a partition
+# the program's gate refuses one in this many commands of a partition
 REFUSED_BY_THE_GATE = 50
 
 
 class Asked(typing.NamedTuple):
-    """What was asked, as a statement, and the lines of the answer."""
+    """A statement, and the lines of its answer."""
 
     statement: str
     lines: list[str]
@@ -57,7 +57,7 @@ class Asked(typing.NamedTuple):
 
     @property
     def key(self) -> int | None:
-        """The key that it brings, if it brings one."""
+        """The key that it brings, if any."""
         kind, *words = self.statement.split(" ")
         return int(words[-2]) if kind in ("insert", "update") else None
 
@@ -70,7 +70,7 @@ class Receipt(typing.NamedTuple):
 
 
 class Base(typing.NamedTuple):
-    """What a checkpoint left: how many entries went, inserted and deleted a row, and the lines of the rows."""
+    """What a checkpoint left: how many entries were removed, how many inserted or deleted a row, and lines of rows."""
 
     folded: int = 0
     inserted: int = 0
@@ -99,13 +99,13 @@ class Printed:
                 expect(f"{name} {number}: what is no entry", "", self.totals)
 
     def entry(self, numbers: str, statement: str, lines: str) -> Receipt | tuple[int, Asked]:
-        """What was asked, after the numbers before it, and answered."""
+        """A statement and its answer, with the numbers in front of it."""
         before, asked = [int(it) for it in numbers.split()], Asked(statement, lines.splitlines())
         return Receipt(*before, asked) if len(before) == 3 else (*before, asked)
 
 
 def check_receipts(printed: Printed, statements: int) -> None:
-    """A worker has a receipt for each reply that it was given, in their order, and for nothing else."""
+    """A worker has a receipt for each reply that it was given, in order, and no others."""
     for worker, answers in printed.answers.items():
         expect(f"how often worker {worker} asked", statements, len(answers))
         replies = [(part, asked) for part, asked in answers if not (asked.is_refused or asked.is_checkpoint)]
@@ -117,7 +117,7 @@ def check_receipts(printed: Printed, statements: int) -> None:
 
 
 def whole_history(printed: Printed, part: int) -> list[tuple[int, Asked]]:
-    """All that a partition answered: the entries that went, as receipts have them, and those that it kept."""
+    """All that a partition answered: the removed entries, from the receipts, and those that it kept."""
     folded = printed.bases[part].folded
     went = [it for receipts in printed.receipts.values() for it in receipts if it.part == part]
     went = sorted((it for it in went if it.position < folded), key=lambda it: it.position)
@@ -126,7 +126,7 @@ def whole_history(printed: Printed, part: int) -> list[tuple[int, Asked]]:
 
 
 def check_bases(printed: Printed, histories: dict[int, list]) -> None:
-    """Each base is what the entries that went come to, and checkpoints reported as many entries as went."""
+    """Each base is the result of the removed entries, and checkpoints reported as many entries as were removed."""
     counted = collections.Counter()
     for part, asked in (it for answers in printed.answers.values() for it in answers):
         if asked.is_checkpoint and not asked.is_refused:
@@ -143,7 +143,7 @@ def check_bases(printed: Printed, histories: dict[int, list]) -> None:
 
 
 def in_one_order(printed: Printed, histories: dict[int, list]) -> list[Receipt]:
-    """The receipts in an order that each worker's receipts and each history keep, where each is of its entry."""
+    """The receipts in an order that each worker's receipts and each history keep, if each belongs to its entry."""
     ahead = {worker: collections.deque(receipts) for worker, receipts in printed.receipts.items()}
     entries = [[Receipt(part, place, *it) for place, it in enumerate(of)] for part, of in histories.items()]
     left = [collections.deque(it) for it in entries]
@@ -161,7 +161,7 @@ def in_one_order(printed: Printed, histories: dict[int, list]) -> list[Receipt]:
 
 
 def check_replies(order: list[Receipt]) -> list:
-    """Lists of rows answer all that was kept, in this order, as it was answered. The partitions at the end."""
+    """Lists of rows give all kept answers, in this order. Returns the partitions at the end."""
     parts = Session(SPLITS).parts
     for number, (part, position, worker, asked) in enumerate(order):
         place = f"partition {part}, entry {position}, by worker {worker}, {number} of all: {asked.statement!r}"
@@ -175,7 +175,7 @@ def check_replies(order: list[Receipt]) -> list:
 
 @dataclasses.dataclass
 class Lived:
-    """What a partition came to: commands that it accepted, kept and was asked, and how many its gate refused."""
+    """The final numbers of a partition: commands that it accepted, kept and was asked, and that its gate refused."""
 
     part: int
     limits: Limits
@@ -186,7 +186,7 @@ class Lived:
     gave_up: int = 0
 
     def check_checkpoint(self, asked: Asked) -> None:
-        """A checkpoint reports no more entries than a history may have, or there is no such partition."""
+        """A checkpoint reports at most as many entries as a history may have, or there is no such partition."""
         folded = asked.lines[0].removeprefix("folded ")
         is_right = folded.isdecimal() and int(folded) <= self.limits.history
         is_right = is_right if self.part in PARTS else asked.lines == ["refused 5"]
@@ -194,7 +194,7 @@ class Lived:
             raise Wrong(f"partition {self.part}: {asked.statement!r} was answered {asked.lines!r}")
 
     def check(self, asked: Asked, was: set[str]) -> None:
-        """A refusal comes for its cause. `was` has what the worker was told before, which stays so but for a fold."""
+        """A refusal has its cause. `was` is the worker's previous reply, after which only a checkpoint changes it."""
         is_there = self.part in PARTS
         is_outside = is_there and asked.key is not None and not Session(SPLITS).parts[self.part].has(asked.key)
         is_full = self.kept == self.limits.history or (self.was_folded and self.accepted >= self.limits.history)
@@ -216,7 +216,7 @@ class Lived:
 
 
 def check_refusals(printed: Printed, histories: dict[int, list], limits: Limits) -> None:
-    """Refusals come for their causes, limits hold, and the gate was asked once for each command."""
+    """Refusals have their causes, limits hold, and the gate was asked once for each command."""
     lived = {part: Lived(part, limits) for part, _ in (it for found in printed.answers.values() for it in found)}
     for part in PARTS:
         folded = printed.bases[part].folded > 0
@@ -234,7 +234,7 @@ def check_refusals(printed: Printed, histories: dict[int, list], limits: Limits)
 
 
 def check(printed: Printed, workers: int, statements: int, limits: Limits) -> tuple[int, int]:
-    """Whether all of it is right. How many entries there are, and how many of them follow one of another worker."""
+    """Checks all of it. Returns how many entries there are, and how many of them follow one of another worker."""
     expect("partitions with histories", list(PARTS), list(printed.histories))
     expect("workers", list(range(workers)), list(printed.answers))
     expect("workers with receipts", list(range(workers)), list(printed.receipts))
@@ -254,7 +254,7 @@ def check(printed: Printed, workers: int, statements: int, limits: Limits) -> tu
 
 
 def words_of(seed: int, statements: int, policy: str, workers: int = WORKERS) -> list[str]:
-    """The words of a run. By the seed histories get full, or cells may run out, or lives end before all was asked."""
+    """The command line of a run. By the seed histories get full, cells may run out, or lives end early."""
     each = statements * workers // len(PARTS)
     all_limits = [Limits(each // 2 + 1), Limits(MOST_ENTRIES, each // 16 + 1)]
     limits = [*all_limits, Limits(each // 8 + 1, life=each * 3 // 4 + 1)][seed % 3]
@@ -262,7 +262,7 @@ def words_of(seed: int, statements: int, policy: str, workers: int = WORKERS) ->
 
 
 def check_seed(program: str, seed: int, statements: int = STATEMENTS) -> None:
-    """Tries the runs of a seed, one under each policy."""
+    """Tests the runs of a seed, one under each policy."""
     for policy in POLICIES:
         words = words_of(seed, statements, policy)
         try:
@@ -275,12 +275,12 @@ def check_seed(program: str, seed: int, statements: int = STATEMENTS) -> None:
 
 
 def soak(crackd: str, seed: int) -> None:
-    """The same of the program that was built beside `crackd`, of ten times as many statements."""
+    """The same for the program that was built beside `crackd`, with ten times as many statements."""
     check_seed(built("crack_histories", pathlib.Path(crackd).resolve().parents[3]), seed, STATEMENTS_OF_A_SOAK)
 
 
 class Histories(fixtures.Case):
-    """What the workers of each seed were answered, under each policy."""
+    """The answers to the workers of each seed, under each policy."""
 
     needs = "crack_histories"
 
@@ -289,7 +289,7 @@ class Texts(unittest.TestCase):
     """The texts of histories.txt, which are of two workers."""
 
     def assert_passes(self, text: str, changes: str, asked: str, bounds: str) -> None:
-        """A text passes with changes, each two lines: what stands there, and what is put there."""
+        """A text passes with changes, each of two lines: the old text and the new one."""
         for old, new in re.findall(r"^- (.*)\n\+ ?(.*)$", changes, re.MULTILINE):
             old, new = old.replace("\\n", "\n"), new.replace("\\n", "\n")
             assert old in text, old
@@ -301,7 +301,7 @@ class Texts(unittest.TestCase):
         self.assertRaises(Wrong, self.assert_passes, *given)
 
 
-# a check for each text of histories.txt, and for each that is altered so that it is wrong
+# a check for each text of histories.txt, and for each change that makes it wrong
 for head, texts in fixtures.sections("histories.txt").items():
     right, *altered = texts.split("\n== ")
     name, asked, bounds = HEAD.match(f"{head}\n").groups()

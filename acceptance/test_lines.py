@@ -1,8 +1,8 @@
-"""Lines of all kinds, cut into pieces anywhere, and random scripts: what is answered is what plain_session.py answers.
+"""Lines of all kinds, cut into pieces anywhere, and random scripts: the answers must be those of plain_session.py.
 
 A line is made of the grammar's words, numbers at their limits, spaces, carriage returns and bytes 0 to 255, or is a
-statement in which a byte or a word was changed, put in, or taken out. A session is written in pieces, whose size is the
-seed's, so that the program's reads end anywhere. Besides, statements are cut after each byte.
+statement with a byte or a word changed, inserted or removed. A session is written in pieces, whose size depends on the
+seed, so that the program's reads end anywhere. Also, statements are cut after each byte.
 """
 
 import random
@@ -22,7 +22,7 @@ ODD_NUMBERS = (
 ).split(b"|")
 WORDS = [it.encode() for it in [*FIELDS, "policy", *POLICIES]]
 ODD_WORDS = b"INSERT inser inserts insert1 row refused bye none checkpoints fold \xc3\xa9 \0 # --".split(b" ")
-# what stands between words, at times; and lines of few bytes
+# what is sometimes between words; and short lines
 GAPS = [b" "] * 12 + [b"  ", b"   ", b"\t", b"", b"\r"]
 SPACES = [b"", b" ", b"\r", b"\r\r", b" \r", b"\r ", b"\0", b"\x80", b" " * 200, b" " * 201, b" " * 200 + b"\r"]
 ENDS = [b"", b"quit", b"quit\n", b"quit\nlayout 0\n", b"count 0 5", b"count 0 5\r", b"count 0 ", b"\r", b" " * 201]
@@ -32,7 +32,7 @@ ASKED = b"\nselect 0 18446744073709551616\nsum 0 18446744073709551616\n"
 
 
 def random_number(numbers: random.Random) -> bytes:
-    """A number's digits, often at a limit, now and then with zeros before it, or what is none."""
+    """The digits of a number, often at a limit, sometimes with leading zeros, or something else."""
     drawn = numbers.random()
     if drawn < 0.08:
         return numbers.choice(ODD_NUMBERS)
@@ -41,7 +41,7 @@ def random_number(numbers: random.Random) -> bytes:
 
 
 def random_row(numbers: random.Random) -> bytes:
-    """A row number, or what is nearly one."""
+    """A row number, or nearly one."""
     drawn = numbers.random()
     if drawn < 0.1:
         between = numbers.choice([b".", b" .", b". ", b"..", b",", b""])
@@ -52,7 +52,7 @@ def random_row(numbers: random.Random) -> bytes:
 
 
 def random_words(numbers: random.Random) -> list[bytes]:
-    """The words of a statement, or of what is nearly one."""
+    """The words of a statement, or of nearly one."""
     number = lambda: random_number(numbers)
     kind = numbers.choice(WORDS if numbers.random() < 0.95 else ODD_WORDS)
     row, payload = random_row(numbers), numbers.choice([b"", b"-"]) + number()
@@ -69,7 +69,7 @@ def random_words(numbers: random.Random) -> list[bytes]:
 
 
 def random_statement(numbers: random.Random) -> bytes:
-    """A line that says something, or nearly so: its words between spaces, at times very many, or a tab."""
+    """A statement, or nearly one: its words with spaces between, sometimes very many, or a tab."""
     line = numbers.choice([b"", b"", b"", b" "])
     for word in random_words(numbers):
         gap = numbers.choice([*GAPS, b" " * numbers.randrange(200)])
@@ -78,14 +78,14 @@ def random_statement(numbers: random.Random) -> bytes:
 
 
 def padded(numbers: random.Random, line: bytes) -> bytes:
-    """A line that is filled up to about as many bytes as a line may have, or as a read takes."""
+    """A line that is filled up to about the greatest length of a line, or that of a read."""
     size = numbers.choice([199, 200, 201, 202, 203, 4095, 4096, 4097, 4296, 5000])
     filling = numbers.choice([b" ", b"0", b"x", b"\r"])
     return numbers.choice([line.ljust(size, filling), line.rjust(size, filling)])
 
 
 def random_line(numbers: random.Random) -> bytes:
-    """A line of any kind, without what ends it."""
+    """A line of any kind, without its line end."""
     drawn = numbers.random()
     if drawn < 0.6:
         return random_statement(numbers)
@@ -97,7 +97,7 @@ def random_line(numbers: random.Random) -> bytes:
 
 
 def random_input(numbers: random.Random, many: int) -> bytes:
-    """A session of so many random lines, none of which ends it before the last, and which may break off in a line."""
+    """A session of this many random lines, of which only the last may end it, and which may break off inside a line."""
     given: list[bytes] = []
     while len(given) < many:
         line = random_line(numbers) + numbers.choice([b"\n", b"\n", b"\n", b"\r\n"])
@@ -107,7 +107,7 @@ def random_input(numbers: random.Random, many: int) -> bytes:
 
 
 def check(program: str, seed: int) -> None:
-    """Holds what the random lines of a seed are answered."""
+    """Checks the answers to the random lines of a seed."""
     numbers = random.Random(seed)
     splits = sorted(numbers.sample([1, 10, 99, 100, 101, *random_script.EDGES[2:-1]], numbers.randrange(4)))
     limits = numbers.choice([Limits(), Limits(200), Limits(100, 50, 1000)])
@@ -123,7 +123,7 @@ class Lines(fixtures.Case):
             random_script.check_session(self.program, given, piece=piece)
 
     def test_each_line_on_a_fresh_table(self) -> None:
-        """Each line at the limits of words is the whole input, before a question for all rows, and without one."""
+        """Each line at the limits of words is the whole input, alone, and followed by a question for all rows."""
         lines = [line for it in run.all_cases("words") for line in it.given.split(b"\n")[:-1]]
         for it in lines:
             for end in [b"\n", ASKED]:
@@ -132,7 +132,7 @@ class Lines(fixtures.Case):
             self.assert_answered(it)
 
     def test_cut_anywhere(self) -> None:
-        """Statements are cut after each byte, each a session that breaks off or ends there; and all a line each."""
+        """Statements are cut after each byte: each breaks off or ends a session there, and all are one session."""
         whole = run.inputs("statements")
         cuts = [it[:size] for it in whole for size in range(len(it) + 1)]
         for cut in cuts:
@@ -150,7 +150,7 @@ class Lines(fixtures.Case):
 
 
 class RandomScripts(fixtures.Case):
-    """A script of each seed of random_script.py, and one that goes on for ever."""
+    """A script for each seed of random_script.py, and one that goes on for ever."""
 
     def test_for_ever(self) -> None:
         """A script whose histories get full again and again is answered as if they had no limit."""

@@ -1,13 +1,13 @@
 """Memory that is refused to scripts, CSV, batches, servers and the sweeps of test programs, call by call.
 
-Each call for memory of a run is refused in turn, from the first on until a run meets none that is refused: alone; with
-the three after it; with all after it; and each by chance, one in fifty. What is answered must be what the lists of
-plain_session.py answer that never saw the statements which were refused with 8, and no more statements may be refused
-than calls were. A run may also end with 8 where the program opens; one of CSV wherever it is, after a front of its
-text. A small library, refusing.c, refuses the calls; where there is no C compiler these checks are skipped.
+Each call for memory in a run is refused in turn, from the first on until a run has none that is refused: the call
+alone; with the next three; with all later ones; and each by chance, one in fifty. The answers must be those of the
+lists of plain_session.py that never saw the statements refused with 8, and no more statements may be refused than calls
+were. A run may also end with 8 when the program opens the table; one of CSV anywhere, after a prefix of its text. A
+small library, refusing.c, refuses the calls; without a C compiler these checks are skipped.
 
-Each worker of a batch has partitions of its own, so its replies are those of a list whatever the other threads do; the
-clients of a server come one after another. The totals line must be right against the replies, wherever one is printed.
+Each worker of a batch has its own partitions, so its replies are those of a list whatever the other threads do; the
+clients of a server come one after another. If a totals line is printed it must agree with the replies.
 """
 
 import collections
@@ -35,10 +35,10 @@ CHANCES, ONE_IN = 40, 50
 REFUSED = b"crackd: refused 8\n"
 # how many seeds there are of each kind
 RANDOM_SWEEPS, WORKER_SWEEPS = 4, 2
-# runs that write one text: their words, and what they are given
+# runs that write one text: their command lines, and their input
 RECORDS = b"key,payload\n" + b"".join(b'%d,"%d"\n' % (key, key % 7 - 3) for key in range(0, 400, 9))
 TEXTS = {"csv": (["csv", "100", "200"], RECORDS), "help": (["script", "--help"], b"")}
-# which calls are refused in the run of a number
+# which calls are refused in the run with a number
 WAYS = {
     "alone": lambda number: {"from": number, "to": number},
     "four": lambda number: {"from": number, "to": number + 3},
@@ -50,7 +50,7 @@ SPLITS = [100, 200, 300, 400, 500]
 LINES, SESSIONS, SESSION_LINES = 40, 3, 25
 KINDS = {"insert": 8, "delete": 3, "update": 3, "count": 2, "sum": 2, "select": 2}
 KINDS |= {"layout": 1, "checkpoint": 2, "policy": 1}
-# a test that holds whichever one of its calls for memory is refused
+# a test that passes whichever of its calls for memory is refused
 SWEEP = re.compile(r"^fn (sweep_\w+)", re.MULTILINE)
 Check = typing.Callable[[bytes, int], object]
 
@@ -62,12 +62,13 @@ def scripts() -> dict[str, run.Case]:
 
 
 def with_layouts(given: bytes, after: bytes = b"\n") -> bytes:
-    """Statements, with a layout after each that ends so."""
+    """Statements, with a layout after each that ends like this."""
     return given.replace(after, after + b"layout 0\n")
 
 
 def sweep(way: str, once: typing.Callable[[dict[str, int]], int]) -> None:
-    """Refuses calls one way, number by number, until a run meets none that is refused; by chance there are so many.
+    """Refuses calls in one way, number by number, until a run has none that is refused; by chance there are this many
+    runs.
 
     A run is given which calls are refused, and returns how many were.
     """
@@ -81,7 +82,7 @@ def sweep(way: str, once: typing.Callable[[dict[str, int]], int]) -> None:
 
 
 def run_once(program: str, words: list, given: bytes, check: Check, which: dict[str, int], text: bytes = b"") -> int:
-    """Runs the program, and holds what it wrote; if it ended with 8, a front of a text. How many calls were refused."""
+    """Runs the program, and checks its output: with 8 a prefix of a text. Returns how many calls were refused."""
     with refusing(**which) as (environment, counted):
         how = {"env": environment, "close_fds": False}
         status, wrote, complained = fixtures.ran([program, *words], given, SECONDS, **how)
@@ -97,13 +98,12 @@ def run_once(program: str, words: list, given: bytes, check: Check, which: dict[
 
 
 def sweep_runs(program: str, words: list, given: bytes, check: Check, way: str, text: bytes = b"") -> None:
-    """Sweeps one way over runs that a function checks."""
+    """Sweeps in one way over runs that a function checks."""
     sweep(way, lambda which: run_once(program, words, given, check, which, text))
 
 
 def check_layouts(said: list, seen: Seen, whole: Seen) -> None:
-    """Layouts must be as they are where no memory is refused, up to the first other statement that is answered
-    otherwise; a checkpoint changes none."""
+    """Layouts must be as without refused memory up to the first answer that differs; checkpoints change none."""
     for number, (one, got, right) in enumerate(zip(said, seen.answers, whole.answers), 1):
         if one[0] not in ("checkpoint", "layout") and got != right:
             return
@@ -112,7 +112,7 @@ def check_layouts(said: list, seen: Seen, whole: Seen) -> None:
 
 
 def sweep_script(program: str, words: list[str], given: bytes, way: str) -> None:
-    """Sweeps one way over a session of one partition. Where calls are refused alone each checkpoint must be once."""
+    """Sweeps in one way over a session of one partition. If calls are refused alone each checkpoint must be, once."""
     said, bounds, refused_once = statements(given), bounds_of(words), set()
     status, wrote, _ = fixtures.ran([program, *words], given, SECONDS)
     expect("status where no memory is refused", 0, status)
@@ -130,7 +130,7 @@ def sweep_script(program: str, words: list[str], given: bytes, way: str) -> None
 
 
 def check_script(program: str, way: str, policy: str, name: str) -> None:
-    """Sweeps one way over a script under a policy, with layouts: of a long one after checkpoints alone."""
+    """Sweeps in one way over a script under a policy, with layouts; in a long script only after checkpoints."""
     it = scripts()[name]
     texts = [it.given]
     if it.given.count(b"\n") > STATEMENTS:
@@ -142,18 +142,18 @@ def check_script(program: str, way: str, policy: str, name: str) -> None:
 
 
 def check_text(program: str, way: str, name: str) -> None:
-    """Sweeps one way over a run that writes one text, or a front of it where it ends with 8."""
+    """Sweeps in one way over a run that writes one text, or a prefix of it if it ends with 8."""
     words, given = TEXTS[name]
     text = fixtures.ran([program, *words], given, SECONDS)[1]
     sweep_runs(program, words, given, lambda wrote, _: expect("the text", text, wrote), way, text)
 
 
 def check_random(program: str, way: str, seed: int) -> None:
-    """Sweeps one way over the random script of a seed."""
+    """Sweeps in one way over the random script of a seed."""
     numbers = random.Random(seed)
     most = numbers.choice(random_script.KEYS)
     splits = random_script.random_splits(numbers, most, numbers.choice([0, 1, 3, 8, 15]))
-    # (of a range over several partitions that is refused with 8 it is never reported which have kept their part)
+    # (if a range over several partitions is refused with 8, nothing reports which of them have kept their part)
     small = [Limits(STATEMENTS // 2), Limits(STATEMENTS // 10, 20, STATEMENTS // 2)]
     limits = Limits() if splits else numbers.choice([Limits(), *small])
     words = ["script", "--policy", numbers.choice(POLICIES), *limits.words(), *map(str, splits)]
@@ -164,10 +164,10 @@ def check_random(program: str, way: str, seed: int) -> None:
 
 
 def own_statement(numbers: random.Random, parts: list[Part]) -> str:
-    """A random statement that asks nothing but these neighbouring partitions."""
+    """A random statement that asks only these neighbouring partitions."""
     low, high, part = parts[0].low, parts[-1].high, numbers.choice(parts)
     kind, key = random_script.kind_of(numbers, KINDS), numbers.randrange(low, min(high, low + 300))
-    # (an empty range at the end of these partitions would ask the one after them)
+    # (an empty range at the end of these partitions would ask the next one)
     first, last = sorted(numbers.choice([low, key, parts[-1].low, high]) for _ in range(2))
     first = first if first < high else low
     row, payload = f"{part.number}.{numbers.randrange(part.next + 2)}", random_script.random_payload(numbers)
@@ -176,7 +176,7 @@ def own_statement(numbers: random.Random, parts: list[Part]) -> str:
 
 
 def worker_texts(seed: int) -> list[bytes]:
-    """The statements of each worker of a batch, drawn by a seed."""
+    """The statements of each worker of a batch, drawn from a seed."""
     numbers, texts = random.Random(seed), []
     for worker in range(WORKERS):
         session = Session(SPLITS)
@@ -186,13 +186,13 @@ def worker_texts(seed: int) -> list[bytes]:
 
 
 def batch_text(texts: list[bytes]) -> bytes:
-    """The lines of a batch whose workers have these statements, one worker's between the others'."""
+    """The lines of a batch whose workers have these statements, mixed."""
     rounds = itertools.zip_longest(*(text.splitlines(keepends=True) for text in texts))
     return b"".join(b"%d %s" % (worker, line) for lines in rounds for worker, line in enumerate(lines) if line)
 
 
 def check_batch(texts: list[bytes], wrote: bytes, refused: int) -> None:
-    """Holds what a batch wrote, whose workers had these statements."""
+    """Checks what a batch wrote whose workers had these statements."""
     before, *found = re.split(rb"^worker (\d+)\n", wrote, flags=re.MULTILINE)
     expect("workers", [b"", *(b"%d" % it for it in range(WORKERS))], [before, *found[::2]])
     *lines, totals = found[-1].splitlines(keepends=True)
@@ -204,7 +204,7 @@ def check_batch(texts: list[bytes], wrote: bytes, refused: int) -> None:
 
 
 def sweep_batch(program: str, way: str, seed: int) -> None:
-    """Sweeps one way over the batch of a seed. Where all calls are refused from one on, it must end with 8."""
+    """Sweeps in one way over the batch of a seed. If all calls from one on are refused, it must end with 8."""
     texts = worker_texts(seed)
     words = ["batch", "--workers", WORKERS, "--policy", POLICIES[seed % len(POLICIES)], *SPLITS]
 
@@ -216,7 +216,7 @@ def sweep_batch(program: str, way: str, seed: int) -> None:
 
 
 def exchanged(port: int, given: bytes) -> bytes:
-    """What a server answers to a session's bytes, up to its end; what came until then, where it breaks off."""
+    """A server's answer to the bytes of a session, up to its end, or as far as it came."""
     got = b""
     with contextlib.suppress(OSError), socket.create_connection(("127.0.0.1", port), SECONDS) as it:
         it.sendall(given)
@@ -227,10 +227,10 @@ def exchanged(port: int, given: bytes) -> bytes:
 
 
 def check_served(texts: list[bytes], got: list[bytes], ended: fixtures.Ended, refused: int) -> None:
-    """Holds what a server's sessions were answered, and how it ended."""
+    """Checks the answers to a server's sessions, and how it ended."""
     session, counts, (status, wrote, complained) = Session(SPLITS), collections.Counter(), ended
     for text, replies in zip(texts, got):
-        # (a session that finds no memory for its replies ends before it has answered, as one does whose server ends)
+        # (a session without memory for its replies ends before it answers; so does one whose server ends)
         if replies or not refused:
             counts += compare(statements(text), replies, session, refused, may_be_first=True).counts
     if (status, complained) == (1, REFUSED.decode()) and refused:
@@ -241,7 +241,7 @@ def check_served(texts: list[bytes], got: list[bytes], ended: fixtures.Ended, re
 
 
 def sweep_server(program: str, way: str, seed: int) -> None:
-    """Sweeps one way over the server of a seed, which must always end by itself."""
+    """Sweeps in one way over the server of a seed, which must always end by itself."""
     numbers, session = random.Random(seed), Session(SPLITS)
     draw = lambda: own_statement(numbers, session.parts)
     texts = [random_script.drawn(session, SESSION_LINES, draw) for _ in range(SESSIONS)]
@@ -260,24 +260,24 @@ def sweep_server(program: str, way: str, seed: int) -> None:
 
 
 def sweeps_of(crates: pathlib.Path) -> typing.Iterator[tuple[str, str]]:
-    """The crates whose tests have sweeps, each with the names of these."""
+    """The crates whose tests have sweeps, each with their names."""
     for path in sorted(crates.glob("*_tests/src/*.rt")):
         for name in SWEEP.findall(path.read_text(encoding="utf-8")):
             yield path.parts[-3], f"{path.stem}::{name}"
 
 
 def check(program: str, seed: int) -> None:
-    """Sweeps over the random script of a seed, which draws the way as well."""
+    """Sweeps over the random script of a seed, which also determines the way."""
     check_random(program, list(WAYS)[seed % len(WAYS)], seed)
 
 
 def check_workers(program: str, seed: int) -> None:
-    """Sweeps over the batch or the server of a seed, which draws the way as well."""
+    """Sweeps over the batch or the server of a seed, which also determines the way."""
     [sweep_batch, sweep_server][seed % 2](program, WORKER_WAYS[seed // 2 % 3], seed)
 
 
 class Sweeps(fixtures.Case):
-    """Sweeps, where memory can be refused."""
+    """Sweeps, if memory can be refused."""
 
     def setUp(self) -> None:
         super().setUp()
@@ -286,11 +286,11 @@ class Sweeps(fixtures.Case):
 
 
 class Refused(Sweeps):
-    """Sweeps over runs of the program. What a check is given stands in its name."""
+    """Sweeps over runs of the program. The names of checks have their arguments."""
 
 
 class Tests(Sweeps):
-    """Sweeps over the tests named sweep_.. of the test programs that the gate has built."""
+    """Sweeps over the tests named sweep_.. in the test programs that the gate has built."""
 
     def test_there_are_sweeps(self) -> None:
         self.assertTrue(list(sweeps_of(CRATES)))
@@ -311,7 +311,7 @@ class Tests(Sweeps):
 
 
 def add(check: typing.Callable, *given: object, kind: str = "") -> None:
-    """Adds a sweep over the program that is named by what it is given."""
+    """Adds a sweep over the program, named by its arguments."""
     way, *others = map(str, given)
     fixtures.add(Refused, " ".join([way, kind, *others]), lambda self: check(self.program, *given))
 

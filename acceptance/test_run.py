@@ -1,4 +1,4 @@
-"""What run.py takes for a case, and which line of its file it names where something else comes."""
+"""What run.py reads as a case, and which line of its file it names if the output differs."""
 
 import pathlib
 import tempfile
@@ -23,7 +23,7 @@ GIVEN = b"1 insert 150 6\r\n  \n0 select 0 11\n"
 WROTE = b"worker 0\nrows 1\n0.0 5 -5\nworker 1\nrow 1.0\naccepted 2 inserted 1 deleted 0 held 1\n"
 # the line of the file for each line of output
 LINES = [3, 7, 8, 3, 5, 9]
-# what is no case, and the line that is named
+# texts that aren't cases, and the line that is named
 WRONG = {
     "$ script\n": 1,
     "== a\n": 1,

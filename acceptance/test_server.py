@@ -1,7 +1,7 @@
 """Servers with many clients, and servers that end when their input ends or a client is silent.
 
-What must come is read off docs/SPECIFICATION.md. What clients are answered one after the other stands in
-cases/clients.cases and cases/ends.cases, and what batches are at their bounds in bounds.txt.
+The expected results are from docs/SPECIFICATION.md. The answers to clients one after the other are in
+cases/clients.cases and cases/ends.cases, batches at their bounds in bounds.txt.
 """
 
 import contextlib
@@ -19,12 +19,12 @@ CUT_OFF = "crackd: worker 0: session cut off: refused 18: writing to the client 
 
 
 def inserts(many: int) -> str:
-    """The statements of so many inserts, a key each."""
+    """The statements of this many inserts, with a key each."""
     return "".join(f"insert {number} 1\n" for number in range(many))
 
 
 def is_served(port: int) -> bool:
-    """Whether a connection is answered: it asks for what changes no total. Else it is refused or closed."""
+    """Whether a connection is answered: it asks something that changes no total. Otherwise it is refused or closed."""
     try:
         with Client(port) as it:
             it.send("layout 0\nquit\n")
@@ -37,12 +37,12 @@ class Servers(fixtures.Case):
     """Servers with many clients, and servers with --until-eof and --idle."""
 
     def test_one_reads_no_reply(self) -> None:
-        """A client that sends until nothing more is taken, and reads no reply, holds its own worker alone."""
+        """A client that sends until nothing more is taken, and reads no reply, holds only its own worker."""
         with serving(self.program, (2, 1, 0, 1), 2, 2) as port, Client(port) as stuck:
             stuck.socket.settimeout(1)
             with contextlib.suppress(TimeoutError):
                 while True:
-                    # (none of these lines is kept, however many of them are read)
+                    # (none of these lines is kept in a history, however many are read)
                     stuck.send("nonsense\n" * 10000)
             with Client(port) as it:
                 it.ask("insert 1 10", "row 0.0")
@@ -51,7 +51,7 @@ class Servers(fixtures.Case):
             stuck.__exit__()
 
     def test_descriptors_that_run_out(self) -> None:
-        """A worker whose accepts fail for want of a descriptor goes on, and serves again once there is one."""
+        """A worker whose accepts fail for lack of a descriptor goes on, and serves again once there is one."""
         with Server(self.program, 2, "--sessions", str(10**15), "--quiet") as server:
             number = server.process.pid
             least = len(os.listdir(f"/proc/{number}/fd"))
@@ -59,7 +59,7 @@ class Servers(fixtures.Case):
                 held.ask("insert 1 1", "row 0.0")
                 with Client(server.port) as it:
                     it.ask(ALL, "count 1")
-                    # (what is open stays, and the worker that is free next finds no other)
+                    # (what is open stays open, and the next free worker finds no other descriptor)
                     few, most = resource.prlimit(number, resource.RLIMIT_NOFILE)
                     resource.prlimit(number, resource.RLIMIT_NOFILE, (least, most))
                     it.end()
@@ -84,7 +84,7 @@ class Servers(fixtures.Case):
             it.wait((3, 2, 0, 2), *it.notes(1 + others))
 
     def test_a_load_loses_no_reply(self) -> None:
-        """A server whose input ends amid a load answers all that was sent, and its totals are what it replied."""
+        """A server whose input ends during a load answers all that was sent, and its totals agree with its replies."""
         with Server(self.program, 2, "--until-eof") as it, Client(it.port) as one:
             with side_by_side(lambda: one.send(inserts(LOADED) + "quit\n")):
                 expect("the first reply", ["row 0.0"], one.reply())
@@ -95,7 +95,7 @@ class Servers(fixtures.Case):
             it.wait((LOADED, LOADED, 0, LOADED), *it.notes(1))
 
     def test_a_client_that_takes_nothing_is_let_go(self) -> None:
-        """With --idle a client that reads no reply is let go, once no more of them fits."""
+        """With --idle a client that reads no reply is disconnected, once no more replies fit."""
         with Server(self.program, 1, "--until-eof", "--idle", "1") as it:
             with Client(it.port, room=4096) as deaf:
                 deaf.send(inserts(2_000))

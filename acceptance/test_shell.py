@@ -1,6 +1,6 @@
-"""`python3 -m crackd shell` on a terminal, as docs/SPECIFICATION.md has it, and what the shell says of itself.
+"""`python3 -m crackd shell` on a terminal, by docs/SPECIFICATION.md, and the shell's own texts.
 
-Most of it stands in shell.txt, and what it writes as a filter in cases/shell.cases.
+Most of it is in shell.txt; what the shell writes as a filter is in cases/shell.cases.
 """
 
 import contextlib
@@ -22,7 +22,7 @@ from run import SHELL, SHELL_ENVIRONMENT
 
 PROMPT = "crackd> "
 TIME = r"  \([0-9.]+ m?s\)\n"
-# (on a machine that is slow for a moment)
+# (for a machine that is slow for a moment)
 PROGRESS = "(?:\r.*)?"
 EVERYTHING = f"0 {MOST}"
 SERVED = r"^crackd on port \d+; .*\n"
@@ -32,13 +32,13 @@ class Shell(fixtures.Terminal):
     """The shell on a terminal, in a folder."""
 
     def ask(self, line: str, *wanted: str) -> None:
-        """Types a line at the prompt. These patterns must be shown at once after it, one after another."""
+        """Types a line at the prompt. These patterns must be shown directly after it, one after another."""
         self.wait_for(f"^{PROMPT}")
         self.type(line + "\n")
         self.wait_for(f"^{re.escape(line)}\n" + "".join(wanted))
 
     def leave(self, *totals: object) -> None:
-        """Ends the session by control-D. The server's last line must have these totals."""
+        """Ends the session with control-D. The server's last line must have these totals."""
         self.wait_for(f"^{PROMPT}")
         self.type(CONTROL_D)
         self.wait_for("^\naccepted {} inserted {} deleted {} held {}\n".format(*totals))
@@ -47,7 +47,7 @@ class Shell(fixtures.Terminal):
 
 @contextlib.contextmanager
 def talking(*words: str, files={}, shown: str = SERVED, **names: str) -> typing.Iterator[tuple[Shell, pathlib.Path]]:
-    """The shell with these words and names, which shows this first, and its folder, which has these files."""
+    """The shell with this command line and environment, which shows this first, and its folder with these files."""
     with tempfile.TemporaryDirectory() as room:
         for name, text in files.items():
             (pathlib.Path(room) / name).write_text(text)
@@ -70,12 +70,12 @@ class ByHand:
 
     @functools.cached_property
     def lines(self) -> typing.TextIO:
-        """The connection, once it has come."""
+        """The connection, once there is one."""
         with self.socket.accept()[0] as connection:
             return connection.makefile("rw", encoding="ascii")
 
     def write(self, text: str) -> None:
-        """Writes a text, or closes the connection, if there is none."""
+        """Writes a text, or closes the connection if there is none."""
         self.lines.write(text)
         self.lines.flush()
         if not text:
@@ -93,7 +93,7 @@ def pattern_of(shown: str) -> str:
 
 
 class Sessions(fixtures.Case):
-    """The sessions of shell.txt, over servers of the program or by hand."""
+    """The sessions of shell.txt, with servers of the program or by hand."""
 
     def assert_shows(self, words: list[str], lines: list[str]) -> None:
         files = {mark: dict(it[2:].split(" ", 1) for it in lines if it.startswith(mark)) for mark in "<>"}
@@ -110,7 +110,7 @@ class Sessions(fixtures.Case):
                 expect("files", before | after, {it.name: it.read_bytes().decode() for it in folder.iterdir()})
 
     def do(self, shell: Shell, server: ByHand, line: str) -> None:
-        """Does what a line of a session says, and waits for what must be shown then."""
+        """Does what a line of a session says, and waits for what must be shown."""
         typed, *shown = line.removesuffix("|").split(" | ")
         mark, _, text = typed.partition(" ")
         match mark:
@@ -137,10 +137,10 @@ for head, lines in fixtures.sections("shell.txt").items():
 
 
 class Typed(fixtures.Case):
-    """Control-C, and what is kept and completed of what is typed."""
+    """Control-C, the shell's file of earlier lines, and completion."""
 
     def test_control_c_at_the_prompt(self) -> None:
-        """A line that was begun is left out, and a new prompt comes."""
+        """A half-typed line is dropped, and a new prompt comes."""
         with talking("--program", self.program) as (shell, _):
             shell.wait_for(PROMPT)
             shell.type("insert 1 ")
@@ -154,7 +154,7 @@ class Typed(fixtures.Case):
             shell.leave(1, 0, 0, 0)
 
     def test_control_c_in_a_load(self) -> None:
-        """A load that is broken off reports how many rows came in, and just these are there."""
+        """An interrupted load reports how many rows it inserted, and exactly these are there."""
 
         def feed(path: pathlib.Path) -> None:
             with contextlib.suppress(OSError), open(path, "w") as file:
@@ -176,7 +176,7 @@ class Typed(fixtures.Case):
             shell.leave(int(rows) + 1, rows, 0, rows)
 
     def test_history_and_completion(self) -> None:
-        """What was typed is kept in a file, and comes back; words are completed by Tab."""
+        """Typed lines are kept in a file and can be recalled; Tab completes words."""
         if importlib.util.find_spec("readline") is None:
             self.skipTest("this Python has no readline")
         typed = {
