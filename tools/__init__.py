@@ -1,4 +1,4 @@
-"""A folder of checks that `python3 -m unittest` finds from the top; its modules name each other without it."""
+"""Checks that `python3 -m unittest` finds from the top. Its modules import each other without the package's name."""
 
 import pathlib
 import sys

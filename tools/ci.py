@@ -2,7 +2,7 @@
 """What a change must pass: `make test`, and then the must-fail edits that are due.
 
 If more are due than fit into the time, those of changed crates go first, and those that are left are named. The last
-line is the sum of all, 'N passed, M failed'; the status is 0 only where nothing failed.
+line is the sum of all, 'N passed, M failed'; the status is 0 only if nothing failed.
 """
 
 import pathlib
@@ -15,12 +15,12 @@ import due
 import edits
 import test
 
-# How long all may take, in seconds.
+# How many seconds all of it may take.
 WHOLE = 150 * 60
 
 
 def try_due(ends):
-    """Tries the edits that are due. How many were refused, and how many failed."""
+    """Tries the edits that are due. Returns how many were refused, and how many failed."""
     chosen, said = due.due()
     print(said, flush=True)
     if not edits.ready(sorted({it.crate for it in chosen})):
@@ -31,7 +31,7 @@ def try_due(ends):
     print("\n".join(trials.table()))
     print(f"edits: {len(trials.results)} were tried of {len(chosen)} that were due")
     if trials.waiting:
-        print(f"edits: left, for want of time: {', '.join(it.label for it in trials.waiting)}")
+        print(f"edits: left, for lack of time: {', '.join(it.label for it in trials.waiting)}")
     refused = sum(it.is_refused for it in trials.results)
     return refused, len(trials.results) - refused
 

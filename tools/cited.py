@@ -1,5 +1,5 @@
-"""Names of code that docs/PROOFS.md cites in a crate's section, and that neither are in its texts nor are those of a
-function or a public type."""
+"""Names of code that docs/PROOFS.md cites in a crate's section, and that are neither in the crate's texts nor a
+function or a public type elsewhere."""
 
 import pathlib
 import re
@@ -10,12 +10,12 @@ SECTION = re.compile(r"^## (crackd?_\w+)\n(.*?)(?=^## )", re.MULTILINE | re.DOTA
 QUOTED = re.compile(r"`([^`]+)`")
 NAME = re.compile(r"[A-Za-z_][\w-]*")
 NAMED = re.compile(r"\b(?:fn|pub struct|pub enum|pub trait) (\w+)")
-# what is in sections and isn't a name of code: words of statements and of policies, and a crate of the toolchain
+# what occurs in sections and isn't a name of code: words of statements and of policies, and a crate of the toolchain
 PLAIN = {"quit", "policy", "auto", "csv"}
 
 
 def texts(crate):
-    """All that a crate's folders of code, definitions and proofs have."""
+    """The texts of a crate's code, definitions and proofs."""
     paths = (
         it
         for folder in ("src", "specs", "proofs")
@@ -26,7 +26,7 @@ def texts(crate):
 
 
 def strangers(text, top=crates.TOP):
-    """The names of a page that are nowhere, each with the crate whose section cites it."""
+    """The names on a page that don't exist, each with the crate whose section cites it."""
     folders = {it.name: it for it in sorted((pathlib.Path(top) / "crates").iterdir())}
     functions = {
         name

@@ -1,9 +1,10 @@
 """Types, ghost members and calls of src/ as items, with what they cite.
 
 A type is its text, without attributes and comments; if it has a model, what clauses see is the model's value. A field
-that other crates don't see is left out where the model doesn't read it, or without a model no clause, definition or
-ghost member. A ghost member is one statement of a trait or of a block `impl`: of a model each is an item, else those of
-a block are one. A call is its clauses: it cites what they name, and the types and traits of its signature.
+that other crates don't see is left out if the model doesn't read it, or, without a model, if no clause, definition or
+ghost member does. A ghost member is one statement of a trait or of an `impl` block: each member of a model is an item,
+the members of any other block are one. A call is its clauses: it cites what they name, and the types and traits of its
+signature.
 """
 
 import dataclasses
@@ -14,8 +15,8 @@ import functions
 import sources
 
 # the members of a model that are read with its type: the others say that values can be distinguished, and which fields
-# make a value. What a type keeps of its own fields, its invariant, is a private clause: no value breaks it, and where a
-# promise rests on it a call says so by a clause.
+# make a value. What a type keeps of its own fields, its invariant, is a private clause: no value breaks it, and if a
+# promise relies on it, a clause of a call says so.
 READ = ("Value", "view")
 CLAUSE = re.compile(r"^\s*(requires|ensures)\*?\s+(\w*)")
 VARIANT = re.compile(r"(?m)^    \w+")
@@ -25,7 +26,7 @@ HIDDEN = re.compile(r"^    (?:pub\([a-z]+\) )?(\w+): ")
 
 @dataclasses.dataclass(frozen=True)
 class Clause:
-    """A clause of a call: whether callers must see to it, its name, its lines, and what it cites."""
+    """A clause of a call: whether callers must fulfil it, its name, its lines, and what it cites."""
 
     is_required: bool
     name: str
@@ -42,7 +43,7 @@ class Call(definitions.Item):
     clauses: tuple = ()
 
     def is_called(self, parts):
-        """Whether these are the parts of its path after its crate, with its modules or without them."""
+        """Whether these are the parts of its path after its crate, with or without its modules."""
         return tuple(parts) == self.path_called or "::".join([self.crate, *parts]) == self.name
 
 
@@ -62,15 +63,15 @@ def fields_read(items):
 
 
 def unread(source, span, read):
-    """The numbers of the lines of a span, from 1, that have fields which other crates don't see and that aren't read,
-    and of their comments."""
+    """The numbers of those lines of a span, from 1, that have fields which other crates don't see and nobody reads, and
+    of their comments."""
     found = [at for at in span if (field := HIDDEN.match(source.lines[at])) and field[1] not in read]
     return {at + 1 for at in found} | {number for at in found for number, _ in source.remarks(range(at, at + 1))}
 
 
 def type_items(source, names, models, read):
-    """The types and constants of a file. One that has a model cites the model's members, else the types of those fields
-    that are read."""
+    """The types and constants of a file. One that has a model cites the model's members, the others the types of those
+    fields that are read."""
     found = []
     for at, (_, keyword, name) in source.types().items():
         span, item = source.whole(at, ("}", ";")), source.named(name)
@@ -197,7 +198,7 @@ def signature_at(source, at):
 
 def is_call_public(source, text, short, block, names):
     """Whether a function is public: it says so or is of a trait, and its type, or else its module, is public, or the
-    crate hands it on."""
+    crate re-exports it."""
     if not block:
         return text.startswith("pub ") and (source.is_open or (source.crate, short) in names.handed)
     return (block.is_trait or block.trait != "" or text.lstrip().startswith("pub ")) and is_owner_public(
@@ -206,7 +207,7 @@ def is_call_public(source, text, short, block, names):
 
 
 def call_at(source, span, block, names):
-    """The function whose first lines these are, as a call."""
+    """The function that begins with these lines, as a call."""
     lines = source.said(span)
     text, short = text_of(lines), functions.FUNCTION.match(source.lines[span[0]])[2]
     scope, heading = (block.scope, source.lines[block.span[0]]) if block else (source.scope, "")
@@ -236,7 +237,7 @@ def calls_of(source, blocks, names):
 
 
 def items_of(files, names, others):
-    """All items of these files of src/, whose scopes are filled, beside the definitions."""
+    """All items of these files of src/, whose scopes are filled, except the definitions."""
     found, models = [], {}
     blocks = {source.path: sources.blocks_of(source) for source in files}
     for source in files:

@@ -1,4 +1,4 @@
-"""The crates that crates.txt lists: what they stand on, their files, and sums of all that a proof rests on."""
+"""The crates that crates.txt lists: what they use, their files, and sums of all that a proof depends on."""
 
 import dataclasses
 import functools
@@ -50,8 +50,7 @@ class Crate:
 
 
 def parsed(text):
-    """The lines of a crates.txt by the names of their crates, in their order: each line, and the words after its
-    colon."""
+    """The lines of a crates.txt by the names of their crates, in order: each line, and the words after its colon."""
     lines = [it.partition("#")[0].strip() for it in text.splitlines()]
     parted = [(line, line.partition(":")) for line in lines if line]
     return {before.split()[0]: (line, after.split()) for line, (before, _, after) in parted}
@@ -78,7 +77,7 @@ def listed():
 
 @functools.lru_cache(maxsize=None)
 def below(name):
-    """The crates that a crate stands on, each after those that it uses itself."""
+    """The crates below a crate, each after those that it uses itself."""
     used = set()
     for it in listed()[name].uses:
         used |= {it, *(crate.name for crate in below(it))}
@@ -90,7 +89,7 @@ def toolchain():
     """What distinguishes one toolchain from another, found without starting it."""
     rt = shutil.which("rt")
     if not rt:
-        sys.exit("the command rt isn't installed: CONTRIBUTING.md says what has to be")
+        sys.exit("the command rt isn't installed: CONTRIBUTING.md lists what is needed")
     path = pathlib.Path(rt).resolve()
     kit, stat = path.parent.parent / "KIT-ID", path.stat()
     return kit.read_text() if kit.exists() else f"{path} {stat.st_size} {stat.st_mtime_ns}"
@@ -98,7 +97,7 @@ def toolchain():
 
 @functools.lru_cache(maxsize=None)
 def sum_of(name):
-    """A sum of all that a crate's proof rests on: the toolchain, its line and its files, and the same of the crates
+    """A sum of all that a crate's proof depends on: the toolchain, its line and its files, and the same for the crates
     below it."""
     crate = listed()[name]
     told = hashlib.sha256(f"{toolchain()}\n{crate.line}\n".encode())

@@ -1,9 +1,9 @@
 #!/usr/bin/env python3
-"""Writes docs/DEFINITIONS.md from the comments in specs/, or says whether it is up to date: defined.py [--check]
+"""Writes docs/DEFINITIONS.md from the comments in specs/, or checks whether it is up to date: defined.py [--check]
 
-Each definition of specs/ stands there with the comment above it, crate by crate and file by file; one without a comment
-shares that of the definition before it. Modules that private clauses alone cite are left out, as nobody has to read
-them to know what is promised.
+It has each definition of specs/ with the comment above it, crate by crate and file by file; one without a comment
+shares that of the previous definition. Modules that only private clauses cite are left out, as nobody has to read them
+to know what is promised.
 """
 
 import itertools
@@ -19,15 +19,17 @@ PAGE = crates.TOP / "docs" / "DEFINITIONS.md"
 PRIVATE = "-- What private clauses alone cite."
 HEAD = """# Definitions
 
-The names that public contracts cite, with the comments above them in the crates' `specs` folders. Every definition is over lists, finite maps and integers.
-[PROOFS.md](PROOFS.md) says what is proved with them, and `make trust` prints the full text of those that a promise needs.
+The names that public contracts cite, with the comments above them in the crates' `specs` folders. \
+Every definition is over lists, finite maps and integers.
+[PROOFS.md](PROOFS.md) says what is proved with them, and `make trust` prints the full text of those \
+that a promise needs.
 
 This page is written by `python3 tools/defined.py`.
 """
 
 
 def is_private(path):
-    """Whether private clauses alone cite what is in a file."""
+    """Whether only private clauses cite what is in a file."""
     return path.read_text(encoding="utf-8").startswith(PRIVATE)
 
 
@@ -47,7 +49,7 @@ def sentence(text):
 
 
 def purpose(path):
-    """What a file of definitions says of itself: the comment that it begins with."""
+    """What a file of definitions says about itself: its first comment."""
     lines = itertools.takewhile(lambda line: line.startswith("--"), path.read_text(encoding="utf-8").splitlines())
     return " ".join(line.removeprefix("--").strip() for line in lines)
 
@@ -78,7 +80,7 @@ def page():
 
 
 def uncommented():
-    """The definitions on the page that begin a file without a comment, which none before them could share."""
+    """The definitions on the page that come first in a file without a comment, so that there is none to share."""
     folders = [it.folder for it in crates.listed().values() if it.name not in reading.LEFT_OUT]
     every = [it for folder in folders for it in definitions.definitions_of(folder) if not is_private(it.path)]
     first = {it.path: it for it in reversed(every)}

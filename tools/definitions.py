@@ -1,9 +1,9 @@
 """The definitions of specs/ as items, with what each of them cites, and the names that a text cites.
 
-What the crates say is read into items: definitions here, and types, ghost members and calls in contracts.py. Each has a
-name: `crack_part.Parts.IsSound` is a definition, `crack_part::partition::Partition` a type. Names are distinguished by
-the file's own definitions and its `use` lines; what a text binds itself, and fields after a full stop, are none. What
-is of no crate of the repository is no item.
+The contents of the crates are read into items: definitions here, and types, ghost members and calls in contracts.py.
+Each has a name: `crack_part.Parts.IsSound` is a definition, `crack_part::partition::Partition` a type. Names are
+resolved by the file's own definitions and its `use` lines; names that a text binds itself, and fields after a full
+stop, aren't items. Nothing outside the repository's crates is an item.
 """
 
 import dataclasses
@@ -26,8 +26,8 @@ ASSIGNED = re.compile(r"(?m)(?:[{;]|^)\s*(\w+) =(?=\s)")
 
 @dataclasses.dataclass(frozen=True, eq=False)
 class Item:
-    """What is in a crate's texts under one name. Its lines, each with its number, are those that count; beside them are
-    comments, and the first lines of a function. It cites other items by their names."""
+    """What a crate defines under one name. Its numbered lines are those that count; comments, and the first lines of a
+    function, are kept separately. It cites other items by their names."""
 
     name: str
     kind: str
@@ -45,8 +45,8 @@ class Item:
 
 
 def named_by(crate, module, name=""):
-    """The item that a name of a module of definitions is. A module below `declared` is that of a type or of constants
-    of src/."""
+    """The item that a name in a module of definitions means. A module below `declared` is that of a type or of
+    constants of src/."""
     first, *parts = module.split(".")
     if first != "declared":
         return f"{crate}.{module}.{name}"
@@ -55,8 +55,7 @@ def named_by(crate, module, name=""):
 
 
 def used(line):
-    """The names that a `use` line brings, each with the item that it is, or, with a full stop after it, with the
-    module."""
+    """The names that a `use` line imports, each with its item, or, with a full stop after it, with its module."""
     found = USE.match(line)
     if not found:
         return {}
@@ -69,7 +68,7 @@ def used(line):
 
 
 def plain(text):
-    """A text without comments and without what is in quotes."""
+    """A text without comments and quoted parts."""
     return re.sub(r'"[^"\n]*"', '""', re.sub(r"(?m)(?:--|//).*$", "", text))
 
 
@@ -85,14 +84,15 @@ def bound_in(text):
 
 
 def arguments_of(name, lines):
-    """The names of a definition's arguments in its equations; what begins with a capital letter is a constructor."""
+    """The names of a definition's arguments in its equations; a name that begins with a capital letter is a
+    constructor."""
     heads = [line.partition(" = ")[0] for _, line in lines if line.startswith(name + " ")]
     words = {it for head in heads if " : " not in head for it in re.findall(r"[^\s(){}∷,]+", head)[1:]}
     return {it for it in words if not it[0].isupper()}
 
 
 def cited(text, scope, bound):
-    """The items that a text cites: what a scope says of its words, but for those that are bound."""
+    """The items that a text cites: the meanings of its words in a scope, except for bound ones."""
     found, module = set(), ""
     for dot, word in WORD.findall(plain(text)):
         item = module + word if dot and module else "" if dot or word in bound else scope.get(word, "")
@@ -103,7 +103,7 @@ def cited(text, scope, bound):
 
 
 def pieces(text):
-    """The definitions of a text in their order: the name of each, its lines, and the comments above and in it."""
+    """The definitions of a text in order: the name of each, its lines, and the comments above and in it."""
     found, above, is_inside = [], [], False
     for number, line in enumerate(text.splitlines(), 1):
         is_inside = line.startswith("module ") or (is_inside and line[:1] in ("", " "))
@@ -120,7 +120,7 @@ def pieces(text):
         elif found:
             found[-1][2 if line.lstrip().startswith("--") else 1].append((number, line))
         else:
-            raise ValueError(f"line {number} is of no definition: {line}")
+            raise ValueError(f"line {number} belongs to no definition: {line}")
     return found
 
 

@@ -1,10 +1,9 @@
 """Which must-fail edits are due: those of the crates that changed since all were tried, and a tenth of the others.
 
-A crate has changed where its own text has (sources, definitions or proofs, without lines of comment), or where it names
+A crate has changed if its own text has (sources, definitions or proofs, without comment lines), or if it names
 something of a crate below it whose meaning has: a definition, the statement of a law, a type, or a function's contract,
-be it that its own text changed or that of something which it names in turn. What is in a function's body or in a law's
-proof is of no meaning for the crates above. Of a crate that hasn't changed, the edits are due that are new or changed
-themselves.
+whether its own text changed or that of something which it names in turn. The body of a function and the proof of a law
+have no meaning for the crates above. In a crate that hasn't changed, edits that are new or changed themselves are due.
 """
 
 import hashlib
@@ -23,17 +22,17 @@ RUST_ITEM = re.compile(
 
 
 def words_of(text):
-    """The words of a text, comments left out."""
+    """The words of a text, without comments."""
     return set(WORD.findall(re.sub(r"(?m)(?:--|//).*$", "", text)))
 
 
 def without_comments(text):
-    """A file's text without its lines of comment, which no proof depends on."""
+    """A file's text without its comment lines, on which no proof depends."""
     return COMMENT_LINE.sub("", text).strip()
 
 
 def definitions(text, with_bodies):
-    """The items of a file of definitions or laws by name: their text, or their statement alone."""
+    """The items of a file of definitions or laws by name: their text, or only their statement."""
     found, name, is_body = {}, "", False
     for line in text.splitlines():
         if not line.strip() or line.startswith("--"):
@@ -41,7 +40,7 @@ def definitions(text, with_bodies):
         if not line[0].isspace():
             name = ITEM.match(line)[1] if ITEM.match(line) else line
             is_body = name in found and "=" in line and ":" not in line.partition("=")[0]
-        # (which names a file brings from others is of no meaning of its own)
+        # (which names a file imports has no meaning by itself)
         if name not in ("use", "mod") and (with_bodies or not is_body):
             found[name] = found.get(name, "") + line.strip() + "\n"
     return found
@@ -86,7 +85,7 @@ def items_of(path, text):
 
 
 def texts_before(commit, crate):
-    """A crate's files at a commit, by path, without lines of comment."""
+    """A crate's files at a commit, by path, without comment lines."""
     prefix = f"crates/{crate.name}/"
     folders = [f"{prefix}{it}" for it in crates.PARTS]
     names = edits.git("ls-tree", "-r", "--name-only", commit, "--", *folders).splitlines()
@@ -94,7 +93,7 @@ def texts_before(commit, crate):
 
 
 def texts_now(crate):
-    """A crate's files as they are, by path, without lines of comment."""
+    """A crate's files as they are, by path, without comment lines."""
     return {
         str(it.relative_to(crate.folder)): without_comments(it.read_text(errors="replace")) for it in crate.sources()
     }
@@ -110,7 +109,7 @@ def stated(texts):
 
 
 def alike(one, other):
-    """Whether two texts differ in their spaces and ends of lines alone."""
+    """Whether two texts differ only in spaces and line ends."""
     return "".join((one or "").split()) == "".join((other or "").split())
 
 
@@ -141,7 +140,7 @@ def changed_crates(commit):
 
 
 def since():
-    """The commit whose edits were all tried, if it is one that this one comes from."""
+    """The commit whose edits were all tried, if it is an ancestor of this one."""
     commit = edits.TRIED.read_text().strip() if edits.TRIED.exists() else ""
     kind = edits.git("cat-file", "-t", commit) if re.fullmatch(r"[0-9a-f]{40}", commit) else ""
     base = edits.git("merge-base", commit, "HEAD") if kind == "commit" else ""
@@ -149,26 +148,26 @@ def since():
 
 
 def is_new(edit, commit):
-    """Whether an edit's own text isn't that of the commit."""
+    """Whether an edit's own text differs from that of the commit."""
     path = f"crates/{edit.crate}/must-fail/{edit.name}"
     return edits.git("show", f"{commit}:{path}") != (crates.TOP / path).read_text(errors="replace").strip()
 
 
 def is_drawn(edit, commit):
-    """Whether an edit is of the tenth that a commit draws."""
+    """Whether an edit belongs to the tenth that a commit draws."""
     return hashlib.sha256(f"{commit} {edit.label}".encode()).digest()[0] * 10 < 256
 
 
 def due():
-    """The edits that are due, those of changed crates first, and what is said of them."""
+    """The edits that are due, those of changed crates first, and a line about them."""
     every = [edit for crate in crates.listed().values() for edit in edits.edits_of(crate)]
     commit = since()
     if not commit:
-        return every, "edits: no commit is known all of whose edits were tried, so all are due"
+        return every, "edits: there is no commit whose edits were all tried, so all are due"
     changed = changed_crates(commit)
     head = edits.git("rev-parse", "HEAD")
     first = [it for it in every if it.crate in changed or is_new(it, commit)]
     others = [it for it in every if it not in first and is_drawn(it, head)]
     of = ", ".join(sorted(changed & {it.crate for it in first})) or "none"
-    said = f"edits: {len(first)} are due, new ones or of crates that changed since {commit[:12]} ({of}), and {len(others)} are drawn of the others"
-    return [*first, *others], said
+    said = f"edits: {len(first)} are due, new ones or of crates that changed since {commit[:12]} ({of})"
+    return [*first, *others], f"{said}, and {len(others)} are drawn from the others"

@@ -1,18 +1,18 @@
 #!/usr/bin/env python3
-"""Tries must-fail edits, wrong bodies that the prover has to refuse: edits.py [CRATE..]
+"""Tries must-fail edits, wrong bodies that the prover must refuse: edits.py [CRATE..]
 
-All of them, or those of the crates that are named. The crates are proved first, as far as they aren't up to date. Then
-edits are tried side by side, as many as there are processors and memory for, each over what a check of its crate kept.
+It tries all of them, or those of the named crates. First it proves the crates that aren't up to date. Then edits are
+tried in parallel, as many as there are processors and memory for, each starting from what a check of its crate kept.
 
 Edits that change different functions are tried together, in one check: a function's proof may cite what the others
-promise and nothing of their bodies, and a check says of each function whether its own proof stands, or lacks only that
-of another. An edit is refused where the function that it changes isn't proved itself. So functions of which one may
-call the other are tried apart. Where a check of several leaves an edit open all the same (its function lacks another's
-proof, or is proved), that one is tried again among fewer, and at last by itself: then it is refused where the crate
-isn't proved. An edit that cannot be applied or read is a failure, as one that isn't refused is.
+promise and nothing of their bodies, and a check says for each function whether its own proof holds, or only lacks that
+of another. An edit is refused if the function that it changes isn't proved itself. So functions of which one may call
+the other are tried separately. If a check of several leaves an edit open all the same (its function lacks another's
+proof, or is proved), it is tried again among fewer, and finally by itself: then it is refused if the crate isn't
+proved. An edit that can't be applied or read is a failure, like one that isn't refused.
 
-At the end stands a table of the processor seconds that an edit takes, with its share of the check without edits that
-its crate pays first. Where all edits of all crates were refused, and the crates are those of the last commit,
+At the end there is a table of the processor seconds that an edit takes, with its share of the check without edits that
+its crate needs first. If all edits of all crates were refused, and the crates are those of the last commit,
 tools/edits-tried names that commit. The last line is 'N passed, M failed'.
 """
 
@@ -32,9 +32,9 @@ import prove
 import rooms
 
 TRIED = crates.TOP / "tools" / "edits-tried"
-# How many edits one check tries at most, from round to round.
+# How many edits one check tries at most, by round.
 SIZES = (8, 3, 1)
-# What a check of several edits takes at most, for a start; then what was seen decides.
+# How many seconds a check of several edits takes at most, at first; later it is what was observed.
 SECONDS = 60.0
 UNREAD = re.compile(r"is not in scope|has no field|is no name|operand is missing|expected the end|cannot continue")
 ERROR = re.compile(r"(?:\./)?(\S+?):\d+:\d+: error: (?:(`[^`]*`): )?(.*)")
@@ -42,8 +42,8 @@ ERROR = re.compile(r"(?:\./)?(\S+?):\d+:\d+: error: (?:(`[^`]*`): )?(.*)")
 
 @dataclasses.dataclass(frozen=True)
 class Edit:
-    """An edit: its crate, its name, its changes (the file, the old text and the new), and the function that it changes
-    if it is one alone."""
+    """An edit: its crate, its name, its changes (the file, the old text and the new), and the function that it changes,
+    if there is only one."""
 
     crate: str
     name: str
@@ -83,23 +83,23 @@ def read(path, crate):
             changes.append((file, old, new))
             old = None
     if not changes or old:
-        return Edit(crate.name, path.name, (), None, "it is no list of files with pairs of 'old:' and 'new:'")
+        return Edit(crate.name, path.name, (), None, "it isn't a list of files with pairs of 'old:' and 'new:'")
     return Edit(crate.name, path.name, tuple(changes), *(places if len(places) == 1 else ()))
 
 
 def edits_of(crate):
-    """The edits of a crate; a file that is none has its fault."""
+    """The edits of a crate; a file that isn't one has a fault."""
     folder = crate.folder / "must-fail"
     others = [it for it in folder.rglob("*") if it.is_file() and it.suffix != ".md" and it not in crate.edits()]
     wrong = [
-        Edit(crate.name, it.name, (), None, "an edit stands right in must-fail/, and its name ends in .edit")
+        Edit(crate.name, it.name, (), None, "an edit is directly in must-fail/, and its name ends in .edit")
         for it in sorted(others)
     ]
     return [*(read(it, crate) for it in crate.edits()), *wrong]
 
 
 def applied(edits):
-    """The texts of the files that these edits of one crate change, or None if they can't be made together."""
+    """The texts of the files that these edits of one crate change, or None if the edits can't be made together."""
     folder, texts = crates.listed()[edits[0].crate].folder, {}
     for file, old, new in (change for it in edits for change in it.changes):
         text = texts[file] if file in texts else (folder / file).read_text()
@@ -111,7 +111,7 @@ def applied(edits):
 
 @functools.lru_cache(maxsize=None)
 def reached_in(name):
-    """For each function of a crate those that it may come to call."""
+    """For each function of a crate those that it may call, directly or not."""
     crate = crates.listed()[name]
     return functions.reached(
         {str(it.relative_to(crate.folder)): it.read_text() for it in crate.sources() if it.suffix == ".rt"}
@@ -119,7 +119,7 @@ def reached_in(name):
 
 
 def are_apart(one, other):
-    """Whether two edits of a crate change one function each, of which neither is the other nor may call it."""
+    """Whether two edits of a crate change one function each, two different ones of which neither may call the other."""
     if not one.function or not other.function or one.function == other.function:
         return False
     reached = reached_in(one.crate)
@@ -127,8 +127,8 @@ def are_apart(one, other):
 
 
 def batches(edits, size):
-    """Parts these edits of one crate into lists of at most this many, each of edits that can be tried together: first
-    those that go with the fewest."""
+    """Divides these edits of one crate into lists of at most this many, each of edits that can be tried together: those
+    that fit with the fewest others first."""
     made = []
     for edit in sorted(edits, key=lambda it: sum(are_apart(it, other) for other in edits)):
         fits = (
@@ -145,7 +145,7 @@ def batches(edits, size):
 
 
 def kept_stamp(crate):
-    """The file that says of which text a crate's last check without edits was."""
+    """The file that says which text a crate's last check without edits was about."""
     return crate.out / "proved" / "kept-stamp"
 
 
@@ -154,8 +154,8 @@ def is_kept(crate):
 
 
 class Check:
-    """What a check of a crate with some edits, or with none, said. If it has none, what it keeps is what checks with
-    edits begin with."""
+    """What a check of a crate with some edits, or with none, said. If it has none, checks with edits begin with what it
+    keeps."""
 
     def __init__(self, crate, edits, jobs):
         texts = applied(edits) if edits else {}
@@ -181,8 +181,8 @@ class Check:
 
     @staticmethod
     def is_unread(line, texts):
-        """Whether a text of src/, specs/ or a changed file could not be read, where an edit that only makes a statement
-        false reads well."""
+        """Whether a text of src/, specs/ or a changed file could not be read; an edit that only makes a statement false
+        can be."""
         found = ERROR.match(line)
         if not found or not (found[1] in texts or found[1].startswith(("src/", "specs/"))):
             return False
@@ -195,13 +195,14 @@ class Check:
     def refuses(self, edit):
         """Whether the function that an edit changes isn't proved itself."""
         named = [said for name, said in self.functions.items() if edit.function.is_named(name.split("::"))]
-        # (one that no file answers has no proof, and is told what to answer; what lacks another's proof is told whose)
+        # (one that no file answers has no proof, and the check says what to answer; one that lacks another's proof
+        # names it)
         return self.is_refused and any(
             it == "not proved" or it.startswith("no proof: expected answers") for it in named
         )
 
     def reason(self, edit):
-        """The first error about the function, as far as that can be seen."""
+        """The first error about the function, if there is one."""
         errors = [found for it in self.lines if (found := ERROR.match(it))]
         parts = [*edit.function.module, edit.function.owner, edit.function.name] if edit.function else []
         own = [it for it in errors if all(part in it[1].split("/") for part in parts if part)]
@@ -211,7 +212,7 @@ class Check:
 
 @dataclasses.dataclass
 class Result:
-    """How a trial of an edit ended: whether it was refused, and the processor seconds that are its share."""
+    """How a trial of an edit ended: whether it was refused, and its share of processor seconds."""
 
     edit: Edit
     is_refused: bool
@@ -235,11 +236,11 @@ class Trials:
         self.say(f"must-fail {edit.label}: {text}")
 
     def is_over(self):
-        """Whether a check that was begun now might end too late."""
+        """Whether a check that begins now might end too late."""
         return self.ends is not None and time.monotonic() + self.batch_seconds > self.ends
 
     def keep(self, crate, jobs):
-        """Checks a crate without edits, where what is kept isn't of its text."""
+        """Checks a crate without edits, if what is kept isn't of its text."""
         if not is_kept(crate):
             check = Check(crate, [], jobs)
             self.kept_seconds[crate.name] = check.seconds
@@ -250,7 +251,7 @@ class Trials:
         return []
 
     def try_batch(self, batch, jobs):
-        """Tries some edits in one check. Returns those that it leaves open; one by itself is judged."""
+        """Tries some edits in one check. Returns those that it leaves open; an edit by itself is judged."""
         why = self.unkept.get(batch[0].crate)
         if why is not None:
             for edit in batch:
@@ -261,7 +262,7 @@ class Trials:
         self.batch_seconds = max(check.taken, 0.8 * self.batch_seconds)
         seconds = check.seconds / len(batch)
         if len(batch) == 1:
-            # (a check that ended in neither way, as one that was killed for lack of memory, is made once more)
+            # (a check that ended in neither way, such as one that was killed for lack of memory, is repeated once)
             self.judge(batch[0], check if check.status in (0, 1) else Check(crate, batch, jobs))
             return []
         left = []
@@ -284,14 +285,14 @@ class Trials:
         self.end(edit, check.is_refused, check.seconds, text)
 
     def run(self):
-        """Tries all that waits. Those for which there was no time are left waiting."""
+        """Tries all that wait. Those for which there was no time stay in the list."""
         for size in SIZES:
             if not self.waiting or self.is_over():
                 return
             self.round(size)
 
     def round(self, size):
-        """One round: each edit that waits is tried once, among at most this many."""
+        """One round: each waiting edit is tried once, among at most this many."""
         by_crate = collections.defaultdict(list)
         for edit in self.waiting:
             by_crate[edit.crate].append(edit)
@@ -300,7 +301,7 @@ class Trials:
             crate = crates.listed()[name]
             need, parted, waits = lanes.need_of(crate, crates.below(name)), batches(edits, size), []
             if len(parted) > 1:
-                # (a check that no other follows gains nothing from one without edits before it)
+                # (a single check gains nothing from one without edits before it)
                 waits = [(name, -1)]
                 tasks[name, -1] = lanes.Task([], 1, need, functools.partial(self.keep, crate), most_jobs=1)
             for at, batch in enumerate(parted):
@@ -315,7 +316,7 @@ class Trials:
         self.waiting = [edit for batch in open_ones.values() for edit in batch]
 
     def table(self):
-        """The processor seconds of the edits, by crate, with those of the check without edits that a crate pays first,
+        """The processor seconds of the edits, by crate, with those of the check without edits that a crate needs first,
         and those that took most."""
         by_crate = collections.defaultdict(list)
         for it in self.results:
@@ -326,13 +327,14 @@ class Trials:
         for name, found, first in rows:
             seconds = sum(it.seconds for it in found)
             refused = sum(it.is_refused for it in found)
-            yield f"{name:24}{len(found):7}{refused:9}{seconds:9.0f}{first:7.0f}{(seconds + first) / max(len(found), 1):9.1f}"
+            each = (seconds + first) / max(len(found), 1)
+            yield f"{name:24}{len(found):7}{refused:9}{seconds:9.0f}{first:7.0f}{each:9.1f}"
         slowest = sorted(self.results, key=lambda it: -it.seconds)[:5]
         yield "slowest: " + ", ".join(f"{it.edit.label} {it.seconds:.0f}" for it in slowest)
 
 
 def ready(names):
-    """Proves these crates and those below them, as far as they aren't up to date. Whether all are proved."""
+    """Proves these crates and those below them, unless they are up to date. Returns whether all are proved."""
     prover = prove.Prover(prove.say)
     held = rooms.held({it.name for name in names for it in [*crates.below(name), crates.listed()[name]]})
     is_well = prover.prove_all(names)
@@ -342,13 +344,13 @@ def ready(names):
 
 
 def git(*words):
-    """What git says of the checkout; nothing if there is none."""
+    """What git says about the checkout; nothing if there is none."""
     ran = subprocess.run(["git", *words], cwd=crates.TOP, capture_output=True, text=True, check=False)
     return ran.stdout.strip() if ran.returncode == 0 else ""
 
 
 def keep_commit():
-    """Writes which commit's edits were all refused, where the crates are those of a commit."""
+    """Writes down the commit whose edits were all refused, if the crates are those of a commit."""
     commit = git("rev-parse", "HEAD")
     if not commit or git("status", "--porcelain", "--", "crates", "crates.txt"):
         print("the crates aren't those of a commit, so tools/edits-tried stays as it is")

@@ -1,4 +1,4 @@
-"""Functions in the texts of a crate: which one a place lies in, how a check names it, and which others it may call."""
+"""Functions in the texts of a crate: which one contains a place, how a check names it, and which others it may call."""
 
 import collections
 import dataclasses
@@ -11,7 +11,7 @@ BLOCK = re.compile(r"^(?:pub(?:\([^)]*\))?\s+)?(?:unsafe\s+)?(impl|trait)\b(.*)"
 
 @dataclasses.dataclass(frozen=True)
 class Function:
-    """A function: its module's path, the type that it is of and that type's trait, where it has them, and its name."""
+    """A function: its module's path, its type and that type's trait, if any, and its name."""
 
     module: tuple
     owner: str
@@ -32,7 +32,7 @@ class Function:
 
 
 def module_of(path):
-    """The path of the module that a file below src/ is."""
+    """The path of the module of a file below src/."""
     parts = path.removeprefix("src/").removesuffix(".rt").split("/")
     return tuple(it for it in parts if it not in ("lib", "main", "mod"))
 
@@ -59,7 +59,7 @@ def owner_of(header):
 
 
 def function_at(path, text, at):
-    """The function in whose lines a place of a file's text lies, or None."""
+    """The function in whose lines a place of a file's text is, or None."""
     lines = text[: text.find("\n", at) if "\n" in text[at:] else len(text)].split("\n")
     indent = len(lines[-1]) - len(lines[-1].lstrip())
     row = next(
@@ -86,8 +86,8 @@ def function_at(path, text, at):
 
 
 def reached(texts):
-    """For each function of these texts, by path, the functions that it may come to call: all whose names it calls, and
-    what these call in turn."""
+    """For each function of these texts, by path, the functions that it may call, directly or not: all whose names it
+    calls, and what these call in turn."""
     names, of_name = collections.defaultdict(set), collections.defaultdict(set)
     for path, text in texts.items():
         for found in CALL.finditer(text):

@@ -1,9 +1,9 @@
 """The gate: proves every crate from nothing, runs the tests, and runs each program as both compilers build it.
 
-`rt ci` has no switch for the must-fail edits, so it runs on a copy of this checkout that has none, and what it built is
-brought back: `make run` and `make edits` prove nothing again that it has proved. What it writes is passed on as it
-comes. The processor time of each crate, for its proof and its tests, is read off the system's list of processes (/proc)
-four times a second; what a process used after it was last seen is missing.
+`rt ci` has no option for leaving out the must-fail edits, so it runs on a copy of this checkout that has none, and what
+it built is moved back: `make run` and `make edits` don't prove that again. Its output is passed on as it comes. The
+processor time of each crate, for its proof and its tests, is taken from the system's list of processes (/proc) four
+times a second; what a process used after it was last observed is missing.
 """
 
 import collections
@@ -25,23 +25,23 @@ from crates import TOP
 
 CRATES = TOP / "crates"
 SUM = re.compile(r"(\d+) passed, (\d+) failed")
-# what a copy leaves out, wherever it stands, and what it leaves out of each crate
+# what a copy leaves out everywhere, and what it leaves out of each crate
 LEFT_OUT, LEFT_OUT_OF_CRATES = {".git", "__pycache__"}, {"out", "must-fail"}
 # what is known of a process: its parent, its start, and its own processor time in seconds; and on which crate it works,
-# and whether it proves `tests` of it, or else proves, builds or runs the crate itself
+# and whether it proves the crate's `tests`, or else proves, builds or runs the crate itself
 Stat = tuple[int, str, float]
 Task = tuple[str, str]
 CRATE, KINDS = re.compile(r"--crate-name\s(\S+)"), ["proof", "tests"]
 
 
 def left_out(folder: str, names: list[str]) -> list[str]:
-    """What of a folder isn't copied."""
+    """The names in a folder that aren't copied."""
     is_crate = pathlib.Path(folder).parent == CRATES
     return [it for it in names if it in LEFT_OUT or (is_crate and it in LEFT_OUT_OF_CRATES)]
 
 
 def stats() -> dict[int, Stat]:
-    """The processes that are there: the parent of each, its start, and its own processor time in seconds."""
+    """The running processes: the parent of each, its start, and its own processor time in seconds."""
     found = {}
     for path in pathlib.Path("/proc").glob("[0-9]*/stat"):
         try:
@@ -54,7 +54,7 @@ def stats() -> dict[int, Stat]:
 
 
 def task_of(process: int) -> Task | None:
-    """The crate that a process works on, and what it does; None where that can't be told."""
+    """The crate that a process works on, and what it does; None if that can't be found."""
     try:
         words = pathlib.Path(f"/proc/{process}/cmdline").read_bytes().replace(b"\0", b" ").decode(errors="replace")
     except OSError:
@@ -69,7 +69,7 @@ class Sampler(threading.Thread):
     def __init__(self, root: int) -> None:
         super().__init__(daemon=True)
         self.root, self.ended = root, threading.Event()
-        # by process and start: the task, and the processor time that was seen last
+        # by process and start: the task, and the processor time that was observed last
         self.seen: dict[tuple[int, str], tuple[Task | None, float]] = {}
 
     def run(self) -> None:
@@ -104,25 +104,25 @@ class Sampler(threading.Thread):
 
 @contextlib.contextmanager
 def copied() -> typing.Iterator[pathlib.Path]:
-    """A copy of this checkout without the edits, gone at its end."""
+    """A copy of this checkout without the edits, removed at the end."""
     with tempfile.TemporaryDirectory(prefix="crackd-test-") as room:
         top = pathlib.Path(room) / "crackd"
         shutil.copytree(TOP, top, ignore=left_out)
-        # (so that the gate knows it for the top of a repository, wherever it lies)
+        # (so that the gate takes it for the top of a repository, wherever it is)
         (top / ".git").mkdir()
         yield top
 
 
 def sums() -> dict[str, str]:
-    """The sum of what each crate's proof rests on, by its name."""
+    """The sum of what each crate's proof depends on, by its name."""
     crates.sum_of.cache_clear()
     return {name: crates.sum_of(name) for name in crates.listed()}
 
 
 def bring_back(top: pathlib.Path, unchanged: set[str]) -> None:
-    """Brings what was built in a copy back, and takes away each program that wasn't.
+    """Moves what was built in a copy back, and removes each program that wasn't built.
 
-    Of the crates that are named the copy has the text that stands here, so what was built of them is up to date.
+    Of the named crates the copy has the text that is here, so what was built of them is up to date.
     """
     held = rooms.held(crates.listed())
     for crate in crates.listed().values():
@@ -144,7 +144,7 @@ def bring_back(top: pathlib.Path, unchanged: set[str]) -> None:
 
 
 def bring_tests_back(top: pathlib.Path) -> None:
-    """Brings the test programs that were built in a copy back, in place of those that lie here."""
+    """Moves the test programs that were built in a copy back, in place of those that are here."""
     for old in TOP.glob("crates/*/out/*_tests"):
         old.unlink()
     for made in top.glob("crates/*/out/*_tests"):
@@ -154,7 +154,8 @@ def bring_tests_back(top: pathlib.Path) -> None:
 
 
 def run() -> tuple[int, int, list[str]]:
-    """Runs the gate on a copy. How many passed, how many failed, at least one where it does, and its times."""
+    """Runs the gate on a copy. Returns how many passed, how many failed (at least one if the gate fails), and its
+    times."""
     before = sums()
     with copied() as top:
         unchanged = {name for name, it in sums().items() if before[name] == it}
@@ -166,11 +167,11 @@ def run() -> tuple[int, int, list[str]]:
         for line in started.stdout:
             said = SUM.fullmatch(line.rstrip("\n"))
             if said:
-                # (the last line alone of all that is written has this form)
+                # (only the last line of the output has this form)
                 last, line = said, f"gate: {line}"
             sys.stdout.write(line)
             sys.stdout.flush()
-        # (its processes are gone once its output ends)
+        # (its processes have ended once its output ends)
         sampler.stop()
         status = started.wait()
         bring_back(top, unchanged)

@@ -1,4 +1,5 @@
-"""Runs tasks in parallel: as many as there are processors and memory for, and first those on which most others wait."""
+"""Runs tasks in parallel: as many as there are processors and memory for, and first those for which most others
+wait."""
 
 import concurrent.futures
 import os
@@ -15,7 +16,7 @@ def processors():
 
 
 def memory():
-    """How much memory is free, in bytes; if the system doesn't say, as much as there is a need for."""
+    """How much memory is free, in bytes; unlimited if the system doesn't say."""
     try:
         found = re.search(r"MemAvailable:\s+(\d+)", pathlib.Path("/proc/meminfo").read_text())
     except OSError:
@@ -24,20 +25,20 @@ def memory():
 
 
 def need_of(crate, below):
-    """How much memory a check of a crate may take, in bytes, as measured: a gigabyte, and so much a line."""
+    """How much memory a check of a crate may take, in bytes, as measured: a gigabyte, and an amount per line."""
     own = 1_000_000 * crate.lines(".rt") + 200_000 * crate.lines(".antt")
     return 1_000_000_000 + own + 80_000 * sum(it.lines(".rt") for it in below)
 
 
 class Task:
-    """A task: the keys of those that it waits for, its weight, the memory that it needs, and a call that is given a
-    number of jobs."""
+    """A task: the keys of those that it waits for, its weight, the memory that it needs, and a call that takes a number
+    of jobs."""
 
     def __init__(self, waits, weight, need, call, most_jobs=MOST_JOBS):
         self.waits, self.weight, self.need, self.call, self.most_jobs = waits, weight, need, call, most_jobs
 
     def need_at(self, jobs):
-        """The memory that it needs at this many jobs."""
+        """The memory that it needs with this many jobs."""
         return self.need * (1 + 0.6 * (jobs - 1))
 
 
@@ -52,11 +53,11 @@ def ranks(tasks):
 
 
 def run(tasks, is_over=lambda: False):
-    """Runs the tasks, each once those that it waits for are done, and yields each key with what its call gave.
+    """Runs the tasks, each once those that it waits for are done, and yields each key with the result of its call.
 
-    Of those that are ready each gets half of the processors, as long as some are idle, and the last of them all that
-    are idle: a check gains little from more than two, and what others wait for longest goes first. Once is_over says
-    so, no task is begun.
+    Each ready task gets half of the processors, as long as some are idle, and the last of all gets all idle ones: a
+    check gains little from more than two. The one with the longest chain of others waiting goes first. Once is_over
+    returns true, no task is started.
     """
     lanes, room, rank = processors(), 0.85 * memory(), ranks(tasks)
     left, running, done = sorted(tasks, key=lambda it: -rank[it]), {}, set()

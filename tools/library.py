@@ -2,7 +2,7 @@
 """Builds the library for C and Python, libcrackd.so: library.py, or library.py --unproved
 
 The crate crackd_c and those below it are proved as `make run` does, and what is proved is linked into lib/libcrackd.so.
-With --unproved nothing is proved: the same code is compiled, with tests of each index, sum and cast as it runs, into
+With --unproved nothing is proved: the same code is compiled, with checks of each index, sum and cast at run time, into
 lib/libcrackd-unproved.so, whose version says so. crackd.h is put beside it, and the library itself also into the Python
 package.
 """
@@ -26,7 +26,7 @@ PACKAGE = crates.TOP / "python" / "crackd"
 NAMES = {True: "libcrackd.so", False: "libcrackd-unproved.so"}
 VERSION = re.compile(r'^version = "(.*)"$', re.MULTILINE)
 EXPORT = re.compile(r'extern "C" fn (crackd_\w+)\(([^)]*)\)')
-# what a parameter of a type is given by the function that calls every export
+# what the function that calls every export passes for each type of parameter
 GIVEN = {
     "Global": "rt.alloc()",
     "&mut Handle": "&mut handle",
@@ -58,7 +58,7 @@ impl Handle {
 
 
 def version():
-    """The version, that of the Python package."""
+    """The version, which is that of the Python package."""
     return VERSION.search((crates.TOP / "python" / "pyproject.toml").read_text(encoding="utf-8"))[1]
 
 
@@ -81,8 +81,7 @@ def caller_of(functions):
 
 
 def exported(text, functions):
-    """The text of a module with these functions, and no others, to be seen from outside, and without the tests of each
-    access to memory."""
+    """The text of a module that exports only these functions, without the checks of each access to memory."""
     for name in functions:
         text = text.replace(f'define internal noundef i32 @"{CRATE}::{name}"(', f"define noundef i32 @{name}(").replace(
             f'@"{CRATE}::{name}"(', f"@{name}("
@@ -96,7 +95,7 @@ def compiler(rt):
 
 
 def run(*words, **how):
-    """Runs a command, and ends all where it fails."""
+    """Runs a command, and exits if it fails."""
     ran = subprocess.run(
         [str(it) for it in words], stdout=subprocess.PIPE, stderr=subprocess.STDOUT, text=True, check=False, **how
     )
@@ -105,7 +104,7 @@ def run(*words, **how):
 
 
 def unproved_object(rt, room):
-    """The compiled code of the crate and of all that it reaches, of which nothing is proved."""
+    """The compiled code of the crate and of all that it uses, none of it proved."""
     folder = room / "crates" / CRATE
     source = folder / "src" / "lib.rt"
     functions = exports(source.read_text(encoding="utf-8"))
@@ -131,7 +130,7 @@ def unproved_object(rt, room):
 
 
 def copy_sources(room):
-    """Copies the crates that the library is made of."""
+    """Copies the crates that make up the library."""
     crate = crates.listed()[CRATE]
     for it in [*crates.below(CRATE), crate]:
         shutil.copytree(it.folder / "src", room / "crates" / it.name / "src")
@@ -142,7 +141,7 @@ def copy_sources(room):
 
 
 def link(rt, room, code, is_proved):
-    """Links the code with the C library's heap, and puts the library and its header to their places."""
+    """Links the code with the C library's heap, and puts the library and its header in their places."""
     name = NAMES[is_proved]
     said = f"crackd {version()}" + ("" if is_proved else " (unproved)")
     (room / "version.c").write_text(f'const char *crackd_version(void) {{ return "{said}"; }}\n', encoding="utf-8")

@@ -1,9 +1,8 @@
-"""Numbers of the documents that are constants of the code: what is in a document is held to the constant that the
-source names.
+"""Numbers in the documents that are constants of the code: each is compared with the constant that the source names.
 
-A line of NUMBERS is a document, a text of it in which {} stands for the number, and the crate and the constant. The
-text is in the document once, on one line or over several, with the number in digits, in threes by commas or in one row.
-`mismatches` says which lines don't hold.
+A line of NUMBERS has a document, a text in it in which {} stands for the number, and the crate and the constant. The
+text occurs in the document once, on one line or over several, with the digits of the number in groups of three or not.
+`mismatches` returns the lines that don't hold.
 """
 
 import itertools
@@ -63,7 +62,7 @@ NUMBERS = [
     ("docs/DECISIONS.md", "A plain table accepts {} commands", "crack_plain", "MOST_ACCEPTED"),
 ]
 
-# of README's table of figures: the row of docs/BENCHMARKS.md for each column, and the column there for each row
+# for README's table of figures: the row of docs/BENCHMARKS.md for each column, and the column there for each row
 SERIES = {
     "crackd": "crackd's partition",
     "a sorted array": "a sorted array",
@@ -80,7 +79,7 @@ FIGURES = {
 
 
 def constants(crate, top=TOP):
-    """The constants of a crate that are whole numbers, by their names: all values that a name has there."""
+    """The constants of a crate that are whole numbers, by name: all values that a name has there."""
     found = {}
     for path in sorted((top / "crates" / crate / "src").rglob("*.rt")):
         for name, number in CONSTANT.findall(path.read_text(encoding="utf-8")):
@@ -89,7 +88,7 @@ def constants(crate, top=TOP):
 
 
 def mismatches(numbers=None, top=TOP):
-    """The lines that don't hold, each with why."""
+    """The lines that don't hold, each with the reason."""
     wrong = []
     for document, text, crate, name in NUMBERS if numbers is None else numbers:
         written = " ".join((top / document).read_text(encoding="utf-8").split())
@@ -104,8 +103,8 @@ def mismatches(numbers=None, top=TOP):
 
 
 def table(text, first):
-    """The table of a text whose first row begins with these cells: its cells by the first of a row and the first of a
-    column."""
+    """The table of a text whose first row begins with these cells: its cells by the first cell of a row and the head of
+    a column."""
     rows = [
         [it.strip() for it in line.strip("|").split("|")] if line.startswith("|") else [] for line in text.splitlines()
     ]
@@ -116,7 +115,7 @@ def table(text, first):
 
 def figure_mismatches(top=TOP):
     """The figures of README's table that aren't those of docs/BENCHMARKS.md, in milliseconds, to as many digits as they
-    are written with."""
+    have."""
     ours = table((top / "README.md").read_text(encoding="utf-8"), ["", "crackd"])
     measured = table(
         (top / "docs" / "BENCHMARKS.md").read_text(encoding="utf-8"), ["What", "loading", "first count of everything"]

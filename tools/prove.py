@@ -1,10 +1,10 @@
 #!/usr/bin/env python3
-"""Proves crates side by side, each as soon as those below it are, and builds programs: prove.py NAME.. [-- WORD..]
+"""Proves crates in parallel, each as soon as those below it are, and builds programs: prove.py NAME.. [-- WORD..]
 
-Each is proved as the gate proves it, but that what didn't change isn't proved again: crates that are up to date are
-passed over, and start nothing of the toolchain. What is done is reported on standard error. A crate that fails ends
-all; what was proved is kept. With words after `--` the one program that is named is then run with them, on standard
-input and output.
+Each is proved as the gate proves it, except that what didn't change isn't proved again: crates that are up to date are
+skipped, and start nothing of the toolchain. Progress is reported on standard error. A crate that fails ends the run;
+what was proved is kept. With words after `--` the one named program is then run with them, on standard input and
+output.
 """
 
 import hashlib
@@ -18,12 +18,12 @@ import crates
 import lanes
 import rooms
 
-# What these lines of a check say is of no use to whoever must mend the crate.
+# Lines of a check that don't help whoever must mend the crate.
 NOISE = ("checked ", "so far: ", "statements ", "by-macro: ", "logic ", "rt: chose ")
 
 
 def name_in_room(crate):
-    """What is made of a proved crate, in the out/ of the room where it is proved."""
+    """What proving a crate makes, in the out/ of the room where it is proved."""
     if crate.is_program:
         return crate.name
     return f"lib{crate.name}.a" if crate.is_static else f"rlib/{crate.name}.rlib"
@@ -37,7 +37,7 @@ def made_of(crate):
 
 
 def stamp_of(crate):
-    """What is beside what was made of a crate, if that is up to date."""
+    """The stamp beside what was made of a crate, if that is up to date."""
     made = made_of(crate) if crate.is_program or crate.is_static else made_of(crate) / "format"
     return f"{crates.sum_of(crate.name)} {hashlib.sha256(made.read_bytes()).hexdigest()}\n" if made.exists() else ""
 
@@ -91,7 +91,8 @@ class Prover:
         lines = [
             it for it in said.splitlines() if it.strip() and not it.startswith(NOISE) and not it.endswith(": proved")
         ]
-        self.say("\n".join([*lines[-60:], f"{crate.name} is not proved: mend what is said above, and run this again"]))
+        advice = f"{crate.name} is not proved: mend what is reported above, and run this again"
+        self.say("\n".join([*lines[-60:], advice]))
         for it in self.running.values():
             it.terminate()
 
@@ -103,7 +104,7 @@ class Prover:
             self.say(f"{crate.name}: proved ({how}), {self.done} of {self.whole}, {so_far} since the start")
 
     def prove_all(self, names):
-        """Proves these crates and those below them. Whether all are proved."""
+        """Proves these crates and those below them. Returns whether all are proved."""
         wanted = {crate.name for name in names for crate in [*crates.below(name), crates.listed()[name]]}
         stale = [crate for crate in crates.listed().values() if crate.name in wanted and not is_up_to_date(crate)]
         self.whole, tasks = len(stale), {}
@@ -126,7 +127,7 @@ def say(text):
 
 
 def end_others(prover):
-    """Ends the checks that run, on a signal, and then this process."""
+    """Ends the running checks on a signal, and then this process."""
 
     def end(number, _):
         for it in [*prover.running.values()]:

@@ -1,10 +1,10 @@
 """What must be read to know what a promise says: the clauses of the calls that docs/PROOFS.md names for it, and what
 these cite, in turn.
 
-A table there whose last column is headed `Its calls` names calls in it by their paths, row by row; in brackets after
-one are the names of those of its clauses that carry the promise, where not all do. What callers must see to is read in
-any case. A type is read with the value and the view of its model, and with the types of the fields that these read; a
-trait's ghost members with those that each public type has of it.
+A table there whose last column is headed `Its calls` names calls by their paths, row by row; in brackets after a call
+are the names of those of its clauses that carry the promise, if not all do. What callers must fulfil is always read. A
+type is read with the value and the view of its model, and with the types of the fields that these read; a trait's ghost
+members are read with those of each public type that implements it.
 """
 
 import collections
@@ -17,7 +17,7 @@ import crates
 import definitions
 import sources
 
-# the crates that tests stand on, and those of measurements: like the tests themselves they promise nothing
+# the crates that tests use, and those for measurements: like the tests themselves they promise nothing
 LEFT_OUT = {"crack_failing", "crack_gates", "crack_bench", "crack_bench_workers", "crack_histories"}
 HEADLINE = "headline"
 CALLS = re.compile(r"`([\w:]+)::(\w+|\{[\w, ]+\})`(?: \(((?:`\w+`(?:, )?)+)\))?")
@@ -29,8 +29,8 @@ def is_left_out(crate):
 
 
 class Reading:
-    """All items of the crates by name, and what each of them leads a reader to. The crates are given in their order,
-    the lowest first."""
+    """All items of the crates by name, and what each of them leads a reader to. The crates are given in order, the
+    lowest first."""
 
     def __init__(self, items, order):
         self.items = {it.name: it for it in items}
@@ -43,7 +43,7 @@ class Reading:
                     self.had[trait].add(it.name)
 
     def cited(self, item):
-        """The names of the items that one leads to."""
+        """The names of the items that this one leads to."""
         return {it for it in item.cites if it in self.items} | self.had[item.name]
 
     def reached(self, items):
@@ -84,7 +84,7 @@ class Reading:
         return found
 
     def call(self, path):
-        """The call of a path, which has the modules left out or not."""
+        """The call with a path, with or without modules."""
         crate, *rest = path.split("::")
         found = [it for it in self.items.values() if it.kind == "call" and it.crate == crate and it.is_called(rest)]
         if len(found) != 1:
@@ -92,16 +92,16 @@ class Reading:
         return found[0]
 
     def read_for(self, roots):
-        """What must be read for calls, each with the names of the clauses that are asked for or nothing, in the order
-        in which it's read."""
+        """What must be read for these calls, each with the names of the requested clauses or nothing, in reading
+        order."""
         calls = [narrowed(self.call(path), names) for path, names in roots.items()]
         named = {it.name for it in calls}
         return self.ordered([*calls, *(self.items[it] for it in self.reached(calls) - named)])
 
 
 def narrowed(call, names):
-    """A call with those alone of its clauses that have these names or that callers must see to; with all of them where
-    no name is given."""
+    """A call with only those of its clauses that have these names or that callers must fulfil; with all of them if no
+    name is given."""
     kept = tuple(it for it in call.clauses if not names or it.is_required or it.name in names)
     missing = set(names) - {it.name for it in kept}
     if missing:
@@ -112,7 +112,7 @@ def narrowed(call, names):
 
 def roots_in(text):
     """The calls of each promise that a text's tables name, the headline's under a name of its own: each with the names
-    of clauses, none for all."""
+    of clauses, none meaning all."""
     promises, first = {}, ""
     for line in text.splitlines():
         cells = [it.strip() for it in line.strip().strip("|").split("|")] if line.startswith("|") else []
@@ -129,8 +129,8 @@ def roots_in(text):
 
 
 def joined(many):
-    """The calls of several promises. One of which each asks for some clauses is asked for all of these; if one asks for
-    the whole, for that."""
+    """The calls of several promises. If each asks for some clauses of a call, all of these are read; if one asks for
+    the whole call, the whole is."""
     found = {}
     for calls in many:
         for path, names in calls.items():

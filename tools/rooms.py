@@ -1,8 +1,8 @@
-"""Rooms: copies of a crate, with what was built of those below it, in which this crate alone is worked on.
+"""Rooms: copies of a crate, with what was built of those below it, in which only this crate is worked on.
 
-Two runs of `rt` in one folder wait for each other wherever they stand on the same crates. In rooms they don't: each has
-copies of its own. What was built is handed on by hard links, or by copies where the room lies on another disk. What is
-kept of a crate is in the folder proved of its out/, apart from what `rt` keeps there by itself.
+Two runs of `rt` in one folder wait for each other if they use the same crates. In rooms they don't: each has its own
+copies. What was built is passed on by hard links, or by copies if the room is on another disk. What is kept of a crate
+is in the folder `proved` of its out/, apart from what `rt` keeps there by itself.
 """
 
 import os
@@ -23,12 +23,12 @@ def library_of(crate):
 
 
 def kept_of(crate):
-    """Where that is kept which checks of the crate's edits begin with."""
+    """Where the data is kept that checks of the crate's edits begin with."""
     return crate.out / "proved" / "kept"
 
 
 def link_tree(source, target):
-    """Puts a folder's files at another place, by hard links where the disk has them."""
+    """Puts a folder's files in another place, by hard links if the disk has them."""
 
     def place(file, at):
         try:
@@ -40,7 +40,7 @@ def link_tree(source, target):
 
 
 class Room:
-    """A room of one crate, gone at its end."""
+    """A room of one crate, removed at the end."""
 
     def __init__(self, crate):
         self.crate = crate
@@ -68,7 +68,7 @@ class Room:
         shutil.copytree(kept_of(self.crate), self.folder / "out" / "kept")
 
     def start(self, *words):
-        """Starts a step in the room. What it says is to be read from its output."""
+        """Starts a step in the room. Its output is to be read by the caller."""
         how = {"cwd": self.folder, "stdin": subprocess.DEVNULL, "stdout": subprocess.PIPE, "stderr": subprocess.STDOUT}
         return subprocess.Popen([sys.executable, "-B", str(STEP), *words], errors="replace", **how)
 
@@ -81,7 +81,7 @@ class Room:
 
 
 def held(names):
-    """Keeps others who work by rooms out of these crates, until what it returns is closed or the process ends."""
+    """Keeps other users of rooms out of these crates, until what it returns is closed or the process ends."""
     import fcntl
 
     handles = []

@@ -1,9 +1,9 @@
 #!/usr/bin/env python3
 """Lists the rules of docs/SPECIFICATION.md that no case shows: rules.py
 
-A word after a § marks the rule that it follows, and stands in the name of a case of acceptance/cases, of a section of a
-page of acceptance/, or of a test of acceptance/ or of the crates of tests, there with underscores. Each item of a list
-and each row of a table of rules has to have one. The status is 1 where a rule lacks its mark, or a mark its case.
+A word after a § marks the rule that it follows, and is part of the name of a case of acceptance/cases, of a section of
+a page of acceptance/, or of a test of acceptance/ or of the crates of tests, where it has underscores. Each item of a
+list and each row of a table of rules must have one. The status is 1 if a rule has no mark, or a mark no case.
 """
 
 import pathlib
@@ -14,7 +14,7 @@ TOP = pathlib.Path(__file__).resolve().parent.parent
 PAGE = "docs/SPECIFICATION.md"
 MARK = re.compile(r"§([\w-]+)")
 TEST = r"^\s*(?:#\[test\]\s*fn |def test_)(\w+)"
-# where names are, by the kind of a file
+# where names are, by the kind of file
 NAMES = {".cases": r"^== (\S+)", ".txt": r"^## (.+)", ".py": TEST, ".rt": TEST}
 # the first cells of the tables whose rows are rules
 TABLES = ("No.", "Statement", "Exit", "Step")
@@ -22,7 +22,7 @@ ITEM = re.compile(r"(?:- |\d+\. )")
 
 
 def names(top=TOP):
-    """The names of all cases and tests, in words between hyphens."""
+    """The names of all cases and tests, as words with hyphens between."""
     found = set()
     for pattern in (
         "acceptance/cases/*.cases",

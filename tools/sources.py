@@ -19,7 +19,7 @@ REMARK = re.compile(r"^\s*//")
 
 @dataclasses.dataclass(frozen=True)
 class Block:
-    """An `impl` or a trait: where it is, its type (of a trait the trait itself), its trait with its arguments (of a
+    """An `impl` or a trait: where it is, its type (for a trait the trait itself), its trait with its arguments (for a
     trait none), and the items that its names are."""
 
     span: range
@@ -68,7 +68,7 @@ class Source:
         return tuple((at + 1, self.lines[at]) for at in range(above, span[-1] + 1) if REMARK.match(self.lines[at]))
 
     def whole(self, first, closes):
-        """The lines from one on, up to that which ends with one of these where all brackets are closed."""
+        """The lines from this one on, up to the first that ends with one of these while all brackets are closed."""
         depth = 0
         for at in range(first, len(self.lines)):
             text = definitions.plain(self.lines[at]).rstrip()
@@ -84,8 +84,8 @@ class Source:
 
 
 class Names:
-    """Which item a name of Rust is: the modules of each crate, its types, constants and traits, what its root hands on,
-    and what is public."""
+    """Which item a name of Rust is: the modules of each crate, its types, constants and traits, what its root
+    re-exports, and what is public."""
 
     def __init__(self):
         self.modules = {}
@@ -94,7 +94,7 @@ class Names:
         self.public = set()
 
     def item(self, crate, path):
-        """The item that a path means in a crate; nothing if it is a function, or of a library."""
+        """The item that a path means in a crate; nothing if it is a function, or from a library."""
         first, *rest = path.split("::")
         of = crate if first in {"crate", "self", "super", *self.modules[crate]} else first
         found = self.own.get((of, rest[-1] if rest else first), [])
@@ -106,7 +106,7 @@ class Names:
 
 
 def rust_names(text):
-    """The names that Rust's `use` lines bring, each with its path."""
+    """The names that Rust's `use` lines import, each with its path."""
     names = {}
     for path, many, other in RUST_USE.findall(text):
         for it in [word.strip() for word in many.split(",") if word.strip()] or [""]:
@@ -117,8 +117,7 @@ def rust_names(text):
 
 
 def read(folder, names):
-    """The files of src/ of a crate. Notes among the names which modules and types it has, and which of them are
-    public."""
+    """The files of src/ of a crate. Records in `names` which modules and types it has, and which of them are public."""
     root = next(it for it in (folder / "src" / "lib.rt", folder / "src" / "main.rt") if it.exists())
     text, paths = root.read_text(), sorted((folder / "src").rglob("*.rt"))
     handed = rust_names("\n".join(it[0] for it in re.finditer(r"(?m)^pub use [^;]+;", text)))
@@ -135,8 +134,8 @@ def read(folder, names):
 
 
 def fill_scope(source, names):
-    """Notes in a file's scope what its `use` lines, its own types, and the `use` lines of its contracts bring; the last
-    ones go first."""
+    """Records in a file's scope what its `use` lines, its own types, and the `use` lines of its contracts import; later
+    ones take precedence."""
     paths = rust_names(source.text)
     source.scope.update({name: item for name, path in paths.items() if (item := names.item(source.crate, path))})
     source.scope.update({name: source.named(name) for _, _, name in source.types().values()})
@@ -145,7 +144,7 @@ def fill_scope(source, names):
 
 
 def blocks_of(source):
-    """The blocks `impl` and the traits of a file. In a trait, the names of its ghost members are the trait's own."""
+    """The `impl` blocks and the traits of a file. In a trait, the names of its ghost members are the trait's own."""
     found = []
     for at, line in enumerate(source.lines):
         match = functions.BLOCK.match(line)

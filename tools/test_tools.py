@@ -1,5 +1,5 @@
 #!/usr/bin/env python3
-"""Cases of the tools: which function a place lies in, which edits are tried together, what a change touches, and what
+"""Tests of the tools: which function contains a place, which edits are tried together, what a change touches, and what
 is read for a promise."""
 
 import pathlib
@@ -373,8 +373,7 @@ class Reading(unittest.TestCase):
                 for name in it.cites
                 if place.get(name, 0) > place[it.name] and not name.startswith(f"{it.name} as ")
             )
-            # (of items that cite one another, as the model of a recursive type and what that holds do, one must come
-            # first)
+            # (of items that cite each other, as the model of a recursive type and its contents do, one must come first)
             behind = [it for it, name in late if it.name not in whole.reached([whole.items[name]])]
             self.assertEqual((len(place), behind), (len(items), []))
 

@@ -1,8 +1,8 @@
 #!/usr/bin/env python3
-"""Has the names of tests in docs/PROOFS.md lead to the files where they stand: tested.py [--check]
+"""Makes the names of tests in docs/PROOFS.md links to their files: tested.py [--check]
 
-In its section 'What is only tested' each name in backquotes that is a test's, or a file's of acceptance/ or of the
-crates of tests, becomes a link. The status is 1 where a name is neither, or with --check where a link leads elsewhere.
+In its section 'What is only tested' each name in backquotes of a test, or of a file of acceptance/ or of the crates of
+tests, becomes a link. The status is 1 if a name is neither, or with --check if a link leads elsewhere.
 """
 
 import pathlib
@@ -30,7 +30,7 @@ def homes(top=crates.TOP):
 
 
 def linked(text, top=crates.TOP):
-    """A page whose tests are links, and the names that lead nowhere."""
+    """The page with its tests as links, and the names that lead nowhere."""
     before, heading, rest = text.partition(HEADING)
     section, end, after = rest.partition("\n## ")
     places, lost = homes(top), []
@@ -52,7 +52,7 @@ def main(words):
     text = PAGE.read_text(encoding="utf-8")
     made, lost = linked(text)
     for it in lost:
-        print(f"docs/PROOFS.md names {it}, which is no test")
+        print(f"docs/PROOFS.md names {it}, which isn't a test")
     if words == ["--check"]:
         return 1 if lost or made != text else 0
     if words:

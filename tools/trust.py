@@ -3,15 +3,15 @@
 
 For the promises of docs/PROOFS.md and the sentence above them (PROMISE: their names, or `headline`; else all) it prints
 the clauses of their calls and the definitions, types and ghost members that these cite, in turn, each after what it
-cites, with its file and line. Counted are the lines of clauses, definitions and ghost members; those of types and
-constants, which are code, are counted apart, beside them. Comments and the first lines of functions are printed and not
-counted; the names that a file brings from others, and what is in a library, are neither. --count leaves the text out,
---each adds the numbers of each crate, and --all those of all that is in specs/, including comments and `use` lines, and
-in public clauses, with the ghost members of public types.
+cites, with its file and line. It counts the lines of clauses, definitions and ghost members; those of types and
+constants, which are code, are counted separately. Comments and the first lines of functions are printed and not
+counted; the names that a file imports, and what is in a library, are neither. --count leaves the text out, --each adds
+the numbers of each crate, and --all those of all that is in specs/, including comments and `use` lines, and in public
+clauses, with the ghost members of public types.
 
-The status is 1 if a definition of specs/ is reached by no clause of any crate; if private clauses alone reach it, of
-functions that a crate keeps to itself, of tests, or what a type keeps of its own fields, and its module doesn't say so
-in its first line; or where its module says so and public clauses reach it.
+The status is 1 if no clause of any crate reaches a definition of specs/; if only private clauses reach it (of functions
+that a crate doesn't export, of tests, or of what a type keeps of its own fields) and its module doesn't say so in its
+first line; or if its module says so and public clauses reach it.
 """
 
 import signal
@@ -50,8 +50,7 @@ def place_of(item):
 
 
 def row(name, items):
-    """A line of a table: how many lines of items are counted, of each kind, and how many lines of types are beside
-    them."""
+    """A line of a table: how many lines of items are counted, of each kind, and how many lines of types besides."""
     return "".join(
         [f"{name:20}", f"{count(items):8}", *(f"{count(items, kinds):15}" for kinds in (*KINDS.values(), BESIDE))]
     )
@@ -74,28 +73,29 @@ def is_public(item):
 
 
 def all_lines(whole):
-    """How many lines there are of all of specs/ and of public clauses, whoever reaches them."""
+    """How many lines there are in all of specs/ and in public clauses, whoever reaches them."""
     files = sorted(crates.TOP.glob("crates/*/specs/**/*.antt"))
     lines = {path: sum(1 for line in path.read_text().splitlines() if line.strip()) for path in files}
     private = sum(number for path, number in lines.items() if is_for_private(path))
     specs, clauses = sum(lines.values()), count(it for it in whole.items.values() if is_public(it))
-    return f"all there is: {specs + clauses} lines, {specs} of specs/ ({private} in modules for private clauses) and {clauses} of public clauses"
+    of_specs = f"{specs} of specs/ ({private} in modules for private clauses)"
+    return f"all there is: {specs + clauses} lines, {of_specs} and {clauses} of public clauses"
 
 
 def is_for_private(path):
-    """Whether a module of definitions says by its first line that private clauses alone cite it."""
+    """Whether a module of definitions says in its first line that only private clauses cite it."""
     return path.read_text().startswith(PRIVATE + "\n")
 
 
 def misplaced(whole):
-    """The definitions that aren't where they should: what is wrong with each sort, and the definitions."""
+    """The definitions that aren't where they should be: what is wrong with each sort, and the definitions."""
     citing = [it for it in whole.items.values() if it.kind in ("call", "trait", "ghost", "model")]
     every, public = whole.reached(citing), whole.reached(it for it in citing if is_public(it))
     found = [it for it in whole.items.values() if it.kind == "definition"]
     marked = {path for path in {it.path for it in found} if is_for_private(path)}
     return {
         "are reached by no clause": [it for it in found if it.name not in every],
-        "are reached by private clauses alone, in a module that doesn't say so": [
+        "are reached only by private clauses, in a module that doesn't say so": [
             it for it in found if it.name in every - public and it.path not in marked
         ],
         "are reached by public clauses, in a module that is for private ones": [
