@@ -1,5 +1,5 @@
-"""Compares the programs with those of an earlier commit, driven in turn with the same words and the same files. Both
-must answer the same."""
+"""Compares the programs with those of an earlier commit, run in turn with the same arguments and the same files. Both
+must give the same answers."""
 
 import dataclasses
 import pathlib
@@ -27,36 +27,36 @@ from table import WIDTH
 
 NAMES = ["crackd", "crack_bench"]
 
-# by how much a figure is divided that is shown in a unit: times are in nanoseconds
+# what a figure in a unit is divided by: times are in nanoseconds
 UNITS = {"ms": 1e6, "M": 1e6, "": 1}
 
 
 @dataclasses.dataclass
 class Thing:
-    """What is measured in one go."""
+    """What is measured in one run."""
 
     # what is reported, and the names of the figures that are added for it
     lines: list
-    # measures programs once: what they wrote, if that is to be the same, and figures by name
+    # measures programs once: returns what they wrote, if that must be the same, and figures by name
     measure: typing.Callable
     unit: str = "ms"
     # whether its figures are the same each time
     is_exact: bool = False
-    # what programs answer, if that is held against each other once
+    # what programs answer, if that is compared once
     answer: typing.Callable = None
-    # with which words crack_bench ends soon, if it knows them
+    # arguments with which crack_bench ends soon, if it knows them
     probe: list = None
 
 
 def of_bench(lines, *words):
-    """What `crack_bench` reports for these words, of which the numbers are the last ones."""
+    """What `crack_bench` reports for these arguments, the last of which are numbers."""
     words = [str(word) for word in words]
     probe = ["1" if word.isdecimal() else word for word in words]
     return Thing(lines, lambda programs: timed([programs.bench, *words]), probe=probe)
 
 
 def of_session(what, words_of, source, clock=processor_seconds):
-    """How long a program takes to answer a file, by the words that are given for it."""
+    """How long a program takes to answer a file, with the arguments for it."""
 
     def measure(programs):
         return None, {"time": session_seconds(words_of(programs), source, clock) * 1e9}
@@ -65,7 +65,7 @@ def of_session(what, words_of, source, clock=processor_seconds):
 
 
 def of_function(what, unit, figure, is_exact=False):
-    """A figure that a function of the programs gives."""
+    """A figure that a function computes from the programs."""
     return Thing([(what, ["figure"])], lambda programs: (None, {"figure": figure(programs)}), unit, is_exact)
 
 
@@ -221,7 +221,7 @@ def differ(thing):
 
 
 def compare_thing(thing, before, runs):
-    """Measures both in turn, and prints the medians and the ratio of ours to what was before, a line each."""
+    """Measures both in turn, and prints the medians and the ratio of ours to the earlier ones, one line each."""
     if thing.answer and thing.answer(before) != thing.answer(OURS):
         differ(thing)
     rounds = [[thing.measure(programs) for programs in (before, OURS)] for _ in range(1 if thing.is_exact else runs)]
@@ -241,7 +241,7 @@ def compare_words(words, before, runs):
         for thing in THINGS[word]():
             if thing.probe and not knows(before, thing.probe):
                 print(
-                    f"{thing.lines[0][0]}: the earlier crack_bench doesn't know `{thing.probe[0]}`, so it is passed over",
+                    f"{thing.lines[0][0]}: the earlier crack_bench doesn't know `{thing.probe[0]}`, so it is skipped",
                     flush=True,
                 )
                 continue

@@ -1,9 +1,9 @@
 """Measures a table on a Dask cluster, and writes the times into docs/CLUSTER.md: cluster_rows.py [ROWS [RUNS]]
 
-The same rows in a `crackd.cluster.Table` over four worker processes of this machine, in a `crackd.Table` of one
-process, and in a dask.dataframe on the same workers, without an index. All in turn, each again in each run. The least
-seconds of each step are printed; all must answer the same. The page is written only for the number of rows that it
-speaks of. Wants numpy, pandas and Dask, and libcrackd.so.
+It compares the same rows in a `crackd.cluster.Table` over four worker processes of this machine, in a `crackd.Table` of
+one process, and in a dask.dataframe on the same workers, without an index. All run in turn, in each run anew. It prints
+the least seconds of each step; all must give the same answers. The page is written only for the number of rows that it
+names. It needs numpy, pandas and Dask, and libcrackd.so.
 """
 
 import pathlib
@@ -56,7 +56,7 @@ class OnCluster:
         return self.table.sum_many(lows, lows + WIDTH)
 
     def change(self, keys, payloads, changed, gone, new):
-        """Adds 1 to the payloads of some rows, takes others out, and places new ones."""
+        """Adds 1 to the payloads of some rows, deletes others, and inserts new ones."""
         self.table.update_many(self.numbers[changed], keys[changed], payloads[changed] + 1)
         self.table.delete_many(self.numbers[gone])
         self.table.insert_many(new, np.zeros(len(new), np.int64))
@@ -77,7 +77,7 @@ class OneTable(OnCluster):
 
 
 def changed_block(block, changed, gone):
-    """A block of a dataframe with changed payloads and without the rows that are gone."""
+    """A block of a dataframe with changed payloads and without the deleted rows."""
     block = block[~block.number.isin(gone)].copy()
     block.loc[block.number.isin(changed), "payload"] += 1
     return block
@@ -121,7 +121,7 @@ def timed(call, *words):
 
 
 def blocks_loaded(client, keys, payloads):
-    """Seconds of a load of blocks that the workers have."""
+    """The seconds that a load takes of blocks that the workers have."""
     frame = client.persist(frames.from_pandas(pd.DataFrame({"key": keys, "payload": payloads}), npartitions=BLOCKS))
     len(frame)
     table, seconds = timed(cluster.Table.from_dask, client, frame, "key", "payload")

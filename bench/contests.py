@@ -42,7 +42,7 @@ def counts_after_a_load(runs):
 
 
 def worker_rates(runs):
-    """For each sharing, how many statements a second each number of workers answers, and plain Rust's."""
+    """For each way of sharing, how many statements a second each number of workers answers, and plain Rust's."""
     told = {}
     for sharing, where in sizes.SHARINGS:
         done = [4 * sizes.WORKER_STEPS * workers for workers in sizes.WORKER_COUNTS]
@@ -55,7 +55,7 @@ def worker_rates(runs):
 
 
 def lookup_contest(runs):
-    """A count of the rows of one key, beside SQLite's by an index."""
+    """A count of the rows of one key, compared with SQLite's by an index."""
     lookups, lines = sizes.LOOKUPS, random_insert_lines(sizes.PART_ROWS)
     rows = [tuple(int(number) for number in line.split()[1:]) for line in lines]
     keys = [key for key, _ in random.Random(3).choices(rows, k=lookups)]
@@ -71,7 +71,7 @@ def lookup_contest(runs):
 
 
 def count_contests(runs):
-    """Counts of random ranges, beside a cracker column of plain Rust's, and beside a pass for each."""
+    """Counts of random ranges, compared with a cracker column in plain Rust, and with a pass over the rows for each."""
     rows, inline, ours = of_bench.beside("counts", ["rows", "inline"], [sizes.PART_ROWS, sizes.RANGES], runs)
     counts, what = middle_of(ours, "counts"), f"{sizes.RANGES} counts of random ranges"
     others = (("a cracker column of keys alone, in plain Rust", inline), ("a pass over the rows for each", rows))
@@ -79,12 +79,12 @@ def count_contests(runs):
 
 
 def rivalry(what, name, ours, fast, tree):
-    """What one figure is by each, in seconds."""
+    """One figure of each, in seconds."""
     return report.Rivalry(what, *(middle_of(it, name) for it in (ours, fast, tree)))
 
 
 def query_rivalries(runs):
-    """Loading, counts and sums with nothing pending, by the names of what is reported of them."""
+    """Loading, counts and sums with nothing pending, by the names under which they are reported."""
     told = {}
     for word in ("counts", "sums"):
         tree, fast, ours = of_bench.beside(word, ["tree", of_bench.FAST_KIND], [sizes.PART_ROWS, sizes.RANGES], runs)
@@ -116,7 +116,7 @@ def pass_rivalry(runs):
 
 
 def step_rivalries(runs):
-    """What one step takes, which a tree doesn't take."""
+    """What one step takes; a tree takes no such steps."""
     for what, word, name in of_bench.STEPS:
         ours, fast = of_bench.step_seconds(word, name, runs)
         yield report.Rivalry(f"a step of {what} over {sizes.STEP_PIECES} pieces", ours, fast, None)
@@ -129,7 +129,7 @@ def rivals(runs):
 
 
 def set_contests(runs):
-    """What is asked over TCP of `crackd serve` and of a Redis sorted set; nothing if there is no Redis."""
+    """The times of requests over TCP to `crackd serve` and to a Redis sorted set; nothing if there is no Redis."""
     names = {
         "load": (f"{sizes.PART_ROWS} inserts", 1),
         "cold": ("each count at once, all rows pending, under `ripple`", sizes.RANGES),

@@ -1,5 +1,5 @@
-"""The files that programs are given, always the same. Their keys and payloads are below 2**32, as those of the peers
-are."""
+"""The files that programs are given, always the same. Their keys and payloads are below 2**32, like those of the
+peers."""
 
 import random
 
@@ -15,12 +15,12 @@ def script(name, lines):
 
 
 def inserts(lines):
-    """A file of as many inserts."""
+    """A file of this many inserts."""
     return script(f"inserts-{lines}", (f"insert {i * 48271 % 4294967296} {i}" for i in range(lines)))
 
 
 def random_inserts(lines):
-    """A file of as many inserts of random keys and payloads."""
+    """A file of this many inserts of random keys and payloads."""
     numbers = random.Random(7)
     return script(
         f"random-inserts-{lines}",
@@ -33,15 +33,15 @@ def random_insert_lines(lines):
 
 
 def random_counts(count):
-    """As many counts of a hundredth of the keys, each at a random place."""
+    """This many counts of a hundredth of the keys, each at a random place."""
     width, numbers = 2**32 // 100, random.Random(13)
     lows = (numbers.randrange(2**32 - width) for _ in range(count))
     return [f"count {low} {low + width}" for low in lows]
 
 
 def deletes(count, behind):
-    """A file of inserts, of these lines after them, and of as many deletes of the rows in random order, which end with
-    these lines too."""
+    """A file of inserts, these lines, and this many deletes of the rows in random order, followed by these lines
+    again."""
     order = list(range(sizes.PART_ROWS))
     random.Random(5).shuffle(order)
     rows = random_insert_lines(sizes.PART_ROWS)
@@ -52,15 +52,15 @@ def deletes(count, behind):
 
 
 def inserts_and_counts(lines):
-    """A file of as many lines: half of them random inserts, and after them counts that crack the column, and counts
-    between its bounds."""
+    """A file of this many lines: half are random inserts, then come counts that crack the column, and counts between
+    its bounds."""
     cracks, counts = part_counts(lines // 2)
     return script(f"inserts-and-counts-{lines}", [*random_insert_lines(lines // 2), *cracks, *counts][:lines])
 
 
 def records(rows):
-    """A file of the records of as many random rows, and one of the same rows as inserts, with a select of everything
-    after them."""
+    """A file of the records of this many random rows, and one of the same rows as inserts, followed by a select of
+    everything."""
     lines = random_insert_lines(rows)
     pairs = (line.split()[1:] for line in lines)
     return script(f"records-{rows}", (",".join(pair) for pair in pairs)), script(
@@ -69,7 +69,7 @@ def records(rows):
 
 
 def part_counts(count):
-    """Counts that crack the parts between the splits into as many pieces of one width, and as many counts of random
+    """Counts that crack the parts between the splits into this many pieces of one width, and as many counts of random
     neighbouring pieces of one part."""
     parts, width, numbers = range(len(sizes.SPLITS) + 1), sizes.PART_WIDTH // sizes.PART_PIECES, random.Random(9)
     pieces = [(part * sizes.PART_WIDTH, piece * width) for part in parts for piece in range(sizes.PART_PIECES)]
@@ -81,15 +81,16 @@ def part_counts(count):
 
 
 def reads(word):
-    """Counts or sums between bounds, by their word: a file of them with what comes before, and a file of that alone."""
+    """Counts or sums between bounds, by their word: a file of them with what precedes them, and a file of that
+    alone."""
     cracks, counts = part_counts(sizes.LINES // 2)
     before, lines = [*random_insert_lines(sizes.LINES // 2), *cracks], [line.replace("count", word) for line in counts]
     return script(f"{word}s-between-bounds-whole", [*before, *lines]), script(f"{word}s-between-bounds-front", before)
 
 
 def split_files():
-    """What is measured with many splits and with none: its name, a file of it with what comes before, and a file of
-    that alone."""
+    """What is measured with many splits and with none: its name, a file of it with what precedes it, and a file of that
+    alone."""
     lines = sizes.LINES // 2
     yield f"{lines} inserts", script("inserts-whole", random_insert_lines(lines)), script("inserts-front", [])
     yield f"{lines} counts between bounds", *reads("count")
@@ -103,7 +104,7 @@ def scattered(number):
 
 
 class Mix:
-    """What crack_bench_workers has a worker ask of partitions of its own, as statements."""
+    """What a worker of crack_bench_workers asks its own partitions, as statements."""
 
     def __init__(self, worker):
         self.first, self.number = worker * sizes.PARTS_EACH, worker * sizes.APART
@@ -114,7 +115,7 @@ class Mix:
         return scattered(self.number) % bound
 
     def insert(self, at):
-        """The insert of a row that is at this place among the rows."""
+        """The insert of the row at this place among the rows."""
         place = self.next(sizes.PARTS_EACH)
         self.rows[at : at + 1] = [f"{self.first + place}.{self.placed[place]}"]
         self.placed[place] += 1
@@ -128,7 +129,7 @@ class Mix:
         return f"sum {low} {low + sizes.SUM_WIDTH}"
 
     def statements(self, rows, steps):
-        """As many inserts, a count of each partition, and as many steps: a sum, a delete, a sum and an insert."""
+        """This many inserts, a count of each partition, and this many steps: a sum, a delete, a sum and an insert."""
         for at in range(rows):
             yield self.insert(at)
         for part in range(self.first, self.first + sizes.PARTS_EACH):
@@ -142,8 +143,8 @@ class Mix:
 
 
 class Batch:
-    """What the most workers of a batch ask: `rounds`, a line of each, the file of them with its `splits`, and how many
-    statements they are."""
+    """What the greatest number of workers of a batch asks: `rounds`, a line of each, the file of them with its
+    `splits`, and how many statements they are."""
 
     def __init__(self):
         most = sizes.WORKER_COUNTS[-1]
@@ -153,8 +154,8 @@ class Batch:
             Mix(worker).statements(sizes.PARTS_EACH * sizes.WORKER_ROWS, sizes.WORKER_STEPS) for worker in range(most)
         )
         self.rounds = list(zip(*mixes))
-        # (a number counts around the workers, so one worker has all lines of the same file, and each of two has half of
-        # them)
+        # (numbers are taken modulo the workers, so one worker has all lines of the same file, and each of two has half
+        # of them)
         self.source = script(
             "batch", (f"{worker} {line}" for lines in self.rounds for worker, line in enumerate(lines))
         )

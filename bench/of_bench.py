@@ -1,6 +1,6 @@
-"""What is measured of the arena, the column and a partition, beside plain Rust of the same representation, and beside
-what does the same in other ways: cracker columns with less to keep, one that is written for speed alone, a tree, a
-sorted array, a pass over the rows."""
+"""Measures the arena, the column and a partition, compared with plain Rust of the same representation and with other
+ways to do the same: cracker columns that keep less, one built for speed alone, a tree, a sorted array, a pass over the
+rows."""
 
 import sys
 
@@ -31,7 +31,7 @@ def measure_column(table, runs):
 
 
 def beside(word, kinds, numbers, runs):
-    """Runs a word by `crack_bench` and by plain Rust's kinds of tables. What each reported, ours after the others."""
+    """Runs a command of `crack_bench` and of plain Rust's kinds of tables. Returns what each reported, ours last."""
     words = [str(number) for number in numbers]
     return compare([[PEERS, word, kind, *words] for kind in kinds] + [[BENCH, word, "gradual", *words]], runs)
 
@@ -69,15 +69,15 @@ def measure_sums(table, runs):
 
 
 def hold_work(words, ours, fast):
-    """Ends where the program and the column that is written for speed alone didn't do the same work, step by step."""
+    """Exits if the program and the column built for speed didn't do the same work, step by step."""
     ours, fast = ([it[0][name] for name in WORK] for it in (ours, fast))
     if ours != fast:
         sys.exit(f"{words}: the merges did {ours}, and {FAST} did {fast}")
 
 
 def by_policy(word, numbers, runs, others=()):
-    """Runs a word under each policy. For each its name and what was reported: by ours, by plain Rust of the same
-    policy, by the column that is written for speed alone, by a tree, and by the others."""
+    """Runs a command under each policy. For each it returns its name and what was reported: by ours, by plain Rust with
+    the same policy, by the column built for speed, by a tree, and by the others."""
     words = [word, *(str(number) for number in numbers)]
     for policy in sizes.POLICIES:
         kinds = [*others, "tree", f"fast-{policy}", policy]
@@ -115,8 +115,8 @@ def measure_cold(table, runs):
 
 
 def passes(runs):
-    """What sums of no row reported, all rows pending: by handles, by the column that is written for speed alone, by
-    plain Rust and by ours."""
+    """What sums of no row reported with all rows pending: by handles, by the column built for speed, by plain Rust and
+    by ours."""
     words = [str(sizes.PART_ROWS), str(sizes.RANGES)]
     programs = [
         [PEERS, "pass", "through"],
@@ -143,13 +143,12 @@ def measure_updates(table, runs):
     table.line("the same, beside a search at each step", merge, middle_of(anew, "merge"), 0.2)
 
 
-# what a step is of, the word that takes steps, and the name of their number
+# what a step belongs to, the command that takes steps, and the name of their number
 STEPS = [("a carry", "merge", "moved"), ("a pull", "pulls", "pulled")]
 
 
 def step_seconds(word, name, runs):
-    """What one step takes over many pieces, and what it takes the column that is written for speed alone, in
-    seconds."""
+    """What one step takes over many pieces, and what it takes the column built for speed, in seconds."""
     words = [str(sizes.PART_ROWS), str(sizes.STEP_PIECES), str(sizes.STEP_ROWS)]
     ours, fast = compare([[BENCH, word, "complete", *words], [PEERS, word, "fast-complete", *words]], runs)
     hold_work([word, *words], ours, fast)

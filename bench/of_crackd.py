@@ -1,4 +1,4 @@
-"""What is measured of `crackd`, beside plain Rust, an echo, or itself at half the size."""
+"""Measures `crackd`, compared with plain Rust, an echo, or itself at half the size."""
 
 import os
 import statistics
@@ -33,7 +33,7 @@ from programs import (
     session_seconds,
 )
 
-# how many times as much the most workers of a batch do as one does, by how many processors there are at the least
+# how many times as much the greatest number of workers of a batch does as one does, by the least number of processors
 BATCH_GAINS = {4: 2.2, 2: 1.4}
 
 
@@ -51,13 +51,13 @@ def measure_session(table, runs):
 
 
 def pipelined(crackd):
-    """How long statements take that a client over TCP sends without waiting, in seconds."""
+    """How long statements take that a client sends over TCP without waiting, in seconds."""
     lines = sizes.LINES
     return over_tcp(crackd, "client", inserts_and_counts(lines), (lines, lines // 2, 0, lines // 2))
 
 
 def one_by_one(crackd):
-    """How long statements over TCP take that each wait for the reply to the last one, in seconds."""
+    """How long statements over TCP take that each wait for the previous reply, in seconds."""
     turns = sizes.TURNS
     return over_tcp(crackd, "turns", inserts_and_counts(turns), (turns, turns // 2, 0, turns // 2))
 
@@ -80,13 +80,13 @@ def measure_tcp(table, runs):
 
 
 def is_listed(csv, listing):
-    """Whether records are those of the rows that a select of everything lists, in the same order."""
+    """Whether these records are those of the rows that a select of everything lists, in the same order."""
     rows = listing[listing.index(b"rows ") :].splitlines()[1:]
     return csv == b"".join([b"key,payload\n", *(b",".join(row.split()[1:]) + b"\n" for row in rows)])
 
 
 def csv_and_script():
-    """The words and the files by which the same rows are loaded and listed: as records, and as statements. Both must
+    """The arguments and files by which the same rows are loaded and listed: as records, and as statements. Both must
     list the same."""
     given, listed = records(sizes.PART_ROWS)
     csv, same = ([CRACKD, "csv"], given), ([CRACKD, "script"], listed)
@@ -101,8 +101,8 @@ def measure_csv(table, runs):
 
 
 def served(batch, workers):
-    """What a batch writes for its workers, of whom each alone asks its partitions: what a script of its statements
-    does."""
+    """What a batch writes for its workers, each of which asks only its own partitions: what a script of its statements
+    writes."""
     for worker in range(workers):
         lines = script("served", (line for lines in batch.rounds for line in lines[worker::workers]))
         yield f"worker {worker}\n".encode() + answers([CRACKD, "script", *batch.splits], lines)
@@ -125,12 +125,12 @@ def measure_batch(table, runs):
         table.gain(what, rate, rates[0], least if workers == sizes.WORKER_COUNTS[-1] else None)
 
 
-# the lines after the inserts, by where the rows then are that are deleted
+# the lines after the inserts, by where the deleted rows then are
 DELETED = {"pending rows": [], "a column of one piece, and a count": [f"count {sizes.EVERYTHING}"]}
 
 
 def deletes_instructions(crackd, behind):
-    """How many instructions the deletes of half of the rows take, and those of all."""
+    """How many instructions deleting half of the rows takes, and deleting all."""
     counts = (0, sizes.DELETES // 2, sizes.DELETES)
     none, half, whole = (instructions([crackd, "script"], deletes(count, behind)) for count in counts)
     return half - none, whole - none
@@ -157,7 +157,7 @@ def read_instructions(crackd, word):
 
 
 def split_instructions(crackd, splits, whole, front):
-    """How many instructions a file's lines take after those that come before."""
+    """How many instructions a file's lines take after those that precede them."""
     words = [crackd, "script", *splits]
     return instructions(words, whole) - instructions(words, front)
 
@@ -170,7 +170,7 @@ def measure_splits(table, _runs):
         table.numbers(f"{what}, {len(sizes.SPLITS)} splits beside none, instructions", many, none, 1.1)
 
 
-# the lines after the inserts, by where the rows then are, what of the memory is read, and how many bytes a row may take
+# the lines after the inserts, by where the rows then are, which memory is read, and how many bytes a row may take
 HELD = {
     "pending": ([], "VmHWM", 210),
     "in the column": ([f"count {sizes.EVERYTHING}"], "VmRSS", 200),

@@ -1,5 +1,4 @@
-"""What is measured of the Python package: a table in the process, beside arrays of numpy and SQLite in the same
-process."""
+"""Measures the Python package: a table in the process, compared with arrays of numpy and SQLite in the same process."""
 
 import json
 import os
@@ -10,7 +9,7 @@ import sizes
 from programs import TOP
 
 sys.path.insert(0, str(TOP / "acceptance"))
-import package  # which finds an interpreter that has numpy
+import package  # finds an interpreter that has numpy
 
 LIBRARY = TOP / "python" / "crackd" / "libcrackd.so"
 PAGE = TOP / "docs" / "PYTHON.md"
@@ -25,7 +24,7 @@ STEPS = {
     "select": "a select of {selected} rows",
     "step": "10 deletes, 10 inserts and a sum",
 }
-# (what is bounded, beside what, and by how much of it)
+# (what is bounded, compared with what, and by which part of it)
 RATIOS = [("load", SQLITE, 0.35), ("step", SORTED, 0.05), ("counts", MASKS, 0.03)]
 # the most nanoseconds
 MOST = [
@@ -61,14 +60,14 @@ def lines_of(seconds):
 
 
 def write_page(seconds):
-    """Puts the table into docs/PYTHON.md, in place of the one that is there."""
+    """Puts the table into docs/PYTHON.md, in place of the old one."""
     before, _, rest = PAGE.read_text(encoding="utf-8").partition(BEGIN)
     after = rest.partition(END)[2]
     PAGE.write_text(before + BEGIN + "".join(lines_of(seconds)) + END + after, encoding="utf-8")
 
 
 def is_missing():
-    """Whether the package can't be measured here, and says why."""
+    """Whether the package can't be measured here. Prints why."""
     if not LIBRARY.exists() and "CRACKD_LIBRARY" not in os.environ:
         print("libcrackd.so isn't built (`make lib`): the package isn't measured")
         return True

@@ -1,11 +1,11 @@
-"""What is measured of workers on threads, beside plain Rust, bare partitions and each other."""
+"""Measures workers on threads, compared with plain Rust, bare partitions and each other."""
 
 import sizes
 from programs import PEERS, WORKERS, compare, compare_each, has_valgrind, instructions, middle_of
 
 
 def worker_times(sharing, runs):
-    """What each number of workers takes for its steps, and what plain Rust does."""
+    """What each number of workers takes for its steps, and what plain Rust takes."""
     words = [
         [sharing, str(workers), str(sizes.WORKER_ROWS), str(sizes.WORKER_STEPS)] for workers in sizes.WORKER_COUNTS
     ]
@@ -67,7 +67,7 @@ def asking_times(runs):
 
 def gathering_times(runs):
     """What gathering takes after this many commands, in seconds: of workers with receipts, whose partitions are then
-    dropped, and of witnessed ones, before."""
+    dropped, and of witnessed ones, before that."""
     workers, times = str(sizes.GATHER_WORKERS), {}
     for rows in sizes.WITNESSED_ROWS:
         booked, witnessed = compare(
@@ -83,7 +83,7 @@ def measure_witnessed_asking(table, runs):
 
 
 def measure_witnessed_workers(table, runs):
-    """How witnessed workers over partitions of their own scale, beside those with receipts."""
+    """How witnessed workers with their own partitions scale, compared with those with receipts."""
     words = [["own", str(workers), str(sizes.WORKER_ROWS), str(sizes.WORKER_STEPS)] for workers in sizes.WORKER_COUNTS]
     each = [compare([[WORKERS, "witnessed", *it], [WORKERS, *it]], runs) for it in words]
     times = [[middle_of(it, "work") for it in both] for both in each]

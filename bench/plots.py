@@ -4,7 +4,7 @@ import math
 import statistics
 
 WIDTH, HEIGHT, LEFT, BELOW = 720, 360, 70, 40
-# how wide a picture of curves is, and what of it their names have
+# how wide a picture of curves is, and how much of it their names take
 CURVES_WIDTH, NAMES = 760, 230
 COLOURS = ["#c0392b", "#2471a3", "#229954", "#7d3c98", "#b9770e", "#566573", "#16a085", "#d35400"]
 
@@ -14,7 +14,8 @@ def text(x, y, words, anchor="start"):
 
 
 def svg(parts, height=HEIGHT, width=WIDTH):
-    head = f'<svg xmlns="http://www.w3.org/2000/svg" viewBox="0 0 {width} {height}" font-family="sans-serif" font-size="12">'
+    box = f'viewBox="0 0 {width} {height}"'
+    head = f'<svg xmlns="http://www.w3.org/2000/svg" {box} font-family="sans-serif" font-size="12">'
     return "\n".join([head, f'<rect width="{width}" height="{height}" fill="white"/>', *parts, "</svg>\n"])
 
 
@@ -47,8 +48,8 @@ def curves(series):
 
 
 def smoothed(times):
-    """Times with their numbers, from 1 on, some of each power of ten: each as the median of those from it on to one in
-    eight more."""
+    """Times with their numbers, from 1 on, some of each power of ten: each is the median of the times from it on to one
+    in eight more."""
     last = 40 * math.log10(len(times))
     places = sorted({int(10 ** (step / 40)) for step in range(int(last) + 1)})
     return [(at, statistics.median(times[at - 1 : at + at // 8])) for at in places]

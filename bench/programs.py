@@ -14,7 +14,7 @@ import time
 
 TOP = pathlib.Path(__file__).resolve().parent.parent
 sys.path.append(str(TOP / "acceptance"))
-import fixtures  # which starts servers, and holds their totals against what they must be
+import fixtures  # starts servers, and compares their totals with the right ones
 
 OUT = TOP / "bench" / "out"
 PEERS = OUT / "peers"
@@ -63,13 +63,13 @@ def session_seconds(words, source, clock=processor_seconds):
 
 
 def middles(pairs, runs, clock=time.perf_counter):
-    """Runs programs on files, pairs of words and a file, in turn. The median time of each."""
+    """Runs programs on files, given as pairs of arguments and a file, in turn. Returns the median time of each."""
     rounds = [[session_seconds(*pair, clock) for pair in pairs] for _ in range(runs)]
     return [statistics.median(times) for times in zip(*rounds)]
 
 
 def answers(words, source):
-    """What a program answers to the file."""
+    """A program's answers to the file."""
     with open(source, "rb") as given:
         return subprocess.run(words, stdin=given, stdout=subprocess.PIPE, check=True).stdout
 
@@ -82,7 +82,7 @@ def timed(words):
 
 
 def in_turn(programs, runs):
-    """Runs the programs in turn. For each what it wrote, a set, and the numbers that it reported, a list."""
+    """Runs the programs in turn. For each it returns what it wrote, a set, and the numbers that it reported, a list."""
     ran = [(set(), []) for _ in programs]
     for _ in range(runs):
         for words, (wrote, times) in zip(programs, ran):
@@ -93,7 +93,8 @@ def in_turn(programs, runs):
 
 
 def compare(programs, runs):
-    """Runs the programs in turn. For each a list of the numbers that it reported; all of them must write the same."""
+    """Runs the programs in turn. For each it returns a list of the numbers that it reported; all of them must write the
+    same."""
     ran = in_turn(programs, runs)
     if len(set().union(*(wrote for wrote, _ in ran))) > 1:
         sys.exit(f"{programs[0][1:]}: the program and its peers don't write the same")
@@ -101,8 +102,8 @@ def compare(programs, runs):
 
 
 def compare_each(program, all_words, runs):
-    """Runs a program and plain Rust with each of the words, all in turn. For each words what both reported; both must
-    write the same."""
+    """Runs a program and plain Rust with each of these arguments, all in turn. For each it returns what both reported;
+    both must write the same."""
     ran = in_turn([[which, *words] for words in all_words for which in (program, PEERS)], runs)
     for words, (ours, _), (theirs, _) in zip(all_words, ran[::2], ran[1::2]):
         if len(ours | theirs) > 1:
@@ -139,8 +140,9 @@ def status_of(process, name):
 
 
 def resident(crackd, source, name="VmHWM"):
-    """The greatest resident memory of the program over a file, in bytes, or, as VmRSS, what it has at the end: read
-    while it waits for more, since what a child is charged with at its end counts its parent's memory too."""
+    """The greatest resident memory of the program over a file, in bytes, or, with VmRSS, what it has at the end. It is
+    read while the program waits for more, since what the system reports for a child at its end includes its parent's
+    memory."""
     started = subprocess.Popen([crackd, "script"], stdin=subprocess.PIPE, stdout=subprocess.DEVNULL)
     started.stdin.write(source.read_bytes())
     started.stdin.flush()
@@ -154,13 +156,13 @@ def resident(crackd, source, name="VmHWM"):
 
 
 def sent(word, source, port):
-    """What a server on this port replies to a file that is sent to it, and how long that takes in seconds."""
+    """A server's replies, on this port, to a file that is sent to it, and how long they take in seconds."""
     wrote, times = timed([PEERS, word, str(port), source])
     return wrote, times[word] / 1e9
 
 
 def over_tcp(crackd, word, source, totals):
-    """The same by a server of its own, whose replies must be those of a script."""
+    """The same by a new server, whose replies must be those of a script."""
     try:
         with fixtures.serving(crackd, totals, 1, 1) as port:
             wrote, seconds = sent(word, source, port)
@@ -172,7 +174,7 @@ def over_tcp(crackd, word, source, totals):
 
 
 def echoed(source):
-    """How long plain Rust takes to give each line back before the next one is sent, in seconds."""
+    """How long plain Rust takes to return each line before the next one is sent, in seconds."""
     echo = subprocess.Popen([PEERS, "echo", "0"], stdout=subprocess.PIPE, text=True)
     with contextlib.closing(echo.stdout):
         try:

@@ -1,8 +1,8 @@
 """Run by of_python.py, by an interpreter that has numpy: python_rows.py ROWS RANGES RUNS
 
-The same rows in a `crackd.Table`, in numpy arrays that are kept sorted, in numpy arrays that are asked by masks, and in
-an SQLite table in memory with an index, all in this process and in turn. Prints, as JSON, the median seconds of each
-step by its name, in that order; all must answer the same.
+It has the same rows in a `crackd.Table`, in numpy arrays that are kept sorted, in numpy arrays that are queried by
+masks, and in an SQLite table in memory with an index, all in this process and in turn. It prints, as JSON, the median
+seconds of each step by its name, in that order; all must give the same answers.
 """
 
 import json
@@ -50,7 +50,7 @@ class Ours:
 
 
 class Sorted:
-    """Arrays that are kept in the order of their keys; a row that goes is found by its key and its number."""
+    """Arrays that are kept in the order of their keys; a deleted row is found by its key and its number."""
 
     name = "numpy, sorted"
 
@@ -99,7 +99,7 @@ class Sorted:
 
 
 class Masks:
-    """Arrays in order of arrival; a row that goes is marked."""
+    """Arrays in order of arrival; a deleted row is marked."""
 
     name = "numpy, masks"
 
@@ -184,7 +184,7 @@ def timed(call, *words):
 
 
 def warm_counts(table, lows, highs):
-    """Seconds a count of a range that was asked before, one by one and all in one call."""
+    """The seconds of a count of a range that was asked before, one by one and all in one call."""
     pairs = list(zip(lows.tolist(), highs.tolist()))
     one_by_one = timed(lambda: [table.count(low, high) for low, high in pairs])[1]
     return one_by_one / len(pairs), timed(table.count_many, lows, highs)[1] / len(pairs)

@@ -1,5 +1,5 @@
 """Writes docs/BENCHMARKS.md with its plots: what queries, loading, merges, workers and memory cost, and where others
-are ahead."""
+are faster."""
 
 import dataclasses
 import os
@@ -29,7 +29,7 @@ KEYS = 2**32
 
 
 class Numbers:
-    """The numbers that steer a run, as in the programs."""
+    """The numbers that determine a run, as in the programs."""
 
     def __init__(self, state):
         self.state = state
@@ -58,8 +58,8 @@ class Contest:
 
 @dataclasses.dataclass
 class Rivalry:
-    """What `crackd`, a cracker column that is written for speed alone, and a tree take for the same, in seconds; a tree
-    takes no steps."""
+    """What `crackd`, a cracker column built for speed alone, and a tree take for the same, in seconds; a tree takes no
+    steps."""
 
     what: str
     ours: float
@@ -82,9 +82,9 @@ class Rivals:
 @dataclasses.dataclass
 class Measured:
     """What is in the report besides the queries: bytes a row by name, the steps of rows by policy in millions, seconds
-    by the way of loading, those of counts after a load, statements a second by the sharing, seconds of asking and of
-    gathering with receipts and witnessed, contests, what is fast in its own way, and what a Redis sorted set takes, if
-    there is one."""
+    by the way of loading, those of counts after a load, statements a second by the way of sharing, seconds of asking
+    and of gathering with receipts and witnessed, contests, what is fast in its own way, and what a Redis sorted set
+    takes, if there is one."""
 
     rows: int
     ranges: int
@@ -115,7 +115,7 @@ def program_series(words):
 
 
 def sqlite_series(rows, ranges, is_indexed):
-    """The same by SQLite, in memory; with an index on the keys, which is made before the first count, or without
+    """The same by SQLite, in memory, either with an index on the keys, which is made before the first count, or without
     one."""
     numbers, database, told = Numbers(11), sqlite3.connect(":memory:"), 0
     database.execute("create table rows (key integer, payload integer)")
@@ -174,7 +174,7 @@ def table_of(series):
 
 
 def query_series(bench, peers, measured):
-    """The queries by each program. All must answer the same."""
+    """The queries by each program. All must give the same answers."""
     words = [str(measured.rows), str(measured.ranges)]
     programs = {
         OURS: [bench, "each", "gradual"],
@@ -197,7 +197,7 @@ def query_series(bench, peers, measured):
 
 
 def query_contests(series):
-    """The partition's queries beside each other program's."""
+    """The partition's queries compared with each other program's."""
     marks = {
         "loading, with a first count of everything": lambda it: it.load + it.everything,
         "a first count of everything": lambda it: it.everything,
@@ -225,7 +225,7 @@ def shown(seconds):
 
 
 def contest_table(contests, advantage):
-    """A line for each contest, the clearest first. `advantage` says how far one of both is ahead."""
+    """A line for each contest, the clearest first. `advantage` says how far one of the two is ahead."""
     lines = ["| What | crackd | the other | which that is | times as fast |", "|---|---|---|---|---|"]
     for it in sorted(contests, key=advantage, reverse=True):
         lines.append(f"| {it.what} | {shown(it.ours)} | {shown(it.theirs)} | {it.other} | {advantage(it):,.2f} |")
@@ -242,13 +242,13 @@ def rival_table(rivals):
 
 
 def spread(rivalries):
-    """From which to which number of times as long `crackd` takes."""
+    """The range of how many times as long `crackd` takes."""
     ratios = [it.ratio() for it in rivalries]
     return f"{min(ratios):.1f} to {max(ratios):.1f}"
 
 
 def rival_text(measured):
-    """What `crackd` does besides, with the figures of the run."""
+    """What else `crackd` does, with the figures of the run."""
     rivals = measured.rivals
     load, everything, *queries = rivals.queries.values()
     *merges, passing = rivals.merges
@@ -284,7 +284,7 @@ def loading_table(measured):
 
 
 def count_table(counts):
-    """What counts take after a load, by what was said before them."""
+    """What counts take after a load, by the statements before them."""
     lines = [
         ("loading by `insert`", counts["load"]),
         ("each count at once, under `ripple`, the policy of the start", counts["cold"]),
@@ -296,7 +296,7 @@ def count_table(counts):
 
 
 def set_text(measured):
-    """What the same takes over TCP by a Redis sorted set."""
+    """What the same takes over TCP with a Redis sorted set."""
     if not measured.sets:
         return "`redis-server` wasn't installed where this was written: nothing was compared."
     lines = ["| What | crackd | Redis | times as fast as Redis |", "|---|---|---|---|"]

@@ -1,25 +1,25 @@
 #!/usr/bin/env python3
-"""Measures the proved programs beside others, and compares the ratios with their bounds:
-run.py [--once] [--small] [--report] [--before FOLDER] [WHAT ..]
+"""Measures the proved programs and others, and compares the ratios with their bounds: run.py [--once] [--small]
+[--report] [--before FOLDER] [WHAT ..]
 
 WHAT is session, tcp, csv, batch, instructions, splits, memory, served, arena, column, partition, cold, updates, steps,
-folds, growth, workers, asking, gathering, witnessed or python; all of them without a word. python is the package's
-table in the process, where numpy and libcrackd.so are there; its times go into docs/PYTHON.md, too. Wants a quiet
-machine, rustc, and the programs, which are built (and first proved, where they aren't) as `make run` does it. Each
-number is the median of five runs; with --once of one. The programs and their peers run in turn, so that all meet the
-same machine. Instructions are counted by valgrind where it is installed, and then once, since they are the same each
-time. Prints a table, and ends with status 1 where a ratio is above its bound, or a gain below it, or where a program
-and its peer don't compute the same.
+folds, growth, workers, asking, gathering, witnessed or python; without a word, all of them. python is the package's
+table in the process, if numpy and libcrackd.so are there; its times also go into docs/PYTHON.md. It needs a quiet
+machine, rustc, and the programs, which are built (and first proved, if they aren't) as `make run` does it. Each number
+is the median of five runs; with --once of one. The programs and their peers run in turn, so that all meet the same
+machine. Instructions are counted by valgrind if it is installed, and only once, since they are the same each time. It
+prints a table, and ends with status 1 if a ratio is above its bound, or a gain below it, or if a program and its peer
+don't compute the same.
 
 With --before it compares crackd and crack_bench with those of another checkout, FOLDER, whose programs are built: both
-in turn, with the same words and the same files. Prints the ratio of this checkout's to those of FOLDER, a line for each
-thing; nothing is bounded. What FOLDER's crack_bench doesn't know is said and passed over.
+in turn, with the same arguments and the same files. It prints the ratio of this checkout's figures to those of FOLDER,
+one line each; nothing is bounded. What FOLDER's crack_bench doesn't know is named and skipped.
 
-With --report it writes docs/BENCHMARKS.md with its plots, and nothing else. A Redis sorted set is compared there, where
+With --report it writes docs/BENCHMARKS.md with its plots, and nothing else. It also compares a Redis sorted set, if
 `redis-server` is installed.
 
-With --small everything is so small that it shows only whether all runs and answers the same, once; a report then goes
-to bench/out.
+With --small everything is so small that it only shows whether all runs and gives the same answers, once; a report then
+goes to bench/out.
 """
 
 import sys
@@ -47,7 +47,7 @@ def program_of(word):
 
 
 def measure(words, runs):
-    """Whether all ratios of these words are within their bounds."""
+    """Measures these words. Returns whether all ratios are within their bounds."""
     programs = sorted({program_of(word) for word in words} - {None})
     if programs:
         build(programs)
@@ -59,15 +59,14 @@ def measure(words, runs):
 
 
 def measure_before(folder, words, runs):
-    """Compares these words with what was before; those that run workers aren't compared."""
+    """Compares these words with the earlier programs; those that run workers aren't compared."""
     known = [word for word in words if word in before.THINGS]
     earlier = before.earlier(folder)
     build(before.NAMES)
     before.compare_words(known, earlier, runs)
     if known != words:
-        print(
-            f"not compared, since they run crack_bench_workers: {', '.join(word for word in words if word not in known)}"
-        )
+        left = ", ".join(it for it in words if it not in known)
+        print(f"not compared, since they run crack_bench_workers: {left}")
 
 
 def given(words):
@@ -96,7 +95,7 @@ def main(words):
     elif folder:
         measure_before(folder, wanted, runs)
     else:
-        # (at small sizes no ratio means anything)
+        # (at small sizes ratios mean nothing)
         return 0 if measure(wanted, runs) or is_small else 1
     return 0
 

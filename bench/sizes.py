@@ -1,4 +1,4 @@
-"""How large what is measured is."""
+"""The sizes of what is measured."""
 
 STEPS, CELLS = 10_000_000, 100_000
 ROWS = 1_000_000
@@ -16,7 +16,8 @@ CHANGES, NEXT = 100_000, 1000
 PIECES, PENDING = 1000, 1000
 # over how many pieces rows go step by step, and how many rows
 STEP_PIECES, STEP_ROWS = 2000, 1000
-# 63 splits of the files' keys, which are below 2**32, into parts of one width, each with as many bounds in it, less one
+# 63 splits of the files' keys, which are below 2**32, into parts of one width, each with this many bounds in it, less
+# one
 PART_WIDTH, PART_PIECES = 2**26, 8
 SPLITS = [str(part * PART_WIDTH) for part in range(1, 64)]
 # how many workers; and, as crack_bench_workers counts them, rows of each partition, and steps of four statements each
@@ -28,10 +29,10 @@ GATHER_WORKERS, GATHER_ROWS = 4, 125_000
 WITNESSED_ROWS = (125, 12_500, GATHER_ROWS)
 # a history has at most a million entries
 MOST_PART_ROWS = 998_000
-# statements that each wait for the reply to the last one, and counts of one key each
+# statements that each wait for the previous reply, and counts of one key each
 TURNS, LOOKUPS = 20_000, 10_000
 EVERYTHING = f"0 {2**64}"
-# of a server whose clients count at full speed: how long its histories are, and after how many commands its memory is
+# for a server whose clients count at full speed: how long its histories are, and after how many commands its memory is
 # read
 SERVED_LIMIT, SERVED = 65_536, (3_000_000, 30_000_000)
 # as crack_bench_workers has them: partitions of each worker, how far apart the numbers lie at which the workers begin,
@@ -40,8 +41,8 @@ PARTS_EACH, APART, SUM_WIDTH = 2, 50_000_000, PART_WIDTH // 100
 
 
 def shrink():
-    """Makes all of them so small that a run takes a minute: it shows that everything runs and answers the same, and its
-    figures mean nothing."""
+    """Makes all of them so small that a run takes a minute: it shows that everything runs and gives the same answers,
+    and its figures mean nothing."""
     small = {
         "STEPS": 10_000,
         "SERVED_LIMIT": 2_184,

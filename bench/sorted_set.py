@@ -1,4 +1,4 @@
-"""The same rows, counts and deletes over TCP by `crackd serve` and by a Redis sorted set, asked by one client, where
+"""The same rows, counts and deletes over TCP by `crackd serve` and by a Redis sorted set, asked by one client, if
 `redis-server` is installed."""
 
 import contextlib
@@ -17,7 +17,7 @@ from programs import CRACKD, OUT, fixtures
 
 REDIS = "redis-server"
 SECONDS = 600
-# how many inserts, and as many deletes, come before a count
+# how many inserts, and as many deletes, precede a count
 BATCH = 10
 
 
@@ -70,14 +70,14 @@ class Redis:
 
 
 class Client:
-    """A connection to either server. Each of them answers each request by one line."""
+    """A connection to either server. Both answer each request by one line."""
 
     def __init__(self, port):
         self.socket = socket.create_connection(("127.0.0.1", port), SECONDS)
         self.socket.setsockopt(socket.IPPROTO_TCP, socket.TCP_NODELAY, 1)
 
     def read(self, count):
-        """The bytes of as many replies."""
+        """The bytes of this many replies."""
         chunks = []
         while count > 0:
             chunks.append(self.socket.recv(2**18) or sys.exit("a server closed the connection"))
@@ -85,7 +85,7 @@ class Client:
         return b"".join(chunks)
 
     def pipeline(self, requests):
-        """Sends all of them without waiting, and reads meanwhile: the replies, and how long that takes."""
+        """Sends all of them without waiting, and reads meanwhile. Returns the replies, and how long that takes."""
         start, writer = time.perf_counter(), threading.Thread(target=self.socket.sendall, args=[b"".join(requests)])
         writer.start()
         replies = self.read(len(requests))
@@ -93,7 +93,7 @@ class Client:
         return replies.splitlines(), time.perf_counter() - start
 
     def take_turns(self, requests):
-        """Sends each once the reply to the last one has come: the replies, and how long that takes."""
+        """Sends each once the previous reply has come. Returns the replies, and how long that takes."""
         start, replies = time.perf_counter(), []
         for request in requests:
             self.socket.sendall(request)
@@ -103,12 +103,12 @@ class Client:
 
 @contextlib.contextmanager
 def redis():
-    """The port of a Redis server of this run alone, which keeps nothing on disk."""
+    """The port of a Redis server for this run alone, which writes nothing to disk."""
     port = fixtures.free_port()
     words = [REDIS, "--port", str(port), "--bind", "127.0.0.1", "--save", "", "--appendonly", "no", "--dir", OUT]
     started = subprocess.Popen(words, stdin=subprocess.DEVNULL, stdout=subprocess.PIPE)
     try:
-        # (it says much before it accepts connections, and nothing more after its last line until its end)
+        # (it writes much before it accepts connections, and nothing more after its last line until its end)
         ready = any(b"Ready to accept connections" in line for line in started.stdout)
         yield port if ready else sys.exit(f"{REDIS} ended")
     finally:
@@ -118,7 +118,7 @@ def redis():
 
 @contextlib.contextmanager
 def crackd(program, totals):
-    """The port of `crackd serve` for one session, with what its totals must be."""
+    """The port of `crackd serve` for one session, which must have these totals."""
     try:
         with fixtures.serving(program, totals, 1, 1) as port:
             yield port
@@ -127,8 +127,8 @@ def crackd(program, totals):
 
 
 def steps(kind, is_warm):
-    """What is asked of a server, in turn: a name, the requests, and whether each waits for the reply to the last one.
-    Without a warm-up the counts are the last ones."""
+    """What a server is asked, in turn: a name, the requests, and whether each waits for the previous reply. Without a
+    warm-up the counts come last."""
     numbers = random.Random(17)
     rows = [[int(word) for word in line.split()[1:]] for line in random_insert_lines(sizes.PART_ROWS)]
     counts = [kind.count(*(int(word) for word in line.split()[1:])) for line in random_counts(sizes.RANGES)]
@@ -150,13 +150,13 @@ def steps(kind, is_warm):
 
 
 def counted(kind, name, replies):
-    """What the counts of a step tell."""
+    """What the counts of a step say."""
     each = {"load": None, "warm-up": None, "updates": 2 * BATCH + 1}.get(name, 1)
     return [kind.number(it) for it in replies[each - 1 :: each]] if each else []
 
 
 def asked(kind, port, is_warm):
-    """How many seconds each step takes, by its name, and what its counts tell."""
+    """How many seconds each step takes, by its name, and what its counts say."""
     seconds, told, client = {}, {}, Client(port)
     for name, requests, is_each_alone in steps(kind, is_warm):
         ask = client.take_turns if is_each_alone else client.pipeline
@@ -167,14 +167,15 @@ def asked(kind, port, is_warm):
 
 
 def totals(is_warm):
-    """What `crackd serve` must say once it was asked all steps."""
+    """The totals of `crackd serve` once it was asked all steps."""
     requests = b"".join(it for _, these, _ in steps(Crackd, is_warm) for it in these)
     inserted, deleted, counts = (requests.count(word) for word in (b"insert", b"delete", b"count"))
     return inserted + deleted + counts, inserted, deleted, inserted - deleted
 
 
 def measured(runs):
-    """How many seconds each step takes in each of both, crackd's first, by its name; nothing if there is no Redis."""
+    """How many seconds each step takes with each of the two, crackd's first, by its name; nothing if there is no
+    Redis."""
     if shutil.which(REDIS) is None:
         print(f"{REDIS} isn't installed: crackd isn't compared with it")
         return {}

@@ -1,4 +1,4 @@
-//! A generational arena, represented as the measured one is: a free list that is linked through the free cells.
+//! A generational arena, represented as the measured one is: its free list is linked through the free cells.
 
 use crate::numbers::{Numbers, mixed};
 use std::mem;
@@ -127,7 +127,7 @@ pub fn fill(rows: u64, numbers: &mut Numbers) -> (Arena<Row>, Vec<Handle>) {
     (arena, handles)
 }
 
-/// As many puts, gets and frees at random handles, a third each.
+/// This many puts, gets and frees at random handles, a third each.
 fn steps(
     arena: &mut Arena<Row>,
     handles: &mut Vec<Handle>,

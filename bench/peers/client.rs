@@ -1,4 +1,4 @@
-//! A client of a server on this machine, and a server that gives each line back.
+//! A client of a server on this machine, and a server that returns each line.
 
 use std::fs;
 use std::io::{self, BufRead, BufReader, ErrorKind, Read, Write};
@@ -12,7 +12,7 @@ fn connect(port: u16) -> io::Result<TcpStream> {
     Ok(stream)
 }
 
-/// Writes all, and that nothing comes behind it.
+/// Writes all, and ends the output.
 fn write_whole(mut stream: TcpStream, text: &[u8]) -> io::Result<()> {
     stream.write_all(text)?;
     stream.shutdown(Shutdown::Write)
@@ -34,7 +34,7 @@ pub fn pipeline(port: u16, file: &str) -> io::Result<()> {
     io::stdout().write_all(&replies)
 }
 
-/// Sends a file's statements one by one, each once the reply to the last one, a line, has come.
+/// Sends a file's statements one by one, each once the previous reply, a line, has come.
 pub fn take_turns(port: u16, file: &str) -> io::Result<()> {
     let text = fs::read_to_string(file)?;
     let mut replies = String::new();
@@ -51,7 +51,7 @@ pub fn take_turns(port: u16, file: &str) -> io::Result<()> {
     io::stdout().write_all(replies.as_bytes())
 }
 
-/// Gives each line of one connection back. Port 0 is some free port; which one is listened on is told first.
+/// Returns each line of one connection. Port 0 is some free port; the port is printed first.
 pub fn echo(port: u16) -> io::Result<()> {
     let listener = TcpListener::bind((Ipv4Addr::LOCALHOST, port))?;
     println!("listening {}", listener.local_addr()?.port());

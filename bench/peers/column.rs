@@ -1,5 +1,6 @@
-//! A cracker column over an arena: generations of cells that no crack moves, and in cracked order places, each with the key that is remembered of
-//! its row, the number of its cell and the ticket of its generation, and the payloads beside them, which a sum reads alone.
+//! A cracker column over an arena: generations of cells, which no crack moves, and places in cracked order, each with
+//! the remembered key of its row, the number of its cell and the ticket of its generation; the payloads are in a list
+//! of their own, which is all that a sum reads.
 
 use crate::arena::{Arena, Handle, Row, fill};
 use crate::numbers::{Numbers, mixed};
@@ -8,7 +9,7 @@ use std::time::Instant;
 /// Stands for a key that isn't remembered.
 pub const UNKNOWN: u64 = u64::MAX;
 
-/// What a crack exchanges beside a payload, 16 bytes.
+/// What a crack exchanges besides a payload, 16 bytes.
 #[derive(Clone, Copy)]
 pub struct Place {
     key: u64,
@@ -66,7 +67,7 @@ impl Column {
         }
     }
 
-    /// Puts a row aside, behind the last place.
+    /// Puts a row aside, after the last place.
     pub fn set_aside(&mut self, held: Held) {
         if self.len == self.places.len() {
             let ticket = self.places.len() as u32;
@@ -81,7 +82,7 @@ impl Column {
         self.keep(self.len, held);
     }
 
-    /// Puts a row at the place, its generation under the ticket there.
+    /// Puts a row at the place, and its generation under the ticket there.
     fn keep(&mut self, place: usize, held: Held) {
         let here = &mut self.places[place];
         self.generations[here.ticket as usize] = held.handle.generation;
@@ -126,7 +127,7 @@ impl Column {
         self.append_aside();
     }
 
-    /// Puts a row at the place, and takes the one that stood there out.
+    /// Puts a row at the place, and takes out the one that was there.
     pub fn swap_in(&mut self, place: usize, held: Held) -> Held {
         let there = self.held(place);
         self.keep(place, held);
@@ -152,7 +153,7 @@ impl Column {
         (from + middle, from + upper)
     }
 
-    /// The sum of the payloads from a place up to another; reads a cell for a row that isn't known alone.
+    /// The sum of the payloads from one place up to another; reads a cell only for a row that isn't known.
     pub fn sum_between(&self, from: usize, to: usize, arena: &Arena<Row>) -> i128 {
         if self.unread == 0 {
             return self.payloads[from..to].iter().map(|it| i128::from(*it)).sum();
@@ -162,7 +163,7 @@ impl Column {
     }
 }
 
-/// Reads each row that isn't known. How many are known now.
+/// Reads each row that isn't known. Returns how many are known now.
 fn learn(places: &mut [Place], payloads: &mut [i64], generations: &[u64], arena: &Arena<Row>) -> usize {
     let mut learned = 0;
     for (place, payload) in places.iter_mut().zip(payloads) {
@@ -180,8 +181,8 @@ fn learn(places: &mut [Place], payloads: &mut [i64], generations: &[u64], arena:
     learned
 }
 
-/// Puts the keys below the bound first, and gives their number. The first place is held, and the gap that it leaves goes round, so that
-/// nothing is exchanged. The key is read first, and then the place.
+/// Puts the keys below the bound first, and returns their number. The first place is held, and the gap that it leaves
+/// moves along, so that nothing is exchanged. The key is read first, and then the place.
 fn divide(places: &mut [Place], payloads: &mut [i64], bound: u64) -> usize {
     let Some(last) = places.len().checked_sub(1) else {
         return 0;
@@ -207,8 +208,8 @@ fn shift(places: &mut [Place], payloads: &mut [i64], gap: usize, low: usize, nex
     payloads[low] = payload;
 }
 
-/// Puts the keys below the low bound first, then those below the high one, and gives how many are below either. The gap goes round
-/// through both places between.
+/// Puts the keys below the low bound first, then those below the high one, and returns how many are below each. The gap
+/// moves along through both places in between.
 fn divide_three(places: &mut [Place], payloads: &mut [i64], low: u64, high: u64) -> (usize, usize) {
     let Some(last) = places.len().checked_sub(1) else {
         return (0, 0);
@@ -231,7 +232,14 @@ fn divide_three(places: &mut [Place], payloads: &mut [i64], low: u64, high: u64)
 
 /// Fills the gap from the upper place, that one from the other, and puts this one there with its payload.
 #[inline(always)]
-fn turn(places: &mut [Place], payloads: &mut [i64], gap: usize, (upper, place): (usize, usize), next: Place, payload: i64) {
+fn turn(
+    places: &mut [Place],
+    payloads: &mut [i64],
+    gap: usize,
+    (upper, place): (usize, usize),
+    next: Place,
+    payload: i64,
+) {
     places[gap] = places[upper];
     places[upper] = places[place];
     places[place] = next;

@@ -1,17 +1,18 @@
-//! A cracker column that is written for speed alone, and does the same steps: it has no history, no generations and no map of numbers. A row is
-//! named by its slot, which its insert answered, until it is deleted; a later row may get its slot. Pending rows stand in plain vectors, and a pass
-//! over them reads 4 bytes of each. Whether a row is doomed is one bit a slot, beside the column.
+//! A cracker column built for speed alone that does the same steps: it has no history, no generations and no map of
+//! numbers. A row is identified by its slot, which its insert returned, until it is deleted; a later row may get its
+//! slot. Pending rows are in plain vectors, and a pass over them reads 4 bytes of each. Whether a row is doomed is one
+//! bit per slot, beside the column.
 
 use crate::store::Policy;
 use std::mem;
 
-/// The spot of a slot that no row has, and the slot of a spot that no row has any more.
+/// The spot of a slot without a row, and the slot of a spot whose row has gone.
 const NONE: u32 = u32::MAX;
 
-/// How many rows are looked at before there is a branch.
+/// How many rows are compared before there is a branch.
 const BLOCK: usize = 16;
 
-/// A key with its payload, 16 bytes, of which one load and one store move all.
+/// A key with its payload, 16 bytes, which one load and one store move.
 #[derive(Clone, Copy)]
 #[repr(align(16))]
 struct Pair {
@@ -26,8 +27,9 @@ struct Hand {
     slot: u32,
 }
 
-/// What a crack moves, 20 bytes a row: pairs, and beside them the slots of their rows. With payloads apart sums that are asked again took 2/3 of the
-/// time, and carries, pulls and updates a sixth more; as one list of 24 bytes a row, cracks took a fifth more.
+/// What a crack moves, 20 bytes a row: pairs, and beside them the slots of their rows. With payloads in a list of their
+/// own repeated sums took 2/3 of the time, and carries, pulls and updates a sixth more; as one list of 24 bytes a row,
+/// cracks took a fifth more.
 #[derive(Default)]
 struct Column {
     pairs: Vec<Pair>,
@@ -55,19 +57,21 @@ impl Column {
         mem::swap(&mut self.slots[place], &mut hand.slot);
     }
 
-    /// Puts the keys of a piece below the bound first, and gives the place between.
+    /// Puts the keys of a piece below the bound first, and returns the place between.
     fn crack_two(&mut self, (from, to): (usize, usize), bound: u64) -> usize {
         from + divide(&mut self.pairs[from..to], &mut self.slots[from..to], bound)
     }
 
-    /// Puts the keys of a piece below the low bound first, then those below the high one, and gives both places between.
+    /// Puts the keys of a piece below the low bound first, then those below the high one, and returns both places
+    /// between.
     fn crack_three(&mut self, (from, to): (usize, usize), low: u64, high: u64) -> (usize, usize) {
         let (middle, upper) = divide_three(&mut self.pairs[from..to], &mut self.slots[from..to], low, high);
         (from + middle, from + upper)
     }
 }
 
-/// A row by its slot: where it stands among pending rows, if it does, and where it was seen in the column, once it is doomed.
+/// A row by its slot: its place among pending rows, if it is one, and where it was seen in the column, once it is
+/// doomed.
 #[derive(Clone, Copy)]
 struct Cell {
     key: u64,
@@ -86,7 +90,7 @@ pub struct Tally {
     pub pulled: u64,
 }
 
-/// One bit a slot.
+/// One bit per slot.
 #[derive(Default)]
 struct Bits {
     words: Vec<u64>,
@@ -112,7 +116,7 @@ impl Bits {
     }
 }
 
-/// The bounds that divide the column, in rising order, and beside them where they stand.
+/// The bounds that divide the column, in rising order, and their places.
 #[derive(Default)]
 struct Marks {
     bounds: Vec<u64>,
@@ -125,23 +129,24 @@ impl Marks {
         self.bounds.partition_point(|bound| *bound <= key)
     }
 
-    /// Where the piece begins that lies above as many bounds.
+    /// Where the piece begins that is above this many bounds.
     fn start(&self, mark: usize) -> usize {
         mark.checked_sub(1).map_or(0, |it| self.places[it] as usize)
     }
 
-    /// The ends of the piece whose keys hold this key, in a column of `len` rows.
+    /// The ends of the piece whose keys include this key, in a column of `len` rows.
     fn piece_of(&self, key: u64, len: usize) -> (usize, usize) {
         let mark = self.up_to(key);
         (self.start(mark), self.places.get(mark).map_or(len, |it| *it as usize))
     }
 
-    /// The last key of the piece whose keys hold this key.
+    /// The last key of the piece whose keys include this key.
     fn last_beside(&self, key: u64) -> u64 {
         self.bounds.get(self.up_to(key)).map_or(u64::MAX, |bound| bound - 1)
     }
 
-    /// Those from this one on that stand where it stands move up by one. Where it stood, and the first behind them.
+    /// The bounds from this one on that are at its place move up by one. Returns the place, and the first bound after
+    /// them.
     fn raise(&mut self, from: usize) -> (usize, usize) {
         let (place, mut at) = (self.places[from], from);
         while at < self.places.len() && self.places[at] == place {
@@ -151,7 +156,8 @@ impl Marks {
         (place as usize, at)
     }
 
-    /// Those before this one that stand where the last of them stands move down by one. The first of them.
+    /// The bounds before this one that are at the place of the last of them move down by one. Returns the first of
+    /// them.
     fn lower(&mut self, to: usize) -> usize {
         let (place, mut at) = (self.places[to - 1], to);
         while at > 0 && self.places[at - 1] == place {
@@ -162,8 +168,8 @@ impl Marks {
     }
 }
 
-/// Pending rows in order of arrival: each by its slot, and beside it its key as a float, which is as high as that of a lower key or higher. A hole
-/// where a row went.
+/// Pending rows in order of arrival: each by its slot, and beside it its key as a float, which rises with the keys.
+/// There is a hole where a row was removed.
 #[derive(Default)]
 struct Pending {
     floats: Vec<f32>,
@@ -176,20 +182,20 @@ impl Pending {
         self.slots.get(spot as usize) == Some(&slot)
     }
 
-    /// Puts a row behind the last one. Its spot.
+    /// Adds a row after the last one. Returns its spot.
     fn push(&mut self, key: u64, slot: u32) -> u32 {
         self.floats.push(key as f32);
         self.slots.push(slot);
         self.slots.len() as u32 - 1
     }
 
-    /// Takes the row of this spot; it leaves a hole. Its slot.
+    /// Takes the row of this spot, which leaves a hole. Returns its slot.
     fn take(&mut self, spot: usize) -> u32 {
         self.holes += 1;
         mem::replace(&mut self.slots[spot], NONE)
     }
 
-    /// Closes the holes up, once there are as many as rows.
+    /// Closes up the holes once there are as many as rows.
     fn close_up(&mut self, cells: &mut [Cell]) {
         if self.holes == 0 || self.holes < self.slots.len() - self.holes {
             return;
@@ -208,8 +214,8 @@ impl Pending {
         self.holes = 0;
     }
 
-    /// The first spot from this one on whose row has a key from the low one up to the last one. A cell is read where the float says that its key may
-    /// be one of these, and only there.
+    /// The first spot from this one on whose row has a key from the low one up to the last one. A cell is read only if
+    /// the float says that its key may be one of these.
     fn next_in(&self, low: u64, last: u64, mut from: usize, cells: &[Cell]) -> Option<usize> {
         let (least, greatest) = (low as f32, last as f32);
         let may_be_in = |float: f32| (least <= float) & (float <= greatest);
@@ -262,7 +268,7 @@ impl Fast {
         self.tally
     }
 
-    /// Keeps a row behind the last pending insertion. Its slot.
+    /// Adds a row after the last pending insertion. Returns its slot.
     pub fn insert(&mut self, key: u64, payload: i64) -> u32 {
         let slot = self.free.pop().unwrap_or(self.cells.len() as u32);
         let spot = self.pending_in.push(key, slot);
@@ -281,7 +287,8 @@ impl Fast {
         slot
     }
 
-    /// Takes a row out: a pending one at once, one of the column is doomed. Its key and payload; none where there is no such row.
+    /// Deletes a row: a pending one is removed at once, one of the column is doomed. Returns its key and payload, or
+    /// None if there is no such row.
     pub fn delete(&mut self, slot: u32) -> Option<(u64, i64)> {
         let Cell {
             key, payload, spot, ..
@@ -314,7 +321,8 @@ impl Fast {
         self.column.pairs[from..to].iter().map(|it| i128::from(it.payload)).sum()
     }
 
-    /// Cracks the column at both ends of the range and merges what it needs. The places between which its rows stand.
+    /// Cracks the column at both ends of the range and merges what it needs. Returns the places between which its rows
+    /// are.
     fn settle(&mut self, low: u128, high: u128) -> (usize, usize) {
         if high <= low {
             return (0, 0);
@@ -330,7 +338,7 @@ impl Fast {
         (self.edge(low), self.edge(high))
     }
 
-    /// Whether a row comes or goes whose key is one from the low one up to the last one.
+    /// Whether a row waits to be put in or taken out whose key is from the low one up to the last one.
     fn is_any_pending(&self, low: u64, last: u64) -> bool {
         [&self.pending_in, &self.pending_out].iter().any(|it| it.next_in(low, last, 0, &self.cells).is_some())
     }
@@ -340,18 +348,18 @@ impl Fast {
         let Ok(bound) = u64::try_from(bound) else {
             return self.column.len();
         };
-        // (a bound of 0 is no mark, and stands below all of them)
+        // (a bound of 0 isn't a mark, and is below all of them)
         self.marks.start(self.marks.up_to(bound))
     }
 
-    /// The bound, and where its mark is to stand, unless it is there or is an end of the keys.
+    /// The bound, and the place for its mark, unless it exists or is an end of the keys.
     fn missing(&self, bound: u128) -> Option<(usize, u64)> {
         let bound = u64::try_from(bound).ok().filter(|it| *it != 0)?;
         let mark = self.marks.up_to(bound);
         (mark == 0 || self.marks.bounds[mark - 1] != bound).then_some((mark, bound))
     }
 
-    /// Cracks the column at both ends of the range, in three where both are missing and fall into one piece.
+    /// Cracks the column at both ends of the range, in three if both are missing and fall into one piece.
     fn crack(&mut self, low: u128, high: u128) {
         match (self.missing(low), self.missing(high)) {
             (Some((mark, low)), Some((same, high))) if mark == same => self.crack_in_three(mark, low, high),
@@ -395,8 +403,8 @@ impl Fast {
         }
     }
 
-    /// Puts in the pending rows with keys from the low one up to the last one, and then takes out the doomed ones. No row stays in the way whose key
-    /// is above the greatest.
+    /// Puts in the pending rows with keys from the low one up to the last one, and then takes out the doomed ones. No
+    /// row whose key is above the greatest stays in the way.
     fn merge(&mut self, low: u64, last: u64, greatest: u64) {
         let mut from = 0;
         while let Some(spot) = self.pending_in.next_in(low, last, from, &self.cells) {
@@ -410,7 +418,9 @@ impl Fast {
         while let Some(spot) = self.pending_out.next_in(low, last, from, &self.cells) {
             let doomed = self.pending_out.take(spot);
             let place = self.place_of(doomed);
-            fillers = fillers.and_then(|(from, low, last)| Some((self.pending_in.next_in(low, last, from, &self.cells)?, low, last)));
+            fillers = fillers.and_then(|(from, low, last)| {
+                Some((self.pending_in.next_in(low, last, from, &self.cells)?, low, last))
+            });
             let hand = match &mut fillers {
                 Some((filler, ..)) => {
                     let spot = *filler;
@@ -426,15 +436,15 @@ impl Fast {
         self.pending_out.close_up(&mut self.cells);
     }
 
-    /// Lets a doomed row go that stands in no list.
+    /// Frees a doomed row that is in no list.
     fn bury(&mut self, slot: u32) {
         self.tally.taken_out += 1;
         self.doomed.clear(slot);
         self.release(slot);
     }
 
-    /// Puts the hand at the end of its piece, and the row that stood there on, until one is put at the column's end, is doomed, or has a key above the
-    /// greatest: that one is put back among the pending insertions.
+    /// Puts the hand at the end of its piece, and moves the row that was there on, until one is put at the column's
+    /// end, is doomed, or has a key above the greatest: that one is put back among the pending insertions.
     fn carry(&mut self, mut hand: Hand, greatest: u64) {
         let mut mark = self.marks.up_to(hand.pair.key);
         while mark < self.marks.places.len() {
@@ -459,7 +469,8 @@ impl Fast {
         self.column.push(hand);
     }
 
-    /// Where a doomed row stands: where it was noted, or else it is looked for in its piece, with each other doomed row there.
+    /// The place of a doomed row: where it was noted, or else its piece is searched, and each other doomed row there is
+    /// noted.
     fn place_of(&mut self, doomed: u32) -> usize {
         let Cell { key, note, .. } = self.cells[doomed as usize];
         if self.column.slots.get(note as usize) == Some(&doomed) {
@@ -482,7 +493,7 @@ impl Fast {
         self.column.pop().expect("a doomed row stands in the column")
     }
 
-    /// Takes a doomed row out of the column: the hand goes down to its place, piece by piece.
+    /// Takes a doomed row out of the column: the hand moves down to its place, piece by piece.
     fn pull(&mut self, doomed: u32, mut hand: Hand, place: usize) {
         let mut mark = self.marks.up_to(hand.pair.key);
         while hand.slot != doomed {
@@ -500,8 +511,8 @@ impl Fast {
     }
 }
 
-/// Puts the keys below the bound first, and gives their number. The first row is held, and the gap that it leaves goes round. What is put at `low`
-/// stays as it was behind the gap, so that it is held nowhere meanwhile.
+/// Puts the keys below the bound first, and returns their number. The first row is held, and the gap that it leaves
+/// moves along. What is put at `low` stays as it was after the gap, so that it is held nowhere in between.
 fn divide(pairs: &mut [Pair], slots: &mut [u32], bound: u64) -> usize {
     let Some(last) = pairs.len().checked_sub(1) else {
         return 0;
@@ -524,8 +535,8 @@ fn divide(pairs: &mut [Pair], slots: &mut [u32], bound: u64) -> usize {
     low + (first.key < bound) as usize
 }
 
-/// Puts the keys below the low bound first, then those below the high one, and gives how many are below either. The gap goes round through both
-/// places between.
+/// Puts the keys below the low bound first, then those below the high one, and returns how many are below each. The gap
+/// moves along through both places in between.
 fn divide_three(pairs: &mut [Pair], slots: &mut [u32], low: u64, high: u64) -> (usize, usize) {
     let Some(last) = pairs.len().checked_sub(1) else {
         return (0, 0);

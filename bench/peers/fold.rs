@@ -6,10 +6,10 @@ use crate::partition::{KEYS_END, WIDTH};
 use crate::report;
 use std::time::Instant;
 
-/// How many commands of one kind there are before a checkpoint, and behind it.
+/// How many commands of one kind there are before a checkpoint, and after it.
 const NEXT: u64 = 1000;
 
-/// The rows that there are, and how many commands were accepted since the last checkpoint.
+/// The present rows, and how many commands were accepted since the last checkpoint.
 struct Rows {
     rows: Vec<Row>,
     next: u64,
@@ -42,7 +42,7 @@ impl Rows {
         }
     }
 
-    /// A checksum of as many counts of one range in the upper half.
+    /// A checksum of this many counts of one range in the upper half.
     fn upper_counts(&mut self, counts: u64) -> u64 {
         let low = KEYS_END / 2;
         let range = low..low + WIDTH;
@@ -56,14 +56,14 @@ impl Rows {
         self.rows.len()
     }
 
-    /// The commands that are measured before a checkpoint, and behind it.
+    /// The commands that are measured before a checkpoint, and after it.
     fn ask_next(&mut self) {
         let sum = self.upper_counts(NEXT);
         self.load_half(NEXT);
         println!("next {sum} rows {}", self.count_all());
     }
 
-    /// As many deletes of random rows of the first so many, a count of everything, as many inserts, and two counts.
+    /// This many deletes of random rows among the first ones, a count of everything, as many inserts, and two counts.
     fn mix(&mut self, rows: u64, changes: u64) {
         let mut serials: Vec<u64> = (0..rows).collect();
         let mut is_gone = vec![false; rows as usize];
@@ -88,7 +88,7 @@ impl Rows {
         rows
     }
 
-    /// Copies the rows from random order and sorts the copy, and tells what a checkpoint keeps, which folds all entries.
+    /// Copies the rows in random order and sorts the copy. Prints what a checkpoint keeps; it removes all entries.
     fn sort(&mut self, name: &str) {
         let shuffled = self.shuffled();
         let start = Instant::now();
@@ -106,7 +106,7 @@ impl Rows {
     }
 }
 
-/// As many inserts, and as many deletes and inserts behind them.
+/// This many inserts, and then this many deletes and inserts.
 pub fn run(rows: u64, changes: u64) {
     let mut table = Rows {
         rows: Vec::new(),

@@ -22,7 +22,7 @@ impl Index {
         (last.bound == bound).then_some(last.position)
     }
 
-    /// The ends of the piece whose keys hold this key, in a column of `len` rows.
+    /// The ends of the piece whose keys include this key, in a column of `len` rows.
     pub fn piece_of(&self, key: u64, len: usize) -> (usize, usize) {
         let (below, above) = self.marks.split_at(self.up_to(key));
         (
@@ -41,7 +41,7 @@ impl Index {
         self.marks.insert(at, Mark { bound, position });
     }
 
-    /// The marks from this one on that stand where it stands move up by one. The first behind them.
+    /// The marks from this one on that are at its place move up by one. Returns the first after them.
     pub fn raise(&mut self, from: usize) -> usize {
         let (place, mut at) = (self.marks[from].position, from);
         while at < self.marks.len() && self.marks[at].position == place {
@@ -51,7 +51,7 @@ impl Index {
         at
     }
 
-    /// The marks before this one that stand where the last of them stands move down by one. The first of them.
+    /// The marks before this one that are at the place of the last of them move down by one. Returns the first of them.
     pub fn lower(&mut self, to: usize) -> usize {
         let (place, mut at) = (self.marks[to - 1].position, to);
         while at > 0 && self.marks[at - 1].position == place {

@@ -9,7 +9,7 @@ pub struct Inline {
 }
 
 impl Inline {
-    /// The place at which the keys at or above the bound begin; cracks there, unless it is known.
+    /// The place at which the keys at or above the bound begin. Cracks there unless it is known.
     pub fn edge(&mut self, bound: u128) -> usize {
         let Ok(bound) = u64::try_from(bound) else {
             return self.keys.len();
@@ -27,7 +27,7 @@ impl Inline {
     }
 }
 
-/// Puts the keys below the pivot first, and gives their number. The gap goes round, so that each key is written once
+/// Puts the keys below the pivot first, and returns their number. The gap moves along, so that each key is written once
 /// ("branchless Lomuto partitioning" with a cyclic permutation, as in Rust's own sort).
 fn partition(keys: &mut [u64], pivot: u64) -> usize {
     let Some(&first) = keys.first() else {
@@ -36,7 +36,7 @@ fn partition(keys: &mut [u64], pivot: u64) -> usize {
     let end = keys.len();
     let keys = keys.as_mut_ptr();
     let (mut low, mut gap) = (0, 0);
-    // `low` and `gap` are below `i`, and that is below `end`
+    // `low` and `gap` are below `i`, which is below `end`
     unsafe {
         for i in 1..end {
             let key = *keys.add(i);

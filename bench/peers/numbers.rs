@@ -1,6 +1,6 @@
-//! The numbers that steer a run, the same in each language.
+//! The numbers that determine a run, the same in each language.
 
-/// A linear congruential generator (Knuth's MMIX), of which the high bits are used.
+/// A linear congruential generator (Knuth's MMIX), whose high bits are used.
 pub struct Numbers(pub u64);
 
 impl Numbers {

@@ -1,5 +1,5 @@
-//! A cracker column of keys and payloads side by side, and nothing else: a crack exchanges 16 bytes a row, at each step, without a branch on
-//! a key.
+//! A cracker column of keys and payloads side by side, and nothing else: a crack exchanges 16 bytes a row, at each
+//! step, without a branch on a key.
 
 /// Keys with their payloads in one vector, and the bounds that divide it in rising order, each with its place.
 #[derive(Default)]
@@ -10,7 +10,7 @@ pub struct Pairs {
 }
 
 impl Pairs {
-    /// The place at which the keys at or above the bound begin; cracks there, unless it is known.
+    /// The place at which the keys at or above the bound begin. Cracks there unless it is known.
     pub fn edge(&mut self, bound: u128) -> usize {
         let Ok(bound) = u64::try_from(bound) else {
             return self.pairs.len();
@@ -28,7 +28,7 @@ impl Pairs {
     }
 }
 
-/// Puts the keys below the pivot first, and gives their number.
+/// Puts the keys below the pivot first, and returns their number.
 fn divide(pairs: &mut [(u64, i64)], pivot: u64) -> usize {
     let mut low = 0;
     for i in 0..pairs.len() {

@@ -1,6 +1,6 @@
-//! Inserts in random order of keys, a count of everything, and counts, sums and updates: by a cracked partition with a history, by a cracker column
-//! that is written for speed alone, by those of keys alone and of keys and payloads, by a tree, and by a pass over rows for each range, in a vector
-//! or through handles.
+//! Inserts in random order of keys, a count of everything, and counts, sums and updates: by a cracked partition with a
+//! history, by a cracker column built for speed alone, by those of keys alone and of keys and payloads, by a tree, and
+//! by a pass over rows for each range, in a vector or through handles.
 
 use crate::arena::Row;
 use crate::fast::{Fast, Tally};
@@ -14,7 +14,7 @@ use crate::tree::Tree;
 use std::hint::black_box;
 use std::time::Instant;
 
-/// Where the random keys end, which have 32 bits.
+/// The end of the random keys, which have 32 bits.
 pub const KEYS_END: u128 = 1 << 32;
 
 /// How wide a random range is: a hundredth of these keys.
@@ -23,12 +23,12 @@ pub const WIDTH: u128 = 42949672;
 /// How many entries a history may have.
 pub const LIMIT: usize = 1_000_000;
 
-/// What takes rows, counts them and sums their payloads.
+/// Something that takes rows, counts them and sums their payloads.
 trait Table {
-    /// What a row is named by.
+    /// What identifies a row.
     type Name: Copy;
 
-    /// Keeps a row. Its name.
+    /// Adds a row. Returns what identifies it.
     fn insert(&mut self, key: u64, payload: i64) -> Self::Name;
 
     fn count(&mut self, low: u128, high: u128) -> u64;
@@ -99,7 +99,7 @@ impl Partition {
         &self.history
     }
 
-    /// Answers a command and keeps it; none once the history is full. The second reply is a copy, for a receipt.
+    /// Answers a command and keeps it; None once the history is full. The second reply is a copy, for a receipt.
     pub fn apply(&mut self, worker: u32, command: Command) -> Option<(Reply, Reply)> {
         if self.history.len() >= LIMIT {
             return None;
@@ -313,14 +313,14 @@ fn random_low(numbers: &mut Numbers) -> u128 {
     u128::from(numbers.word()) % (KEYS_END - WIDTH)
 }
 
-/// As many inserts of random keys. Their names are handed on.
+/// This many inserts of random keys. Returns what identifies the rows.
 fn fill<T: Table>(table: &mut T, rows: u64, numbers: &mut Numbers, mut keep: impl FnMut(T::Name)) {
     for row in 0..rows {
         keep(table.insert(u64::from(numbers.word()), row as i64));
     }
 }
 
-/// The sums of as many random ranges. A checksum of them, over that of earlier ones.
+/// The sums of this many random ranges. Returns a checksum of them, over that of earlier ones.
 fn random_sums(table: &mut impl Table, told: u64, ranges: u64, numbers: &mut Numbers) -> u64 {
     (0..ranges).fold(told, |sum, _| {
         let low = random_low(numbers);
@@ -328,31 +328,31 @@ fn random_sums(table: &mut impl Table, told: u64, ranges: u64, numbers: &mut Num
     })
 }
 
-/// A sum, if it is a number of 64 bits; else the greatest of them.
+/// A sum, if it fits 64 bits; else the greatest number of 64 bits.
 fn number_of(sum: i128) -> u64 {
     u64::try_from(sum).unwrap_or(u64::MAX)
 }
 
-/// As many inserts of random keys, and a count of everything. The names are handed on.
+/// This many inserts of random keys, and a count of everything. Returns what identifies the rows.
 fn load<T: Table>(table: &mut T, rows: u64, numbers: &mut Numbers, keep: impl FnMut(T::Name)) {
     let start = Instant::now();
     fill(table, rows, numbers, keep);
     crate::report("load", start);
     let start = Instant::now();
-    // (the bound is hidden, since a pass over rows that are all below it would be left out)
+    // (the bound is hidden from the compiler, which would leave out a pass over rows that are all below it)
     let everything = table.count(0, black_box(GREATEST_BOUND));
     crate::report("everything", start);
     println!("rows {everything}");
 }
 
-/// The same, and the names of the rows.
+/// The same, and what identifies the rows.
 fn load_named<T: Table>(table: &mut T, rows: u64, numbers: &mut Numbers) -> Vec<T::Name> {
     let mut names = Vec::with_capacity(rows as usize);
     load(table, rows, numbers, |name| names.push(name));
     names
 }
 
-/// What the merges did, where that is counted.
+/// What the merges did, if that is counted.
 fn report_tally(table: &impl Table) {
     if let Some(did) = table.tally() {
         let Tally { put_in, taken_out, evicted, moved, pulled } = did;
@@ -372,7 +372,7 @@ fn counts(mut table: impl Table, rows: u64, ranges: u64) {
     println!("counts {sum}");
 }
 
-/// The sums of as many random ranges, and the same sums again.
+/// The sums of this many random ranges, and the same sums again.
 fn sums(mut table: impl Table, rows: u64, ranges: u64) {
     let mut numbers = Numbers(11);
     load(&mut table, rows, &mut numbers, |_| {});
@@ -386,7 +386,7 @@ fn sums(mut table: impl Table, rows: u64, ranges: u64) {
     println!("sums {told}");
 }
 
-/// The sums of as many random ranges, and the time of each.
+/// The sums of this many random ranges, and the time of each.
 fn each(mut table: impl Table, rows: u64, ranges: u64) {
     let mut numbers = Numbers(11);
     load(&mut table, rows, &mut numbers, |_| {});
@@ -399,7 +399,7 @@ fn each(mut table: impl Table, rows: u64, ranges: u64) {
     println!("each {told}");
 }
 
-/// As many inserts, and the sums of as many random ranges, with nothing counted before.
+/// This many inserts, and the sums of this many random ranges, with nothing counted before.
 fn cold(mut table: impl Table, rows: u64, ranges: u64) {
     let mut numbers = Numbers(11);
     fill(&mut table, rows, &mut numbers, |_| {});
@@ -410,7 +410,7 @@ fn cold(mut table: impl Table, rows: u64, ranges: u64) {
     report_tally(&table);
 }
 
-/// As many inserts of keys in the lower half, and the sums of as many random ranges in the upper half.
+/// This many inserts of keys in the lower half, and the sums of this many random ranges in the upper half.
 fn pass(mut table: impl Table, rows: u64, ranges: u64) {
     let mut numbers = Numbers(11);
     for row in 0..rows {
@@ -426,7 +426,7 @@ fn pass(mut table: impl Table, rows: u64, ranges: u64) {
     println!("pass {told}");
 }
 
-/// Batches of as many deletes and inserts, each with the sum of a random range behind it.
+/// Batches of this many deletes and inserts, each followed by the sum of a random range.
 fn updates(mut table: impl Table, rows: u64, batches: u64, size: u64) {
     let mut numbers = Numbers(11);
     let mut names = load_named(&mut table, rows, &mut numbers);
@@ -445,7 +445,7 @@ fn updates(mut table: impl Table, rows: u64, batches: u64, size: u64) {
     report_tally(&table);
 }
 
-/// Counts that crack the column into as many pieces of one width.
+/// Counts that crack the column into this many pieces of one width.
 fn crack_evenly(table: &mut impl Table, pieces: u64) {
     let width = KEYS_END / u128::from(pieces.max(1));
     for piece in 1..pieces {
@@ -462,7 +462,7 @@ fn count_merging(mut table: impl Table, name: &str) {
     report_tally(&table);
 }
 
-/// As many rows pending beside a column of as many pieces, and the count that merges them.
+/// This many pending rows and a column of this many pieces, and the count that merges them.
 fn merge(mut table: impl Table, rows: u64, pieces: u64, pending: u64) {
     let mut numbers = Numbers(11);
     load(&mut table, rows, &mut numbers, |_| {});
@@ -471,7 +471,7 @@ fn merge(mut table: impl Table, rows: u64, pieces: u64, pending: u64) {
     count_merging(table, "merge");
 }
 
-/// As many deletes of random rows in a column of as many pieces, and the count that takes these rows out.
+/// This many deletes of random rows in a column of this many pieces, and the count that takes these rows out.
 fn pulls(mut table: impl Table, rows: u64, pieces: u64, deletes: u64) {
     let mut numbers = Numbers(11);
     let names = load_named(&mut table, rows, &mut numbers);
@@ -511,6 +511,9 @@ pub fn run(word: &str, table: &str, numbers: &[u64]) {
         "through" => measure(word, Through::default(), numbers),
         "rows" => measure(word, Vec::<Row>::new(), numbers),
         "sorted" => measure(word, Sorted::default(), numbers),
-        _ => panic!("complete, gradual, ripple, anew, fast-complete, fast-gradual, fast-ripple, inline, pairs, tree, through, rows or sorted"),
+        _ => panic!(
+            "complete, gradual, ripple, anew, fast-complete, fast-gradual, fast-ripple, inline, pairs, tree, through, \
+             rows or sorted"
+        ),
     }
 }

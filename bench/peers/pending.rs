@@ -1,11 +1,12 @@
-//! Pending rows in order of arrival: keys side by side with their handles, a hole where a row went, and for each cell where its row stands.
+//! Pending rows in order of arrival: adjacent keys with their handles, a hole where a row was removed, and for each
+//! cell the place of its row.
 
 use crate::arena::Handle;
 
-/// The number of no cell: a hole.
+/// The number of a cell that doesn't exist: a hole.
 const HOLE: u32 = u32::MAX;
 
-/// How many keys are looked at before there is a branch.
+/// How many keys are compared before there is a branch.
 const BLOCK: usize = 16;
 
 #[derive(Default)]
@@ -47,7 +48,7 @@ impl Pending {
         self.spot_of(slot).is_some()
     }
 
-    /// Takes the row of this spot; it leaves a hole.
+    /// Takes the row of this spot, which leaves a hole.
     pub fn take(&mut self, spot: usize) -> (Handle, u64) {
         let handle = self.handles[spot];
         self.handles[spot].slot = HOLE;
@@ -62,7 +63,7 @@ impl Pending {
         self.close_up();
     }
 
-    /// Closes the holes up, once there are as many as rows.
+    /// Closes up the holes once there are as many as rows.
     pub fn close_up(&mut self) {
         if self.holes < self.len() || self.holes == 0 {
             return;

@@ -1,5 +1,5 @@
-//! A map from serials to handles that keeps its entries in order of arrival, as the measured one does: keys and values in vectors, and
-//! a table of their places under open addressing.
+//! A map from serials to handles that keeps its entries in order of arrival, as the measured one does: keys and values
+//! in vectors, and a table of their places with open addressing.
 
 use crate::arena::Handle;
 
@@ -20,7 +20,7 @@ pub struct Serials {
     slots: Vec<Slot>,
 }
 
-/// A number is multiplied to 128 bits, and the halves are joined.
+/// A number is multiplied to 128 bits, and the halves are combined.
 fn hash_of(key: u64) -> u32 {
     let product = u128::from(key ^ 0x243f_6a88_85a3_08d3) * 0x9e37_79b9_7f4a_7c05;
     product as u32 ^ (product >> 64) as u32
@@ -64,7 +64,7 @@ impl Serials {
         at
     }
 
-    /// Puts the handle in place of the one that the serial has, or behind all others.
+    /// Puts the handle in place of the serial's old one, or after all others.
     pub fn insert(&mut self, key: u64, handle: Handle) -> Option<Handle> {
         let hash = hash_of(key);
         let mut at = hash as usize & (self.slots.len() - 1);
@@ -85,7 +85,7 @@ impl Serials {
         None
     }
 
-    /// Where the serial's entry stands among the slots.
+    /// The slot of the serial's entry.
     fn slot_of(&self, key: u64) -> Option<usize> {
         if self.slots.is_empty() {
             return None;
@@ -106,7 +106,7 @@ impl Serials {
         Some(self.handles[self.slots[at].place as usize])
     }
 
-    /// Takes the entry out; the last entry takes its place.
+    /// Removes the entry; the last entry takes its place.
     pub fn remove(&mut self, key: u64) {
         let Some(mut gap) = self.slot_of(key) else {
             return;

@@ -1,4 +1,4 @@
-//! A sorted array of keys with their payloads: what stands there is sorted once, before the first answer.
+//! A sorted array of keys with their payloads: it is sorted once, before the first answer.
 
 /// Keys with their payloads.
 #[derive(Default)]
@@ -8,7 +8,7 @@ pub struct Sorted {
 }
 
 impl Sorted {
-    /// Keeps a row. How many stood there before.
+    /// Adds a row. Returns how many there were before.
     pub fn push(&mut self, key: u64, payload: i64) -> u64 {
         self.pairs.push((key, payload));
         self.is_sorted = false;

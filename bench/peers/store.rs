@@ -1,5 +1,5 @@
-//! A cracked store, represented as the measured one is: handles of an arena in a column with an index of bounds, pending insertions and
-//! deletions in order of arrival, and a map from serials to handles.
+//! A cracked store, represented as the measured one is: handles of an arena in a column with an index of bounds,
+//! pending insertions and deletions in order of arrival, and a map from serials to handles.
 
 use crate::arena::{Arena, Handle, Row};
 use crate::column::{Column, Held};
@@ -14,8 +14,8 @@ pub const GREATEST_BOUND: u128 = 1 << 64;
 pub enum Policy {
     Complete,
     Gradual,
-    /// Gradual, with room made near the range: the row that stands in the way is put back among the pending insertions, and one of the piece behind the
-    /// range fills a doomed row's place.
+    /// Gradual, with room made near the range: the row in the way is put back among the pending insertions, and one of
+    /// the piece after the range fills a doomed row's place.
     Ripple,
     /// Complete, in carries that search the index anew at each step, by a key that they read through the arena.
     Anew,
@@ -29,7 +29,7 @@ pub struct Store {
     pending_in: Pending,
     pending_out: Pending,
     serials: Serials,
-    /// Where the doomed row of a cell was seen last.
+    /// Where the doomed row of a cell was last seen.
     notes: Vec<u32>,
 }
 
@@ -52,7 +52,7 @@ impl Store {
         handle
     }
 
-    /// Keeps a row behind the last pending insertion.
+    /// Adds a row after the last pending insertion.
     pub fn admit(&mut self, row: Row) {
         self.serials.reserve(1);
         let handle = self.add(row);
@@ -66,7 +66,7 @@ impl Store {
         self.pending_out.push(handle, key);
     }
 
-    /// Takes a row out: a pending one at once, one of the column is doomed.
+    /// Deletes a row: a pending one is removed at once, one of the column is doomed.
     pub fn delete(&mut self, serial: u64) -> Option<Row> {
         let handle = self.serials.get(serial)?;
         let row = *self.arena.get(handle)?;
@@ -80,7 +80,8 @@ impl Store {
         Some(row)
     }
 
-    /// Cracks the column at both ends of the range and merges what it needs. The places between which its rows stand.
+    /// Cracks the column at both ends of the range and merges what it needs. Returns the places between which its rows
+    /// are.
     pub fn settle(&mut self, low: u128, high: u128, policy: Policy) -> (usize, usize) {
         if high <= low {
             return (0, 0);
@@ -89,7 +90,9 @@ impl Store {
         self.crack(low, high);
         match policy {
             Policy::Gradual | Policy::Ripple => self.merge(low, high, policy),
-            _ if self.pending_in.next_in(low, high, 0).is_some() || self.pending_out.next_in(low, high, 0).is_some() => {
+            _ if self.pending_in.next_in(low, high, 0).is_some()
+                || self.pending_out.next_in(low, high, 0).is_some() =>
+            {
                 self.merge(0, GREATEST_BOUND, policy)
             }
             _ => {}
@@ -101,14 +104,14 @@ impl Store {
         self.column.sum_between(from, to, &self.arena)
     }
 
-    /// The bound with its own piece, by the mark behind it, unless the bound is there or is an end of the keys.
+    /// The bound with its own piece, by the mark after it, unless the bound exists or is an end of the keys.
     fn missing(&self, bound: u128) -> Option<(usize, u64)> {
         let bound = inner(bound)?;
         let mark = self.index.up_to(bound);
         (mark == 0 || self.index.marks[mark - 1].bound != bound).then_some((mark, bound))
     }
 
-    /// Cracks the column at both ends of the range, in three where both are missing and fall into one piece.
+    /// Cracks the column at both ends of the range, in three if both are missing and fall into one piece.
     fn crack(&mut self, low: u128, high: u128) {
         match (self.missing(low), self.missing(high)) {
             (Some((mark, low)), Some((same, high))) if mark == same => {
@@ -176,8 +179,8 @@ impl Store {
         self.arena.free(hand);
     }
 
-    /// Puts the hand at the end of its piece, and the row that stood there on, until one is put at the column's end, is doomed, or has a key at or
-    /// above the limit: that one is put back among the pending insertions.
+    /// Puts the hand at the end of its piece, and moves the row that was there on, until one is put at the column's
+    /// end, is doomed, or has a key at or above the limit: that one is put back among the pending insertions.
     fn carry(&mut self, hand: Handle, limit: u128) {
         let held = self.held(hand);
         self.column.set_aside(held);
@@ -220,7 +223,8 @@ impl Store {
         }
     }
 
-    /// Where a doomed row stands: where it was noted, or else it is looked for in its piece, with each other doomed row there.
+    /// The place of a doomed row: where it was noted, or else its piece is searched, and each other doomed row there is
+    /// noted.
     fn place_of(&mut self, slot: u32, key: u64) -> usize {
         let noted = self.notes[slot as usize] as usize;
         if noted < self.column.len() && self.column.slot_at(noted) == slot {
@@ -246,7 +250,7 @@ impl Store {
         }
     }
 
-    /// Takes a doomed row out of the column: the hand goes down to its place, piece by piece.
+    /// Takes a doomed row out of the column: the hand moves down to its place, piece by piece.
     fn pull(&mut self, doomed: Handle, place: usize) {
         let mut mark = self.index.up_to(self.column.aside_key());
         while self.column.aside_slot() != doomed.slot {
@@ -280,7 +284,7 @@ impl Store {
     }
 }
 
-/// The bound, if it stands between two keys.
+/// The bound, if it is between two keys.
 fn inner(bound: u128) -> Option<u64> {
     u64::try_from(bound).ok().filter(|it| *it != 0)
 }

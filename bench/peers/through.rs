@@ -9,7 +9,7 @@ pub struct Through {
 }
 
 impl Through {
-    /// Keeps a row. Its number.
+    /// Adds a row. Returns its number.
     pub fn push(&mut self, key: u64, payload: i64) -> u64 {
         let serial = self.handles.len() as u64;
         let handle = self.arena.put(Row {

@@ -1,4 +1,4 @@
-//! Payloads by key and number in a tree. A row is named by both.
+//! Payloads by key and number in a tree. A row is identified by both.
 
 use std::collections::BTreeMap;
 
@@ -9,7 +9,7 @@ pub struct Tree {
 }
 
 impl Tree {
-    /// Keeps a row. Its key and its number.
+    /// Adds a row. Returns its key and its number.
     pub fn insert(&mut self, key: u64, payload: i64) -> (u64, u32) {
         let name = (key, self.next);
         self.rows.insert(name, payload);

@@ -1,4 +1,4 @@
-//! Workers on threads, who ask partitions that are each under a lock, and keep a receipt of each answer.
+//! Workers on threads that ask partitions, each under a lock, and keep a receipt of each answer.
 
 use crate::numbers::scattered;
 use crate::partition::{Command, Entry, Partition, Reply};
@@ -11,7 +11,7 @@ use std::time::Instant;
 const PART_WIDTH: u32 = 1 << 26;
 const RANGE_WIDTH: u32 = PART_WIDTH / 100;
 
-/// How many partitions there are for each worker, and how far apart the numbers lie at which the workers begin.
+/// How many partitions there are for each worker, and how far apart the numbers are at which the workers begin.
 const PARTS_EACH: u32 = 2;
 const APART: u32 = 50_000_000;
 
@@ -27,7 +27,7 @@ struct Receipt {
 
 type Parts = [Mutex<Partition>];
 
-/// One who asks a table, and what it asks.
+/// A worker that asks a table, and what it asks.
 struct Worker {
     number: u32,
     receipts: Vec<Receipt>,
@@ -109,7 +109,7 @@ impl Worker {
         parts.map(|part| self.ask(table, part, Command::Count { low, high })).sum()
     }
 
-    /// A sum, a delete, a sum and an insert, as many times.
+    /// A sum, a delete, a sum and an insert, this many times.
     fn worked(mut self, table: &Parts, steps: u32) -> Worker {
         for _ in 0..steps {
             self.told += self.sum(table);
@@ -135,7 +135,7 @@ fn table(parts: u32) -> Vec<Mutex<Partition>> {
 }
 
 impl Pool {
-    /// As many workers, with as many rows for each partition, of which there are two for each worker.
+    /// This many workers, with this many rows for each partition, of which there are two for each worker.
     fn loaded(count: u32, is_shared: bool, rows: u32) -> Pool {
         let (tables, parts) = if is_shared { (1, count * PARTS_EACH) } else { (count, PARTS_EACH) };
         let first = |worker| if is_shared { 0 } else { worker * PARTS_EACH };
@@ -158,7 +158,8 @@ impl Pool {
         let workers = std::mem::take(&mut self.workers);
         self.workers = thread::scope(|scope| {
             let both = workers.into_iter().zip(self.tables.iter().cycle());
-            let started: Vec<_> = both.map(|(worker, table)| scope.spawn(move || worker.worked(table, steps))).collect();
+            let started: Vec<_> =
+                both.map(|(worker, table)| scope.spawn(move || worker.worked(table, steps))).collect();
             started.into_iter().map(|it| it.join().expect("no thread failed")).collect()
         });
         crate::report("work", start);
@@ -179,7 +180,7 @@ impl Pool {
     }
 }
 
-/// Steps of each worker on a thread of its own.
+/// Steps of each worker on its own thread.
 pub fn work(count: u32, is_shared: bool, rows: u32, steps: u32) {
     let mut pool = Pool::loaded(count, is_shared, rows);
     pool.work(steps);
