@@ -170,7 +170,7 @@ class Typed(fixtures.Case):
             feeder.start()
             shell.ask(".load endless", r"\r\d+ rows")
             shell.type(CONTROL_C)
-            rows = shell.wait_for(r"shell: interrupted: (\d+) rows came in, and stay\n")[1]
+            rows = shell.wait_for(r"shell: interrupted: loaded (\d+) rows\n")[1]
             shell.ask(f"count {EVERYTHING}", f"count {rows}" + TIME)
             feeder.join(SECONDS)
             shell.leave(int(rows) + 1, rows, 0, rows)

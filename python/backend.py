@@ -1,5 +1,5 @@
-"""Builds the wheel by the standard library alone, so that `pip install ./python` downloads nothing. The library goes
-along where it was built."""
+"""Builds the wheel with the standard library alone, so that `pip install ./python` downloads nothing. The library is
+included if it was built."""
 
 import base64
 import hashlib

@@ -22,7 +22,7 @@ from .picture import main as picture
 
 def splits(words: list[str]) -> int:
     """Prints splits that cut the keys of a CSV file into nearly equal parts."""
-    about = "Prints splits that cut the keys of a CSV file into N nearly equal parts, for `crackd serve` and the other subcommands."
+    about = "Prints splits that divide the keys of a CSV file into N nearly equal parts, for `crackd serve` and others."
     parser = argparse.ArgumentParser(prog="python3 -m crackd splits", description=about)
     parser.add_argument(
         "file", metavar="FILE.csv", help="a file whose keys are integers from 0 to 18446744073709551615"

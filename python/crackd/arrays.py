@@ -27,7 +27,7 @@ def is_array(it: Any) -> bool:
 
 
 def as_flat(it: Any) -> Any:
-    """It as a numpy array of one dimension. Masked items are an error."""
+    """The same as a numpy array of one dimension. Masked items are an error."""
     found = np.asanyarray(it)
     if found.ndim != 1:
         raise ValueError(f"an array must have one dimension, not {found.ndim}")
@@ -39,7 +39,7 @@ def as_flat(it: Any) -> Any:
 
 
 def empty(code: str, size: int) -> Any:
-    """An array for that many numbers, which aren't set."""
+    """An array for this many numbers, which aren't set."""
     if np is not None:
         return np.empty(size, dtype=DTYPES[code])
     return array.array(code, bytes(size * array.array(code).itemsize))

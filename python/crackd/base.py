@@ -10,7 +10,7 @@ from .arrays import SIGN, flags, ints
 from .keys import Keys
 from .layout import Layout, PartLayout
 
-# a row's number is its partition, and its serial in that many bits
+# a row's number is its partition and its serial, which has this many bits
 SHIFT = 48
 SERIAL = (1 << SHIFT) - 1
 ROWS_A_PART = 4096
@@ -27,7 +27,7 @@ class Rows(NamedTuple):
 
 
 def parts_for(rows: int) -> int:
-    """How many partitions a table for that many rows gets."""
+    """How many partitions a table for this many rows gets."""
     return min(MOST_PARTS, max(rows // ROWS_A_PART, 1))
 
 

@@ -211,7 +211,7 @@ def _check(said: bytes, before: int = 0, parts: Sequence[bytes] = ()) -> None:
 
 
 def connect(host: str = "127.0.0.1", port: int = 4000, *, key_type: Any = "uint64", policy: str = "auto") -> Client:
-    """Connects to a table behind `crackd serve`.
+    """Connects to the table of a `crackd serve`.
 
     `key_type` is the type of the keys: "uint64", which the server itself has, or "int64", "float64", "datetime64[s]"
     ..; all clients of a table must give the same. `policy` says how rows are merged. Raises `Disconnected` if there is

@@ -79,8 +79,8 @@ class Table(AnyTable):
     """A table over the workers of a cluster.
 
     Methods, arguments, answers and errors are those of `crackd.Table`. Calls over several shards don't see one moment,
-    and only `save` keeps rows. When a worker is lost, each call that meets its keys raises `ShardLost` from
-    then on, and never returns a partial answer; the other shards go on. `shards` is how many there are.
+    and only `save` keeps rows. When a worker is lost, each call that meets its keys raises `ShardLost` from then on,
+    and never returns a partial answer; the other shards go on. `shards` is how many there are.
     """
 
     def __init__(
@@ -177,7 +177,7 @@ class Table(AnyTable):
         return self._lost[shard]
 
     def _ask(self, words: dict[int, tuple], name: str) -> tuple[dict[int, Any], dict[int, Error]]:
-        """Asks shards, all at once: the answers, and the errors of those that have none."""
+        """Asks shards, all at once. Returns the answers, and the errors of those that have none."""
         self._check_open()
         answers: dict[int, Any] = {}
         errors: dict[int, Error] = {it: self._lost[it] for it in words if it in self._lost}
@@ -203,7 +203,7 @@ class Table(AnyTable):
             return None
 
     def _actor(self, shard: int, worker: str) -> Actor:
-        """The actor of a shard that was begun on a worker. An opening that is refused raises its error."""
+        """The actor of a shard that was started on a worker. A refused opening raises its error."""
         future = self._futures[shard]
         while not future.done():
             # (a timeout of `result` would cancel what other results wait for)
@@ -525,7 +525,8 @@ def checked_splits(cuts: Any) -> Any:
 
 
 def evened(samples: Sequence[tuple[int, Any]]) -> Iterator[Any]:
-    """Some of the keys that were drawn of each block, so that one stands for about as many rows in all blocks."""
+    """Some of the keys that were drawn from each block, so that each stands for about the same number of rows in all
+    blocks."""
     drawn = [(rows / len(keys), keys) for rows, keys in samples if len(keys)]
     most = max((each for each, _ in drawn), default=1)
     for each, keys in drawn:

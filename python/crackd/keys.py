@@ -11,7 +11,7 @@ from .arrays import SIGN, TOP, as_flat, empty, from_ints, ints, is_array, np
 
 NAMES = {"u": "unsigned integers", "i": "integers", "f": "floats", "M": "dates"}
 BY_NAME = {"uint64": "u", "int64": "i", "float64": "f"}
-# above this a float no longer has each whole number
+# above this not every whole number is a float
 GREATEST_EXACT = 1 << 53
 
 
@@ -94,7 +94,8 @@ class Keys:
             number = key if self.kind == "u" else key + SIGN
             if not 0 <= number < TOP:
                 raise OverflowError(
-                    f"the key {key} doesn't fit into {'an unsigned' if self.kind == 'u' else 'a signed'} integer of 64 bits"
+                    f"the key {key} doesn't fit into {'an unsigned' if self.kind == 'u' else 'a signed'} integer "
+                    "of 64 bits"
                 )
             return number
         return int(self.many([key])[0])
@@ -228,11 +229,11 @@ class Keys:
         return int(date.view(np.int64)) + SIGN + (1 if date < given else 0)
 
     def ends(self, low: Any, high: Any) -> tuple[int, int]:
-        """The numbers of a range of keys, from the first up to and without the second. None stands for no end."""
+        """The numbers of a range of keys, from the first up to but not including the second. None stands for no end."""
         return 0 if low is None else self.bound(low), TOP if high is None else self.bound(high)
 
     def ends_many(self, lows: Any, highs: Any) -> tuple[Any, Any]:
-        """The first and the last number of each range, in new arrays; where a range is empty the first is above the
+        """The first and the last number of each range, in new arrays; if a range is empty the first is above the
         last."""
         if lows is None and highs is None:
             raise TypeError("low ends or high ends must be given, or both")

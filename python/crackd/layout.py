@@ -23,7 +23,7 @@ def rows_text(count: int) -> str:
 
 
 def keys_text(keys: Keys, low: int, high: int) -> str:
-    """The keys from one number up to and without another."""
+    """The keys from one number up to but not including another."""
     if keys.kind in "ui":
         offset = SIGN if keys.kind == "i" else 0
         return f"{low - offset} to {high - 1 - offset}"
@@ -37,7 +37,7 @@ def keys_text(keys: Keys, low: int, high: int) -> str:
 
 @dataclass(frozen=True)
 class Piece:
-    """A piece of a column, or neighbours that are drawn as one: its keys, as numbers from `low` up to and without
+    """A piece of a column, or neighbours that are drawn as one: its keys, as numbers from `low` up to but not including
     `high`, and how many rows it has."""
 
     low: int
@@ -108,7 +108,8 @@ class PartLayout:
         most = max(count for _, count, _, _ in bars)
         width = max(NAME_WIDTH, *(len(name) for name, _, _, _ in bars))
         whose = keys_text(self.keys, *self.ends)
-        yield f"partition {self.partition}: keys {whose}, {rows_text(self.rows)}; {self.column} in the column, its pieces:"
+        whole = f"{rows_text(self.rows)}; {self.column} in the column, its pieces:"
+        yield f"partition {self.partition}: keys {whose}, {whole}"
         for name, count, mark, also in bars:
             yield bar(
                 f"  {name:>{width}} {count:>9}{also} ", min(BAR_WIDTH, LINE_WIDTH - width - 13), count, most, mark
@@ -116,7 +117,7 @@ class PartLayout:
 
 
 def bar(text: str, width: int, count: int, most: int, mark: str) -> str:
-    """A line with a bar, which is as long as its count is beside the greatest one; a count above 0 has at least one
+    """A line with a bar, whose length is its count's part of the greatest count; a count above 0 has at least one
     mark."""
     length = max(1, count * width // most) if count else 0
     return f"{text}{mark * length}".rstrip()
@@ -146,7 +147,8 @@ class Layout:
         scale = (SVG_WIDTH - SVG_LEFT) / most
         height = len(self.parts) * (SVG_ROW + SVG_GAP) + SVG_GAP
         lines = [
-            f'<svg xmlns="http://www.w3.org/2000/svg" width="{SVG_WIDTH}" height="{height}" font-family="sans-serif" font-size="11">'
+            f'<svg xmlns="http://www.w3.org/2000/svg" width="{SVG_WIDTH}" height="{height}" '
+            'font-family="sans-serif" font-size="11">'
         ]
         for at, part in enumerate(self.parts):
             lines += _svg_row(part, SVG_GAP + at * (SVG_ROW + SVG_GAP), scale)
@@ -168,4 +170,5 @@ def _svg_row(part: PartLayout, top: int, scale: float) -> Iterator[str]:
 
 
 def _rectangle(left: float, top: int, width: float, colour: str, title: str) -> str:
-    return f'<rect x="{left:.2f}" y="{top}" width="{width:.2f}" height="{SVG_ROW}" fill="{colour}"><title>{title}</title></rect>'
+    where = f'x="{left:.2f}" y="{top}" width="{width:.2f}" height="{SVG_ROW}"'
+    return f'<rect {where} fill="{colour}"><title>{title}</title></rect>'

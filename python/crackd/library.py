@@ -77,7 +77,8 @@ def library() -> Library:
         path = find_library()
         if path is None:
             raise ImportError(
-                f"{NAMES[0]} isn't built: run `make lib` in the repository, which puts it into {HERE}, or set CRACKD_LIBRARY to its path"
+                f"{NAMES[0]} isn't built: run `make lib` in the repository, which puts it into {HERE}, or set "
+                "CRACKD_LIBRARY to its path"
             )
         try:
             _loaded = Library(path)

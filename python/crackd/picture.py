@@ -95,7 +95,7 @@ def replies(lines: Iterator[str]) -> Iterator[list[str]]:
 
 
 def run(program: str, statements: Sequence[str], partition: int, words: Sequence[str]) -> list[Query]:
-    """Runs a script, and returns its queries with what the program answered."""
+    """Runs a script, and returns its queries with the program's answers."""
     asked = [it for it in with_layouts(statements, partition) if it.strip()]
     ran = subprocess.run(
         [program, "script", *words],
@@ -149,7 +149,8 @@ def box(x: float, y: float, width: float, height: float, fill: str, title: str =
 
 
 def document(height: int, parts: Iterable[str]) -> str:
-    head = f'<svg xmlns="http://www.w3.org/2000/svg" viewBox="0 0 {WIDTH} {height}" font-family="sans-serif" font-size="12">'
+    box_of_view = f'viewBox="0 0 {WIDTH} {height}"'
+    head = f'<svg xmlns="http://www.w3.org/2000/svg" {box_of_view} font-family="sans-serif" font-size="12">'
     return "\n".join([head, box(0, 0, WIDTH, height, "white"), *parts, "</svg>\n"])
 
 

@@ -86,7 +86,7 @@ class Server:
         raise NoServer(complaint or f"the program ended with status {self._process.returncode}")
 
     def connect(self, **options: Any) -> Client:
-        """A new connection to the table, as by `crackd.connect`.
+        """A new connection to the table, as `crackd.connect` makes it.
 
         A server serves as many at a time as it has workers; further ones wait.
         """

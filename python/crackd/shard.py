@@ -126,11 +126,11 @@ def exact_sum(payloads: Any) -> int:
     return (int((payloads >> 32).sum()) << 32) + int((payloads & 0xFFFFFFFF).sum())
 
 
-# Cutting rows by shard
+# Dividing rows by shard
 
 
 class Block(NamedTuple):
-    """Rows of one shard: their places among all those that were given, in order."""
+    """Rows of one shard: their places among all given rows, in order."""
 
     shard: int
     places: Any

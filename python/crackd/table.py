@@ -63,7 +63,8 @@ class Table(AnyTable):
         limits = [it if 0 <= it < TOP else 0 for it in (history, cells, MOST_LIFE)]
         self._check(self._run(self._library.open, from_ints("Q", cuts, "splits"), *limits))
         self.partitions, self._cuts = len(cuts) + 1, cuts
-        # (rows that were placed and not taken out, about, and rows that selects listed since the last checkpoints)
+        # (about how many rows were inserted and not deleted, and how many rows selects listed since the last
+        # checkpoints)
         self._held = self._listed = 0
 
     @classmethod

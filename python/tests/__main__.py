@@ -1,4 +1,4 @@
-"""Runs all tests: python3 python/tests. Prints last 'N passed, M failed, K skipped'; the status is 0 only where nothing
+"""Runs all tests: python3 python/tests. Prints last 'N passed, M failed, K skipped'; the status is 0 only if nothing
 failed."""
 
 import pathlib
@@ -9,7 +9,7 @@ HERE = pathlib.Path(__file__).resolve().parent
 
 
 class Counting(unittest.TextTestResult):
-    """Counts what passed, too."""
+    """Also counts what passed."""
 
     def __init__(self, *words, **options):
         super().__init__(*words, **options)

@@ -1,4 +1,4 @@
-"""Dask clusters of this machine, for the tests of tables on one. Workers import this module, too."""
+"""Dask clusters on this machine, for the tests of tables on one. Workers import this module as well."""
 
 import contextlib
 import importlib.util
@@ -46,7 +46,7 @@ def with_environment(**variables):
 
 @contextlib.contextmanager
 def local(workers, **environment):
-    """A client of a cluster with so many worker processes, which have these variables in their environment."""
+    """A client of a cluster with this many worker processes, which have these variables in their environment."""
     path = os.pathsep.join([str(HERE.parent), str(HERE), os.environ.get("PYTHONPATH", "")])
     how = {"threads_per_worker": 1, "processes": True, "dashboard_address": None, "silence_logs": 50}
     with dask.config.set(CONFIG), with_environment(PYTHONPATH=path, **environment):
@@ -73,7 +73,7 @@ def kill(client, worker):
 
 
 def wait_for_workers(client, count):
-    """Waits until so many workers are there and answer."""
+    """Waits until this many workers are there and answer."""
     while True:
         client.wait_for_workers(count, timeout=SECONDS)
         try:
@@ -85,12 +85,12 @@ def wait_for_workers(client, count):
 
 
 def limit_files(size):
-    """Lets files of this worker have so many bytes at the most; -1 stands for no limit."""
+    """Limits the size of this worker's files, in bytes; -1 stands for no limit."""
     resource.setrlimit(resource.RLIMIT_FSIZE, (size, resource.RLIM_INFINITY))
 
 
 def refuse_memory():
-    """Has the library of this worker be refused memory by chance, as `REFUSE_ONE_IN` says."""
+    """Makes the library of this worker be refused memory by chance, as `REFUSE_ONE_IN` says."""
     import refusals
 
     loaded = crackd.library.library()

@@ -1,6 +1,6 @@
 """Run by test_memory.py with an allocator that refuses memory to the library: refusals.py STEPS ONE_IN
 
-Prints how many calls were refused, and fails where the table and a plain list no longer agree.
+Prints how many calls were refused, and fails if the table and a plain list no longer agree.
 """
 
 import ctypes
@@ -40,7 +40,7 @@ def numbers(it):
 
 
 class Pair:
-    """A table, and the same rows as a list has them."""
+    """A table, and a list of the same rows."""
 
     def __init__(self, rng):
         self.rng, self.rows, self.refused = rng, {}, 0
@@ -133,7 +133,7 @@ class Pair:
         expect("rows", len(self.rows), self.table.layout().rows)
 
     def step(self):
-        """A random call. One that is refused has changed nothing but what it says."""
+        """A random call. A refused one has changed nothing but what it reports."""
         calls = [self.insert, self.insert_one] if len(self.rows) < MOST_ROWS else []
         calls += [self.delete, self.update] if self.rows else []
         calls += [self.count, self.sum, self.many, self.select] + [self.others] * (self.rng.random() < 0.1)
@@ -145,7 +145,7 @@ class Pair:
 
 
 def by_chance(steps):
-    """Random calls, each allocation of which may be refused. How many calls were refused."""
+    """Random calls, each allocation of which may be refused. Returns how many calls were refused."""
     pair = Pair(random.Random(steps))
     for _ in range(steps):
         pair.step()
@@ -154,8 +154,8 @@ def by_chance(steps):
 
 
 def each_in_turn(steps):
-    """The same few calls again and again, with each allocation refused in turn, until none is left to refuse. How many
-    were refused."""
+    """The same few calls again and again, with each allocation refused in turn, until none is left to refuse. Returns
+    how many calls were refused."""
     number = 0
     while True:
         number += 1

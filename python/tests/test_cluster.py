@@ -1,4 +1,4 @@
-"""Tables on a Dask cluster of this machine: the cases of a table, what is sent to which shard, and what is saved and
+"""Tables on a Dask cluster on this machine: the cases of a table, what is sent to which shard, and what is saved and
 restored."""
 
 import contextlib
@@ -122,7 +122,7 @@ class RandomSteps:
         return low, low + self.rng.randrange(-5, 600)
 
     def rows(self, most):
-        """Rows that there are, in no order."""
+        """Some of the rows, in no order."""
         return self.rng.sample(sorted(self.model.rows), min(most, len(self.model.rows)))
 
     def insert_many(self):
@@ -150,7 +150,7 @@ class RandomSteps:
             del self.model.rows[row]
 
     def near(self, row):
-        """A key and a payload that a row may get: a key next to its own, where that is of the same partition."""
+        """A key and a payload that a row may get: a key next to its own, if that is in the same partition."""
         key = self.model.rows[row][0]
         return (self.rng.choice([key, key]), self.payload())
 
@@ -241,7 +241,7 @@ class Messages(OnWorkers, unittest.TestCase):
             yield table, log
 
     def expect(self, log, wanted):
-        """All that is asked is asked before the first answer is waited for, once a shard."""
+        """All shards are asked, each once, before the first answer is waited for."""
         self.assertEqual(log[: len(wanted)], wanted)
         self.assertEqual(set(log[len(wanted) :]), {"wait"} if wanted else set())
         log.clear()
@@ -495,7 +495,7 @@ class Saves(OnWorkers, unittest.TestCase):
 @wants_cluster
 @wants_pandas
 class OfDask(OnWorkers, unittest.TestCase):
-    """Rows that a cluster has already."""
+    """Rows that a cluster already has."""
 
     def frame(self, columns, blocks):
         import dask.dataframe
@@ -571,7 +571,7 @@ class OfDask(OnWorkers, unittest.TestCase):
 
 
 class Imports(unittest.TestCase):
-    """What is said where something is missing."""
+    """What is reported if something is missing."""
 
     def test_without_numpy_or_dask(self):
         for name in ("numpy", "distributed"):

@@ -46,7 +46,7 @@ class Losses(unittest.TestCase):
         return caught.exception
 
     def killed_soon(self, worker, seconds):
-        """Kills a worker while the caller goes on. Returns what waits until that is done."""
+        """Kills a worker while the caller goes on. Returns a function that waits until that is done."""
         timer = threading.Timer(seconds, os.kill, (pid_of(self.client, worker), signal.SIGKILL))
         timer.start()
         return timer
@@ -120,7 +120,7 @@ class Losses(unittest.TestCase):
             self.assertEqual((restored.count(), restored.sum(None, 0), restored.sum(0)), (4000, 2000, 2000))
 
     def insert_until_lost(self, table, keys, payloads):
-        """How often the rows of shard 0 were placed, by what the calls said, and those before them."""
+        """How often the rows of shard 0 were placed, according to the calls, and how many rows there were before."""
         placed = 1
         while True:
             try:
@@ -147,8 +147,8 @@ class Losses(unittest.TestCase):
             self.assertEqual(restored.count_many(lows, lows + 10).tolist(), [10] * 2000)
 
     def load(self, has_shard):
-        """Loads a table, and kills amid it the worker of shard 1, or one without a shard: all rows are placed once, or
-        the shard is lost."""
+        """Loads a table, and kills the worker of shard 1 during the load, or one without a shard: all rows are placed
+        once, or the shard is lost."""
         import dask.array
 
         rows, load = dask.array.from_array(np.arange(600_000), chunks=10_000), cluster.Table._loaded
@@ -200,7 +200,7 @@ class RefusedSteps:
         self.test, self.table, self.rng, self.model, self.refused = test, table, rng, PlainTable(), 0
 
     def step(self):
-        """A call. One that is refused has changed nothing but what it says."""
+        """A call. A refused one has changed nothing but what it reports."""
         try:
             self.rng.choice(
                 [self.insert, self.insert, self.delete, self.update, self.count, self.sum, self.many, self.select]
@@ -215,8 +215,7 @@ class RefusedSteps:
         return low, low + self.rng.randrange(400)
 
     def done_of(self, shards, error):
-        """Whether each row of a refused call is done: all of shard 0, and of shard 1 those before the one that was
-        refused."""
+        """Whether each row of a refused call is done: all of shard 0, and of shard 1 those before the refused one."""
         self.refused += 1
         left = error.done + error.later - shards.count(0)
         is_done = []

@@ -1,4 +1,4 @@
-"""Tables in the process where memory is refused."""
+"""Tables in the process that are refused memory."""
 
 import os
 import pathlib
@@ -16,10 +16,10 @@ STEPS, ONE_IN, STEPS_IN_TURN, SECONDS = 100_000, 25, 40, 600
 @wants_library
 @wants_gcc
 class Refusals(unittest.TestCase):
-    """What is refused for want of memory loses nothing, as held against a plain list."""
+    """Refusals for lack of memory lose nothing, compared with a plain list."""
 
     def run_refused(self, *words, **environment):
-        """Runs refusals.py with an allocator that refuses. The number that it prints."""
+        """Runs refusals.py with an allocator that refuses. Returns the number that it prints."""
         with tempfile.TemporaryDirectory() as room:
             also = refusing(room, **environment)
             command = [sys.executable, str(HERE / "refusals.py"), *words]

@@ -16,7 +16,7 @@ from crackd import server
 
 @contextlib.contextmanager
 def answered(replies):
-    """The port of a server that answers, to whatever it is sent, these bytes, and then closes the connection."""
+    """The port of a server that answers these bytes, whatever it is sent, and then closes the connection."""
     with socket.socket() as listening:
         listening.bind(("127.0.0.1", 0))
         listening.listen()
@@ -34,7 +34,7 @@ def answered(replies):
 
 
 class Connections(unittest.TestCase):
-    """What a connection does with a server that isn't as it should be."""
+    """What a connection does if the server misbehaves."""
 
     def test_no_server(self):
         with self.assertRaises(crackd.Disconnected) as caught:
@@ -78,7 +78,7 @@ class Connections(unittest.TestCase):
 
 @wants_program
 class Servers(unittest.TestCase):
-    """Servers of this process."""
+    """Servers that this process starts."""
 
     def test_clients_share_a_table(self):
         with crackd.serve(workers=2) as served, served.connect() as one, served.connect(policy="complete") as two:

@@ -1,8 +1,8 @@
-"""What the shell makes of a statement before it asks."""
+"""What the shell makes of a statement before it sends it."""
 
 import unittest
 
-import ways  # which finds the package
+import ways  # finds the package
 
 from crackd.shell.console import with_ends
 

@@ -1,4 +1,4 @@
-"""What a table answers, in the process and over TCP by the same cases, against plain lists."""
+"""The answers of a table, in the process and over TCP by the same cases, compared with plain lists."""
 
 import random
 import unittest

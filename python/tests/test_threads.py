@@ -1,4 +1,4 @@
-"""Tables that threads share, and what a table does beside its calls."""
+"""Tables that threads share, and what a table does besides its calls."""
 
 import copy
 import gc

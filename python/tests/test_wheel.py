@@ -13,7 +13,7 @@ TOP = pathlib.Path(crackd.__file__).resolve().parents[1]
 
 
 class Wheel(unittest.TestCase):
-    """What it has, and what it says that it needs."""
+    """What it contains, and what it says that it needs."""
 
     def setUp(self):
         room = tempfile.TemporaryDirectory()

@@ -1,4 +1,4 @@
-"""The ways to reach a table that the cases are run in, and why one can't be had here."""
+"""The ways to reach a table with which the cases are run, and why one isn't available here."""
 
 import contextlib
 import os
@@ -30,7 +30,7 @@ wants_program = unittest.skipUnless(has_program(), "the program crackd isn't bui
 
 
 def refusing(room, **environment):
-    """The environment of a program whose library is refused memory, and whose files are in this folder."""
+    """The environment of a program whose library is refused memory, with its files in this folder."""
     source, made, told = (
         pathlib.Path(crackd.__file__).parents[2] / "acceptance" / "refusing.c",
         f"{room}/refusing.so",
@@ -51,7 +51,7 @@ class InProcess:
 
 
 class OverTcp:
-    """Tables behind a server that is started for each."""
+    """Tables on a server that is started for each."""
 
     @contextlib.contextmanager
     def table(self, sample=(), rows=0, **options):

@@ -34,7 +34,7 @@ class Interrupts:
 
     @contextlib.contextmanager
     def breaking_in(self):
-        """While a person, a file or a program is waited for, the first control-C ends that."""
+        """While a person, a file or a program is waited for, the first control-C ends the waiting."""
         try:
             signal.signal(signal.SIGINT, signal.default_int_handler)
             yield
@@ -136,7 +136,7 @@ class Server:
 
 
 def channel_to(port, interrupts):
-    """A connection with the server of a port of this machine."""
+    """A connection to the server on a port of this machine."""
     try:
         return Channel("127.0.0.1", port, interrupts.tell_once)
     except OSError as error:

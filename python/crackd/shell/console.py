@@ -1,8 +1,8 @@
 """A shell over `crackd serve`: python3 -m crackd shell [--program PATH] [--limit N] [--cells N] [--life N] [--policy
 NAME] [SPLIT ..], or python3 -m crackd shell --port N
 
-Without a port it starts a server of its own, which ends with it. On a terminal it prompts, says what a refusal means
-and how long each statement took, keeps typed lines in a file, and completes words by Tab; `help` lists the statements.
+Without a port it starts its own server, which ends with it. On a terminal it prompts, explains refusals, reports how
+long each statement took, keeps typed lines in a file, and completes words with Tab; `help` lists the statements.
 Without a terminal it is a filter, which answers line by line. The status is 0; it is 1 if there is no server, if the
 server left, or if a filter had a refused statement or a failed command; it is 2 for a bad command line.
 """
@@ -146,11 +146,11 @@ class Shell:
         self.refused += reply.is_refusal
         self.faults += reply.is_refusal
         self.has_ended = reply.lines == ["bye"]
-        self.interrupts.check("the statement was answered, and its reply is left out")
+        self.interrupts.check("the statement was answered; its reply isn't shown")
         self.show(reply)
 
     def show(self, reply):
-        """Shows a reply in the current mode. On a terminal it also says what a refusal means, and the time: after a
+        """Shows a reply in the current mode. On a terminal it also explains a refusal, and shows the time: after a
         reply of one line, below others."""
         lines = modes.shown(reply.lines, self.mode, self.most_rows)
         if not self.is_terminal:
@@ -159,7 +159,7 @@ class Shell:
             self.say(in_words(lines[0]), reply.seconds)
         else:
             for line in lines:
-                self.interrupts.check("the rest is left out")
+                self.interrupts.check("the rest isn't shown")
                 print(line)
             hidden = modes.hidden(reply.lines, self.most_rows)
             print(
@@ -211,7 +211,7 @@ class Shell:
     def read(self, path):
         """Runs the lines of a file."""
         if os.path.realpath(path) in self.files:
-            raise Fault(f"{path}: it is being read already")
+            raise Fault(f"{path}: it is already being read")
         with self.waiting_for(path), open(path, "rb") as file:
             lines = file.read().split(b"\n")
         begun, answered, refused, faults, first = time.perf_counter(), self.answered, self.refused, self.faults, 0
@@ -247,7 +247,7 @@ class Shell:
         if None in one:
             raise Fault(f"layout {partition}: {in_words('refused 5')}")
         for it in one or self.session.layouts():
-            self.interrupts.check("the rest is left out")
+            self.interrupts.check("the rest isn't shown")
             print("\n".join(it.drawn()))
 
     def set_mode(self, name):
@@ -291,7 +291,7 @@ def with_ends(statement):
 
 
 def typed_lines(interrupts):
-    """The lines that a person types, until control-D. A control-C drops the one that was begun."""
+    """The lines that a person types, until control-D. A control-C drops a half-typed line."""
     sys.stdin.reconfigure(errors="surrogateescape")
     with typing.edited():
         while True:
@@ -346,7 +346,7 @@ def program_of(path):
 
 
 def talk_to_own(options, interrupts):
-    """A session with a server of its own. Returns whether all was done."""
+    """A session with the shell's own server. Returns whether all was done."""
     policy = options.policy or POLICY
     named = {"--limit": options.limit, "--cells": options.cells, "--life": options.life, "--policy": policy}
     words = [word for name, value in named.items() if value for word in (name, value)]
@@ -385,7 +385,8 @@ def options_of(words):
         "--policy",
         metavar="NAME",
         choices=POLICIES,
-        help="how inserts and deletes are merged: complete, gradual, ripple or auto [default: auto, for a server that is started]",
+        help="how inserts and deletes are merged: complete, gradual, ripple or auto "
+        "[default: auto, for a server that is started]",
     )
     parser.add_argument(
         "splits", metavar="SPLIT", nargs="*", help="where partitions begin: rising keys, each 1 to 18446744073709551615"
@@ -417,7 +418,7 @@ def main(words):
         complain(fault)
     except KeyboardInterrupt:
         signal.signal(signal.SIGINT, signal.SIG_IGN)
-        complain("interrupted: the session is ended")
+        complain("interrupted: the session has ended")
     except BrokenPipeError:
         # (nobody reads the replies any more)
         os.dup2(os.open(os.devnull, os.O_WRONLY), sys.stdout.fileno())

@@ -1,4 +1,4 @@
-"""How replies are shown: as the server gives them, as CSV, or as JSON with a value a line."""
+"""How replies are shown: as the server gives them, as CSV, or as JSON with one value per line."""
 
 import json
 

@@ -11,7 +11,7 @@ from ..errors import Disconnected
 from ..layout import PartLayout, rows_text
 from .texts import GREATEST_KEY, GREATEST_PAYLOAD, LEAST_PAYLOAD, Fault, Left, in_words
 
-# of a server that the shell starts, and of a load into one that was there already
+# of a server that the shell starts, and of a load into one that already ran
 POLICY = "auto"
 HEADER = ["key", "payload"]
 MOST_DIGITS = 20
@@ -19,7 +19,7 @@ KEY = re.compile(f"[0-9]{{1,{MOST_DIGITS}}}")
 PAYLOAD = re.compile(f"-?{KEY.pattern}")
 # the first lines of replies that have more, and how many more
 LISTED = re.compile("(?:rows|layout .* pieces) ([0-9]+)")
-# a load sends so many rows at once, and goes on while no more than these are unanswered
+# a load sends this many rows at once, and goes on while at most this many are unanswered
 ROWS_AT_ONCE = 2000
 ROWS_UNANSWERED = 20_000
 
@@ -56,7 +56,7 @@ def are_digits(texts):
 
 
 def are_rows(records):
-    """Whether all records are rows, and there are some: as `is_row` of each, in less time."""
+    """Whether all records are rows, and there are some: like `is_row` of each, in less time."""
     if set(map(len, records)) != {2}:
         return False
     keys, payloads = zip(*records)
@@ -117,21 +117,22 @@ class Loaded:
         self.answered += len(lines)
 
     def end_text(self, records, is_interrupted):
-        """What ended the load early, and which rows stay; empty if all were loaded."""
+        """What ended the load early, and which rows were loaded; empty if all were."""
         if self.refusal:
             later = self.placed - self.before
-            also = f", with {later} after it that had been sent" if later else ""
-            return f"record {self.before + 1 + records.has_header}: {in_words(self.refusal)}; {rows_text(self.before)} came before it, and stay{also}"
+            also = f"; loaded after it, since already sent: {later}" if later else ""
+            number = self.before + 1 + records.has_header
+            return f"record {number}: {in_words(self.refusal)}; loaded before it: {rows_text(self.before)}{also}"
         if is_interrupted:
-            return f"interrupted: {rows_text(self.placed)} came in, and stay"
-        return f"{records.fault}; {rows_text(self.placed)} came before it, and stay" if records.fault else ""
+            return f"interrupted: loaded {rows_text(self.placed)}"
+        return f"{records.fault}; loaded before it: {rows_text(self.placed)}" if records.fault else ""
 
 
 class Session:
     """A session with a server, over a channel."""
 
     def __init__(self, channel, interrupts, policy):
-        # (None where the policy of a server isn't known)
+        # (None if the policy of a server isn't known)
         self.channel, self.interrupts, self.policy = channel, interrupts, policy
 
     def ask(self, statement):
@@ -155,9 +156,9 @@ class Session:
         return reply
 
     def load(self, records, progress):
-        """Sends an insert for each row of the records, and counts what is answered. A control-C ends it; what was sent
-        is still answered. Where the policy isn't known, `auto` is asked for first, so that the next query merges all
-        rows at once."""
+        """Sends an insert for each row of the records, and counts the answers. A control-C ends it; what was sent is
+        still answered. If the policy isn't known, it first sends `policy auto`, so that the next query merges all rows
+        at once."""
         if self.policy is None:
             self.demand(f"policy {POLICY}")
         loaded = Loaded()

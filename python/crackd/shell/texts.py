@@ -1,4 +1,4 @@
-"""The texts of the shell: the meanings of refusals, the help, times and complaints."""
+"""The texts of the shell: the meanings of refusals, the help, times and error messages."""
 
 import re
 import sys
@@ -12,37 +12,40 @@ REFUSED = re.compile("refused ([0-9]+)")
 MEANINGS = {
     "1": "this isn't a statement; help lists them",
     "2": "the low end of the range is above its high end, or that is above 18446744073709551616",
-    "4": "the key is of another partition, and a row never leaves its own",
+    "4": "the key belongs to another partition, and a row never leaves its own",
     "5": "there is no such partition",
-    "6": "the history is full: it has as many entries as the limit says; checkpoint P makes room in partition P, and its rows stay",
-    "7": "a gate said no a thousand times",
-    "8": "no memory was found; no row has changed",
+    "6": "the history is full: it has as many entries as the limit says; checkpoint P makes room in partition P, "
+    "and its rows stay",
+    "7": "a gate refused a thousand times",
+    "8": "memory ran out; no row has changed",
     "9": "no cell is free for the row; a deleted or updated row may hold one until a query over its key",
     "10": "the partition's life is over: it has answered as many commands as it ever may",
     "11": "the splits don't rise, or one isn't 1 to 18446744073709551615",
     "12": "there are more than 63 splits",
-    "13": "the workers aren't 1 to 64",
+    "13": "the number of workers isn't 1 to 64",
     "14": "a limit is out of its range: histories 1 to 1000000, cells 1 to 1048576, lives 1 to 1099511627776",
     "15": "a worker's receipts are missing",
     "16": "receipts and histories don't agree",
-    "17": "reading failed, or the port can't be listened on",
+    "17": "reading failed, or the server can't listen on the port",
     "18": "writing failed",
-    "19": "a record isn't a key from 0 to 18446744073709551615 and a payload from -9223372036854775808 to 9223372036854775807",
+    "19": "a record isn't a key from 0 to 18446744073709551615 and a payload from -9223372036854775808 to "
+    "9223372036854775807",
 }
 
 HELP = """\
 insert K V        inserts a row with key K and payload V; the reply is its row number P.S
 delete P.S        deletes that row
 update P.S K V    that row gets a new key and payload
-count LO HI       how many rows have keys from LO up to and without HI; the word end is past all keys: count 0 end
+count LO HI       how many rows have keys from LO up to but not including HI; the word end is past all keys: count 0 end
 sum LO HI         the sum of their payloads
 select LO HI      these rows, a line P.S K V for each
 layout P          how the rows of partition P are laid out, as numbers
-checkpoint P      empties the history of partition P; its rows stay, and the reply is how many entries went
+checkpoint P      empties the history of partition P; its rows stay, and the reply is how many entries it had
 policy NAME       how inserts and deletes are merged: complete, gradual, ripple or auto
-quit              ends the session, as exit does
+quit              ends the session; so does exit
 
-A ; at the end of a statement is ignored. Keys are whole numbers from 0 to 18446744073709551615, payloads from -9223372036854775808 to 9223372036854775807.
+A ; at the end of a statement is ignored. Keys are whole numbers from 0 to 18446744073709551615,
+payloads from -9223372036854775808 to 9223372036854775807.
 
 .load FILE        inserts the rows of CSV, with or without the header key,payload
 .save FILE        writes all rows as CSV; the histories keep the selects that list them
@@ -50,15 +53,15 @@ A ; at the end of a statement is ignored. Keys are whole numbers from 0 to 18446
 .layout [P]       draws the columns of all partitions, or of one
 .mode NAME        how replies are shown: lines as the server gives them, csv, or json with a value a line
 .limit N          a select shows at most N rows; .limit off shows all
-.bail on          a file or a pipe ends at a refused statement or a failed command; .bail off goes on
-.help             this, as help does
-.quit             ends the session, as control-D does
+.bail on          a file or a pipe ends at a refused statement or a failed command; .bail off: it goes on
+.help             prints this; so does help
+.quit             ends the session; so does control-D
 
 Control-C ends what is running; rows that were answered stay."""
 
 
 class Fault(Exception):
-    """Why something isn't done, in words. The shell goes on."""
+    """Why something wasn't done, in words. The shell goes on."""
 
 
 class Interrupted(Exception):
@@ -70,7 +73,7 @@ class Ended(Exception):
 
 
 class Left(Disconnected):
-    """The server closed the connection. What had been done then, in words."""
+    """The server closed the connection. What had been done by then, in words."""
 
 
 def complain(text):
