@@ -1,6 +1,7 @@
-/* Uses each call of crackd.h, and holds what it answers to a plain list of rows. With refusing.c preloaded it also has each call for memory refused in turn.
+/* Uses each call of crackd.h, and compares the answers with a plain list of rows. With refusing.c preloaded it also has
+   each call for memory refused in turn.
 
-   Prints what is wrong, and returns 1 then; else prints how many calls for memory were refused, and returns 0. */
+   Prints what is wrong, and returns 1; otherwise prints how many calls for memory were refused, and returns 0. */
 
 #include "crackd.h"
 
@@ -11,7 +12,7 @@
 
 enum { ROWS = 64, KEYS = 100, PARTS = 3, MANY = 5 };
 
-/* those of refusing.c, where it is preloaded */
+/* those of refusing.c, if it is preloaded */
 __attribute__((weak)) void refuse_switch(int is_on);
 __attribute__((weak)) void refuse_calls(uint64_t first, uint64_t last);
 __attribute__((weak)) uint64_t refuse_told(void);
@@ -25,7 +26,7 @@ static void expect(const char *what, int line, int64_t wanted, int64_t got) {
     exit(1);
 }
 
-/* A row as the list has it. */
+/* A row of the list. */
 typedef struct {
     uint32_t part;
     uint64_t serial, key;
@@ -33,7 +34,7 @@ typedef struct {
     bool is_there;
 } row;
 
-/* A table, and the same rows as a list. */
+/* A table, and a list of the same rows. */
 typedef struct {
     crackd_handle handle;
     row rows[ROWS];
@@ -51,7 +52,7 @@ static void place(pair *it, uint32_t part, uint64_t serial, uint64_t key, int64_
     it->rows[it->count++] = (row){part, serial, key, payload, true};
 }
 
-/* Holds all rows, by count, sum and select, to the list. */
+/* Compares all rows, by count, sum and select, with the list. */
 static void check_rows(pair *it, uint64_t first, uint64_t last) {
     uint64_t count = 7, low = 7, found = 7, wanted = 0;
     int64_t sum = 0, high = 7;
@@ -68,7 +69,8 @@ static void check_rows(pair *it, uint64_t first, uint64_t last) {
     uint32_t parts[ROWS];
     uint64_t serials[ROWS], keys[ROWS];
     int64_t payloads[ROWS];
-    EXPECT(0, crackd_select(&it->handle, CRACKD_GRADUAL, first, last, parts, ROWS, serials, ROWS, keys, ROWS, payloads, ROWS, &found));
+    EXPECT(0, crackd_select(&it->handle, CRACKD_GRADUAL, first, last, parts, ROWS, serials, ROWS, keys, ROWS, payloads,
+                            ROWS, &found));
     EXPECT(wanted, found);
     for (size_t k = 0; k < found; k++) {
         size_t at = 0;
@@ -81,7 +83,7 @@ static void check_rows(pair *it, uint64_t first, uint64_t last) {
     }
 }
 
-/* One call of each kind that changes or asks. What it returned; where that is 0 the list follows. */
+/* One call of each kind that changes or asks. Returns its status; if that is 0 the list is changed alike. */
 static uint32_t call_insert(pair *it, int step) {
     uint32_t part = 99;
     uint64_t serial = 99, key = (uint64_t)step * 37 % KEYS;
@@ -140,8 +142,10 @@ static uint32_t call_select(pair *it, int step) {
     uint32_t parts[2] = {99, 99};
     uint64_t serials[2] = {99, 99}, keys[2] = {999, 999}, found = 5555;
     int64_t payloads[2] = {999, 999};
-    uint32_t status = crackd_select(&it->handle, (uint32_t)step % 4, 0, 50, parts, 2, serials, 2, keys, 2, payloads, 2, &found);
-    EXPECT(true, status == 0 || (found == 5555 && parts[0] == 99 && serials[1] == 99 && keys[0] == 999 && payloads[1] == 999));
+    uint32_t status =
+        crackd_select(&it->handle, (uint32_t)step % 4, 0, 50, parts, 2, serials, 2, keys, 2, payloads, 2, &found);
+    EXPECT(true, status == 0 ||
+                     (found == 5555 && parts[0] == 99 && serials[1] == 99 && keys[0] == 999 && payloads[1] == 999));
     return status;
 }
 
@@ -168,7 +172,7 @@ static uint32_t call_layout(pair *it, int step) {
     return status;
 }
 
-/* The calls for many, likewise; the items that were done are done in the list. */
+/* The same for the calls for many; the items that were done are done in the list. */
 static uint32_t call_insert_many(pair *it, int step) {
     uint64_t keys[MANY], serials[MANY], done = 99;
     int64_t payloads[MANY];
@@ -223,7 +227,8 @@ static uint32_t call_update_many(pair *it, int step) {
         payloads[k] = -7 * k;
         found[k] = 9;
     }
-    uint32_t status = crackd_update_many(&it->handle, parts, MANY, serials, MANY, keys, MANY, payloads, MANY, found, MANY, &done);
+    uint32_t status =
+        crackd_update_many(&it->handle, parts, MANY, serials, MANY, keys, MANY, payloads, MANY, found, MANY, &done);
     EXPECT(true, status == 0 ? done == MANY : done < MANY);
     for (uint64_t k = 0; k < MANY; k++) {
         EXPECT(k < done ? ones[k]->is_there : 9, found[k]);
@@ -263,11 +268,12 @@ static uint32_t call_sum_many(pair *it, int step) {
 typedef uint32_t step_call(pair *it, int step);
 
 static step_call *const STEPS[] = {
-    call_insert, call_insert_many, call_count, call_insert, call_update, call_sum, call_insert_many, call_delete, call_select, call_count_many,
-    call_update_many, call_layout, call_insert_many, call_delete_many, call_sum_many, call_checkpoint, call_insert, call_count, call_delete, call_layout,
+    call_insert,   call_insert_many, call_count,      call_insert,      call_update, call_sum,         call_insert_many,
+    call_delete,   call_select,      call_count_many, call_update_many, call_layout, call_insert_many, call_delete_many,
+    call_sum_many, call_checkpoint,  call_insert,     call_count,       call_delete, call_layout,
 };
 
-/* Opens a table, with small histories, so that they are folded in between. */
+/* Opens a table with small histories, so that there are checkpoints in between. */
 static void open_pair(pair *it) {
     memset(it, 0, sizeof *it);
     uint32_t status = crackd_open(&it->handle, SPLITS, 2, 8, CRACKD_MOST_CELLS, CRACKD_MOST_LIFE);
@@ -284,7 +290,8 @@ static void switch_refusals(int is_on) {
         refuse_switch(is_on);
 }
 
-/* All steps, while the call for memory of this number is refused. What a step did before it was refused stands, and nothing else; a second try is answered. */
+/* All steps, while the call for memory with this number is refused. What a step did before the refusal stays, and
+   nothing else; a second try is answered. */
 static void run_steps(uint64_t number) {
     pair it;
     if (number)
@@ -309,7 +316,7 @@ static void run_steps(uint64_t number) {
     EXPECT(CRACKD_CLOSED, crackd_close(&it.handle));
 }
 
-/* Has each call for memory refused in turn, until none is left. How many were. */
+/* Has each call for memory refused in turn, until none is left. Returns how many were. */
 static uint64_t refuse_each(void) {
     if (!refuse_told)
         return 0;
@@ -320,7 +327,7 @@ static uint64_t refuse_each(void) {
     }
 }
 
-/* Calls at a handle that holds no table return 101, and write nothing. */
+/* Calls on a handle without a table return 101, and write nothing. */
 static void check_closed(void) {
     crackd_handle none = {0};
     uint32_t part = 5, parts[1] = {5};
@@ -347,7 +354,7 @@ static void check_closed(void) {
     EXPECT(true, parts[0] == 5 && list[0] == 5 && written[0] == 5 && payloads[0] == 5 && flags[0] == 5);
 }
 
-/* Lists of different lengths return 103, policies that there aren't 104, and nothing is written. */
+/* Lists of different lengths return 103, unknown policies 104, and nothing is written. */
 static void check_words(crackd_handle *handle) {
     uint32_t parts[2] = {5, 5};
     uint64_t list[2] = {5, 5}, written[2] = {5, 5}, number = 5;
@@ -355,10 +362,14 @@ static void check_words(crackd_handle *handle) {
     uint8_t flags[2] = {5, 5};
     crackd_totals totals = {.rows = 5};
     for (size_t odd = 0; odd < 3; odd++) {
-        EXPECT(103, crackd_insert_many(handle, list, 2, payloads, 2 - (odd == 0), parts, 2 - (odd == 1), written, 2 - (odd == 2), &number));
-        EXPECT(103, crackd_update_many(handle, parts, 2, list, 2 - (odd == 0), list, 2 - (odd == 1), payloads, 2 - (odd == 2), flags, 2, &number));
-        EXPECT(103, crackd_sum_many(handle, 0, list, 2, list, 2 - (odd == 0), written, 2 - (odd == 1), payloads, 2 - (odd == 2), &number));
-        EXPECT(103, crackd_select(handle, 0, 1, 2, parts, 2, list, 2 - (odd == 0), written, 2 - (odd == 1), payloads, 2 - (odd == 2), &number));
+        EXPECT(103, crackd_insert_many(handle, list, 2, payloads, 2 - (odd == 0), parts, 2 - (odd == 1), written,
+                                       2 - (odd == 2), &number));
+        EXPECT(103, crackd_update_many(handle, parts, 2, list, 2 - (odd == 0), list, 2 - (odd == 1), payloads,
+                                       2 - (odd == 2), flags, 2, &number));
+        EXPECT(103, crackd_sum_many(handle, 0, list, 2, list, 2 - (odd == 0), written, 2 - (odd == 1), payloads,
+                                    2 - (odd == 2), &number));
+        EXPECT(103, crackd_select(handle, 0, 1, 2, parts, 2, list, 2 - (odd == 0), written, 2 - (odd == 1), payloads,
+                                  2 - (odd == 2), &number));
     }
     for (size_t odd = 0; odd < 2; odd++) {
         EXPECT(103, crackd_delete_many(handle, parts, 2, list, 2 - (odd == 0), flags, 2 - (odd == 1), &number));
@@ -371,10 +382,11 @@ static void check_words(crackd_handle *handle) {
     EXPECT(104, crackd_select(handle, UINT32_MAX, 1, 2, parts, 2, list, 2, written, 2, payloads, 2, &number));
     EXPECT(104, crackd_count_many(handle, 4, list, 2, list, 2, written, 2, &number));
     EXPECT(104, crackd_sum_many(handle, 4, list, 2, list, 2, written, 2, payloads, 2, &number));
-    EXPECT(true, number == 5 && high == 5 && totals.rows == 5 && parts[1] == 5 && list[1] == 5 && written[0] == 5 && payloads[0] == 5 && flags[0] == 5);
+    EXPECT(true, number == 5 && high == 5 && totals.rows == 5 && parts[1] == 5 && list[1] == 5 && written[0] == 5 &&
+                     payloads[0] == 5 && flags[0] == 5);
 }
 
-/* What openings are refused with. */
+/* The refusals of openings. */
 static void check_openings(void) {
     crackd_handle handle = {0};
     uint64_t many[64], falling[2] = {5, 5}, least[1] = {0};
@@ -393,11 +405,12 @@ static void check_openings(void) {
     EXPECT(0, crackd_close(&handle));
 }
 
-/* What changes are refused with, and that bulk calls stop there. */
+/* The refusals of changes, and that calls for many stop there. */
 static void check_refusals(void) {
     crackd_handle handle = {0};
     uint32_t part = 9, parts[3] = {0, 7, 0};
-    uint64_t serial = 9, number = 9, keys[3] = {1, 2, 3}, serials[3] = {0, 0, 0}, firsts[2] = {0, 3}, lasts[2] = {9, 1}, counts[2] = {9, 9};
+    uint64_t serial = 9, number = 9, keys[3] = {1, 2, 3}, serials[3] = {0, 0, 0}, firsts[2] = {0, 3}, lasts[2] = {9, 1},
+             counts[2] = {9, 9};
     int64_t payloads[3] = {1, 2, 3};
     uint8_t is = 9, flags[3] = {9, 9, 9};
     EXPECT(0, crackd_open(&handle, SPLITS, 2, 4, 2, 7));

@@ -1,12 +1,14 @@
-/* Refuses memory to a program that is run with this library preloaded, and counts its calls for memory.
+/* Refuses memory to a program that runs with this library preloaded, and counts its calls for memory.
 
    REFUSE_FROM, REFUSE_TO: the calls with these numbers, from 1, and all between are refused.
-   REFUSE_ONE_IN, REFUSE_SEED: each call is refused by chance, once in so many; a seed always draws the same numbers.
-   REFUSE_TELLS: a file of at least 16 bytes, where the number of calls and that of the refused ones stand, 8 bytes each, at any time.
+   REFUSE_ONE_IN, REFUSE_SEED: each call is refused by chance, one in this many; a seed always draws the same numbers.
+   REFUSE_TELLS: a file of at least 16 bytes, which always has the number of calls and that of the refused ones, 8 bytes
+   each.
    REFUSE_SWITCHED: if given, calls of a thread are counted and refused only while its `refuse_switch(1)` holds.
 
-   Calls are those of malloc, realloc, calloc, aligned_alloc, posix_memalign and memalign, by the program or by the C library, once the program runs.
-   Calls of several threads are numbered as they come. Nothing is refused where REFUSE_TELLS isn't given. */
+   Calls are those of malloc, realloc, calloc, aligned_alloc, posix_memalign and memalign, by the program or by the C
+   library, once the program runs. Calls of several threads are numbered as they come. Nothing is refused unless
+   REFUSE_TELLS is given. */
 
 #define _GNU_SOURCE
 #include <dlfcn.h>
@@ -48,10 +50,10 @@ static __attribute__((constructor)) void begin(void) {
     told = shared;
 }
 
-/* Has calls of this thread counted and refused from now on, or no more. */
+/* Calls of this thread are counted and refused from now on, or no longer. */
 void refuse_switch(int on) { is_on = on; }
 
-/* Counts anew, and refuses the calls from one number to another; those by chance are as before. */
+/* Counts from the start, and refuses the calls from one number to another; refusals by chance stay as before. */
 void refuse_calls(uint64_t first, uint64_t last) {
     from = first;
     to = last;
@@ -62,7 +64,7 @@ void refuse_calls(uint64_t first, uint64_t last) {
 /* How many calls were refused. */
 uint64_t refuse_told(void) { return told ? told[1] : 0; }
 
-/* A number that looks drawn, of the seed and of a call's number (splitmix64). */
+/* A number that looks random, from the seed and a call's number (splitmix64). */
 static uint64_t drawn(uint64_t call) {
     uint64_t bits = (seed * 0x9e3779b97f4a7c15u) ^ (call * 0xd1342543de82ef95u);
     bits = (bits ^ (bits >> 30)) * 0xbf58476d1ce4e5b9u;
@@ -70,7 +72,7 @@ static uint64_t drawn(uint64_t call) {
     return bits ^ (bits >> 31);
 }
 
-/* Counts a call. Whether it is refused. */
+/* Counts a call. Returns whether it is refused. */
 static int refused(void) {
     if (!told || (is_switched && !is_on))
         return 0;
@@ -110,7 +112,7 @@ void *realloc(void *old, size_t size) {
 }
 
 void *calloc(size_t count, size_t size) {
-    /* (a look-up may ask for memory, and goes on without) */
+    /* (a look-up may ask for memory, and continues without) */
     if (looks_up)
         return NULL;
     NEXT("calloc", void *, size_t, size_t);

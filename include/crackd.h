@@ -1,15 +1,20 @@
-/* A cracked table in this process: rows with a key and a payload, in partitions by key range, that are sorted as they are queried.
+/* A cracked table in this process: rows with a key and a payload, in partitions by key range, that are sorted as they
+   are queried.
 
-   docs/C.md of crackd says what a caller must do for every call, and what each call returns; here is what each one does. In short:
+   docs/C.md of crackd says what a caller must do for every call, and what each call returns; here is what each one
+   does. In short:
 
-   - A handle is a struct of the caller's. One whose bytes are all zero holds no table. It isn't copied, and only the library uses its fields.
-   - One call at a time on a handle, from any thread. No call in a signal handler, nor in the forked child of a process with threads.
-   - A list is its address and its number of items. Lists and numbers that a call writes overlap no other argument. An address is never NULL, not even
-     that of an empty list, and is aligned for its type.
-   - A key is 0 to 2^64 - 1, a payload -2^63 to 2^63 - 1. A range is from a first key to a last one, including both; if the first is one more than the
-     last it is empty. A row's number is its partition and its serial there; it is never reused, and an update keeps it.
-   - Each call returns 0, or why not. If it isn't 0, the call has written nothing, except for calls for many items: those write what was done, and how
-     many items that was. */
+   - A handle is a struct of the caller's. One whose bytes are all zero holds no table. It isn't copied, and only the
+     library uses its fields.
+   - One call at a time on a handle, from any thread. No call in a signal handler, nor in the forked child of a process
+     with threads.
+   - A list is its address and its number of items. Lists and numbers that a call writes overlap no other argument. An
+     address is never NULL, not even that of an empty list, and is aligned for its type.
+   - A key is 0 to 2^64 - 1, a payload -2^63 to 2^63 - 1. A range is from a first key to a last one, including both; if
+     the first is one more than the last it is empty. A row's number is its partition and its serial there; it is never
+     reused, and an update keeps it.
+   - Each call returns 0, or why not. If it isn't 0, the call has written nothing, except for calls for many items:
+     those write what was done, and how many items that was. */
 #ifndef CRACKD_H
 #define CRACKD_H
 
@@ -52,7 +57,8 @@ enum {
     CRACKD_NO_SUCH_POLICY = 104
 };
 
-/* Which pending rows a query merges into the column. All give the same answers, at different speeds; AUTO chooses one. */
+/* Which pending rows a query merges into the column. All give the same answers, at different speeds; AUTO chooses
+   one. */
 enum { CRACKD_COMPLETE = 0, CRACKD_GRADUAL = 1, CRACKD_RIPPLE = 2, CRACKD_AUTO = 3 };
 
 /* The greatest limits: entries of a partition's history, cells of its rows, and commands that it may ever answer. */
@@ -66,20 +72,23 @@ typedef struct {
     bool is_open;
 } crackd_handle;
 
-/* The layout of a partition: the numbers of its rows, places of its column, deleted rows that are still in the column, rows that aren't merged yet,
-   cells, free cells, and pieces of the column. */
+/* The layout of a partition: the numbers of its rows, places of its column, deleted rows that are still in the column,
+   rows that aren't merged yet, cells, free cells, and pieces of the column. */
 typedef struct {
     uint64_t rows, column, pending_out, pending_in, cells, free, pieces;
 } crackd_totals;
 
-/* The version, with " (unproved)" after it if the library was built without a proof. The text belongs to the library. */
+/* The version, with " (unproved)" after it if the library was built without a proof. The text belongs to the
+   library. */
 const char *crackd_version(void);
 
-/* Opens a table in a handle that holds none: partitions between the splits, one more than splits, without rows. Splits rise, and each is the first key
-   of a partition: 1 to 2^64 - 1, at most 63 of them. `history` is after how many commands a partition makes a checkpoint, 1 to CRACKD_MOST_HISTORY;
-   `cells` how many cells its rows may take, 1 to CRACKD_MOST_CELLS; `life` how many commands it may ever answer, 1 to CRACKD_MOST_LIFE. Returns 102, 11,
-   12 or 14, tested in this order, or 8; then the handle is as it was. */
-uint32_t crackd_open(crackd_handle *handle, const uint64_t *splits, size_t splits_len, uint64_t history, uint64_t cells, uint64_t life);
+/* Opens a table in a handle that holds none: partitions between the splits, one more than splits, without rows. Splits
+   rise, and each is the first key of a partition: 1 to 2^64 - 1, at most 63 of them. `history` is after how many
+   commands a partition makes a checkpoint, 1 to CRACKD_MOST_HISTORY; `cells` how many cells its rows may take, 1 to
+   CRACKD_MOST_CELLS; `life` how many commands it may ever answer, 1 to CRACKD_MOST_LIFE. Returns 102, 11, 12 or 14,
+   tested in this order, or 8; then the handle is as it was. */
+uint32_t crackd_open(crackd_handle *handle, const uint64_t *splits, size_t splits_len, uint64_t history, uint64_t cells,
+                     uint64_t life);
 
 /* Frees all that a table took. Then the handle holds none, and can be opened again. Returns 101. */
 uint32_t crackd_close(crackd_handle *handle);
@@ -87,57 +96,70 @@ uint32_t crackd_close(crackd_handle *handle);
 /* Places a row, and writes its number. Returns 101, 10, 9 or 8. */
 uint32_t crackd_insert(crackd_handle *handle, uint64_t key, int64_t payload, uint32_t *part, uint64_t *serial);
 
-/* Removes a row. Writes 1 to `gone`, and the row; or, if it doesn't exist, only 0 to `gone`. Returns 101, 5, 10 or 8. */
-uint32_t crackd_delete(crackd_handle *handle, uint32_t part, uint64_t serial, uint8_t *gone, uint64_t *key, int64_t *payload);
+/* Removes a row. Writes 1 to `gone`, and the row; or, if it doesn't exist, only 0 to `gone`. Returns 101, 5, 10 or
+   8. */
+uint32_t crackd_delete(crackd_handle *handle, uint32_t part, uint64_t serial, uint8_t *gone, uint64_t *key,
+                       int64_t *payload);
 
-/* Gives a row another key and payload. Writes 1 to `found`, or 0 if the row doesn't exist. Returns 101, 5, 4, 10, 9 or 8. */
-uint32_t crackd_update(crackd_handle *handle, uint32_t part, uint64_t serial, uint64_t key, int64_t payload, uint8_t *found);
+/* Gives a row another key and payload. Writes 1 to `found`, or 0 if the row doesn't exist. Returns 101, 5, 4, 10, 9
+   or 8. */
+uint32_t crackd_update(crackd_handle *handle, uint32_t part, uint64_t serial, uint64_t key, int64_t payload,
+                       uint8_t *found);
 
 /* Counts the rows of a range. Returns 101, 104, 2, 10 or 8. */
 uint32_t crackd_count(crackd_handle *handle, uint32_t policy, uint64_t first, uint64_t last, uint64_t *count);
 
 /* Adds up the payloads of a range: the sum is exactly `high` * 2^64 + `low`. Returns what crackd_count does. */
-uint32_t crackd_sum(crackd_handle *handle, uint32_t policy, uint64_t first, uint64_t last, uint64_t *low, int64_t *high);
+uint32_t crackd_sum(crackd_handle *handle, uint32_t policy, uint64_t first, uint64_t last, uint64_t *low,
+                    int64_t *high);
 
-/* Lists the rows of a range by partition, and in each by rising serial: as many as the lists have room for, from the first on. Writes to `found` how many
-   there are, which may be more. So with empty lists it only counts. The four lists are equally long. Returns 101, 103, 104, 2, 10 or 8. */
-uint32_t crackd_select(crackd_handle *handle, uint32_t policy, uint64_t first, uint64_t last, uint32_t *parts, size_t parts_len, uint64_t *serials,
-    size_t serials_len, uint64_t *keys, size_t keys_len, int64_t *payloads, size_t payloads_len, uint64_t *found);
+/* Lists the rows of a range by partition, and in each by rising serial: as many as the lists have room for, from the
+   first on. Writes to `found` how many there are, which may be more. So with empty lists it only counts. The four lists
+   are equally long. Returns 101, 103, 104, 2, 10 or 8. */
+uint32_t crackd_select(crackd_handle *handle, uint32_t policy, uint64_t first, uint64_t last, uint32_t *parts,
+                       size_t parts_len, uint64_t *serials, size_t serials_len, uint64_t *keys, size_t keys_len,
+                       int64_t *payloads, size_t payloads_len, uint64_t *found);
 
-/* Writes the layout of a partition, and for each piece of its column, as far as the lists have room, its least key and how many rows it has. The two
-   lists are equally long. Changes nothing. Returns 101, 103, 5 or 8. */
-uint32_t crackd_layout(crackd_handle *handle, uint32_t part, crackd_totals *totals, uint64_t *lows, size_t lows_len, uint64_t *sizes, size_t sizes_len);
+/* Writes the layout of a partition, and for each piece of its column, as far as the lists have room, its least key and
+   how many rows it has. The two lists are equally long. Changes nothing. Returns 101, 103, 5 or 8. */
+uint32_t crackd_layout(crackd_handle *handle, uint32_t part, crackd_totals *totals, uint64_t *lows, size_t lows_len,
+                       uint64_t *sizes, size_t sizes_len);
 
-/* Makes a checkpoint of a partition, which frees the memory of its history, and writes how many entries that had. Rows and numbers stay. Partitions
-   whose histories are full do so by themselves. Returns 101, 5 or 8. */
+/* Makes a checkpoint of a partition, which frees the memory of its history, and writes how many entries that had. Rows
+   and numbers stay. Partitions whose histories are full do so by themselves. Returns 101, 5 or 8. */
 uint32_t crackd_checkpoint(crackd_handle *handle, uint32_t part, uint64_t *folded);
 
-/* Writes how many commands the partitions have answered since they were opened: one for each row that was to be placed, updated or removed, and
-   for each query one for each partition that it met. Returns 101. */
+/* Writes how many commands the partitions have answered since they were opened: one for each row that was to be placed,
+   updated or removed, and for each query one for each partition that it met. Returns 101. */
 uint32_t crackd_accepted(crackd_handle *handle, uint64_t *accepted);
 
-/* Calls for many items write to `done` how many items were done, from the first on. If not all were, the status says why the next one was refused; those
-   after it weren't tried, and the rest of each written list is as it was. All lists of a call are equally long, else it returns 103 and writes nothing. */
+/* Calls for many items write to `done` how many items were done, from the first on. If not all were, the status says
+   why the next one was refused; those after it weren't tried, and the rest of each written list is as it was. All lists
+   of a call are equally long, else it returns 103 and writes nothing. */
 
 /* crackd_insert of each key and payload. */
-uint32_t crackd_insert_many(crackd_handle *handle, const uint64_t *keys, size_t keys_len, const int64_t *payloads, size_t payloads_len, uint32_t *parts,
-    size_t parts_len, uint64_t *serials, size_t serials_len, uint64_t *done);
+uint32_t crackd_insert_many(crackd_handle *handle, const uint64_t *keys, size_t keys_len, const int64_t *payloads,
+                            size_t payloads_len, uint32_t *parts, size_t parts_len, uint64_t *serials,
+                            size_t serials_len, uint64_t *done);
 
 /* crackd_delete of each row: 1 for one that existed, 0 for one that didn't. */
-uint32_t crackd_delete_many(crackd_handle *handle, const uint32_t *parts, size_t parts_len, const uint64_t *serials, size_t serials_len, uint8_t *gone,
-    size_t gone_len, uint64_t *done);
+uint32_t crackd_delete_many(crackd_handle *handle, const uint32_t *parts, size_t parts_len, const uint64_t *serials,
+                            size_t serials_len, uint8_t *gone, size_t gone_len, uint64_t *done);
 
 /* crackd_update of each row: 1 for one that exists, 0 for one that doesn't. */
-uint32_t crackd_update_many(crackd_handle *handle, const uint32_t *parts, size_t parts_len, const uint64_t *serials, size_t serials_len,
-    const uint64_t *keys, size_t keys_len, const int64_t *payloads, size_t payloads_len, uint8_t *found, size_t found_len, uint64_t *done);
+uint32_t crackd_update_many(crackd_handle *handle, const uint32_t *parts, size_t parts_len, const uint64_t *serials,
+                            size_t serials_len, const uint64_t *keys, size_t keys_len, const int64_t *payloads,
+                            size_t payloads_len, uint8_t *found, size_t found_len, uint64_t *done);
 
 /* crackd_count of each range. */
-uint32_t crackd_count_many(crackd_handle *handle, uint32_t policy, const uint64_t *firsts, size_t firsts_len, const uint64_t *lasts, size_t lasts_len,
-    uint64_t *counts, size_t counts_len, uint64_t *done);
+uint32_t crackd_count_many(crackd_handle *handle, uint32_t policy, const uint64_t *firsts, size_t firsts_len,
+                           const uint64_t *lasts, size_t lasts_len, uint64_t *counts, size_t counts_len,
+                           uint64_t *done);
 
 /* crackd_sum of each range, in two lists. */
-uint32_t crackd_sum_many(crackd_handle *handle, uint32_t policy, const uint64_t *firsts, size_t firsts_len, const uint64_t *lasts, size_t lasts_len,
-    uint64_t *lows, size_t lows_len, int64_t *highs, size_t highs_len, uint64_t *done);
+uint32_t crackd_sum_many(crackd_handle *handle, uint32_t policy, const uint64_t *firsts, size_t firsts_len,
+                         const uint64_t *lasts, size_t lasts_len, uint64_t *lows, size_t lows_len, int64_t *highs,
+                         size_t highs_len, uint64_t *done);
 
 #ifdef __cplusplus
 }
