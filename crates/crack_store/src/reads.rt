@@ -1,5 +1,5 @@
 //! What a range command reads from the column.
-ghost use Rattle.std.specs.Prelude.{◌≡◌, ◌<◌, ◌≤◌, ◌≤ℤ◌, ◌^◌, neg_ℤ, pos, Some, length, IfOk, IfErr, slice_index_or};
+ghost use Rattle.std.specs.Prelude.{◌≡◌, ◌<◌, ◌≤◌, ◌≤ℤ◌, ◌^◌, neg_ℤ, pos, Some, length, ◌↔◌, IfOk, IfErr, IsTrue, slice_index_or};
 ghost use Rattle.std.specs.List.Sorted.{IsPermutation, IsNonDecreasingBy};
 ghost use Rattle.crack_row.specs.Rows.{sum_of};
 ghost use Rattle.crack_arena.specs.Arena.{read, no_handle};
@@ -7,10 +7,18 @@ ghost use Rattle.crack_state.specs.Merge.{IsCracked, edge};
 ghost use Rattle.crack_state.specs.Stretch.{rows_within, stretch_rows, serial_of};
 
 use crate::Store;
+use crate::cracking::missing_ends;
 use crate::points::row_at;
 use crack_row::{KeyRange, Refusal, Row};
 
 impl Store {
+    /// Whether the column was cracked at both ends of a range. O(log bounds).
+    pub fn is_cracked(&self, range: KeyRange) -> bool
+        ensures { IsTrue result ↔ IsCracked self.now range }
+    {
+        missing_ends(&self.inside, range).bounds() == 0
+    }
+
     /// The sum of the payloads of the rows that are in the column between the ends of a range by which it was
     /// cracked. Takes no memory. O(rows there + log bounds); it reads no cell of a row that the column knows.
     pub fn sum_between(&self, range: KeyRange) -> i128
