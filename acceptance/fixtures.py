@@ -270,8 +270,7 @@ def bytes_of(process: int, name: str) -> int:
 
 
 def served_bytes(program: str, limit: int, *commands: int) -> list[int]:
-    """How many bytes of memory a server with this limit uses after this many commands, and after this many more: counts
-    by four clients, 5,000 at a time."""
+    """How many bytes a server uses after this many commands, and this many more: counts by four clients."""
     words = ["--until-eof", "--quiet", "--policy", "auto", "--auto-checkpoint", "--limit", str(limit)]
     rows, at_once, bytes_then = 1000, 5000, []
     replies = b"count 800\n" * at_once
@@ -309,8 +308,7 @@ def refusing_library() -> str | None:
 
 @contextlib.contextmanager
 def refusing(**which: int) -> typing.Iterator[tuple[dict[str, str], typing.Callable[[], tuple[int, int]]]]:
-    """The environment of a child that is refused these calls for memory, and a function that then reads how many calls
-    were made, and how many were refused."""
+    """The environment of a child that is refused these calls, and a function that counts all and refused calls."""
     words = {f"REFUSE_{name.upper()}": str(it) for name, it in which.items()}
     with tempfile.NamedTemporaryFile(prefix="crackd-refused-") as file:
         file.truncate(16)

@@ -458,8 +458,7 @@ class Storm:
                 it.end()
 
     def check_end(self, status: int, complained: str) -> None:
-        """Checks how the server ended. With automatic checkpoints its lines must be those that it may write, and they
-        say how many entries these removed."""
+        """Checks how the server ended, and that standard error has only the lines that it may have."""
         expect("status", 0, status)
         if not self.limits.is_automatic:
             expect("standard error", "", complained)

@@ -86,9 +86,11 @@ def environment_for(program: str, folder: str) -> dict[str, str]:
         links |= {"libcrackd.so": made, made.name: made}
     for name, target in links.items():
         (pathlib.Path(folder) / name).symlink_to(target)
-    python = pathlib.Path(folder) / "python3"
-    python.write_text(f'#!/bin/sh\nexec {package.interpreter()} "$@"\n', encoding="ascii")
-    python.chmod(0o755)
+    # (README's `make try` and `make run` answer statements, as the program does once it is built)
+    for name, what in {"python3": f'{package.interpreter()} "$@"', "make": "crackd script"}.items():
+        path = pathlib.Path(folder) / name
+        path.write_text(f"#!/bin/sh\nexec {what}\n", encoding="ascii")
+        path.chmod(0o755)
     found = {it: folder for it in ("CPATH", "LIBRARY_PATH", "LD_LIBRARY_PATH")} | {"TOP": str(TOP)}
     found |= {"PATH": os.pathsep.join([folder, os.environ.get("PATH", "")]), "CRACKD": str(program)}
     return {**os.environ, **found, "PYTHONPATH": str(package.PACKAGE), "LC_ALL": "C.UTF-8"}

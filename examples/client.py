@@ -38,7 +38,7 @@ class Session:
         return self.reply()
 
     def insert_all(self, rows):
-        """Inserts rows of a key and a payload, and gives their row numbers. It reads while it writes, so that neither
+        """Inserts rows of a key and a payload, and returns their row numbers. It reads while it writes, so that neither
         side waits for ever."""
         text = "".join(f"insert {key} {payload}\n" for key, payload in rows)
         writer = threading.Thread(target=self.send, args=[text])

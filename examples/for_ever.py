@@ -1,8 +1,8 @@
 #!/usr/bin/env python3
-"""Has `crackd script` go on for ever: for_ever.py CRACKD LIMIT [SPLIT ..]
+"""Lets `crackd script` go on for ever: for_ever.py CRACKD LIMIT [SPLIT ..]
 
 Passes standard input on to `crackd script --limit LIMIT --auto-checkpoint`, which makes a checkpoint of a partition
-where its history is full: that empties the history, and leaves the rows. Prints its replies, and exits with its status.
+when its history is full: that empties the history and keeps the rows. Prints its replies, and exits with its status.
 """
 
 import subprocess

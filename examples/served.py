@@ -1,7 +1,7 @@
 #!/usr/bin/env python3
 """Threads that share the table of a server: served.py CRACKD
 
-Starts the program CRACKD as a server, which ends with this program. Each thread has a connection of its own.
+Starts the program CRACKD as a server, which ends with this program. Each thread has its own connection.
 """
 
 import pathlib

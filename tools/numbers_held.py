@@ -77,6 +77,77 @@ FIGURES = {
     "load and all queries": ["loading", "first count of everything", "all sums"],
 }
 
+# the tables of docs/BENCHMARKS.md, by the first cells of their first rows
+QUERIES = ("What", "loading", "first count of everything")
+RIVALS = ("What", "crackd", "a cracker column for speed alone")
+AFTER_A_LOAD = ("What", "time")
+OVER_TCP = ("What", "crackd", "Redis")
+UNITS = {"": 1, "ns": 1e-9, "µs": 1e-6, "ms": 1e-3, "s": 1}
+SUMS = [f"{it} before each" for it in ("1000 sums, 10 deletes and inserts", "100 sums, 1000 deletes and inserts")]
+# a document, a text in it with the format of its figures, their unit, a table, and the row and columns of each figure
+SENTENCES = [
+    (
+        "README.md",
+        "the first query merges the load and takes {:.0f} ms, the thousandth takes {:.2f} ms.",
+        "ms",
+        QUERIES,
+        [
+            ("crackd's partition", "first count of everything", "first sum"),
+            ("crackd's partition", "median of the last hundred"),
+        ],
+    ),
+    ("README.md", "A scan takes {:.1f} ms each time.", "ms", QUERIES, [("a scan", "median of the last hundred")]),
+    (
+        "docs/GUIDE.md",
+        "took {:.1f} ms each, and {:.2f} ms each once the rows were merged",
+        "ms",
+        AFTER_A_LOAD,
+        [
+            ("each count at once, under `ripple`, the policy of the start", "time"),
+            ("each count after that", "time"),
+        ],
+    ),
+    (
+        "docs/GUIDE.md",
+        "a round trip takes {:.0f} µs, a repeated count {:.1f} µs.",
+        "µs",
+        OVER_TCP,
+        [("a round trip of one of them", "crackd"), ("each of the same counts again", "crackd")],
+    ),
+    (
+        "docs/GUIDE.md",
+        "it takes {:.1f} times as long for a load and {:.1f} times for a repeated count",
+        "",
+        OVER_TCP,
+        [
+            ("500000 inserts", "times as fast as Redis"),
+            ("each of the same counts again", "times as fast as Redis"),
+        ],
+    ),
+    *(
+        (
+            "docs/ARCHITECTURE.md",
+            f"| {policy} | {{:,.0f}} ms | {moved} million | {{:,.0f}} ms | {{:,.0f}} ms |",
+            "ms",
+            RIVALS,
+            [(f"{policy}: {it}", "crackd") for it in ("1000 sums, all rows pending", *SUMS)],
+        )
+        for policy, moved in {
+            "complete": "0.5, 0 and 0.4",
+            "gradual": "0.5, 0 and 42",
+            "ripple": "3.2, 3.0 and 8.9",
+        }.items()
+    ),
+]
+# how many minutes commands take: what is found twice must be the same
+MINUTES = {
+    "README.md": r"# proved: (?P<run>\d+) minutes the first time on 4 processors",
+    "CONTRIBUTING.md": r"`make run` took (?P<run>\d+) minutes \((?P<run2>\d+) on two\) and `make test` "
+    r"(?P<test>\d+(?: to \d+)?); after it `make edits` took (?P<edits>\d+)",
+    "Makefile": r"'\s*(?P<run>\d+) minutes from nothing on 4 processors, (?P<run2>\d+) on 2'.*"
+    r"'\s*(?P<test>\d+(?: to \d+)?) minutes on 4'.*after make test (?P<edits>\d+) minutes on 4'",
+}
+
 
 def constants(crate, top=TOP):
     """The constants of a crate that are whole numbers, by name: all values that a name has there."""
@@ -128,3 +199,30 @@ def figure_mismatches(top=TOP):
             if f"{value:,.{digits}f}" != cell:
                 wrong.append(f"README says {row}, {name}: {cell}, and docs/BENCHMARKS.md {value}")
     return wrong
+
+
+def seconds_of(cell):
+    """A cell of a table of times or ratios, in seconds or as it is."""
+    number, _, unit = cell.partition(" ")
+    return float(number.replace(",", "")) * UNITS[unit]
+
+
+def sentence_mismatches(top=TOP):
+    """The sentences whose figures aren't those of docs/BENCHMARKS.md, each as it should be."""
+    measured, wrong = (top / "docs" / "BENCHMARKS.md").read_text(encoding="utf-8"), []
+    for document, text, unit, head, figures in SENTENCES:
+        rows = table(measured, list(head))
+        values = [sum(seconds_of(rows[row][it]) for it in columns) / UNITS[unit] for row, *columns in figures]
+        if text.format(*values) not in " ".join((top / document).read_text(encoding="utf-8").split()):
+            wrong.append(f"{document} doesn't say {text.format(*values)!r}")
+    return wrong
+
+
+def minutes(top=TOP):
+    """The minutes that documents say a command takes, by its name: one if all say the same."""
+    found = {}
+    for document, pattern in MINUTES.items():
+        said = re.search(pattern, " ".join((top / document).read_text(encoding="utf-8").split()))
+        for name, number in said.groupdict().items() if said else [(document, "nothing")]:
+            found.setdefault(name, set()).add(number)
+    return found

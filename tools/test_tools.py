@@ -398,6 +398,14 @@ class Numbers(unittest.TestCase):
     def test_figures_of_readme_are_those_of_the_benchmarks(self):
         self.assertEqual(numbers_held.figure_mismatches(), [])
 
+    def test_figures_in_sentences_are_those_of_the_benchmarks(self):
+        self.assertEqual(numbers_held.sentence_mismatches(), [])
+
+    def test_documents_say_the_same_minutes(self):
+        found = numbers_held.minutes()
+        self.assertEqual(sorted(found), ["edits", "run", "run2", "test"])
+        self.assertEqual([name for name, said in found.items() if len(said) > 1], [])
+
     def test_a_number_that_differs_is_found(self):
         with tempfile.TemporaryDirectory() as room:
             top = pathlib.Path(room)
