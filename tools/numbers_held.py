@@ -56,7 +56,7 @@ NUMBERS = [
     ("docs/ARCHITECTURE.md", "The program's buffer, of {} bytes", "crack_server", "REPLY_BYTES"),
     ("docs/ARCHITECTURE.md", "where the piece has at most {} rows", "crack_store", "SHORT"),
     ("docs/ARCHITECTURE.md", "where at most {} rows are doomed", "crack_store", "FEW"),
-    ("docs/DECISIONS.md", "A folded history keeps room for {} entries", "crack_part", "KEPT_ENTRIES"),
+    ("docs/DECISIONS.md", "An emptied history keeps room for {} entries", "crack_part", "KEPT_ENTRIES"),
     ("docs/DECISIONS.md", "the buffer of a line stays at {} bytes", "crack_commands", "TEXT_BYTES"),
     ("docs/DECISIONS.md", "the first {} bytes are enough", "crack_session", "KEPT_BYTES"),
     ("docs/DECISIONS.md", "A plain table accepts {} commands", "crack_plain", "MOST_ACCEPTED"),
