@@ -5,14 +5,15 @@ help:
 	@echo 'make run     proves what changed, builds, and answers the statements of standard input:'
 	@echo '             18 minutes from nothing on 4 processors, 28 on 2'
 	@echo 'make try     the same without a proof, in a minute; it reads all of its input before it answers'
-	@echo 'make lib     proves the library for C and Python as make run does, and builds lib/libcrackd.so and lib/crackd.h;'
-	@echo '             the package finds it'
+	@echo 'make lib     proves the library for C and Python as make run does, and builds lib/libcrackd.so and'
+	@echo '             lib/crackd.h; the package finds it'
 	@echo 'make lib-unproved  the same without a proof, in a minute: lib/libcrackd-unproved.so'
 	@echo 'make test    proves everything from nothing, runs the tests, the programs and the acceptance cases:'
 	@echo '             26 to 30 minutes on 4'
 	@echo 'make edits   tests that the prover refuses the wrong bodies, with OF="NAME .." only those of these crates:'
 	@echo '             after make test 35 minutes on 4'
-	@echo 'make trust   prints what a reader must read to know what is promised, and counts it; OF=--count: only the numbers'
+	@echo 'make trust   prints what a reader must read to know what is promised, and counts it;'
+	@echo '             OF=--count: only the numbers'
 
 run:
 	@python3 tools/prove.py crackd -- script

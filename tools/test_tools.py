@@ -432,6 +432,18 @@ class Documents(unittest.TestCase):
         ]
         self.assertEqual(wide, [])
 
+    def test_lines_of_other_code_have_120_columns_at_most(self):
+        # (bench/report.py has the text of a page, whose lines are as long as those of other pages)
+        kinds = ["*/*.py", "python/*/**/*.py", "bench/peers/*.rs", "acceptance/*.c", "include/*.h", "examples/*.sh"]
+        wide = [
+            f"{path.relative_to(crates.TOP)}:{number}"
+            for path in sorted(path for it in [*kinds, "Makefile"] for path in crates.TOP.glob(it))
+            if path.name != "report.py"
+            for number, line in enumerate(path.read_text(encoding="utf-8").splitlines(), 1)
+            if len(line) > 120
+        ]
+        self.assertEqual(wide, [])
+
     def test_readme_has_120_lines_at_most(self):
         self.assertLessEqual(len((crates.TOP / "README.md").read_text(encoding="utf-8").splitlines()), 120)
 
