@@ -30,7 +30,7 @@ use Rattle.crack_store.specs.declared.sifting.Sieve.{Sieve}
 use Rattle.crack_store.specs.declared.inside.Inside.{Inside}
 use Rattle.crack_store.specs.Inside.{lists_of}
 use Rattle.crack_store.specs.Keeps.{KeepsIntact}
-use Rattle.crack_store.specs.Evictions.{AreApart, AreOutside}
+use Rattle.crack_store.specs.Evictions.{AreApart}
 use Rattle.crack_store.specs.Sieves.{Rises}
 use Rattle.crack_store.proofs.ExchangeLemmas.{seam}
 use Rattle.crack_store.proofs.EvictLemmas.{around, map-reversed, All-reversed}
@@ -54,16 +54,6 @@ module _ (r : Range) (s : State) (edge : Mark) (intact : IsIntact s []) (there :
       let one = intact.obeyed there.0 edge there.1 in
       let place : (get_or s.marks there.0 edge).position ≤ length s.column = omega (arith, one.within, length-map s.column key) in
       rw there.2 at place
-
-  -- the rows beyond the ceiling aren't in the range
-  pub beyond_out : r.high ≤ edge.bound.0 → AreOutside s.cells r beyond
-  beyond_out high = λ k d h inside.
-      let far : edge.position + k < length s.column = omega (arith, h, length-drop edge.position s.column, edge_in) in
-      let one = intact.obeyed there.0 edge there.1 in
-      let over = one.above (edge.position + k) in
-      let is : get_or (map key s.column) (edge.position + k) 0 ≡ key (get_or beyond k d) = get_or-map key s.column (edge.position + k) d 0 far ∙ ap key (sym (get_or-drop edge.position s.column k d)) in
-      let least : edge.bound.0 ≤ key (get_or beyond k d) = rw (there.2, is) at (over (rw there.2 (omega arith)) (omega (arith, far, length-map s.column key))) in
-      omega (arith, inside.1, least, high)
 
   -- no cell is among them twice, nor among the pending insertions too
   pub beyond_apart : (covered : ℕ) → length s.cells ≤ covered → AreApart covered beyond s.pending_in

@@ -2,10 +2,10 @@
 -- What the walks over the bounds under a ceiling do, and what rows that come in at its place do to those that stand there.
 use Rattle.std.specs.Prelude.{◌≡◌, ℕ, ◌+◌, ◌-◌, ◌<◌, ◌≤◌, cond, nat_lt, max, min, map, List, ◌∷◌, ◌++◌, length, take, drop, reverse}
 use Rattle.std.specs.List.{All}
-use Rattle.crack_row.specs.Ranges.{Range, IsIn}
+use Rattle.crack_row.specs.Ranges.{Range}
 use Rattle.crack_row.specs.declared.Row.{Row}
 use Rattle.crack_arena.specs.Arena.{Cell, Handle, times, slots}
-use Rattle.crack_arena.specs.Rows.{key_at, RemembersKeys}
+use Rattle.crack_arena.specs.Rows.{RemembersKeys}
 use Rattle.crack_bulk.specs.Carried.{inside_of}
 use Rattle.crack_column.specs.Column.{Column, Remembers, memory_at}
 use Rattle.crack_column.specs.Sifts.{AreRead}
@@ -51,10 +51,6 @@ pub record AreApart (covered : ℕ) (xs ys : List Handle) : Type 0 where
   pub once : (slot : ℕ) → times slot (slots xs) + times slot (slots ys) ≤ 1
   pub inside : All (λ h. h.slot < covered) xs
 
--- none of the rows is in the range
-abbrev pub AreOutside : List (Cell Row) → Range → List Handle → Type 0
-AreOutside cells r hs = All (λ h. ¬ IsIn r (key_at cells h)) hs
-
 -- a handle was put at a place, and what stood there, if anything did, after the last of a list
 pub record IsPut (cells : List (Cell Row)) (place : ℕ) (h : Handle) (c : Column) (p : Pending) (c' : Column) (p' : Pending) : Type 0 where
   pub handles_are : c'.handles ≡ take place c.handles ++ h ∷ drop (place + 1) c.handles
@@ -64,6 +60,16 @@ pub record IsPut (cells : List (Cell Row)) (place : ℕ) (h : Handle) (c : Colum
   pub keys : RemembersKeys cells p'.handles p'.keys
   pub column_room : c'.room + (length c'.handles - length c.handles) ≡ c.room
   pub in_room : p'.room + length (take 1 (drop place c.handles)) ≡ p.room
+  pub covered : p'.covered ≡ p.covered
+
+-- these handles were put from a place on, and what stood there, as far as it had to make way, after the last of a list
+pub record ArePut (cells : List (Cell Row)) (from : ℕ) (hs : List Handle) (c : Column) (p : Pending) (c' : Column) (p' : Pending) : Type 0 where
+  pub handles_are : c'.handles ≡ take from c.handles ++ (hs ++ drop (length hs) (drop from c.handles))
+  pub pending_are : p'.handles ≡ p.handles ++ take (length hs) (drop from c.handles)
+  pub read : AreRead cells from (from + length hs) c'
+  pub remembers : Remembers cells c'.handles c'.remembered
+  pub keys : RemembersKeys cells p'.handles p'.keys
+  pub in_room : p.room ≤ p'.room + min (length hs) (length c.handles - from)
   pub covered : p'.covered ≡ p.covered
 
 -- the rows of a range were put from a place on, and as many of those that stood there as had to make way, after the last of the list

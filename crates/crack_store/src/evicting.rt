@@ -1,6 +1,6 @@
 //! All pending insertions of a range carried in bulk under a ceiling: their rows take the places of the first rows
 //! beyond it, which are evicted, and are sifted through the pieces below it from the highest down.
-ghost use Rattle.std.specs.Prelude.{◌≡◌, ◌+◌, ◌-◌, ◌<◌, ◌≤◌, ◌^◌, [], Some, length, min, drop};
+ghost use Rattle.std.specs.Prelude.{◌≡◌, ◌+◌, ◌-◌, ◌<◌, ◌≤◌, ◌^◌, [], Some, length, min, drop, vec_capacity};
 ghost use Rattle.std.specs.Prelude.{All, Contains, IsTrue, IsFalse, IfSome};
 ghost use Rattle.crack_arena.specs.Rows.{RemembersKeys, keys_at};
 ghost use Rattle.crack_bulk.specs.Carried.{carried_in_bulk, inside_of};
@@ -9,7 +9,7 @@ ghost use Rattle.crack_index.specs.Marks.{Rising};
 ghost use Rattle.crack_pending.specs.Pending.{Finds};
 ghost use Rattle.crack_state.specs.State.{Reads, live_rows};
 ghost use Rattle.crack_state.specs.Steps.{SameButRoom};
-ghost use Rattle.crack_store.specs.Evictions.{AreApart, AreOutside, IsExchanged, IsPut, IsSiftedBelow};
+ghost use Rattle.crack_store.specs.Evictions.{AreApart, ArePut, IsExchanged, IsPut, IsSiftedBelow};
 ghost use Rattle.crack_store.specs.Inside.{lists_of};
 ghost use Rattle.crack_store.specs.Keeps.{KeepsIntact};
 ghost use Rattle.crack_store.specs.Sieves.{IsReady};
@@ -60,6 +60,10 @@ impl Store {
         if is_few(&self.inside, most) {
             return false;
         }
+        let alloc = *self.inside.serials.allocator();
+        let Ok(taken) = Vec::with_capacity(alloc, most) else {
+            return false;
+        };
         let evicted = most.min(self.inside.column.len() - edge.position);
         if self.inside.column.reserve(most - evicted).is_err() {
             return false;
@@ -67,7 +71,7 @@ impl Store {
         if self.inside.pending_in.reserve(evicted).is_err() {
             return false;
         }
-        carry_rows(&mut self.inside, range, first, edge);
+        carry_rows(&mut self.inside, range, first, taken, edge);
         true
     }
 }
@@ -113,7 +117,13 @@ fn is_few(inside: &Inside, count: usize) -> bool {
 
 /// Carries the pending insertions of a range under the ceiling at a bound, the first of which is `first`, where no row
 /// is doomed and there is room for them and for those that they evict.
-fn carry_rows(inside: &mut Inside, range: KeyRange, first: usize, edge: Mark)
+fn carry_rows(
+    inside: &mut Inside,
+    range: KeyRange,
+    first: usize,
+    taken: Vec<Handle<Row>>,
+    edge: Mark,
+)
     requires intact { KeepsIntact inside.old [] }
     requires none { inside.old.pending_out.handles ≡ [] }
     requires there { Contains inside.old.index.marks edge }
@@ -123,6 +133,9 @@ fn carry_rows(inside: &mut Inside, range: KeyRange, first: usize, edge: Mark)
         (length inside.old.column.handles - edge.position) ≤ inside.old.column.room }
     requires in_room { min (length (inside_of inside.old.arena.cells range inside.old.pending_in.handles))
         (length inside.old.column.handles - edge.position) ≤ inside.old.pending_in.room }
+    requires empty { taken.items ≡ [] }
+    requires list { length (inside_of inside.old.arena.cells range inside.old.pending_in.handles) ≤
+        vec_capacity taken }
     ensures carried { SameButRoom (carried_in_bulk (Some edge.bound.0) range (lists_of inside.old))
         (lists_of inside.new) }
     ensures live { live_rows (lists_of inside.new) ≡ live_rows (lists_of inside.old) }
@@ -134,7 +147,7 @@ fn carry_rows(inside: &mut Inside, range: KeyRange, first: usize, edge: Mark)
         &mut inside.pending_in,
         &mut inside.column,
         range,
-        first,
+        taken,
         from,
         &inside.arena,
     );
@@ -154,14 +167,14 @@ fn carry_rows(inside: &mut Inside, range: KeyRange, first: usize, edge: Mark)
     inside.tally.put_in = inside.tally.put_in.saturating_add(count as u64);
 }
 
-/// Takes the rows of a range out of a list, the first of which is `first`, and puts them into the column from the place
-/// `from` on, in their order, each with what is to be remembered of it. Each row that stood there makes way for one of
-/// them, and goes after the last of the list. How many came in.
+/// Takes the rows of a range out of a list, and puts them into the column from the place `from` on, in their order, each
+/// with what is to be remembered of it. Each row that stood there makes way for one of them, and goes after the last of
+/// the list. `taken` is a list for their handles. How many came in.
 fn exchange_rows(
     rows: &mut PendingIn,
     column: &mut CrackerColumn,
     range: KeyRange,
-    first: usize,
+    mut taken: Vec<Handle<Row>>,
     from: usize,
     arena: &Arena<Row>,
 ) -> usize
@@ -171,23 +184,42 @@ fn exchange_rows(
         from) ≤ column.old.room }
     requires in_room { min (length (inside_of arena.now.cells range rows.old.handles)) (length column.old.handles -
         from) ≤ rows.old.room }
+    requires empty { taken.items ≡ [] }
+    requires list { length (inside_of arena.now.cells range rows.old.handles) ≤ vec_capacity taken }
     requires reads { All (Reads arena.now.cells) rows.old.handles }
     requires keys { RemembersKeys arena.now.cells rows.old.handles rows.old.keys }
-    requires first { Finds range (keys_at arena.now.cells rows.old.handles) 0 (Some first) }
     requires remembered { Remembers arena.now.cells column.old.handles column.old.remembered }
     requires apart { AreApart rows.old.covered (drop from column.old.handles) rows.old.handles }
-    requires outside { AreOutside arena.now.cells range (drop from column.old.handles) }
     ensures exchanged { IsExchanged arena.now.cells range from column.old rows.old column.new rows.new }
     ensures count { result ≡ length (inside_of arena.now.cells range rows.old.handles) }
 {
-    let (mut at, mut to) = (first, from);
-    'rows: while let Some(place) = rows.seek_in(range, at, arena) {
-        let handle = rows.take(place);
-        put_at(rows, column, to, handle, arena);
-        at = place;
-        to += 1;
+    rows.take_in(range, arena, &mut taken);
+    put_rows(rows, column, &taken, from, arena);
+    taken.len()
+}
+
+/// Puts these handles into the column from a place on, in their order, each with what is to be remembered of its row.
+/// Each row that stood there makes way for one of them, and goes after the last of the list. O(1) for each.
+fn put_rows(
+    rows: &mut PendingIn,
+    column: &mut CrackerColumn,
+    handles: &[Handle<Row>],
+    from: usize,
+    arena: &Arena<Row>,
+)
+    requires within { from ≤ length column.old.handles }
+    requires few { length column.old.handles + length handles.now ≤ 2 ^ 32 }
+    requires column_room { length handles.now - (length column.old.handles - from) ≤ column.old.room }
+    requires in_room { min (length handles.now) (length column.old.handles - from) ≤ rows.old.room }
+    requires reads { All (Reads arena.now.cells) handles.now }
+    requires remembered { Remembers arena.now.cells column.old.handles column.old.remembered }
+    requires keys { RemembersKeys arena.now.cells rows.old.handles rows.old.keys }
+    requires apart { AreApart rows.old.covered (drop from column.old.handles) rows.old.handles }
+    ensures { ArePut arena.now.cells from handles.now column.old rows.old column.new rows.new }
+{
+    'handles: for i in 0..handles.len() {
+        put_at(rows, column, from + i, handles[i], arena);
     }
-    to - from
 }
 
 /// Puts a handle at a place of the column, with what is to be remembered of its row. A row that stood there goes after

@@ -17,7 +17,7 @@ use Rattle.crack_store.specs.declared.sifting.Sieve.{Sieve}
 use Rattle.crack_store.proofs.EdgeLemmas.{positions_within}
 use Rattle.crack_store.proofs.ExchangeLemmas.{length-take-min}
 use Rattle.crack_store.proofs.TakeLemmas.{inside-few, without}
-use Rattle.crack_store.proofs.UnderLemmas.{beyond_out, beyond_apart, edge_in, IsWalked, walked, IsCarried, carried}
+use Rattle.crack_store.proofs.UnderLemmas.{beyond_apart, edge_in, IsWalked, walked, IsCarried, carried}
 use Rattle.crack_store.proofs.evicting.carry_rows.Goals as goal
 use Rattle.crack_store.proofs.evicting.carry_rows.Goals.{After-take, After-saturating_add-inside-3}
 
@@ -28,9 +28,6 @@ exchange_rows-count-requires-clause-few c =
 
 pub exchange_rows-count-requires-clause-apart : goal.exchange_rows-count-requires-clause-apart
 exchange_rows-count-requires-clause-apart c = beyond_apart c.args.range (lists_of c.args.inside.now) c.args.edge c.requires.intact.intact c.requires.there c.args.inside.now.pending_in.covered c.requires.intact.covered
-
-pub exchange_rows-count-requires-clause-outside : goal.exchange_rows-count-requires-clause-outside
-exchange_rows-count-requires-clause-outside c = beyond_out c.args.range (lists_of c.args.inside.now) c.args.edge c.requires.intact.intact c.requires.there c.requires.high
 
 pub overflow_add-sieve : goal.overflow_add-sieve
 overflow_add-sieve c =
