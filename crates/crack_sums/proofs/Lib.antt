@@ -1,0 +1,6 @@
+mod Pieces
+mod Changed
+mod Entries
+mod Totals
+mod Walking
+mod Cutting
