@@ -30,25 +30,25 @@ use Rattle.crack_bulk.proofs.SiftedLaws.{min_and}
 -- One pull, and then the others
 
 module _ (key : Handle → ℕ) where
-  pulled-cons : (low : ℕ) (d : Handle) (ds : List Handle) (pieces : Pieces Handle) → pulled key itself low ds (pulled key itself low (d ∷ []) pieces) ≡ pulled key itself low (d ∷ ds) pieces
+  pub pulled-cons : (low : ℕ) (d : Handle) (ds : List Handle) (pieces : Pieces Handle) → pulled key itself low ds (pulled key itself low (d ∷ []) pieces) ≡ pulled key itself low (d ∷ ds) pieces
   pulled-cons low d ds (last rows) = refl
   pulled-cons low d ds (below rows bound pieces) = ap (below (drained key itself low (ends_above key itself bound) (d ∷ ds) rows) bound) (pulled-cons bound.0 d ds pieces)
 
-  drawn-cons : (low : ℕ) (d : Handle) (ds : List Handle) (pieces : Pieces Handle) → all_drawn key itself low (d ∷ []) pieces + all_drawn key itself low ds (pulled key itself low (d ∷ []) pieces) ≡ all_drawn key itself low (d ∷ ds) pieces
+  pub drawn-cons : (low : ℕ) (d : Handle) (ds : List Handle) (pieces : Pieces Handle) → all_drawn key itself low (d ∷ []) pieces + all_drawn key itself low ds (pulled key itself low (d ∷ []) pieces) ≡ all_drawn key itself low (d ∷ ds) pieces
   drawn-cons low d ds (last rows) = omega arith
   drawn-cons low d ds (below rows bound pieces) = omega (arith, drawn-cons bound.0 d ds pieces)
 
-  pulled-none : (low : ℕ) (pieces : Pieces Handle) → pulled key itself low [] pieces ≡ pieces
+  pub pulled-none : (low : ℕ) (pieces : Pieces Handle) → pulled key itself low [] pieces ≡ pieces
   pulled-none low (last rows) = refl
   pulled-none low (below rows bound pieces) = ap (below rows bound) (pulled-none bound.0 pieces)
 
-  drawn-none : (low : ℕ) (pieces : Pieces Handle) → all_drawn key itself low [] pieces ≡ 0
+  pub drawn-none : (low : ℕ) (pieces : Pieces Handle) → all_drawn key itself low [] pieces ≡ 0
   drawn-none low (last rows) = refl
   drawn-none low (below rows bound pieces) = omega (arith, drawn-none bound.0 pieces)
 
 -- keys that agree on the doomed rows leave the same
 module _ (key key' : Handle → ℕ) where
-  abbrev Same : Handle → Type 0
+  abbrev pub Same : Handle → Type 0
   Same h = key h ≡ key' h
 
   drained-agree : (low : ℕ) (own own' : Handle → Bool) (ds : List Handle) (rows : List Handle) → All Same ds → ((h : Handle) → Same h → own h ≡ own' h) → (drained key itself low own ds rows ≡ drained key' itself low own' ds rows) × (drawn key itself low own ds rows ≡ drawn key' itself low own' ds rows)
@@ -62,7 +62,7 @@ module _ (key key' : Handle → ℕ) where
       let rest = drained-agree low own own' ds left (All-tail Same d ds same) owns in
       (ap (drained key itself low own ds) once ∙ rest.0, rw (count, once) (ap (λ n. drawn_once key' itself low own' d rows + n) rest.1))
 
-  pulled-agree : (low : ℕ) (ds : List Handle) (pieces : Pieces Handle) → All Same ds → (pulled key itself low ds pieces ≡ pulled key' itself low ds pieces) × (all_drawn key itself low ds pieces ≡ all_drawn key' itself low ds pieces)
+  pub pulled-agree : (low : ℕ) (ds : List Handle) (pieces : Pieces Handle) → All Same ds → (pulled key itself low ds pieces ≡ pulled key' itself low ds pieces) × (all_drawn key itself low ds pieces ≡ all_drawn key' itself low ds pieces)
   pulled-agree low ds (last rows) same =
       let here = drained-agree low (any_doomed key itself) (any_doomed key' itself) ds rows same (λ h one. refl) in
       (ap last here.0, here.1)

@@ -37,13 +37,13 @@ module _ {X : Type 0} where
       rw (size, take_at rows (column_of pieces) (length rows) refl, drop_at rows (column_of pieces) (length rows) refl, cut-joined (place + length rows) pieces) refl
 
   -- the mark divides the rows from a place on
-  record DividesFrom (key : X → ℕ) (place : ℕ) (rows : List X) (m : Mark) : Type 0 where
-    from : place ≤ m.position
-    to : m.position ≤ place + length rows
-    before : (k : ℕ) (d : X) → k < length rows → place + k < m.position → key (get_or rows k d) < m.bound.0
-    behind : (k : ℕ) (d : X) → k < length rows → m.position ≤ place + k → m.bound.0 ≤ key (get_or rows k d)
+  pub record DividesFrom (key : X → ℕ) (place : ℕ) (rows : List X) (m : Mark) : Type 0 where
+    pub from : place ≤ m.position
+    pub to : m.position ≤ place + length rows
+    pub before : (k : ℕ) (d : X) → k < length rows → place + k < m.position → key (get_or rows k d) < m.bound.0
+    pub behind : (k : ℕ) (d : X) → k < length rows → m.position ≤ place + k → m.bound.0 ≤ key (get_or rows k d)
 
-  AreDivided-cut : (key : X → ℕ) (low place : ℕ) (marks : List Mark) (rows : List X) → Rising marks → All (λ m. low ≤ m.bound.0) marks → All (λ x. low ≤ key x) rows → All (DividesFrom key place rows) marks → AreDivided key low (cut place marks rows)
+  pub AreDivided-cut : (key : X → ℕ) (low place : ℕ) (marks : List Mark) (rows : List X) → Rising marks → All (λ m. low ≤ m.bound.0) marks → All (λ x. low ≤ key x) rows → All (DividesFrom key place rows) marks → AreDivided key low (cut place marks rows)
   AreDivided-cut key low place [] rows rising bounds above divides = above
   AreDivided-cut key low place (m ∷ ms) rows rising bounds above divides =
       let n : ℕ = m.position - place in

@@ -127,7 +127,7 @@ lowered-over : (high place : ℕ) (ms : List Mark) → All (λ m. high < m.bound
 lowered-over high place [] over = refl
 lowered-over high place (m ∷ ms) over = rw (lt-leb m.bound.0 high (All-head (λ n. high < n.bound.0) m ms over), lowered-over high place ms (All-tail (λ n. high < n.bound.0) m ms over)) refl
 
-lowered_at-before : (place : ℕ) (ms : List Mark) → All (λ m. m.position < place) ms → map (lowered_at place) ms ≡ ms
+pub lowered_at-before : (place : ℕ) (ms : List Mark) → All (λ m. m.position < place) ms → map (lowered_at place) ms ≡ ms
 lowered_at-before place [] before = refl
 lowered_at-before place (m ∷ ms) before =
     let first = All-head (λ n. n.position < place) m ms before in

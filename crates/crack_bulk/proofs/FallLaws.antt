@@ -1,8 +1,8 @@
 -- How far bounds fall by the pulls of a range, and that each doomed row can be buried in its turn.
-use Rattle.std.proofs.Common.{◌≡◌, ℕ, suc, ◌+◌, ◌-◌, ◌<◌, ◌≤◌, cond, nat_lt, true, false, List, [], ◌∷◌, ◌++◌, map, length, get_or, set, None, refl, sym, ap, ◌∙◌, inl, inr, arith}
+use Rattle.std.proofs.Common.{◌≡◌, ℕ, ◌+◌, ◌-◌, ◌<◌, ◌≤◌, cond, nat_lt, true, false, List, [], ◌∷◌, ◌++◌, map, length, get_or, set, None, refl, sym, ap, ◌∙◌, inl, inr, arith}
 use Rattle.std.specs.List.{All, remove}
 use Rattle.std.proofs.lemmas.Bool.{cases_lt, lt-ltb, le-ltb}
-use Rattle.std.proofs.lemmas.List.{append_assoc, length-append, length-map, length-set, length-take-le, get_or-map, get_or_at, get_or_default}
+use Rattle.std.proofs.lemmas.List.{append_assoc, length-append, length-map, length-set, length-take-le, get_or-map, get_or_at}
 use Rattle.std.proofs.lemmas.List.Elements.{All-head, All-tail, All-filter}
 use Rattle.crack_row.specs.Ranges.{Range, is_in}
 use Rattle.crack_row.specs.declared.Row.{Row}
@@ -12,14 +12,14 @@ use Rattle.crack_arena.proofs.Times.{times_map_at}
 use Rattle.crack_index.specs.declared.mark.Mark.{Mark}
 use Rattle.crack_pending.proofs.Searches.{is_in-true, is_in-false}
 use Rattle.crack_state.specs.State.{State, Carried, IsIntact, Reads, freed_of}
-use Rattle.crack_state.specs.Steps.{lifted_last, pulled_back, exchanged}
+use Rattle.crack_state.specs.Steps.{lifted_last, pulled_back}
 use Rattle.crack_state.proofs.BuryLaws.{freed-doomed}
 use Rattle.crack_state.proofs.DrawLaws.{column_some}
-use Rattle.crack_bulk.specs.Pieces.{column_of, marks_of}
+use Rattle.crack_bulk.specs.Pieces.{column_of}
 use Rattle.crack_bulk.specs.Carried.{pieces_of, inside_of}
 use Rattle.crack_bulk.specs.Pulled.{pulled_from, pulled_in_bulk}
-use Rattle.crack_bulk.proofs.AllLaws.{All-right, inside_or, keys_same, NoneFrom}
-use Rattle.crack_bulk.proofs.AllPulledLaws.{pulled_from-first, pulled_from-none, Step, step}
+use Rattle.crack_bulk.proofs.AllLaws.{All-right, inside_or, keys_same}
+use Rattle.crack_bulk.proofs.AllPulledLaws.{pulled_from-first, pulled_from-none, step}
 use Rattle.crack_bulk.proofs.CutLaws.{IsCut-intact}
 use Rattle.crack_bulk.proofs.Draws.{Draws, reaches, exchanges, draws, fallen}
 use Rattle.crack_bulk.proofs.PullLaws.{IsOnlyAt-doomed, Draws-at}
@@ -48,17 +48,17 @@ pub record AreCounted (hs : List Handle) (s t : State) : Type 0 where
   pub long : length t.column + length hs ≡ length s.column
   pub buried : AreBuried hs s.cells s.pending_out
 
-count-agree : (key key' : Handle → ℕ) (bound : ℕ) (hs : List Handle) → All (λ h. key h ≡ key' h) hs → count_under key bound hs ≡ count_under key' bound hs
+pub count-agree : (key key' : Handle → ℕ) (bound : ℕ) (hs : List Handle) → All (λ h. key h ≡ key' h) hs → count_under key bound hs ≡ count_under key' bound hs
 count-agree key key' bound [] same = refl
 count-agree key key' bound (h ∷ hs) same = rw (All-head (λ g. key g ≡ key' g) h hs same, count-agree key key' bound hs (All-tail (λ g. key g ≡ key' g) h hs same)) refl
 
-none-fall : (key : Handle → ℕ) (ms : List Mark) → map (fallen_by key []) ms ≡ ms
+pub none-fall : (key : Handle → ℕ) (ms : List Mark) → map (fallen_by key []) ms ≡ ms
 none-fall key [] = refl
 none-fall key (m ∷ ms) =
     let same : m.position - 0 ≡ m.position = omega arith in
     rw (same, none-fall key ms) refl
 
-both-fall : (key key' : Handle → ℕ) (h : Handle) (hs : List Handle) (ms : List Mark) → All (λ g. key' g ≡ key g) hs → map (fallen_by key' hs) (map (fallen (key h)) ms) ≡ map (fallen_by key (h ∷ hs)) ms
+pub both-fall : (key key' : Handle → ℕ) (h : Handle) (hs : List Handle) (ms : List Mark) → All (λ g. key' g ≡ key g) hs → map (fallen_by key' hs) (map (fallen (key h)) ms) ≡ map (fallen_by key (h ∷ hs)) ms
 both-fall key key' h hs [] same = refl
 both-fall key key' h hs (m ∷ ms) same =
     let count = count-agree key' key m.bound.0 hs same in
@@ -68,7 +68,7 @@ both-fall key key' h hs (m ∷ ms) same =
     ] in
     rw (here, both-fall key key' h hs ms same) refl
 
-length-Draws : (d : Handle) (c : Carried) (t : State) → Draws d c t → length t.column ≡ length c.store.column
+pub length-Draws : (d : Handle) (c : Carried) (t : State) → Draws d c t → length t.column ≡ length c.store.column
 length-Draws d c t (reaches e is) = refl
 length-Draws d c t (exchanges e j other at from to) = length-set e.store.column j e.hand
 length-Draws d c t (draws e j u other at before rest) = length-Draws d (pulled_back e) u rest ∙ length-set e.store.column _ e.hand
@@ -92,7 +92,7 @@ module _ (place : ℕ) (s : State) (within : place < length s.pending_out) (inta
       marks_of-pulled key d 0 0 i (pieces_of s) (omega arith) inside same cuts.divided ∙ ap (map (fallen (key d))) (sym cuts.marks)
 
   -- bounds above it are after it
-  some-below : All (λ m. key d < m.bound.0 → 1 ≤ m.position) s.marks
+  pub some-below : All (λ m. key d < m.bound.0 → 1 ≤ m.position) s.marks
   some-below = λ k e h under.
       let one = intact.obeyed k e h in
       let i : ℕ = place_in s.column d.slot in

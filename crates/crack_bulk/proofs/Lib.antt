@@ -19,6 +19,9 @@ pub mod DrawLaws
 pub mod EndLaws
 pub mod Draws
 pub mod FallLaws
+pub mod FillLaws
+pub mod FilledLaws
+pub mod LastMarkLaws
 pub mod LeadLaws
 pub mod ManyLaws
 pub mod SweepLaws

@@ -82,7 +82,7 @@ IsOnlyAt-doomed place s within intact =
 
 -- The marks of an intact store, from the highest down
 
-upward-reverse : (ms : List Mark) → upward (reverse ms) ≡ ms
+pub upward-reverse : (ms : List Mark) → upward (reverse ms) ≡ ms
 upward-reverse ms = same (reverse ms) ∙ reverse-reverse ms
   where
     same : (ns : List Mark) → upward ns ≡ reverse ns

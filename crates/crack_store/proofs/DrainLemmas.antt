@@ -37,14 +37,14 @@ up-to a b hs order =
     ap (λ n. take n hs) both ∙ take-add a (b - a) hs
 
 module _ (cells : List (Cell Row)) (hs : List Handle) where
-  abbrev key : Handle → ℕ
+  abbrev pub key : Handle → ℕ
   key = key_at cells
 
-  abbrev ds : List Doomed
+  abbrev pub ds : List Doomed
   ds = map (doomed_of cells) hs
 
   -- doomed rows leave what their handles do
-  map-drained : (low : ℕ) (high : Option InnerBound) (own : Handle → Bool) → ((h : Handle) → is_under high (key h) ≡ own h) → (gs rows : List Handle) → (left_by low high (map (doomed_of cells) gs) rows ≡ drained key itself low own gs rows) × (drawn doomed_key doomed_handle low (λ d. is_under high d.key) (map (doomed_of cells) gs) rows ≡ drawn key itself low own gs rows)
+  pub map-drained : (low : ℕ) (high : Option InnerBound) (own : Handle → Bool) → ((h : Handle) → is_under high (key h) ≡ own h) → (gs rows : List Handle) → (left_by low high (map (doomed_of cells) gs) rows ≡ drained key itself low own gs rows) × (drawn doomed_key doomed_handle low (λ d. is_under high d.key) (map (doomed_of cells) gs) rows ≡ drawn key itself low own gs rows)
   map-drained low high own owns [] rows = (refl, refl)
   map-drained low high own owns (g ∷ gs) rows =
       let d = doomed_of cells g in
@@ -54,34 +54,48 @@ module _ (cells : List (Cell Row)) (hs : List Handle) where
       (ap (left_by low high (map (doomed_of cells) gs)) once ∙ rest.0, rw (once, count) (ap (λ n. drawn_once key itself low own g rows + n) rest.1))
 
   -- a bound falls by as many as are below it
-  abbrev fall : Mark → Mark
+  abbrev pub fall : Mark → Mark
   fall m = record m { position = m.position - count_below m.bound.0 ds }
 
   -- what is before the gap, and what from the next piece on
-  record At (v : Drain) (front rows : List Handle) : Type 0 where
-    ready : IsReady v
-    doomed_are : v.doomed.items ≡ ds
-    counted : count_below v.low ds ≡ v.gap
-    front_is : take (v.from - v.gap) v.column.handles ≡ front
-    rows_is : drop v.from v.column.handles ≡ rows
-    small : v.pulled ≤ greatest
+  pub record At (v : Drain) (front rows : List Handle) : Type 0 where
+    pub ready : IsReady v
+    pub doomed_are : v.doomed.items ≡ ds
+    pub counted : count_below v.low ds ≡ v.gap
+    pub front_is : take (v.from - v.gap) v.column.handles ≡ front
+    pub rows_is : drop v.from v.column.handles ≡ rows
+    pub small : v.pulled ≤ greatest
 
-  abbrev left_of : Drain → List Mark → List Handle → Pieces Handle
+  abbrev pub left_of : Drain → List Mark → List Handle → Pieces Handle
   left_of v ms rows = pulled key itself v.low hs (cut v.from ms rows)
 
+  -- the bound of the last mark, and its place; before any, those from which the walk came
+  abbrev pub last_low : ℕ → List Mark → ℕ
+  last_low low [] = low
+  last_low low (m ∷ ms) = last_low m.bound.0 ms
+
+  abbrev pub last_from : ℕ → List Mark → ℕ
+  last_from from [] = from
+  last_from from (m ∷ ms) = last_from m.position ms
+
   -- at the walk's end
-  record IsThrough (v w : Drain) (front rows : List Handle) (ms ms' : List Mark) : Type 0 where
-    marks_are : ms' ≡ map fall ms
-    front' : List Handle
-    rows' : List Handle
-    at : At w front' rows'
-    whole : front ++ column_of (left_of v ms rows) ≡ front' ++ drained key itself w.low (any_doomed key itself) hs rows'
-    made : ℕ
-    pulled_is : w.pulled ≡ min (v.pulled + made) greatest
-    total : made + drawn key itself w.low (any_doomed key itself) hs rows' ≡ all_drawn key itself v.low hs (cut v.from ms rows)
-    long : length w.column.handles ≡ length v.column.handles
-    room : w.column.room ≡ v.column.room
-    remembered : StillRemembers v.column w.column
+  pub record IsThrough (v w : Drain) (front rows : List Handle) (ms ms' : List Mark) (end : ℕ) : Type 0 where
+    pub marks_are : ms' ≡ map fall ms
+    pub front' : List Handle
+    pub rows' : List Handle
+    pub at : At w front' rows'
+    pub whole : front ++ column_of (left_of v ms rows) ≡ front' ++ drained key itself w.low (any_doomed key itself) hs rows'
+    pub made : ℕ
+    pub pulled_is : w.pulled ≡ min (v.pulled + made) greatest
+    pub total : made + drawn key itself w.low (any_doomed key itself) hs rows' ≡ all_drawn key itself v.low hs (cut v.from ms rows)
+    pub long : length w.column.handles ≡ length v.column.handles
+    pub room : w.column.room ≡ v.column.room
+    pub remembered : StillRemembers v.column w.column
+    pub low_is : w.low ≡ last_low v.low ms
+    pub from_is : w.from ≡ last_from v.from ms
+    pub on : v.from ≤ w.from
+    pub behind : drop w.from w.column.handles ≡ drop w.from v.column.handles
+    pub stop : end ≤ w.from - w.gap
 
   -- one bound is passed
   record IsOn (v y : Drain) (m : Mark) (ns : List Mark) (front rows : List Handle) (end made : ℕ) : Type 0 where
@@ -126,7 +140,7 @@ module _ (cells : List (Cell Row)) (hs : List Handle) where
         drew = drawn_is;
       }
 
-  through : (ms : List Mark) (least end : ℕ) (ms' : List Mark) (v w : Drain) (front rows : List Handle) → At v front rows → least ≤ v.from - v.gap → All (λ m. (v.from ≤ m.position) × (m.position ≤ length v.column.handles)) ms → Rising ms → All (λ m. count_below m.bound.0 ds ≤ m.position) ms → marks_of (v.from - v.gap) (left_of v ms rows) ≡ map fall ms → Places Empties least ms v ms' w end → IsThrough v w front rows ms ms'
+  pub through : (ms : List Mark) (least end : ℕ) (ms' : List Mark) (v w : Drain) (front rows : List Handle) → At v front rows → least ≤ v.from - v.gap → All (λ m. (v.from ≤ m.position) × (m.position ≤ length v.column.handles)) ms → Rising ms → All (λ m. count_below m.bound.0 ds ≤ m.position) ms → marks_of (v.from - v.gap) (left_of v ms rows) ≡ map fall ms → Places Empties least ms v ms' w end → IsThrough v w front rows ms ms' end
   through ms least end ms' v w front rows at low inside rising few marks (Places.done n x) =
       let none : min (x.pulled + 0) greatest ≡ x.pulled = min-eq_left (omega (arith, at.small)) ∙ omega arith in
       record {
@@ -141,6 +155,11 @@ module _ (cells : List (Cell Row)) (hs : List Handle) where
         long = refl;
         room = refl;
         remembered = λ c known. known;
+        low_is = refl;
+        from_is = refl;
+        on = omega arith;
+        behind = refl;
+        stop = low;
       }
   through ms least end ms' v w front rows at low inside rising few marks (Places.goes_on n place l m ns ns' x y z told rest) =
       let b = All-head (λ k. (x.from ≤ k.position) × (k.position ≤ length x.column.handles)) m ns inside in
@@ -172,7 +191,18 @@ module _ (cells : List (Cell Row)) (hs : List Handle) where
         long = all.long ∙ p.long;
         room = all.room ∙ p.room;
         remembered = λ c known. all.remembered c (p.remembered c known);
+        low_is = all.low_is ∙ ap (λ n. last_low n ns) p.low_is;
+        from_is = all.from_is ∙ ap (λ n. last_from n ns) p.from_is;
+        on = omega (arith, b.0, p.from_is, all.on);
+        behind = all.behind ∙ later y.column.handles x.column.handles m.position z.from (omega (arith, p.from_is, all.on)) (p.drains (ap (count_below x.low) at.doomed_are ∙ at.counted)).behind;
+        stop = all.stop;
       }
+    where
+      -- lists that are the same from a place on are so from a later one on
+      later : (xs ys : List Handle) (n k : ℕ) → n ≤ k → drop n xs ≡ drop n ys → drop k xs ≡ drop k ys
+      later xs ys n k order same =
+          let both : n + (k - n) ≡ k = omega (arith, order) in
+          rw both at (sym (drop-drop (k - n) n xs) ∙ ap (drop (k - n)) same ∙ drop-drop (k - n) n ys)
 
 -- The whole
 

@@ -9,6 +9,7 @@ mod PointLemmas
 mod WayLemmas
 mod TakeLemmas
 mod DrainLemmas
+mod FillLemmas
 mod SiftLemmas
 mod SweepLemmas
 mod SweepWalks

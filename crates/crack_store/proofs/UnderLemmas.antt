@@ -2,7 +2,7 @@
 use Rattle.std.proofs.Common.{◌≡◌, ℕ, suc, ◌+◌, ◌-◌, ◌<◌, ◌≤◌, false, min, List, [], ◌∷◌, ◌++◌, map, length, take, drop, reverse, get_or, Some, refl, sym, ap, ◌∙◌, inl, inr, arith}
 use Rattle.std.specs.Prelude.{All, Contains}
 use Rattle.std.proofs.lemmas.Bool.{lt-leb}
-use Rattle.std.proofs.lemmas.List.{drop-drop, length-append, length-map, length-take-le, length-drop, length-reverse, reverse-reverse, get_or-drop, get_or-map, get_or-reverse, take-append-drop}
+use Rattle.std.proofs.lemmas.List.{drop-drop, length-append, length-map, length-take-le, length-reverse, reverse-reverse, get_or-reverse, take-append-drop}
 use Rattle.std.proofs.lemmas.List.Elements.{All-nil, All-cons, All-drop}
 use Rattle.crack_row.specs.Ranges.{Range}
 use Rattle.crack_arena.specs.Arena.{Handle, times, slots, read}

@@ -55,7 +55,7 @@ impl Store {
 }
 
 /// The rows of a list whose keys are in the range, in their order; none if it finds no memory for them.
-fn doomed_in(
+pub(crate) fn doomed_in(
     rows: &PendingOut,
     range: KeyRange,
     arena: &Arena<Row>,
@@ -80,7 +80,7 @@ fn doomed_in(
 }
 
 /// Whether a walk over all bounds is worth it for these rows. O(rows · log bounds).
-fn is_worth_bulk(inside: &Inside, doomed: &[Doomed]) -> bool {
+pub(crate) fn is_worth_bulk(inside: &Inside, doomed: &[Doomed]) -> bool {
     if doomed.len() < FEWEST && FEW_BOUNDS < inside.index.len() {
         return false;
     }
@@ -168,13 +168,13 @@ pub(crate) fn bury_all(inside: &mut Inside, doomed: &[Doomed])
 /// places before it.
 #[derive(Drop)]
 pub(crate) struct Drain {
-    column: CrackerColumn,
-    doomed: Vec<Doomed>,
-    low: KeyNumber,
-    from: usize,
-    gap: usize,
+    pub(crate) column: CrackerColumn,
+    pub(crate) doomed: Vec<Doomed>,
+    pub(crate) low: KeyNumber,
+    pub(crate) from: usize,
+    pub(crate) gap: usize,
     /// How many rows were pulled, as the store counts them.
-    pulled: u64,
+    pub(crate) pulled: u64,
 }
 
 impl Placer for Drain {

@@ -11,6 +11,7 @@ pub mod carrying;
 mod cracking;
 pub mod draining;
 pub mod evicting;
+pub mod filling;
 mod inside;
 pub mod live;
 mod notes;

@@ -1,0 +1,69 @@
+-- What private clauses alone cite.
+-- What a walk over the bounds up to one does on which doomed rows are pulled, and what fillers leave that take the places before it.
+use Rattle.std.specs.Prelude.{◌≡◌, ℕ, ◌+◌, ◌-◌, ◌<◌, ◌≤◌, Contains, map, List, [], ◌∷◌, ◌++◌, length, take, drop, reverse}
+use Rattle.std.specs.List.{All}
+use Rattle.crack_row.specs.Ranges.{Range}
+use Rattle.crack_row.specs.declared.Row.{Row}
+use Rattle.crack_arena.specs.Arena.{Cell}
+use Rattle.crack_arena.specs.Rows.{key_at, RemembersKeys}
+use Rattle.crack_bulk.specs.Pieces.{column_of, marks_of}
+use Rattle.crack_bulk.specs.Carried.{inside_of}
+use Rattle.crack_bulk.specs.Pulled.{pulled, itself}
+use Rattle.crack_bulk.specs.Filled.{lacking, pieces_under, filled_from}
+use Rattle.crack_column.specs.declared.draining.Doomed.{Doomed}
+use Rattle.crack_column.specs.Column.{Column, Remembers}
+use Rattle.crack_column.specs.Drains.{count_below, doomed_handle}
+use Rattle.crack_index.specs.declared.mark.Mark.{Mark}
+use Rattle.crack_pending.specs.Pending.{Pending}
+use Rattle.crack_state.specs.State.{State, IsIntact}
+use Rattle.crack_store.specs.declared.filling.DrainBelow.{DrainBelow}
+use Rattle.crack_store.specs.Drainings.{doomed_of, Empties, AreBuried}
+
+-- the keys of a range begin at the bound of a mark, and no other bound is among them
+pub record IsNextTo (fillers : Range) (marks : List Mark) (m : Mark) : Type 0 where
+  pub there : Contains marks m
+  pub same : m.bound.0 ≡ fillers.low
+  pub beyond : All (λ n. fillers.low < n.bound.0 → fillers.high ≤ n.bound.0) marks
+
+-- rows are pulled out of the piece below a bound, unless it is above the last one
+pub record EmptiesBelow (v : DrainBelow) (m : Mark) (end : ℕ) (w : DrainBelow) : Type 0 where
+  pub under : m.bound.0 ≤ v.edge → Empties v.drain m end w.drain
+  pub over : v.edge < m.bound.0 → (end ≡ m.position) × (w ≡ v)
+  pub edge_is : w.edge ≡ v.edge
+
+-- the first rows of a range, this many, were taken out of a list and put into the column before a place, the last one first
+pub record IsStocked (cells : List (Cell Row)) (fillers : Range) (place count : ℕ) (c : Column) (p : Pending) (c' : Column) (p' : Pending) : Type 0 where
+  pub handles_are : c'.handles ≡ take (place - count) c.handles ++ (reverse (take count (inside_of cells fillers p.handles)) ++ drop place c.handles)
+  pub pending_are : p'.handles ≡ lacking cells fillers count p.handles
+  pub remembers : Remembers cells c'.handles c'.remembered
+  pub keys : RemembersKeys cells p'.handles p'.keys
+  pub column_room : c'.room ≡ c.room
+  pub in_room : p.room ≤ p'.room
+  pub covered : p'.covered ≡ p.covered
+
+-- what the pulls of doomed rows leave, each by a filler, the first ones, that comes in before a mark
+abbrev pub filled_at : List Doomed → Range → List Mark → Mark → List Mark → State → State
+filled_at ds fillers low edge high s =
+    filled_from low edge high (map doomed_handle ds) (take (length ds) (inside_of s.cells fillers s.pending_in)) (lacking s.cells fillers (length ds) s.pending_in) s
+
+-- these doomed rows can be pulled, one after the other, each by a filler that comes in before a mark: their keys are right, there are fillers for all of
+-- them, and what is left then is intact, where each bound below has fallen by as many as were below it
+pub record CanBeFilled (ds : List Doomed) (fillers : Range) (edge : Mark) (s : State) : Type 0 where
+  pub low : List Mark
+  pub high : List Mark
+  pub marks_are : s.marks ≡ low ++ edge ∷ high
+  pub are : ds ≡ map (doomed_of s.cells) (map doomed_handle ds)
+  pub under : All (λ h. key_at s.cells h < edge.bound.0) (map doomed_handle ds)
+  pub enough : length ds ≤ length (inside_of s.cells fillers s.pending_in)
+  pub intact : IsIntact (filled_at ds fillers low edge high s) []
+  pub marks : marks_of 0 (pulled (key_at s.cells) itself 0 (map doomed_handle ds) (pieces_under s low edge)) ≡ map (λ (m : Mark). record m { position = m.position - count_below m.bound.0 ds }) low
+  pub few : All (λ m. count_below m.bound.0 ds ≤ m.position) low
+  pub long : length (column_of (pulled (key_at s.cells) itself 0 (map doomed_handle ds) (pieces_under s low edge))) + length ds ≡ edge.position
+  pub buried : AreBuried (map doomed_handle ds) s.cells s.pending_out
+
+-- they were pulled so
+pub record FillsAs (ds : List Doomed) (fillers : Range) (edge : Mark) (s t : State) : Type 0 where
+  pub low : List Mark
+  pub high : List Mark
+  pub marks_are : s.marks ≡ low ++ edge ∷ high
+  pub after : t ≡ filled_at ds fillers low edge high s
