@@ -1,10 +1,10 @@
 -- What private clauses alone cite.
-use Rattle.std.specs.Prelude.{◌≡◌, ⊤, ℕ, ℤ, ◌+◌, ◌+ℤ◌, ◌<◌, ◌==◌, nat_lt, cond, List, [], ◌∷◌, Option, Some, None}
+use Rattle.std.specs.Prelude.{◌≡◌, ⊤, ℕ, ℤ, ◌+◌, ◌+ℤ◌, ◌<◌, ◌^◌, ◌==◌, nat_lt, cond, List, [], ◌∷◌, Option, Some, None}
 use Rattle.crack_row.specs.Ranges.{Range, IsIn, is_in}
 use Rattle.crack_row.specs.declared.TheConstants.{GREATEST_BOUND}
 use Rattle.crack_sums.specs.declared.sums.Walked.{Walked}
 use Rattle.crack_sums.specs.declared.sums.Walked.TheVariants.{Whole, Unknown, TooFar}
-use Rattle.crack_sums.specs.Sums.{start_of, IsKnown, AreKnown, total_in}
+use Rattle.crack_sums.specs.Sums.{start_of, IsKnown, AreKnown, total_in, distance_in}
 
 -- the keys where pieces begin rise, and are keys
 abbrev pub Rises : List (ℕ × ℤ) → Type 0
@@ -43,4 +43,4 @@ span first last = record { low = first; high = last + 1 }
 abbrev pub Walks : Range → List (ℕ × ℤ) → Walked → Type 0
 Walks range es (Whole total) = (total ≡ total_in range es) × AreKnown range es × Rises es
 Walks range es (Unknown start) = IsIn range start × (AreKnown range es → ⊥)
-Walks range es TooFar = ⊤
+Walks range es TooFar = distance_in range es < 2 ^ 127 → ⊥

@@ -1,5 +1,5 @@
 -- The sums of pieces. A piece is an entry: the key from which on it reaches, up to the next entry's, and its sum.
-use Rattle.std.specs.Prelude.{◌≡◌, ⊤, ◌⊎◌, ℕ, ℤ, pos, ◌+ℤ◌, ◌^◌, ◌<◌, ◌≤◌, ◌&&◌, ◌||◌, not, int_le, int_lt, Bool, cond, List, [], ◌∷◌}
+use Rattle.std.specs.Prelude.{◌≡◌, ⊤, ◌⊎◌, ℕ, ℤ, pos, ◌+◌, ◌+ℤ◌, unsigned_abs, ◌^◌, ◌<◌, ◌≤◌, ◌&&◌, ◌||◌, not, int_le, int_lt, Bool, cond, List, [], ◌∷◌}
 use Rattle.std.specs.Ordering.{int_eq}
 use Rattle.crack_row.specs.Ranges.{Range, is_in}
 use Rattle.crack_row.specs.declared.TheConstants.{GREATEST_BOUND}
@@ -59,6 +59,11 @@ AreKnown range (e ∷ es) = (range.low ≤ e.0 → e.0 < range.high → IsKnown 
 abbrev pub total_in : Range → List (ℕ × ℤ) → ℤ
 total_in range [] = pos 0
 total_in range (e ∷ es) = cond (is_in range e.0) (e.1 +ℤ total_in range es) (total_in range es)
+
+-- how far from 0 the sums of the pieces that begin in the range are, in total
+abbrev pub distance_in : Range → List (ℕ × ℤ) → ℕ
+distance_in range [] = 0
+distance_in range (e ∷ es) = cond (is_in range e.0) (unsigned_abs e.1 + distance_in range es) (distance_in range es)
 
 -- the second pieces come from the first ones by cuts, and by sums that were said of parts of the range: what was right stays right, and each bound stays
 pub record Extends (says : ℕ → ℕ → ℤ → Type 0) (range : Range) (old new : List (ℕ × ℤ)) : Type 0 where

@@ -1,9 +1,9 @@
 //! The sums of the pieces that bounds divide the keys of a partition into.
-ghost use Rattle.std.specs.Prelude.{◌≡◌, ℕ, ℤ, ◌<◌, ◌≤◌, ◌↔◌, [], length, IsTrue, IfSome, OnSome};
+ghost use Rattle.std.specs.Prelude.{◌≡◌, ℕ, ℤ, ◌<◌, ◌≤◌, ◌^◌, ◌↔◌, [], length, IsTrue, IsSome, IfSome, OnSome};
 ghost use Rattle.std.specs.Map.{keys_of};
 ghost use Rattle.crack_row.specs.declared.TheConstants.{GREATEST_BOUND};
 ghost use Rattle.crack_sums.specs.Sums.{AreRight, AreKnown, AreTold, IsAdditive, IsEnd, Changes, Extends};
-ghost use Rattle.crack_sums.specs.Sums.{adjusted, total_in};
+ghost use Rattle.crack_sums.specs.Sums.{adjusted, total_in, distance_in};
 ghost use Rattle.crack_sums.specs.Cuts.{Rises, Walks, piece_at, next_at, put, given, span};
 
 use crate::{Source, UNKNOWN, amounts};
@@ -100,6 +100,8 @@ impl PieceSums {
         ensures more { Extends (S.says source.now) range self.old self.new }
         ensures same { IsEnd range.low self.old → IsEnd range.high self.old → AreKnown range self.old
             → self.new ≡ self.old }
+        ensures found { IsEnd range.low self.old → IsEnd range.high self.old → AreKnown range self.old
+            → distance_in range self.old < 2 ^ 127 → IsSome result }
     {
         let Some((first, last)) = range.first_and_last() else {
             return None;
@@ -121,6 +123,7 @@ impl PieceSums {
         ensures more { Extends (S.says source.now) (span first last) self.old self.new }
         ensures cut { IsTrue result → IsEnd first self.new }
         ensures same { IsEnd first self.old → self.new ≡ self.old }
+        ensures done { IsEnd first self.old → IsTrue result }
     {
         let Some((start, sum)) = self.piece_at(first) else {
             return self.put(first, UNKNOWN);
@@ -143,6 +146,7 @@ impl PieceSums {
         ensures more { Extends (S.says source.now) (span first last) self.old self.new }
         ensures cut { IsTrue result → IsEnd (span first last).high self.new }
         ensures same { IsEnd (span first last).high self.old → self.new ≡ self.old }
+        ensures done { IsEnd (span first last).high self.old → IsTrue result }
     {
         if last == GREATEST_KEY {
             return true;

@@ -75,3 +75,16 @@ pub returns-clause-same : goal.returns-clause-same
 returns-clause-same g c = λ is.
     let found = sym c.piece_at.ensures.value ∙ c.in-Some.is in
     absurd (c.if-start-high.false (piece-own (c.args.last + 1) c.args.self.now (c.in-Some.start, c.in-Some.sum) c.piece_at.ensures.rises (omega (arith, c.ranges.last.fits, c.if-last-eq-GREATEST_KEY.false)) found is))
+
+pub returns-in_default-clause-done : goal.returns-in_default-clause-done
+returns-in_default-clause-done g c = λ is. absurd (end-has (c.args.last + 1) c.args.self.now c.piece_at.ensures.rises (omega (arith, c.ranges.last.fits, c.if-last-eq-GREATEST_KEY.false)) (sym c.piece_at.ensures.value ∙ c.in_default.is) is)
+
+pub returns-then-sum-clause-done : goal.returns-then-sum-clause-done
+returns-then-sum-clause-done g c = λ is.
+    let found = sym c.piece_at.ensures.value ∙ c.in-Some.is in
+    absurd (c.if-start-high.false (piece-own (c.args.last + 1) c.args.self.now (c.in-Some.start, c.in-Some.sum) c.piece_at.ensures.rises (omega (arith, c.ranges.last.fits, c.if-last-eq-GREATEST_KEY.false)) found is))
+
+pub returns-clause-done : goal.returns-clause-done
+returns-clause-done g c = λ is.
+    let found = sym c.piece_at.ensures.value ∙ c.in-Some.is in
+    absurd (c.if-start-high.false (piece-own (c.args.last + 1) c.args.self.now (c.in-Some.start, c.in-Some.sum) c.piece_at.ensures.rises (omega (arith, c.ranges.last.fits, c.if-last-eq-GREATEST_KEY.false)) found is))
