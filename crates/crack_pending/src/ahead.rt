@@ -13,7 +13,7 @@ use std::alloc::Global;
 const BLOCK: usize = 32;
 
 /// For how many candidates there is room.
-const MOST_AHEAD: usize = 1024;
+pub(crate) const MOST_AHEAD: usize = 1024;
 
 /// The candidates from one spot up to another: the spots whose codes lie between the two searched for. Those of the
 /// list before `next` were passed; a row that goes leaves its spot there.
@@ -231,13 +231,20 @@ fn gather_between(
 
 /// Puts the candidates from a spot on into the list, as many as it has room for, and returns up to where they are
 /// found.
-fn gather(candidates: &mut Vec<usize>, codes: &[u16], first: u16, last: u16, from: usize) -> usize
+pub(crate) fn gather(
+    candidates: &mut Vec<usize>,
+    codes: &[u16],
+    first: u16,
+    last: u16,
+    from: usize,
+) -> usize
     requires order { first ≤ last }
     requires low { last < 65535 }
     requires within { from ≤ length codes.now }
     requires empty { candidates.old.items ≡ [] }
     requires room { 1024 ≤ vec_capacity candidates.old }
-    ensures { AreAhead codes.now first last from result candidates.new.items 0 }
+    ensures ahead { AreAhead codes.now first last from result candidates.new.items 0 }
+    ensures capacity { vec_capacity candidates.new ≡ vec_capacity candidates.old }
 {
     let mut spot = from;
     'far: while BLOCK <= codes.len() - spot && candidates.len() <= MOST_AHEAD - BLOCK {

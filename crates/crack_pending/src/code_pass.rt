@@ -66,6 +66,7 @@ impl Window {
 }
 
 /// Whether one of a block's codes lies between the two. Determined by one comparison for each code, without a branch.
+#[inline(always)]
 pub(crate) fn any_lies(codes: &[u16], low: u16, last: u16) -> bool
     requires block { length codes.now ≡ 32 }
     requires order { low ≤ last }

@@ -212,8 +212,8 @@ impl<Kind> PendingList<Kind> {
     }
 
     /// Takes all rows of a range out, in order of arrival, and puts their handles after the others of a list that
-    /// has room for them. It takes memory only for codes; the room stays. One pass over the codes or keys,
-    /// and O(1) for each row that it takes: no row's place is counted.
+    /// has room for them. It takes memory only for codes and candidates; the room stays. One pass over the codes or
+    /// keys, and O(1) for each row that it takes: no row's place is counted.
     pub fn take_in(&mut self, range: KeyRange, arena: &Arena<Row>, taken: &mut Vec<Handle<Row>>)
         requires keys { RemembersKeys arena.now.cells self.old.handles self.old.keys }
         requires room { vec_len taken.old + length (rows_inside arena.now.cells range self.old.handles) ≤

@@ -2,13 +2,18 @@
 ghost use Rattle.std.specs.Prelude.{◌≡◌, ◌+◌, ◌≤◌, ◌^◌, ◌++◌, ℕ, length, vec_len, vec_capacity};
 ghost use Rattle.crack_arena.specs.Arena.{times};
 ghost use Rattle.crack_arena.specs.Rows.{unknown, RemembersKeys};
-ghost use Rattle.crack_pending.specs.Codes.{AreCoded};
+ghost use Rattle.crack_pending.specs.Ahead.{AreAhead};
+ghost use Rattle.crack_pending.specs.Codes.{AreCoded, IsWindow};
+ghost use Rattle.crack_pending.specs.Inside.{IsMissed};
 ghost use Rattle.crack_pending.specs.Keeps.{place_at, HasRow};
+ghost use Rattle.crack_pending.specs.Passed.{IsPassed};
 ghost use Rattle.crack_pending.specs.Pending.{rows_inside, rows_outside};
 ghost use Rattle.crack_pending.specs.Spots.{kept};
 
+use crate::ahead::{MOST_AHEAD, gather};
+use crate::code_pass::{Window, is_hit};
 use crate::codes::Codes;
-use crate::pass::next_hit;
+use crate::pass::{Wanted, next_hit};
 use crate::spots::{StoredKey, unknowns_without};
 use crack_arena::{Arena, Handle};
 use crack_row::{KeyRange, Row};
@@ -57,8 +62,13 @@ pub(crate) fn take_hits(
     ensures counted { place_at stands.new.items (length stands.new.items) + result.taken ≡
         place_at stands.old.items (length stands.old.items) }
 {
-    let mut left = Left { taken: 0, unknowns };
-    let mut start = 0;
+    let (mut start, count) = take_coded(
+        handles, keys, stands, codes, unknowns, range, arena, taken,
+    );
+    let mut left = Left {
+        taken: count,
+        unknowns,
+    };
     'hits: while let Some(spot) = next_hit(
         handles,
         keys,
@@ -77,4 +87,153 @@ pub(crate) fn take_hits(
         start = spot + 1;
     }
     left
+}
+
+/// Takes the rows of a range at the spots that have a code, as `take_hits` does, if all keys are known; up to which
+/// spot it did so, and how many it took. It finds the candidates of many rows before it takes the first of them, so
+/// that no row waits for the memory of another. If it finds no memory for the candidates it takes none.
+fn take_coded(
+    handles: &[Handle<Row>],
+    keys: &[StoredKey],
+    stands: &mut Vec<bool>,
+    codes: &mut Codes,
+    unknowns: usize,
+    range: KeyRange,
+    arena: &Arena<Row>,
+    taken: &mut Vec<Handle<Row>>,
+) -> (usize, usize)
+    requires keys { length keys.now ≡ length handles.now }
+    requires stands { vec_len stands.old ≡ length handles.now }
+    requires few { length handles.now ≤ 2 ^ 32 }
+    requires coded { AreCoded keys.now stands.old.items codes.old }
+    requires known { RemembersKeys arena.now.cells (kept stands.old.items handles.now)
+        (kept stands.old.items keys.now) }
+    requires unknowns { unknowns ≡ times unknown (kept stands.old.items keys.now) }
+    requires room { vec_len taken.old + length (rows_inside arena.now.cells range (kept stands.old.items handles.now))
+        ≤ vec_capacity taken.old }
+    ensures passed { IsPassed arena.now.cells range handles.now keys.now stands.old.items stands.new.items codes.new
+        taken.old.items taken.new.items result.0 result.1 unknowns }
+    ensures capacity { vec_capacity stands.new ≡ vec_capacity stands.old }
+    ensures room { vec_capacity taken.new ≡ vec_capacity taken.old }
+{
+    let Some((first, last)) = range.first_and_last() else {
+        return (0, 0);
+    };
+    if unknowns > 0 || codes.len() == 0 {
+        return (0, 0);
+    }
+    let wanted = Wanted {
+        low: first.number(),
+        last: last.number(),
+        some_unknown: false,
+    };
+    let window = Window::of(wanted, codes, range);
+    let Ok(mut candidates) = Vec::with_capacity(*taken.allocator(), MOST_AHEAD) else {
+        return (0, 0);
+    };
+    take_blocks(
+        handles,
+        keys,
+        stands,
+        codes,
+        &mut candidates,
+        range,
+        window,
+        arena,
+        taken,
+    )
+}
+
+/// Takes the rows of a range at the spots that have a code, a batch of candidates at a time, for which a list has room;
+/// up to which spot it did so, and how many it took.
+fn take_blocks(
+    handles: &[Handle<Row>],
+    keys: &[StoredKey],
+    stands: &mut Vec<bool>,
+    codes: &mut Codes,
+    candidates: &mut Vec<usize>,
+    range: KeyRange,
+    window: Window,
+    arena: &Arena<Row>,
+    taken: &mut Vec<Handle<Row>>,
+) -> (usize, usize)
+    requires keys { length keys.now ≡ length handles.now }
+    requires stands { vec_len stands.old ≡ length handles.now }
+    requires few { length handles.now ≤ 2 ^ 32 }
+    requires coded { AreCoded keys.now stands.old.items codes.old }
+    requires known { RemembersKeys arena.now.cells (kept stands.old.items handles.now)
+        (kept stands.old.items keys.now) }
+    requires all_known { times unknown (kept stands.old.items keys.now) ≡ 0 }
+    requires list { 1024 ≤ vec_capacity candidates.old }
+    requires window { IsWindow codes.old.base codes.old.shift range window.first window.last window.beyond }
+    requires room { vec_len taken.old + length (rows_inside arena.now.cells range (kept stands.old.items handles.now))
+        ≤ vec_capacity taken.old }
+    ensures passed { IsPassed arena.now.cells range handles.now keys.now stands.old.items stands.new.items codes.new
+        taken.old.items taken.new.items result.0 result.1 0 }
+    ensures capacity { vec_capacity stands.new ≡ vec_capacity stands.old }
+    ensures room { vec_capacity taken.new ≡ vec_capacity taken.old }
+{
+    let mut spot = 0;
+    let mut count = 0;
+    'batches: while spot < codes.len() {
+        candidates.clear();
+        let to = gather(candidates, codes.list(), window.first, window.last, spot);
+        count += take_candidates(
+            handles, keys, stands, codes, candidates, spot, to, range, window, arena, taken,
+        );
+        if to == spot {
+            return (spot, count);
+        }
+        spot = to;
+    }
+    (spot, count)
+}
+
+/// Takes those of the candidates that are in a range, which are all of its rows from one spot up to another; how many.
+fn take_candidates(
+    handles: &[Handle<Row>],
+    keys: &[StoredKey],
+    stands: &mut Vec<bool>,
+    codes: &mut Codes,
+    candidates: &[usize],
+    from: usize,
+    to: usize,
+    range: KeyRange,
+    window: Window,
+    arena: &Arena<Row>,
+    taken: &mut Vec<Handle<Row>>,
+) -> usize
+    requires keys { length keys.now ≡ length handles.now }
+    requires stands { vec_len stands.old ≡ length handles.now }
+    requires few { length handles.now ≤ 2 ^ 32 }
+    requires coded { AreCoded keys.now stands.old.items codes.old }
+    requires known { RemembersKeys arena.now.cells (kept stands.old.items handles.now)
+        (kept stands.old.items keys.now) }
+    requires all_known { times unknown (kept stands.old.items keys.now) ≡ 0 }
+    requires window { IsWindow codes.old.base codes.old.shift range window.first window.last window.beyond }
+    requires ahead { AreAhead codes.old.codes window.first window.last from to candidates.now 0 }
+    requires missed { IsMissed range arena.now.cells handles.now stands.old.items 0 from }
+    requires room { vec_len taken.old + length (rows_inside arena.now.cells range (kept stands.old.items handles.now))
+        ≤ vec_capacity taken.old }
+    ensures passed { IsPassed arena.now.cells range handles.now keys.now stands.old.items stands.new.items codes.new
+        taken.old.items taken.new.items to result 0 }
+    ensures base { codes.new.base ≡ codes.old.base }
+    ensures shift { codes.new.shift ≡ codes.old.shift }
+    ensures long { length codes.new.codes ≡ length codes.old.codes }
+    ensures capacity { vec_capacity stands.new ≡ vec_capacity stands.old }
+    ensures room { vec_capacity taken.new ≡ vec_capacity taken.old }
+{
+    let mut count = 0;
+    'candidates: for k in 0..candidates.len() {
+        let candidate = candidates[k];
+        if is_hit(
+            handles, keys, stands, codes, candidate, range, window, arena,
+        ) {
+            stands[candidate] = false;
+            codes.leave_hole(candidate);
+            taken.push_reserved(handles[candidate]);
+            count += 1;
+        }
+    }
+    count
 }

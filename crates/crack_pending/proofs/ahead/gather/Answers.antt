@@ -20,5 +20,5 @@ far-preserved c =
       })
     ]
 
-pub returns : goal.returns
-returns c = c.gather_between-2.ensures.gathered c.args.from c.far.invariant.gathered
+pub returns-clause-ahead : goal.returns-clause-ahead
+returns-clause-ahead c = c.gather_between-2.ensures.gathered c.args.from c.far.invariant.gathered

@@ -1,4 +1,4 @@
-use Rattle.std.proofs.Common.{◌≡◌, ◌++◌, ◌∷◌, [], Bool, true, false, length, get_or, set, refl, sym, ap, ◌∙◌, arith, length-set, ltb-false}
+use Rattle.std.proofs.Common.{◌≡◌, ◌++◌, ◌∷◌, [], Bool, true, false, length, get_or, set, refl, sym, ap, ◌∙◌, arith, length-set, length-append, ltb-false}
 use Rattle.std.proofs.lemmas.List.{append-nil, append_assoc, get_or_default}
 use Rattle.crack_row.specs.Ranges.{is_in}
 use Rattle.crack_arena.specs.Arena.{Handle, no_handle}
@@ -18,35 +18,39 @@ use Rattle.crack_pending.proofs.taking.take_hits.Goals as goal
 use Rattle.crack_pending.proofs.taking.take_hits.Goals.{After-index-handles-spot}
 
 pub hits-init : goal.hits-init
-hits-init c = record {
-  within = omega arith;
-  missed = λ spot after before. absurd (omega (arith, before));
-  taken = refl;
-  outside = refl;
-  known = c.requires.known;
-  unknowns = c.requires.unknowns;
-  coded = c.requires.coded;
-  stood = λ spot there. there;
-  long = refl;
-  capacity = refl;
-  counted = omega arith;
-  room = c.requires.room;
-}
+hits-init c =
+    let a = c.args in
+    let coded = c.take_coded-start.ensures in
+    let passed = coded.passed in
+    record {
+      within = passed.within;
+      missed = passed.missed;
+      taken = refl;
+      outside = refl;
+      known = passed.known;
+      unknowns = passed.unknowns_are;
+      coded = passed.coded;
+      stood = λ spot there. there;
+      long = refl;
+      capacity = refl;
+      counted = refl;
+      room = omega (arith, ap length passed.taken_are, length-append c.take_coded-start.new.taken.items (rows_inside a.arena.now.cells a.range (kept c.take_coded-start.new.stands.items a.handles.now)), length-append a.taken.now.items (rows_inside a.arena.now.cells a.range (kept a.stands.now.items a.handles.now)), coded.room, c.requires.room);
+    }
 
 pub next_hit-requires-clause-stands : goal.next_hit-requires-clause-stands
-next_hit-requires-clause-stands c = omega (arith, c.deref.ensures.len, c.hits.invariant.long, c.requires.stands)
+next_hit-requires-clause-stands c = omega (arith, c.deref.ensures.len, c.hits.invariant.long, c.take_coded-start.ensures.passed.long, c.requires.stands)
 
 pub next_hit-requires-clause-known : goal.next_hit-requires-clause-known
 next_hit-requires-clause-known c =
     let a = c.args in
     let i = c.hits.invariant in
-    rw (c.deref.ensures.value) (KnowKeys-kept a.arena.now.cells a.handles.now a.keys.now c.hits.stands.items (omega (arith, i.long, c.requires.stands)) c.requires.keys i.known)
+    rw (c.deref.ensures.value) (KnowKeys-kept a.arena.now.cells a.handles.now a.keys.now c.hits.stands.items (omega (arith, i.long, c.take_coded-start.ensures.passed.long, c.requires.stands)) c.requires.keys i.known)
 
 pub next_hit-requires-clause-all_known : goal.next_hit-requires-clause-all_known
 next_hit-requires-clause-all_known c = λ none.
     let i = c.hits.invariant in
     let zero : c.hits.left.unknowns ≡ 0 = omega (arith, ltb-false 0 c.hits.left.unknowns none) in
-    rw (c.deref.ensures.value) (counted_none c.args.keys.now c.hits.stands.items (omega (arith, i.long, c.requires.stands, c.requires.keys)) (omega (arith, i.unknowns, zero)))
+    rw (c.deref.ensures.value) (counted_none c.args.keys.now c.hits.stands.items (omega (arith, i.long, c.take_coded-start.ensures.passed.long, c.requires.stands, c.requires.keys)) (omega (arith, i.unknowns, zero)))
 
 -- the row at the spot that was found is the first of the range
 record IsTaken (c : After-index-handles-spot) : Type 0 where
@@ -65,7 +69,7 @@ is_taken c =
     let spot = c.in-Some.spot in
     let i = c.hits.invariant in
     let hit : IsHit a.range cells hs stands c.hits.start (length hs) spot = rw (c.deref.ensures.value) at c.in-Some.ensures.hit in
-    let beside : length stands ≡ length hs = omega (arith, i.long, c.requires.stands) in
+    let beside : length stands ≡ length hs = omega (arith, i.long, c.take_coded-start.ensures.passed.long, c.requires.stands) in
     let missed : IsMissed a.range cells hs stands 0 spot = missed_both a.range cells hs stands 0 c.hits.start spot i.missed hit.before in
     let test : Handle → Bool = λ h. is_in a.range (key_at cells h) in
     let is : test (get_or hs spot no_handle) ≡ true = is_in-true a.range (key_at cells (get_or hs spot no_handle)) hit.holds in
@@ -92,7 +96,7 @@ unknowns_without-requires-clause-counted c = λ is.
 pub overflow_add-left : goal.overflow_add-left
 overflow_add-left c =
     let first = c.args.stands.now.items in
-    record { fits = omega (arith, c.hits.invariant.counted, place_at-few first (length first), c.requires.stands, c.requires.few) }
+    record { fits = omega (arith, c.hits.invariant.counted, c.take_coded-start.ensures.passed.counted, place_at-few first (length first), c.take_coded-start.ensures.passed.long, c.requires.stands, c.requires.few) }
 
 pub hits-smaller : goal.hits-smaller
 hits-smaller c =
@@ -141,8 +145,8 @@ returns-clause-taken c =
     let rest : IsMissed a.range cells hs stands c.hits.start (length hs) = rw (c.deref.ensures.value) at c.in_default.ensures.hit in
     let missed = missed_both a.range cells hs stands 0 c.hits.start (length hs) i.missed rest in
     let test : Handle → Bool = λ h. is_in a.range (key_at cells h) in
-    let none = none-inside test stands hs no_handle (omega (arith, i.long, c.requires.stands)) (λ k less there. is_in-false a.range (key_at cells (get_or hs k no_handle)) (missed k (omega arith) less there)) in
-    sym (append-nil c.hits.taken.items) ∙ ap (λ xs. c.hits.taken.items ++ xs) (sym none.0) ∙ i.taken
+    let none = none-inside test stands hs no_handle (omega (arith, i.long, c.take_coded-start.ensures.passed.long, c.requires.stands)) (λ k less there. is_in-false a.range (key_at cells (get_or hs k no_handle)) (missed k (omega arith) less there)) in
+    sym (append-nil c.hits.taken.items) ∙ ap (λ xs. c.hits.taken.items ++ xs) (sym none.0) ∙ i.taken ∙ c.take_coded-start.ensures.passed.taken_are
 
 pub returns-clause-left : goal.returns-clause-left
 returns-clause-left c =
@@ -154,5 +158,17 @@ returns-clause-left c =
     let rest : IsMissed a.range cells hs stands c.hits.start (length hs) = rw (c.deref.ensures.value) at c.in_default.ensures.hit in
     let missed = missed_both a.range cells hs stands 0 c.hits.start (length hs) i.missed rest in
     let test : Handle → Bool = λ h. is_in a.range (key_at cells h) in
-    let none = none-inside test stands hs no_handle (omega (arith, i.long, c.requires.stands)) (λ k less there. is_in-false a.range (key_at cells (get_or hs k no_handle)) (missed k (omega arith) less there)) in
-    sym none.1 ∙ i.outside
+    let none = none-inside test stands hs no_handle (omega (arith, i.long, c.take_coded-start.ensures.passed.long, c.requires.stands)) (λ k less there. is_in-false a.range (key_at cells (get_or hs k no_handle)) (missed k (omega arith) less there)) in
+    sym none.1 ∙ i.outside ∙ c.take_coded-start.ensures.passed.outside
+
+pub returns-clause-stood : goal.returns-clause-stood
+returns-clause-stood c = λ spot there. c.take_coded-start.ensures.passed.stood spot (c.hits.invariant.stood spot there)
+
+pub returns-clause-long : goal.returns-clause-long
+returns-clause-long c = c.hits.invariant.long ∙ c.take_coded-start.ensures.passed.long
+
+pub returns-clause-capacity : goal.returns-clause-capacity
+returns-clause-capacity c = c.hits.invariant.capacity ∙ c.take_coded-start.ensures.capacity
+
+pub returns-clause-counted : goal.returns-clause-counted
+returns-clause-counted c = omega (arith, c.hits.invariant.counted, c.take_coded-start.ensures.passed.counted)

@@ -21,7 +21,7 @@ invariant-hits l = record {
   stood : (spot : ℕ) → HasRow l.stands.items spot → HasRow l.initial.stands.items spot;
   long : length l.stands.items ≡ length l.initial.stands.items;
   capacity : vec_capacity l.stands ≡ vec_capacity l.initial.stands;
-  counted : place_at l.stands.items (length l.stands.items) + l.left.taken ≡ place_at l.initial.stands.items (length l.initial.stands.items);
+  counted : place_at l.stands.items (length l.stands.items) + l.left.taken ≡ place_at l.initial.stands.items (length l.initial.stands.items) + l.initial.left.taken;
   room : vec_len l.taken + length (rows_inside l.arena.cells l.range (kept l.stands.items l.handles)) ≤ vec_capacity l.taken;
 }
 
