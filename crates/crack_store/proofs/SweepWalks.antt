@@ -1,10 +1,10 @@
 -- What a walk over the bounds from the lowest up leaves of a column, whose pieces the rows that came in turn.
-use Rattle.std.proofs.Common.{◌≡◌, ℕ, zero, suc, ◌+◌, ◌-◌, ◌≤◌, false, cond, min, max, List, [], ◌∷◌, ◌++◌, length, take, drop, Option, Some, None, refl, sym, ap, ◌∙◌, arith}
+use Rattle.std.proofs.Common.{◌≡◌, ℕ, zero, suc, ◌+◌, ◌-◌, ◌≤◌, false, cond, min, max, List, [], ◌∷◌, ◌++◌, length, take, drop, Option, Some, None, refl, sym, ap, ◌∙◌, inl, inr, arith}
 use Rattle.std.specs.List.{All, between, filter}
 use Rattle.std.proofs.Math.Nat.{min-eq_left}
 use Rattle.std.proofs.lemmas.List.{append_assoc, take_at, drop_at, take-append-drop, length-append, length-take-le, length-drop, length-map}
 use Rattle.std.proofs.lemmas.Bool.{le-ltb}
-use Rattle.std.proofs.lemmas.List.Elements.{All-head, All-tail}
+use Rattle.std.proofs.lemmas.List.Elements.{All-nil, All-cons, All-head, All-tail}
 use Rattle.std.proofs.lemmas.List.Sums.{sum_by-cons}
 use Rattle.crack_row.specs.Ranges.{Range}
 use Rattle.crack_row.specs.declared.InnerBound.{InnerBound}
@@ -15,10 +15,11 @@ use Rattle.crack_column.specs.Column.{Remembers}
 use Rattle.crack_index.specs.declared.mark.Mark.{Mark}
 use Rattle.crack_index.specs.Marks.{Rising}
 use Rattle.crack_index.specs.Places.{Places, at_place}
+use Rattle.crack_pending.proofs.Searches.{is_in-true, is_in-false}
 use Rattle.crack_state.specs.State.{State, IsIntact, greatest}
 use Rattle.crack_state.specs.Steps.{SameButRoom, buried}
 use Rattle.crack_state.proofs.StepLaws.{IsIntact-room}
-use Rattle.crack_bulk.specs.Carried.{carried_in_bulk, pieces_of}
+use Rattle.crack_bulk.specs.Carried.{carried_in_bulk, inside_of, pieces_of}
 use Rattle.crack_bulk.specs.Pieces.{cut}
 use Rattle.crack_bulk.specs.Pulled.{buried_all}
 use Rattle.crack_bulk.specs.Sweeps.{Swept, goes_on, is_lower}
@@ -26,11 +27,13 @@ use Rattle.crack_bulk.proofs.SweptUp.{swept_up, swept_marks}
 use Rattle.crack_bulk.proofs.EndLaws.{AreBuried-apart}
 use Rattle.crack_bulk.proofs.FallLaws.{AreBuried as Bulk}
 use Rattle.crack_bulk.proofs.SiftedLaws.{min_and}
-use Rattle.crack_bulk.proofs.SweepLaws.{length-swept_by, length-swept_up, few-turn_by}
+use Rattle.crack_bulk.proofs.AllLaws.{inside_or}
+use Rattle.crack_bulk.proofs.SweepLaws.{length-swept_by, length-swept_up, few-turn_by, swept_by-off}
 use Rattle.crack_bulk.proofs.SweptLaws.{rows_in, sweep, unburied, hands-apart, carried-sweeping}
 use Rattle.crack_store.specs.Drainings.{AreBuried}
 use Rattle.crack_store.specs.declared.sweeping.Sweep.{Sweep}
-use Rattle.crack_store.specs.Sweepings.{ends_in, up_to, sweep_of, going_on, IsReady, IsSweptTo, Passes, Turns}
+use Rattle.crack_store.specs.Sweepings.{ends_in, up_to, sweep_of, going_on, IsReady, IsSweptTo, Passes, Sweeps, Turns}
+use Rattle.crack_store.proofs.SweepLemmas.{four}
 
 -- the parts of a list of four
 record Parts (h a b c d : List Handle) (s e f : ℕ) : Type 0 where
@@ -149,7 +152,7 @@ module _ (cells : List (Cell Row)) (out : List Handle) where
   through ms least last ms' v w front rows tail at few inside bounds rising (Places.goes_on n place l m ns ns' x y z told rest) =
       let b = All-head (λ k. (x.start ≤ k.position) × (k.position ≤ x.from)) m ns inside in
       let low = All-head (λ k. x.low ≤ k.bound.0) m ns bounds in
-      let p = told b.0 b.1 in
+      let p = told b.0 b.1 low in
       let one = over x y m front rows tail place p at b.0 b.1 in
       let mine : List Handle = take (m.position - x.start) rows in
       let later : List Handle = drop (m.position - x.start) rows in
@@ -196,11 +199,45 @@ same-room s u a b is = rw is (record { same = refl })
 sweep-same : (cells cells' : List (Cell Row)) (out out' : List Handle) (low : ℕ) (high : Option InnerBound) (ts ts' rows rows' : List Handle) → cells ≡ cells' → out ≡ out' → ts ≡ ts' → rows ≡ rows' → sweep_of cells out low high ts rows ≡ sweep_of cells' out' low high ts' rows'
 sweep-same cells cells' out out' low high ts ts' rows rows' a b c d = rw (a, b, c, d) refl
 
-none-going : (cells : List (Cell Row)) (out ts : List Handle) → going_on cells out 0 ts ≡ 0
-none-going cells out [] = refl
-none-going cells out (t ∷ ts) =
-    let off : goes_on (ends_in out) (is_lower (key_at cells) (ends_in out) 0) t ≡ false = rw (le-ltb (key_at cells t) 0 (omega arith)) refl in
-    sum_by-cons (λ y. cond {A = ℕ} (goes_on (ends_in out) (is_lower (key_at cells) (ends_in out) 0) y) 1 0) t ts ∙ rw off (omega (arith, none-going cells out ts))
+-- where none is below the floor, none turns a piece that begins at or below it
+pub none-below : (cells : List (Cell Row)) (out : List Handle) (low floor : ℕ) (ts : List Handle) → low ≤ floor → All (λ h. floor ≤ key_at cells h) ts → going_on cells out low ts ≡ 0
+none-below cells out low floor [] order above = refl
+none-below cells out low floor (t ∷ ts) order above =
+    let least : floor ≤ key_at cells t = All-head (λ h. floor ≤ key_at cells h) t ts above in
+    let off : goes_on (ends_in out) (is_lower (key_at cells) (ends_in out) low) t ≡ false = rw (le-ltb (key_at cells t) low (omega (arith, order, least))) refl in
+    let rest = none-below cells out low floor ts order (All-tail (λ h. floor ≤ key_at cells h) t ts above) in
+    sum_by-cons (λ y. cond {A = ℕ} (goes_on (ends_in out) (is_lower (key_at cells) (ends_in out) low) y) 1 0) t ts ∙ rw off (omega (arith, rest))
+
+-- where none turns the piece, all is as it was
+pub Sweeps-off : (cells : List (Cell Row)) (out : List Handle) (low : ℕ) (high : Option InnerBound) (start end from : ℕ) (handles : List Handle) → start ≤ end → end ≤ from → from ≤ length handles → going_on cells out low (drop from handles) ≡ 0 → Sweeps cells out low high start end from handles handles 0
+Sweeps-off cells out low high start end from handles order before within none =
+    let parts = four handles start end from order before within in
+    let off = swept_by-off (key_at cells) (ends_in out) low (up_to cells out high) (drop from handles) (between start end handles) none in
+    record {
+      handles_are = rw off parts.all;
+      made_is = rw off refl;
+    }
+
+-- where the next piece ends at or below the floor, none turns the one above it
+pub IsReady-on : (v : Sweep) (low start : ℕ) → IsReady v → start ≤ v.from → v.low ≤ low → low ≤ v.floor.0 → IsReady (record v { low = low; start = start; count = 0 })
+IsReady-on v low start ready order up under =
+    let above = ready.above (omega (arith, up, under)) in
+    record {
+      order = order;
+      within = ready.within;
+      remembers = ready.remembers;
+      counted = sym (none-below v.arena.now.cells v.pending_out.now.handles low v.floor.0 (drop v.from v.column.handles) under above);
+      above = λ below. above;
+      small = ready.small;
+    }
+
+-- a row in a range isn't below it
+inside-least : (cells : List (Cell Row)) (r : Range) (hs : List Handle) → All (λ h. r.low ≤ key_at cells h) (inside_of cells r hs)
+inside-least cells r [] = All-nil (λ h. r.low ≤ key_at cells h)
+inside-least cells r (h ∷ hs) = elim (inside_or r (key_at cells h)) [
+  | inl inside ↦ rw (is_in-true r (key_at cells h) inside) (All-cons (λ g. r.low ≤ key_at cells g) h (inside_of cells r hs) inside.0 (inside-least cells r hs))
+  | inr outside ↦ rw (is_in-false r (key_at cells h) outside) (inside-least cells r hs)
+]
 
 module _ (r : Range) (s : State) (intact : IsIntact s []) where
   abbrev pub sw : Swept Handle
@@ -213,6 +250,7 @@ module _ (r : Range) (s : State) (intact : IsIntact s []) where
   pub record Begins (v : Sweep) : Type 0 where
     pub handles_are : v.column.handles ≡ s.column ++ rows_in r s intact
     pub from_is : v.from ≡ length s.column
+    pub floor_is : v.floor.0 ≡ r.low
     pub low_is : v.low ≡ 0
     pub start_is : v.start ≡ 0
     pub count_is : v.count ≡ 0
@@ -222,12 +260,18 @@ module _ (r : Range) (s : State) (intact : IsIntact s []) where
     pub remembers : Remembers v.arena.now.cells v.column.handles v.column.remembered
 
   pub ready-begins : (v : Sweep) → Begins v → IsReady v
-  ready-begins v b = record {
-    order = omega (arith, b.start_is);
-    within = omega (arith, b.from_is, ap length b.handles_are, length-append s.column (rows_in r s intact));
-    remembers = b.remembers;
-    counted = b.count_is ∙ rw b.low_is (sym (none-going v.arena.now.cells v.pending_out.now.handles (drop v.from v.column.handles)));
-  }
+  ready-begins v b =
+      let rest : drop v.from v.column.handles ≡ rows_in r s intact = ap (drop v.from) b.handles_are ∙ drop_at s.column (rows_in r s intact) v.from (sym b.from_is) in
+      let above : All (λ h. v.floor.0 ≤ key_at v.arena.now.cells h) (drop v.from v.column.handles) = rw (b.floor_is, b.cells_are, rest) (inside-least s.cells r s.pending_in) in
+      let none = none-below v.arena.now.cells v.pending_out.now.handles v.low v.floor.0 (drop v.from v.column.handles) (omega (arith, b.low_is)) above in
+      record {
+        order = omega (arith, b.start_is);
+        within = omega (arith, b.from_is, ap length b.handles_are, length-append s.column (rows_in r s intact));
+        remembers = b.remembers;
+        counted = b.count_is ∙ sym none;
+        above = λ below. above;
+        small = omega (arith, b.moved_is, intact.counted.moved);
+      }
 
   -- where it has ended
   pub record IsDone (ms' : List Mark) (z : Sweep) : Type 0 where

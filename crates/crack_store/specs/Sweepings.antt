@@ -1,7 +1,7 @@
 -- What private clauses alone cite.
 -- What a walk over the bounds from the lowest up does to a column, after whose last row others stand that turn its pieces.
 use Rattle.std.specs.Prelude.{◌≡◌, ℕ, ◌+◌, ◌≤◌, Bool, false, ◌||◌, nat_lt, count_by, min, Option, Some, None, List, ◌++◌, length, take, drop}
-use Rattle.std.specs.List.{between}
+use Rattle.std.specs.List.{All, between}
 use Rattle.crack_arena.specs.Arena.{Cell, Handle, times, slots}
 use Rattle.crack_arena.specs.Rows.{key_at}
 use Rattle.crack_row.specs.declared.InnerBound.{InnerBound}
@@ -34,12 +34,14 @@ pub record Sweeps (cells : List (Cell Row)) (out : List Handle) (low : ℕ) (hig
   pub handles_are : handles' ≡ take start handles ++ ((sweep_of cells out low high (drop from handles) (between start end handles)).piece ++ (between end from handles ++ (sweep_of cells out low high (drop from handles) (between start end handles)).tail))
   pub made_is : made ≡ (sweep_of cells out low high (drop from handles) (between start end handles)).made
 
--- the next piece stands before the rows that came in, so many of which turn it
+-- the next piece stands before the rows that came in, so many of which turn it; up to the floor they are as they came, and none is below it
 pub record IsReady (v : Sweep) : Type 0 where
   pub order : v.start ≤ v.from
   pub within : v.from ≤ length v.column.handles
   pub remembers : Remembers v.arena.now.cells v.column.handles v.column.remembered
   pub counted : v.count ≡ going_on v.arena.now.cells v.pending_out.now.handles v.low (drop v.from v.column.handles)
+  pub above : v.low ≤ v.floor.0 → All (λ h. v.floor.0 ≤ key_at v.arena.now.cells h) (drop v.from v.column.handles)
+  pub small : v.moved ≤ greatest
 
 -- they went by the piece below a bound
 pub record Passes (v : Sweep) (m : Mark) (place : ℕ) (w : Sweep) : Type 0 where
@@ -54,9 +56,9 @@ pub record Passes (v : Sweep) (m : Mark) (place : ℕ) (w : Sweep) : Type 0 wher
   pub moved_is : w.moved ≡ min (v.moved + made) greatest
   pub ready : IsReady w
 
--- the bound stands before the rows that came in: then they went by the piece below it
+-- the bound stands before the rows that came in, and after the bound before: then they went by the piece below it
 abbrev pub Turns : Sweep → Mark → ℕ → Sweep → Type 0
-Turns v m place w = v.start ≤ m.position → m.position ≤ v.from → Passes v m place w
+Turns v m place w = v.start ≤ m.position → m.position ≤ v.from → v.low ≤ m.bound.0 → Passes v m place w
 
 -- they went by the last piece
 pub record IsSweptTo (v w : Sweep) : Type 0 where

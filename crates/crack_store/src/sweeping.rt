@@ -1,6 +1,6 @@
 //! Carries in bulk that meet doomed rows: the rows that come in stand after the column's last one, and turn its pieces
 //! from the lowest up. Each that turns a piece changes places with the row that it turns.
-ghost use Rattle.std.specs.Prelude.{◌≡◌, ◌+◌, ◌-◌, ◌<◌, ◌≤◌, ◌++◌, ℕ, not, true, false, [], Some, None, map};
+ghost use Rattle.std.specs.Prelude.{◌≡◌, ◌+◌, ◌-◌, ◌<◌, ◌≤◌, ◌++◌, ◌↔◌, ℕ, not, true, false, [], Some, None, map};
 ghost use Rattle.std.specs.Prelude.{length, take, drop, filter, vec_capacity, slice_index_or, IsTrue, IsFalse};
 ghost use Rattle.crack_arena.specs.Arena.{no_handle};
 ghost use Rattle.crack_arena.specs.Rows.{key_at, keys_at};
@@ -23,7 +23,7 @@ use crack_arena::{Arena, Handle};
 use crack_column::{CrackerColumn, Doomed};
 use crack_index::{Mark, Placer};
 use crack_pending::PendingOut;
-use crack_row::{InnerBound, KeyNumber, KeyRange, Row};
+use crack_row::{Bound, InnerBound, KeyNumber, KeyRange, Row};
 
 /// Carries the pending insertions of a range, of which `first` is the first, wherever doomed rows stand; whether it
 /// found memory for so many, as are in the range. All is else as it was. For each of them O(pieces) without a wait for
@@ -99,6 +99,7 @@ fn sweep_rows(
         pending_out: &inside.pending_out,
         arena: &inside.arena,
         from,
+        floor: range.low(),
         low: 0,
         start: 0,
         count: 0,
@@ -129,8 +130,9 @@ fn sweep_last(sweep: &mut Sweep)
     requires { IsReady sweep.old }
     ensures { IsSweptTo sweep.old sweep.new }
 {
-    let made = sweep_piece(
+    let made = sweep_turned(
         &mut sweep.column,
+        sweep.count,
         (sweep.low, None),
         (sweep.start, sweep.from),
         sweep.from,
@@ -173,14 +175,16 @@ fn take_doomed(
     shorten(column, low);
 }
 
-/// A column on a walk over its bounds from the lowest up: the rows from the place `from` on came in, and turn the
-/// pieces. The piece that begins at the bound `low` and the place `start` is next, and `count` of them turn it.
+/// A column on a walk over its bounds from the lowest up: the rows from the place `from` on came in, none below the
+/// bound `floor`, and turn the pieces. The piece that begins at the bound `low` and the place `start` is next, and
+/// `count` of them turn it.
 #[derive(Drop)]
 pub(crate) struct Sweep<'a> {
     pub(crate) column: CrackerColumn,
     pub(crate) pending_out: &'a PendingOut,
     pub(crate) arena: &'a Arena<Row>,
     pub(crate) from: usize,
+    pub(crate) floor: Bound,
     pub(crate) low: KeyNumber,
     pub(crate) start: usize,
     pub(crate) count: usize,
@@ -195,14 +199,22 @@ impl<'a> Placer for Sweep<'a> {
 
     ghost places = { Turns };
 
-    /// Lets the rows that came in go by the piece below the bound, which rises by as many as go on from it.
+    /// Lets the rows that came in go by the piece below the bound, which rises by as many as go on from it. None of
+    /// them turns a piece that ends at or below the floor.
     fn place(&mut self, mark: Mark) -> usize {
         let Mark { bound, position } = mark;
-        if position < self.start || self.from < position {
+        if position < self.start || self.from < position || bound.number() < self.low {
             return position;
         }
-        let made = sweep_piece(
+        if is_up_to(bound, self.floor) {
+            self.low = bound.number();
+            self.start = position;
+            self.count = 0;
+            return position;
+        }
+        let made = sweep_turned(
             &mut self.column,
+            self.count,
             (self.low, Some(bound)),
             (self.start, position),
             self.from,
@@ -215,6 +227,41 @@ impl<'a> Placer for Sweep<'a> {
         self.count = count_going(&self.column, self.from, bound, self.pending_out, self.arena);
         position + self.count
     }
+}
+
+/// Whether a bound is at or below another one.
+fn is_up_to(bound: InnerBound, floor: Bound) -> bool
+    ensures { IsTrue result ↔ (bound.0 ≤ floor.0) }
+{
+    bound.bound() <= floor
+}
+
+/// As `sweep_piece`, of a piece that so many of the rows turn: where none does, all is as it was.
+fn sweep_turned(
+    column: &mut CrackerColumn,
+    count: usize,
+    bounds: (KeyNumber, Option<InnerBound>),
+    places: (usize, usize),
+    from: usize,
+    pending_out: &PendingOut,
+    arena: &Arena<Row>,
+) -> usize
+    requires counted { count ≡ going_on arena.now.cells pending_out.now.handles bounds.0
+        (drop from column.old.handles) }
+    requires order { places.0 ≤ places.1 }
+    requires before { places.1 ≤ from }
+    requires within { from ≤ length column.old.handles }
+    requires remembers { Remembers arena.now.cells column.old.handles column.old.remembered }
+    ensures sweeps { Sweeps arena.now.cells pending_out.now.handles bounds.0 bounds.1 places.0 places.1 from
+        column.old.handles column.new.handles result }
+    ensures few { result ≤ length column.old.handles - from }
+    ensures remembers { Remembers arena.now.cells column.new.handles column.new.remembered }
+    ensures length { length column.new.handles ≡ length column.old.handles }
+{
+    if count == 0 {
+        return 0;
+    }
+    sweep_piece(column, bounds, places, from, pending_out, arena)
 }
 
 /// Lets the rows from the place `from` on go by the piece between two bounds, the higher of which may be none, and

@@ -21,6 +21,7 @@ done c =
     done-of c.args.range (lists_of p) c.requires.intact.intact c.place_each.result c.place_each.new.self.marks _ c.place_each.new.visitor c.sweep_last.new.sweep c.place_each.ensures.places (record {
       handles_are = ap (λ (x : Column). x.handles) c.take.ensures ∙ c.take_rows.ensures.handles;
       from_is = c.len-from.ensures.value;
+      floor_is = c.low.ensures.value;
       low_is = refl;
       start_is = refl;
       count_is = refl;
@@ -37,6 +38,7 @@ place_each-requires c =
     ready-begins c.args.range (lists_of p) c.requires.intact.intact _ (record {
       handles_are = ap (λ (x : Column). x.handles) c.take.ensures ∙ c.take_rows.ensures.handles;
       from_is = c.len-from.ensures.value;
+      floor_is = c.low.ensures.value;
       low_is = refl;
       start_is = refl;
       count_is = refl;
