@@ -1,8 +1,10 @@
 -- How rows that stand after a column's last go by a piece, place by place.
-use Rattle.std.proofs.Common.{◌≡◌, ℕ, zero, suc, ◌+◌, ◌-◌, ◌<◌, ◌≤◌, Bool, true, false, not, cond, List, [], ◌∷◌, ◌++◌, length, take, drop, get_or, set, Option, refl, sym, ap, ◌∙◌, inl, inr, arith}
+use Rattle.std.proofs.Common.{◌≡◌, ℕ, zero, suc, ◌+◌, ◌-◌, ◌<◌, ◌≤◌, Bool, true, false, not, ◌&&◌, nat_lt, cond, List, [], ◌∷◌, ◌++◌, length, take, drop, get_or, set, Option, Some, None, refl, sym, ap, ◌∙◌, inl, inr, arith}
 use Rattle.std.specs.List.{All, between, filter}
-use Rattle.std.proofs.lemmas.Bool.{cases_lt, cases_Bool}
-use Rattle.std.proofs.lemmas.List.{append-nil, append_assoc, length-append, length_push, set_at, get_or_at, get_or_append_left, get_or-append-add, get_or_default, get_or-take, set-get_or, length-set, length-take-le, take_at, take-append-drop, drop-drop}
+use Rattle.std.specs.Prelude.{IfSome}
+use Rattle.std.proofs.lemmas.Bool.{cases_lt, cases_Bool, lt-ltb, ltb-true, false≢true}
+use Rattle.std.proofs.lemmas.List.Sums.{sum_by-cons, sum_by_push, sum_by-append}
+use Rattle.std.proofs.lemmas.List.{append-nil, append_assoc, length-append, length_push, set_at, get_or_at, get_or_append_left, get_or-append-add, get_or_default, get_or-take, set-get_or, length-set, length-take-le, take_at, drop_at, take-append-drop, drop-drop}
 use Rattle.std.proofs.lemmas.List.Edits.{length-between}
 use Rattle.crack_row.specs.declared.InnerBound.{InnerBound}
 use Rattle.crack_row.specs.declared.Row.{Row}
@@ -11,7 +13,7 @@ use Rattle.crack_arena.specs.Rows.{key_at}
 use Rattle.crack_column.specs.Column.{swapped}
 use Rattle.crack_bulk.specs.Sweeps.{Swept, Round, with_more, goes_on, round, swept, is_lower}
 use Rattle.crack_bulk.proofs.SweepLaws.{by-step}
-use Rattle.crack_store.specs.Sweepings.{ends_in, up_to, sweep_of}
+use Rattle.crack_store.specs.Sweepings.{ends_in, up_to, sweep_of, leaving}
 
 -- Two rows change places
 
@@ -29,6 +31,16 @@ module _ {X : Type 0} (d : X) where
 
   swapped-same : (xs : List X) (i : ℕ) → swapped d i i xs ≡ xs
   swapped-same xs i = rw (set-get_or xs i d) (set-get_or xs i d)
+
+-- a test that is passed by what doesn't stop
+passing : (own stop : Bool) → own && not stop ≡ true → own ≡ true
+passing true stop both = refl
+passing false stop both = absurd (false≢true both)
+
+lasting : (own stop : Bool) → own && not stop ≡ true → stop ≡ false
+lasting true true both = absurd (false≢true both)
+lasting true false both = refl
+lasting false stop both = absurd (false≢true both)
 
 -- One round
 
@@ -67,7 +79,7 @@ module _ (cells : List (Cell Row)) (out : List Handle) (low : ℕ) (high : Optio
   own = up_to cells out high
 
   -- the rows before a place have gone by the piece
-  pub record IsOn (front rows mid ts : List Handle) (start end from : ℕ) (handles : List Handle) (cursor used made place : ℕ) : Type 0 where
+  pub record IsOn (front rows mid ts : List Handle) (start end from : ℕ) (handles : List Handle) (cursor used made going place : ℕ) : Type 0 where
     pub placed : List Handle
     pub rest : List Handle
     pub done : List Handle
@@ -80,6 +92,7 @@ module _ (cells : List (Cell Row)) (out : List Handle) (low : ℕ) (high : Optio
     pub place_is : place ≡ from + (length done + length queue)
     pub long : place + length todo ≡ length handles
     pub few : made ≤ length done + length queue
+    pub counted : going ≡ leaving cells out high (done ++ queue)
     pub sweep_is : sweep_of cells out low high ts rows ≡ with_more made (swept stops under own todo placed rest done queue)
 
   more-none : (s : Swept Handle) → with_more 0 s ≡ s
@@ -92,7 +105,7 @@ module _ (cells : List (Cell Row)) (out : List Handle) (low : ℕ) (high : Optio
       let both : a + (b + s.made) ≡ (a + b) + s.made = omega arith in
       rw both refl
 
-  pub IsOn-start : (front rows mid ts : List Handle) (start end from : ℕ) (handles : List Handle) → handles ≡ front ++ (rows ++ (mid ++ ts)) → length front ≡ start → start + length rows ≡ end → end + length mid ≡ from → IsOn front rows mid ts start end from handles start from 0 from
+  pub IsOn-start : (front rows mid ts : List Handle) (start end from : ℕ) (handles : List Handle) → handles ≡ front ++ (rows ++ (mid ++ ts)) → length front ≡ start → start + length rows ≡ end → end + length mid ≡ from → IsOn front rows mid ts start end from handles start from 0 0 from
   IsOn-start front rows mid ts start end from handles are first second third = record {
     placed = [];
     rest = rows;
@@ -106,12 +119,13 @@ module _ (cells : List (Cell Row)) (out : List Handle) (low : ℕ) (high : Optio
     place_is = omega arith;
     long = omega (arith, ap length are, length-append front (rows ++ (mid ++ ts)), length-append rows (mid ++ ts), length-append mid ts, first, second, third);
     few = omega arith;
+    counted = refl;
     sweep_is = sym (more-none (swept stops under own ts [] rows [] []));
   }
 
   -- at the end all have
-  pub IsOn-end : (front rows mid ts : List Handle) (start end from : ℕ) (handles : List Handle) (cursor used made place : ℕ) → length handles ≤ place → IsOn front rows mid ts start end from handles cursor used made place → (handles ≡ front ++ ((sweep_of cells out low high ts rows).piece ++ (mid ++ (sweep_of cells out low high ts rows).tail))) × (made ≡ (sweep_of cells out low high ts rows).made)
-  IsOn-end front rows mid ts start end from handles cursor used made place over on = elim_todo on.todo refl
+  pub IsOn-end : (front rows mid ts : List Handle) (start end from : ℕ) (handles : List Handle) (cursor used made going place : ℕ) → length handles ≤ place → IsOn front rows mid ts start end from handles cursor used made going place → (handles ≡ front ++ ((sweep_of cells out low high ts rows).piece ++ (mid ++ (sweep_of cells out low high ts rows).tail))) × (made ≡ (sweep_of cells out low high ts rows).made)
+  IsOn-end front rows mid ts start end from handles cursor used made going place over on = elim_todo on.todo refl
     where
       elim_todo : (todo : List Handle) → on.todo ≡ todo → (handles ≡ front ++ ((sweep_of cells out low high ts rows).piece ++ (mid ++ (sweep_of cells out low high ts rows).tail))) × (made ≡ (sweep_of cells out low high ts rows).made)
       elim_todo (t ∷ todo) is = absurd (omega (arith, on.long, ap length is, over))
@@ -120,8 +134,36 @@ module _ (cells : List (Cell Row)) (out : List Handle) (low : ℕ) (high : Optio
           let whole : sweep_of cells out low high ts rows ≡ with_more made S = on.sweep_is ∙ ap (λ us. with_more made (swept stops under own us on.placed on.rest on.done on.queue)) is in
           (on.handles_are ∙ ap (λ us. front ++ ((on.placed ++ on.rest) ++ (mid ++ ((on.done ++ on.queue) ++ us)))) is ∙ ap (λ us. front ++ ((on.placed ++ on.rest) ++ (mid ++ us))) (append-nil (on.done ++ on.queue)) ∙ rw whole refl, rw whole (omega arith))
 
+  -- one that goes on counts
+  counts-one : (t : Handle) → goes_on stops own t ≡ true → cond {A = ℕ} (goes_on stops own t) 1 0 ≡ 1
+  counts-one t goes = rw goes refl
+
+  leaving-both : (xs ys : List Handle) → leaving cells out high (xs ++ ys) ≡ leaving cells out high xs + leaving cells out high ys
+  leaving-both xs ys = sum_by-append (λ t. cond {A = ℕ} (goes_on stops own t) 1 0) xs ys
+
+  leaving-push : (xs : List Handle) (t : Handle) → leaving cells out high (xs ++ t ∷ []) ≡ leaving cells out high xs + cond {A = ℕ} (goes_on stops own t) 1 0
+  leaving-push xs t = sum_by_push (λ u. cond {A = ℕ} (goes_on stops own u) 1 0) xs t
+
+  leaving-first : (t : Handle) (xs : List Handle) → leaving cells out high (t ∷ xs) ≡ cond {A = ℕ} (goes_on stops own t) 1 0 + leaving cells out high xs
+  leaving-first t xs = sum_by-cons (λ u. cond {A = ℕ} (goes_on stops own u) 1 0) t xs
+
+  -- a row that turns the piece goes on from it
+  pub turned-goes : (t : Handle) → IfSome high (λ b. low ≤ b.0) → goes_on stops under t ≡ true → goes_on stops own t ≡ true
+  turned-goes t order goes = of high refl
+    where
+      of : (h : Option InnerBound) → high ≡ h → goes_on stops own t ≡ true
+      of None is =
+          let lasts : stops t ≡ false = lasting (under t) (stops t) goes in
+          rw (is, lasts) refl
+      of (Some b) is =
+          let lasts : stops t ≡ false = lasting (under t) (stops t) goes in
+          let low_is : key_at cells t < low = ltb-true (key_at cells t) low (passing (under t) (stops t) goes) in
+          let most : low ≤ b.0 = rw is at order in
+          let below : nat_lt (key_at cells t) b.0 ≡ true = lt-ltb (key_at cells t) b.0 (omega (arith, low_is, most)) in
+          rw (is, below, lasts) refl
+
   -- the row at the place is next
-  module _ (front rows mid ts : List Handle) (start end from : ℕ) (handles : List Handle) (cursor used made place : ℕ) (first : length front ≡ start) (third : end + length mid ≡ from) (on : IsOn front rows mid ts start end from handles cursor used made place) where
+  module _ (front rows mid ts : List Handle) (start end from : ℕ) (handles : List Handle) (cursor used made going place : ℕ) (first : length front ≡ start) (third : end + length mid ≡ from) (on : IsOn front rows mid ts start end from handles cursor used made going place) where
     abbrev seen : List Handle
     seen = on.done ++ on.queue
 
@@ -135,6 +177,18 @@ module _ (cells : List (Cell Row)) (out : List Handle) (low : ℕ) (high : Optio
 
     long-before : length before ≡ place
     long-before = omega (arith, first, third, on.cursor_is, on.rest_is, on.place_is, length-append front ((on.placed ++ on.rest) ++ (mid ++ seen)), length-append (on.placed ++ on.rest) (mid ++ seen), length-append on.placed on.rest, length-append mid seen, length-append on.done on.queue)
+
+    -- once all have gone by, so many go on
+    pub counted-end : length handles ≤ place → going ≡ leaving cells out high (drop from handles)
+    counted-end over = of on.todo refl
+      where
+        of : (us : List Handle) → on.todo ≡ us → going ≡ leaving cells out high (drop from handles)
+        of (t ∷ us) is = absurd (omega (arith, on.long, ap length is, over))
+        of [] is =
+            let ahead : List Handle = front ++ ((on.placed ++ on.rest) ++ mid) in
+            let shape : handles ≡ ahead ++ seen = on.handles_are ∙ ap (λ us. front ++ ((on.placed ++ on.rest) ++ (mid ++ (seen ++ us)))) is ∙ ap (λ us. front ++ ((on.placed ++ on.rest) ++ (mid ++ us))) (append-nil seen) ∙ ap (λ us. front ++ us) (sym (append_assoc (on.placed ++ on.rest) mid seen)) ∙ sym (append_assoc front ((on.placed ++ on.rest) ++ mid) seen) in
+            let size : length ahead ≡ from = omega (arith, first, third, on.cursor_is, on.rest_is, length-append front ((on.placed ++ on.rest) ++ mid), length-append (on.placed ++ on.rest) mid, length-append on.placed on.rest) in
+            on.counted ∙ ap (leaving cells out high) (sym (ap (drop from) shape ∙ drop_at ahead seen from size))
 
     pub record Next : Type 0 where
       pub t : Handle
@@ -168,8 +222,8 @@ module _ (cells : List (Cell Row)) (out : List Handle) (low : ℕ) (high : Optio
       pushed us t = append_assoc on.done on.queue (t ∷ us) ∙ ap (λ vs. on.done ++ vs) (sym (append_assoc on.queue (t ∷ []) us)) ∙ sym (append_assoc on.done (on.queue ++ t ∷ []) us)
 
       -- it doesn't turn the piece
-      pub IsOn-by : goes_on stops under n.t ≡ false → IsOn front rows mid ts start end from handles cursor used made (place + 1)
-      IsOn-by off = record {
+      pub IsOn-by : (more : ℕ) → goes_on stops under n.t ≡ false → more ≡ cond {A = ℕ} (goes_on stops own n.t) 1 0 → IsOn front rows mid ts start end from handles cursor used made (going + more) (place + 1)
+      IsOn-by more off goes = record {
         placed = on.placed;
         rest = on.rest;
         done = on.done;
@@ -182,14 +236,15 @@ module _ (cells : List (Cell Row)) (out : List Handle) (low : ℕ) (high : Optio
         place_is = omega (arith, on.place_is, length_push on.queue n.t);
         long = shorter;
         few = omega (arith, on.few, length_push on.queue n.t);
+        counted = omega (arith, on.counted, goes, leaving-both on.done on.queue, leaving-both on.done (on.queue ++ n.t ∷ []), leaving-push on.queue n.t);
         sweep_is = so_far ∙ ap (with_more made) (by-step (key_at cells) stops under own n.t n.todo on.placed on.rest on.done on.queue off);
       }
 
       -- it changes places with the next row of the piece
-      pub IsOn-turn : goes_on stops under n.t ≡ true → cursor < end → IsOn front rows mid ts start end from (swapped no_handle cursor place handles) (cursor + 1) used (made + 1) (place + 1)
-      IsOn-turn goes some = of on.rest refl
+      pub IsOn-turn : (more : ℕ) → goes_on stops under n.t ≡ true → cursor < end → more ≡ cond {A = ℕ} (goes_on stops own (get_or (swapped no_handle cursor place handles) place no_handle)) 1 0 → IsOn front rows mid ts start end from (swapped no_handle cursor place handles) (cursor + 1) used (made + 1) (going + more) (place + 1)
+      IsOn-turn more goes some on_it = of on.rest refl
         where
-          of : (rest : List Handle) → on.rest ≡ rest → IsOn front rows mid ts start end from (swapped no_handle cursor place handles) (cursor + 1) used (made + 1) (place + 1)
+          of : (rest : List Handle) → on.rest ≡ rest → IsOn front rows mid ts start end from (swapped no_handle cursor place handles) (cursor + 1) used (made + 1) (going + more) (place + 1)
           of [] is = absurd (omega (arith, on.rest_is, ap length is, some))
           of (y ∷ ys) is =
               let a : List Handle = front ++ on.placed in
@@ -201,6 +256,8 @@ module _ (cells : List (Cell Row)) (out : List Handle) (low : ℕ) (high : Optio
               let new : swapped no_handle cursor place handles ≡ a ++ n.t ∷ (b ++ y ∷ n.todo) = ap (swapped no_handle cursor place) old ∙ swapped-two no_handle a y b n.t n.todo cursor place at_i at_j in
               let back : a ++ n.t ∷ (b ++ y ∷ n.todo) ≡ front ++ (((on.placed ++ n.t ∷ []) ++ ys) ++ (mid ++ ((on.done ++ (on.queue ++ y ∷ [])) ++ n.todo))) =
               append_assoc front on.placed (n.t ∷ (b ++ y ∷ n.todo)) ∙ ap (λ vs. front ++ vs) (ap (λ vs. on.placed ++ n.t ∷ vs) (append_assoc ys (mid ++ seen) (y ∷ n.todo) ∙ ap (λ vs. ys ++ vs) (append_assoc mid seen (y ∷ n.todo) ∙ ap (λ vs. mid ++ vs) (pushed n.todo y))) ∙ sym (append_assoc on.placed (n.t ∷ ys) (mid ++ ((on.done ++ (on.queue ++ y ∷ [])) ++ n.todo))) ∙ ap (λ vs. vs ++ (mid ++ ((on.done ++ (on.queue ++ y ∷ [])) ++ n.todo))) (sym (append_assoc on.placed (n.t ∷ []) ys))) in
+              let there : get_or (swapped no_handle cursor place handles) place no_handle ≡ y = ap (λ hs. get_or hs place no_handle) (new ∙ sym (append_assoc a (n.t ∷ b) (y ∷ n.todo))) ∙ get_or_at (a ++ n.t ∷ b) y n.todo no_handle place (omega (arith, at_j, length-append a (n.t ∷ b))) in
+              let goes_y : more ≡ cond {A = ℕ} (goes_on stops own y) 1 0 = on_it ∙ ap (λ u. cond {A = ℕ} (goes_on stops own u) 1 0) there in
               let step : swept stops under own (n.t ∷ n.todo) on.placed (y ∷ ys) on.done on.queue ≡ with_more 1 (swept stops under own n.todo (on.placed ++ n.t ∷ []) ys on.done (on.queue ++ y ∷ [])) = rw goes refl in
               record {
                 placed = on.placed ++ n.t ∷ [];
@@ -215,6 +272,7 @@ module _ (cells : List (Cell Row)) (out : List Handle) (low : ℕ) (high : Optio
                 place_is = omega (arith, on.place_is, length_push on.queue y);
                 long = omega (arith, shorter, ap length (new ∙ back), ap length (shape ∙ ap (λ vs. front ++ ((on.placed ++ vs) ++ (mid ++ (seen ++ n.t ∷ n.todo)))) is), length-append front (((on.placed ++ n.t ∷ []) ++ ys) ++ (mid ++ ((on.done ++ (on.queue ++ y ∷ [])) ++ n.todo))), length-append ((on.placed ++ n.t ∷ []) ++ ys) (mid ++ ((on.done ++ (on.queue ++ y ∷ [])) ++ n.todo)), length-append (on.placed ++ n.t ∷ []) ys, length_push on.placed n.t, length-append mid ((on.done ++ (on.queue ++ y ∷ [])) ++ n.todo), length-append (on.done ++ (on.queue ++ y ∷ [])) n.todo, length-append on.done (on.queue ++ y ∷ []), length_push on.queue y, length-append front ((on.placed ++ y ∷ ys) ++ (mid ++ (seen ++ n.t ∷ n.todo))), length-append (on.placed ++ y ∷ ys) (mid ++ (seen ++ n.t ∷ n.todo)), length-append on.placed (y ∷ ys), length-append mid (seen ++ n.t ∷ n.todo), length-append seen (n.t ∷ n.todo), length-append on.done on.queue);
                 few = omega (arith, on.few, length_push on.queue y);
+                counted = omega (arith, on.counted, goes_y, leaving-both on.done on.queue, leaving-both on.done (on.queue ++ y ∷ []), leaving-push on.queue y);
                 sweep_is = so_far ∙ ap (λ vs. with_more made (swept stops under own (n.t ∷ n.todo) on.placed vs on.done on.queue)) is ∙ ap (with_more made) step ∙ more-both made 1 (swept stops under own n.todo (on.placed ++ n.t ∷ []) ys on.done (on.queue ++ y ∷ []));
               }
 
@@ -242,8 +300,8 @@ module _ (cells : List (Cell Row)) (out : List Handle) (low : ℕ) (high : Optio
       swept-one r goes empty same = rw empty (rw (goes, same) refl)
 
       -- no row of the piece is left: where none has gone on from it, the row stays
-      IsOn-last : goes_on stops under n.t ≡ true → on.rest ≡ [] → All (λ q. goes_on stops own q ≡ false) on.queue → IsOn front rows mid ts start end from handles cursor (place + 1) made (place + 1)
-      IsOn-last goes empty all =
+      IsOn-last : goes_on stops under n.t ≡ true → goes_on stops own n.t ≡ true → on.rest ≡ [] → All (λ q. goes_on stops own q ≡ false) on.queue → IsOn front rows mid ts start end from handles cursor (place + 1) made (going + 1) (place + 1)
+      IsOn-last goes leaves empty all =
           let r : Round Handle = record { done = (on.done ++ on.queue) ++ n.t ∷ []; queue = []; made = 0 } in
           let step = swept-one r goes empty (round-none stops own n.t on.done on.queue all) in
           let size = length-append on.done on.queue in
@@ -260,12 +318,13 @@ module _ (cells : List (Cell Row)) (out : List Handle) (low : ℕ) (high : Optio
             place_is = omega (arith, on.place_is, length_push (on.done ++ on.queue) n.t, size);
             long = shorter;
             few = omega (arith, on.few, length_push (on.done ++ on.queue) n.t, size);
+            counted = omega (arith, on.counted, counts-one n.t leaves, leaving-push (on.done ++ on.queue) n.t, ap (leaving cells out high) (append-nil ((on.done ++ on.queue) ++ n.t ∷ [])));
             sweep_is = so_far ∙ ap (with_more made) step ∙ ap (with_more made) (more-none (swept stops under own n.todo on.placed on.rest r.done r.queue));
           }
 
       -- else it changes places with the first that has
-      IsOn-found : (q1 q2 : List Handle) (q : Handle) → goes_on stops under n.t ≡ true → on.rest ≡ [] → on.queue ≡ q1 ++ q ∷ q2 → All (λ p. goes_on stops own p ≡ false) q1 → goes_on stops own q ≡ true → IsOn front rows mid ts start end from (swapped no_handle (used + length q1) place handles) cursor (used + length q1 + 1) (made + 1) (place + 1)
-      IsOn-found q1 q2 q goes empty split all there =
+      IsOn-found : (q1 q2 : List Handle) (q : Handle) → goes_on stops under n.t ≡ true → goes_on stops own n.t ≡ true → on.rest ≡ [] → on.queue ≡ q1 ++ q ∷ q2 → All (λ p. goes_on stops own p ≡ false) q1 → goes_on stops own q ≡ true → IsOn front rows mid ts start end from (swapped no_handle (used + length q1) place handles) cursor (used + length q1 + 1) (made + 1) (going + 1) (place + 1)
+      IsOn-found q1 q2 q goes leaves empty split all there =
           let r : Round Handle = record { done = (on.done ++ q1) ++ n.t ∷ []; queue = q2 ++ q ∷ []; made = 1 } in
           let once : round stops own n.t on.done on.queue ≡ r = ap (round stops own n.t on.done) split ∙ round-one stops own n.t on.done q1 q q2 all there in
           let step = swept-one r goes empty once in
@@ -297,11 +356,12 @@ module _ (cells : List (Cell Row)) (out : List Handle) (low : ℕ) (high : Optio
             place_is = omega (arith, on.place_is, size);
             long = omega (arith, shorter, kept);
             few = omega (arith, on.few, size);
+            counted = omega (arith, on.counted, counts-one n.t leaves, counts-one q there, leaving-both on.done on.queue, ap (leaving cells out high) split, leaving-both q1 (q ∷ q2), leaving-first q q2, leaving-both r.done r.queue, leaving-push (on.done ++ q1) n.t, leaving-both on.done q1, leaving-push q2 q);
             sweep_is = so_far ∙ ap (with_more made) step ∙ more-both made 1 (swept stops under own n.todo on.placed on.rest r.done r.queue);
           }
 
-      pub IsOn-round : (next more : ℕ) → goes_on stops under n.t ≡ true → end ≤ cursor → used ≤ next → next ≤ place → ((k : ℕ) → used ≤ k → k < next → goes_on stops own (get_or handles k no_handle) ≡ false) → (next < place → goes_on stops own (get_or handles next no_handle) ≡ true) → (next < place → more ≡ 1) → (place ≤ next → more ≡ 0) → IsOn front rows mid ts start end from (swapped no_handle next place handles) cursor (next + 1) (made + more) (place + 1)
-      IsOn-round next more goes none low_next high_next off there one zero_more =
+      pub IsOn-round : (next more : ℕ) → goes_on stops under n.t ≡ true → goes_on stops own n.t ≡ true → end ≤ cursor → used ≤ next → next ≤ place → ((k : ℕ) → used ≤ k → k < next → goes_on stops own (get_or handles k no_handle) ≡ false) → (next < place → goes_on stops own (get_or handles next no_handle) ≡ true) → (next < place → more ≡ 1) → (place ≤ next → more ≡ 0) → IsOn front rows mid ts start end from (swapped no_handle next place handles) cursor (next + 1) (made + more) (going + 1) (place + 1)
+      IsOn-round next more goes leaves none low_next high_next off there one zero_more =
           let empty : on.rest ≡ [] = nothing on.rest (omega (arith, on.rest_is, none)) in
           elim (cases_lt next place) [
             | inr over ↦
@@ -309,7 +369,7 @@ module _ (cells : List (Cell Row)) (out : List Handle) (low : ℕ) (high : Optio
                 let no_more : made + more ≡ made = omega (arith, zero_more over) in
                 let all : All (λ q. goes_on stops own q ≡ false) on.queue = λ k d l.
                 rw (queue-at k d l) at (off (used + k) (omega arith) (omega (arith, l, on.used_is, on.place_is, over))) in
-                rw (same, no_more, swapped-same no_handle handles place) (IsOn-last goes empty all)
+                rw (same, no_more, swapped-same no_handle handles place) (IsOn-last goes leaves empty all)
             | inl some ↦
                 let i : ℕ = next - used in
                 let back : used + i ≡ next = omega (arith, low_next) in
@@ -324,7 +384,7 @@ module _ (cells : List (Cell Row)) (out : List Handle) (low : ℕ) (high : Optio
                 let on_q : goes_on stops own q ≡ true = rw (queue-at i no_handle within) at (rw (← back) at (there some)) in
                 let added : made + 1 ≡ made + more = omega (arith, one some) in
                 let at : used + length q1 ≡ next = omega (arith, cut.1, back) in
-                rw (at, added) at (IsOn-found q1 (drop (i + 1) on.queue) q goes empty (sym cut.0) few1 on_q)
+                rw (at, added) at (IsOn-found q1 (drop (i + 1) on.queue) q goes leaves empty (sym cut.0) few1 on_q)
           ]
         where
           nothing : (zs : List Handle) → length zs ≡ 0 → zs ≡ []

@@ -25,9 +25,13 @@ up_to cells out (Some bound) = is_lower (key_at cells) (ends_in out) bound.0
 abbrev pub sweep_of : List (Cell Row) → List Handle → ℕ → Option InnerBound → List Handle → List Handle → Swept Handle
 sweep_of cells out low high ts rows = swept_by (key_at cells) (ends_in out) low (up_to cells out high) ts rows
 
--- how many of them go on from it
+-- how many of them turn it
 abbrev pub going_on : List (Cell Row) → List Handle → ℕ → List Handle → ℕ
 going_on cells out low ts = count_by (goes_on (ends_in out) (is_lower (key_at cells) (ends_in out) low)) ts
+
+-- how many of them go on from a piece that ends at this bound
+abbrev pub leaving : List (Cell Row) → List Handle → Option InnerBound → List Handle → ℕ
+leaving cells out high ts = count_by (goes_on (ends_in out) (up_to cells out high)) ts
 
 -- the rows from `from` on went by the piece from `start` up to `end`, of whose rows so many made way; all else is as it was
 pub record Sweeps (cells : List (Cell Row)) (out : List Handle) (low : ℕ) (high : Option InnerBound) (start end from : ℕ) (handles handles' : List Handle) (made : ℕ) : Type 0 where

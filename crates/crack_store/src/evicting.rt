@@ -17,21 +17,15 @@ ghost use Rattle.crack_store.specs.Sieves.{IsReady};
 use crate::Store;
 use crate::inside::Inside;
 use crate::points::row_at;
-use crate::sifting::{Sieve, count_in};
+use crate::sifting::{FEWEST, MANY_PENDING, Sieve, count_in};
 use crack_arena::{Arena, Handle};
 use crack_column::{CrackerColumn, Remembered};
 use crack_index::{CrackerIndex, Mark, Placer, Raiser};
 use crack_pending::PendingIn;
 use crack_row::{Bound, KeyNumber, KeyRange, Row};
 
-/// The fewest rows that are carried in bulk.
-const FEWEST: usize = 2;
-
 /// So many bounds are walked over in the time in which one row is carried by itself.
 const BOUNDS_A_ROW: usize = 8;
-
-/// More pending insertions than these are many: those of a range are counted as they are taken, if few bounds stand.
-const MANY_PENDING: usize = 4096;
 
 /// So many pending insertions are passed in the time in which one bound is walked over.
 const ROWS_A_BOUND: usize = 256;

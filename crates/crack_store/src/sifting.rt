@@ -22,7 +22,7 @@ use crack_pending::PendingIn;
 use crack_row::{KeyRange, Row};
 
 /// The fewest rows that are carried in bulk: for one row the walk over all bounds isn't worth it.
-const FEWEST: usize = 2;
+pub(crate) const FEWEST: usize = 2;
 
 /// More bounds than these are many: the walk over them isn't worth it for fewer than `FEWEST_OVER_MANY` rows.
 const MANY_BOUNDS: usize = 64;
@@ -31,7 +31,7 @@ const MANY_BOUNDS: usize = 64;
 const FEWEST_OVER_MANY: usize = 8;
 
 /// More pending insertions than these are many: those of a range are counted as they are taken.
-const MANY_PENDING: usize = 4096;
+pub(crate) const MANY_PENDING: usize = 4096;
 
 /// The most doomed rows that are looked for: of more, one is likely to be in the way.
 const MOST_DOOMED: usize = 64;

@@ -1,7 +1,7 @@
 //! Carries in bulk that meet doomed rows: the rows that come in stand after the column's last one, and turn its pieces
 //! from the lowest up. Each that turns a piece changes places with the row that it turns.
 ghost use Rattle.std.specs.Prelude.{◌≡◌, ◌+◌, ◌-◌, ◌<◌, ◌≤◌, ◌++◌, ◌↔◌, ℕ, not, true, false, [], Some, None, map};
-ghost use Rattle.std.specs.Prelude.{length, take, drop, filter, vec_capacity, slice_index_or, IsTrue, IsFalse};
+ghost use Rattle.std.specs.Prelude.{length, take, drop, filter, vec_capacity, slice_index_or, IsTrue, IsFalse, IfSome};
 ghost use Rattle.crack_arena.specs.Arena.{no_handle};
 ghost use Rattle.crack_arena.specs.Rows.{key_at, keys_at};
 ghost use Rattle.crack_bulk.specs.Carried.{carried_in_bulk, inside_of};
@@ -14,7 +14,7 @@ ghost use Rattle.crack_state.specs.State.{live_rows};
 ghost use Rattle.crack_state.specs.Steps.{SameButRoom};
 ghost use Rattle.crack_store.specs.Inside.{lists_of};
 ghost use Rattle.crack_store.specs.Keeps.{KeepsIntact};
-ghost use Rattle.crack_store.specs.Sweepings.{ends_in, up_to, going_on, IsReady, IsSweptTo, Sweeps};
+ghost use Rattle.crack_store.specs.Sweepings.{ends_in, up_to, going_on, leaving, IsReady, IsSweptTo, Sweeps};
 
 use crate::draining::{bury_all, shorten};
 use crate::inside::Inside;
@@ -130,7 +130,7 @@ fn sweep_last(sweep: &mut Sweep)
     requires { IsReady sweep.old }
     ensures { IsSweptTo sweep.old sweep.new }
 {
-    let made = sweep_turned(
+    let (made, _) = sweep_turned(
         &mut sweep.column,
         sweep.count,
         (sweep.low, None),
@@ -212,7 +212,7 @@ impl<'a> Placer for Sweep<'a> {
             self.count = 0;
             return position;
         }
-        let made = sweep_turned(
+        let (made, going) = sweep_turned(
             &mut self.column,
             self.count,
             (self.low, Some(bound)),
@@ -224,8 +224,8 @@ impl<'a> Placer for Sweep<'a> {
         self.moved = self.moved.saturating_add(made as u64);
         self.low = bound.number();
         self.start = position;
-        self.count = count_going(&self.column, self.from, bound, self.pending_out, self.arena);
-        position + self.count
+        self.count = going;
+        position + going
     }
 }
 
@@ -245,27 +245,31 @@ fn sweep_turned(
     from: usize,
     pending_out: &PendingOut,
     arena: &Arena<Row>,
-) -> usize
+) -> (usize, usize)
     requires counted { count ≡ going_on arena.now.cells pending_out.now.handles bounds.0
         (drop from column.old.handles) }
+    requires keys { IfSome bounds.1 (λ high. bounds.0 ≤ high.0) }
     requires order { places.0 ≤ places.1 }
     requires before { places.1 ≤ from }
     requires within { from ≤ length column.old.handles }
     requires remembers { Remembers arena.now.cells column.old.handles column.old.remembered }
     ensures sweeps { Sweeps arena.now.cells pending_out.now.handles bounds.0 bounds.1 places.0 places.1 from
-        column.old.handles column.new.handles result }
-    ensures few { result ≤ length column.old.handles - from }
+        column.old.handles column.new.handles result.0 }
+    ensures counts { result.1 ≡ leaving arena.now.cells pending_out.now.handles bounds.1 (drop from
+        column.new.handles) }
+    ensures few { result.0 ≤ length column.old.handles - from }
+    ensures small { places.1 + result.1 ≤ usize.MAX }
     ensures remembers { Remembers arena.now.cells column.new.handles column.new.remembered }
     ensures length { length column.new.handles ≡ length column.old.handles }
 {
     if count == 0 {
-        return 0;
+        return (0, count_going(column, from, bounds.1, pending_out, arena));
     }
     sweep_piece(column, bounds, places, from, pending_out, arena)
 }
 
 /// Lets the rows from the place `from` on go by the piece between two bounds, the higher of which may be none, and
-/// between two places. How many of its rows made way.
+/// between two places. How many of its rows made way, and how many of the rows from `from` on go on from it.
 fn sweep_piece(
     column: &mut CrackerColumn,
     bounds: (KeyNumber, Option<InnerBound>),
@@ -273,35 +277,41 @@ fn sweep_piece(
     from: usize,
     pending_out: &PendingOut,
     arena: &Arena<Row>,
-) -> usize
+) -> (usize, usize)
+    requires keys { IfSome bounds.1 (λ high. bounds.0 ≤ high.0) }
     requires order { places.0 ≤ places.1 }
     requires before { places.1 ≤ from }
     requires within { from ≤ length column.old.handles }
     requires remembers { Remembers arena.now.cells column.old.handles column.old.remembered }
     ensures sweeps { Sweeps arena.now.cells pending_out.now.handles bounds.0 bounds.1 places.0 places.1 from
-        column.old.handles column.new.handles result }
-    ensures few { result ≤ length column.old.handles - from }
+        column.old.handles column.new.handles result.0 }
+    ensures counts { result.1 ≡ leaving arena.now.cells pending_out.now.handles bounds.1 (drop from
+        column.new.handles) }
+    ensures few { result.0 ≤ length column.old.handles - from }
+    ensures small { places.1 + result.1 ≤ usize.MAX }
     ensures remembers { Remembers arena.now.cells column.new.handles column.new.remembered }
     ensures length { length column.new.handles ≡ length column.old.handles }
 {
     let (low, high) = bounds;
     let (mut front, end) = places;
-    let (mut used, mut made) = (from, 0);
+    let (mut used, mut made, mut going) = (from, 0, 0);
     'rows: for place in from..column.len() {
-        if turns(column, place, low, pending_out, arena) {
-            if front < end {
-                column.swap(front, place);
-                front += 1;
-                made += 1;
-            } else {
-                used = next_going(column, used, place, high, pending_out, arena);
-                column.swap(used, place);
-                made += (used < place) as usize;
-                used += 1;
-            }
+        if !turns(column, place, low, pending_out, arena) {
+            going += leaves(column, place, high, pending_out, arena) as usize;
+        } else if front < end {
+            column.swap(front, place);
+            going += leaves(column, place, high, pending_out, arena) as usize;
+            front += 1;
+            made += 1;
+        } else {
+            used = next_going(column, used, place, high, pending_out, arena);
+            column.swap(used, place);
+            going += 1;
+            made += (used < place) as usize;
+            used += 1;
         }
     }
-    made
+    (made, going)
 }
 
 /// The first place from `used` on up to `place` whose row goes on from a piece that ends at this bound.
@@ -335,23 +345,23 @@ fn next_going(
     next
 }
 
-/// How many of the rows from the place `from` on go on from the piece below a bound.
+/// How many of the rows from the place `from` on go on from a piece that ends at this bound.
 fn count_going(
     column: &CrackerColumn,
     from: usize,
-    bound: InnerBound,
+    high: Option<InnerBound>,
     pending_out: &PendingOut,
     arena: &Arena<Row>,
 ) -> usize
     requires within { from ≤ length column.now.handles }
     requires remembers { Remembers arena.now.cells column.now.handles column.now.remembered }
-    ensures counts { result ≡ going_on arena.now.cells pending_out.now.handles bound.0 (drop from column.now.handles) }
+    ensures counts { result ≡ leaving arena.now.cells pending_out.now.handles high (drop from column.now.handles) }
     ensures few { result ≤ length column.now.handles - from }
     ensures small { from + result ≤ usize.MAX }
 {
     let mut count = 0;
     'rows: for place in from..column.len() {
-        count += turns(column, place, bound.number(), pending_out, arena) as usize;
+        count += leaves(column, place, high, pending_out, arena) as usize;
     }
     count
 }

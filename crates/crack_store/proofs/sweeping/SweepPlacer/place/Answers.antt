@@ -35,14 +35,14 @@ returns-clause-ready c = record {
   order = omega (arith, c.if-self-position.false);
   within = omega (arith, c.sweep_turned-made.ensures.length, c.requires.within);
   remembers = c.sweep_turned-made.ensures.remembers;
-  counted = c.count_going-self.ensures.counts ∙ rw c.number-self-2.ensures refl;
+  counted = c.sweep_turned-made.ensures.counts ∙ rw c.number-self-2.ensures refl;
   above = λ below. absurd (true≢false (sym (c.is_up_to.ensures.1 (omega (arith, below, c.number-self-2.ensures))) ∙ c.if-is_up_to.false));
   small = omega (arith, c.saturating_add-self.ensures);
 }
 
 pub returns-clause-places : goal.returns-clause-places
 returns-clause-places c = λ low high order. record {
-  made = c.sweep_turned-made.result;
+  made = c.sweep_turned-made.result.0;
   sweeps = c.sweep_turned-made.ensures.sweeps;
   place_is = refl;
   low_is = c.number-self-2.ensures;
