@@ -446,7 +446,7 @@ workers answer fewer statements in the same time: those that share a partition w
 
 {worker_table(measured.workers)}
 
-Except for an audit, a server's workers are those of a table that witnesses its replies: they keep no receipts, and are gathered by counts.
+A server's workers are those of a table that witnesses its replies: they are gathered by counts, and keep receipts only for an audit.
 
 {witnessed_table(measured.witnessed)}
 """

@@ -140,18 +140,33 @@ impl Book {
         let position = partition.accepted();
         let kept = command;
         let (reply, copy) = partition.apply(self.worker, command, policy)?;
+        self.keep(part, position, kept, copy);
+        Ok(reply)
+    }
+
+    /// Adds the receipt of a reply that partition `part` gave the worker, for which there is room: O(1), and no memory.
+    pub fn keep(&mut self, part: u32, position: u64, command: Command, reply: Reply)
+        requires room { 0 < self.old.room }
+        ensures receipt { self.new.receipts ≡ self.old.receipts ++ record {
+          part = part;
+          position = position;
+          worker = self.old.worker;
+          command = command;
+          reply = reply;
+        } ∷ [] }
+        ensures worker { self.new.worker ≡ self.old.worker }
+    {
+        self.accepted += 1;
+        self.inserted += u64::from(is_placed(&reply));
+        self.deleted += u64::from(is_gone(&reply));
         let receipt = Receipt {
             part,
             position,
             worker: self.worker,
-            command: kept,
-            reply: copy,
+            command,
+            reply,
         };
         self.receipts.push_reserved(receipt);
-        self.accepted += 1;
-        self.inserted += u64::from(is_placed(&reply));
-        self.deleted += u64::from(is_gone(&reply));
-        Ok(reply)
     }
 }
 

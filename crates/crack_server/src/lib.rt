@@ -1,6 +1,7 @@
 //! Workers of a table, each on a thread of its own: over the lines of a batch, and over TCP.
 #![tactic(auto)]
 
+pub mod audited;
 pub mod batch;
 pub mod host;
 mod input;
@@ -10,6 +11,7 @@ pub mod tickets;
 mod totals;
 pub mod witnessed;
 
+pub use audited::run_audited_service;
 pub use batch::run_batch;
 pub use host::{Alone, Host, Notice};
 pub use server::{Terms, run_server, run_service};

@@ -1,9 +1,10 @@
 //! The end of a run: its workers are gathered, and its totals written.
+use crack_core::Book;
 use crack_row::Refusal;
 use crack_table::{Closed, Table, Worker, gather};
 use crack_witness::{Asker, Naming};
-use crack_witness_table::{Gathered, WitnessedTable};
-use std::alloc::Global;
+use crack_witness_table::{AuditedAsker, Gathered, WitnessedTable, audit};
+use std::alloc::{AllocError, Global};
 use std::io::Write;
 
 /// The totals of a table and its workers.
@@ -49,23 +50,50 @@ pub(crate) fn witnessed_totals_of<J: Naming>(
     askers: Vec<Asker<J>>,
 ) -> Result<Totals, Refusal> {
     match crack_witness_table::gather(alloc, table, askers) {
-        Ok(gathered) => {
-            let Gathered {
-                accepted,
-                inserted,
-                deleted,
-                held,
-                parts,
-            } = gathered;
-            drop(parts);
-            Ok(Totals {
-                accepted,
-                inserted,
-                deleted,
-                held,
-            })
-        }
+        Ok(gathered) => Ok(totals_in(&gathered)),
         Err(refused) => Err(refused.refusal),
+    }
+}
+
+/// Gathers the workers of a table that witnesses its replies, and compares their receipts with its histories. Refused
+/// as its `gather` is, and then as `audit` is.
+pub(crate) fn audited_totals_of<J: Naming>(
+    alloc: Global,
+    table: WitnessedTable<J>,
+    workers: Vec<AuditedAsker<J>>,
+) -> Result<Totals, Refusal> {
+    let (askers, books) = parted(alloc, workers)?;
+    match crack_witness_table::gather(alloc, table, askers) {
+        Ok(gathered) => match audit(alloc, &gathered.parts, &books) {
+            Ok(()) => Ok(totals_in(&gathered)),
+            Err(refusal) => Err(refusal),
+        },
+        Err(refused) => Err(refused.refusal),
+    }
+}
+
+/// Workers, and their books.
+fn parted<J: Naming>(
+    alloc: Global,
+    workers: Vec<AuditedAsker<J>>,
+) -> Result<(Vec<Asker<J>>, Vec<Book>), AllocError> {
+    let mut askers = Vec::with_capacity(alloc, workers.len())?;
+    let mut books = Vec::with_capacity(alloc, workers.len())?;
+    'workers: for worker in workers {
+        let (asker, book) = worker.into_parts();
+        askers.push(asker)?;
+        books.push(book)?;
+    }
+    Ok((askers, books))
+}
+
+/// The totals of gathered workers.
+fn totals_in<J: Naming>(gathered: &Gathered<J>) -> Totals {
+    Totals {
+        accepted: gathered.accepted,
+        inserted: gathered.inserted,
+        deleted: gathered.deleted,
+        held: gathered.held,
     }
 }
 

@@ -22,7 +22,7 @@ table-sync = let i = inside-sync in search (sendable, crosses) depth 30
 receipt-send : IsSend Receipt.the_field.row
 receipt-send = struct_send (shape Receipt.the_type) (search sendable depth 30, (search sendable depth 30, (search sendable depth 30, (command-send, (reply-send, tt)))))
 
-book-send : IsSend Book.the_row
+pub book-send : IsSend Book.the_row
 book-send = let r = receipt-send in search (sendable, crosses) depth 30
 
 pub worker-send : IsSend Worker.the_row

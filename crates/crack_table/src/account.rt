@@ -104,7 +104,7 @@ fn kept_in<'a>(alloc: Global, parts: &'a Vec<Partition>) -> Result<Vec<Kept<'a>>
 }
 
 /// What a partition keeps of its past.
-fn kept_of(part: &Partition) -> Kept<'_>
+pub fn kept_of(part: &Partition) -> Kept<'_>
     ensures { told result ≡ kept_of part.now.past }
 {
     Kept {

@@ -117,7 +117,7 @@ pub fn note_folded<G: Gate>(gate: &G, part: u32, folded: u64) {
 
 /// The outcome of asking, with the table's limit if it reports a full history: a lock says nothing of its partition's
 /// own.
-pub fn with_table_limit(answered: Result<Reply, Refusal>, limit: u64) -> Result<Reply, Refusal>
+fn with_table_limit(answered: Result<Reply, Refusal>, limit: u64) -> Result<Reply, Refusal>
     ensures { MatchResult answered (λ reply. result ≡ Ok reply) (λ e. result ≡ Err (with_limit limit e)) }
 {
     match answered {
@@ -127,7 +127,7 @@ pub fn with_table_limit(answered: Result<Reply, Refusal>, limit: u64) -> Result<
 }
 
 /// A refusal with the table's limit if it reports a full history: a lock says nothing of its partition's own.
-fn with_limit(refusal: Refusal, limit: u64) -> Refusal
+pub fn with_limit(refusal: Refusal, limit: u64) -> Refusal
     ensures { result ≡ with_limit limit refusal }
 {
     match refusal {

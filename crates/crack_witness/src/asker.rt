@@ -96,33 +96,35 @@ impl<J: Naming> Asker<J> {
         &self.front
     }
 
-    /// Asks a partition, whose number is to be `part`: O(1) beyond `Partition::apply`, and no memory. Refused with 5
-    /// if the worker knows of no such partition; with 16, with the number and the count of its replies there, if
-    /// the partition has another number, or its history another number of the worker's entries; then as
-    /// `Partition::apply` is. After each refusal nothing was seen or written.
+    /// Asks a partition, whose number is to be `part`: O(1) beyond `Partition::apply`, and no memory. The reply comes
+    /// with the copy for a receipt that `Partition::apply` makes. Refused with 5 if the worker knows of no such
+    /// partition; with 16, with the number and the count of its replies there, if the partition has another number, or
+    /// its history another number of the worker's entries; then as `Partition::apply` is. After each refusal nothing
+    /// was seen or written.
     pub fn ask(
         &mut self,
         witnessed: &mut Witnessed<J>,
         part: u32,
         command: Command,
         policy: Policy,
-    ) -> Result<Reply, Refusal>
-        ensures reply { IfOk result (λ reply. reply ≡ reply_to (state_of witnessed.old.held) command) }
-        ensures small { IfOk result IsSmall }
-        ensures given { IfOk result (λ reply. IsGiven J.owner part (record {
+    ) -> Result<(Reply, Reply), Refusal>
+        ensures replies { IfOk result (λ replies. (replies.0 ≡ reply_to (state_of witnessed.old.held) command) ×
+            (replies.1 ≡ replies.0)) }
+        ensures small { IfOk result (λ replies. IsSmall replies.0) }
+        ensures given { IfOk result (λ replies. IsGiven J.owner part (record {
           worker = self.old.worker;
           command = command;
-          reply = reply;
+          reply = replies.0;
         }) self.old.seen self.new.seen) }
-        ensures mine { IfOk result (λ reply. calls_at J.owner part self.old.worker self.new.seen ≡
+        ensures mine { IfOk result (λ replies. calls_at J.owner part self.old.worker self.new.seen ≡
             calls_at J.owner part self.old.worker (slice_index_or self.old.fronts part []) ++
-            record { worker = self.old.worker; command = command; reply = reply } ∷ []) }
-        ensures replies { OnOk result (replies_to self.new ≡ replies_to self.old + 1) }
+            record { worker = self.old.worker; command = command; reply = replies.0 } ∷ []) }
+        ensures count { OnOk result (replies_to self.new ≡ replies_to self.old + 1) }
         ensures fronts { OnOk result (self.new.fronts ≡ slice_set self.old.fronts part self.new.seen) }
         ensures legal { OnOk result (AreHistories self.new.seen) }
         ensures whole { OnOk result ((witnessed.old.part ≡ part) × (self.new.seen ≡ witnessed.new.log)) }
-        ensures kept { IfOk result (λ reply. witnessed.new.held.past ≡ with_entry (upkept witnessed.old.held.limits
-            witnessed.old.held.past) (record { worker = self.old.worker; command = command; reply = reply })) }
+        ensures kept { IfOk result (λ replies. witnessed.new.held.past ≡ with_entry (upkept witnessed.old.held.limits
+            witnessed.old.held.past) (record { worker = self.old.worker; command = command; reply = replies.0 })) }
         ensures opened { (witnessed.new.held.keys ≡ witnessed.old.held.keys) × (witnessed.new.held.limits ≡
             witnessed.old.held.limits) × (witnessed.new.part ≡ witnessed.old.part) }
         ensures seen { IsPrefix self.old.seen self.new.seen × IsPrefix witnessed.old.log witnessed.new.log }
@@ -143,10 +145,10 @@ impl<J: Naming> Asker<J> {
                 position: count,
             });
         }
-        let reply = witnessed.ask(&mut self.front, self.number, count, command, policy)?;
+        let (reply, copy) = witnessed.ask(&mut self.front, self.number, count, command, policy)?;
         self.counts[part as usize] = count + 1;
         self.fronts[part as usize] = self.front.again();
-        Ok(reply)
+        Ok((reply, copy))
     }
 
     /// Whether a partition's history has exactly the entries of this worker that it was given replies for. What the

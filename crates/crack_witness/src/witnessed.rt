@@ -111,9 +111,10 @@ impl<J: Naming> Witnessed<J> {
     }
 
     /// Answers a command of a worker that has been given `count` replies by this partition before, and writes it into
-    /// the history: O(1) beyond `Partition::apply`, and no memory. Refused with 16, with the partition's number and
-    /// that count, if the history doesn't have exactly as many entries of the worker, or the worker isn't one of
-    /// the table's; then nothing has changed. Otherwise refused as `Partition::apply` is, and nothing is written.
+    /// the history: O(1) beyond `Partition::apply`, and no memory. The reply comes with the copy for a receipt that
+    /// `Partition::apply` makes. Refused with 16, with the partition's number and that count, if the history doesn't
+    /// have exactly as many entries of the worker, or the worker isn't one of the table's; then nothing has changed.
+    /// Otherwise refused as `Partition::apply` is, and nothing is written.
     pub fn ask(
         &mut self,
         me: &mut Front<J>,
@@ -121,17 +122,18 @@ impl<J: Naming> Witnessed<J> {
         count: u64,
         command: Command,
         policy: Policy,
-    ) -> Result<Reply, Refusal>
-        ensures reply { IfOk result (λ reply. reply ≡ reply_to (state_of self.old.held) command) }
-        ensures small { IfOk result IsSmall }
-        ensures written { IfOk result (λ reply. history_of (J.owner self.old.part) self.new.log ≡
+    ) -> Result<(Reply, Reply), Refusal>
+        ensures replies { IfOk result (λ replies. (replies.0 ≡ reply_to (state_of self.old.held) command) ×
+            (replies.1 ≡ replies.0)) }
+        ensures small { IfOk result (λ replies. IsSmall replies.0) }
+        ensures written { IfOk result (λ replies. history_of (J.owner self.old.part) self.new.log ≡
             history_of (J.owner self.old.part) self.old.log ++ record {
               worker = worker;
               command = command;
-              reply = reply;
+              reply = replies.0;
             } ∷ []) }
-        ensures kept { IfOk result (λ reply. self.new.held.past ≡ with_entry (upkept self.old.held.limits
-            self.old.held.past) (record { worker = worker; command = command; reply = reply })) }
+        ensures kept { IfOk result (λ replies. self.new.held.past ≡ with_entry (upkept self.old.held.limits
+            self.old.held.past) (record { worker = worker; command = command; reply = replies.0 })) }
         ensures store { OnOk result (Serves policy self.old.held command self.new.held.store) }
         ensures opened { (self.new.held.keys ≡ self.old.held.keys) × (self.new.held.limits ≡ self.old.held.limits) }
         ensures part { (self.new.part ≡ self.old.part) × (self.new.workers ≡ self.old.workers) }
@@ -163,10 +165,10 @@ impl<J: Naming> Witnessed<J> {
             });
         }
         let asked = command;
-        let (reply, _copy) = self.partition.apply(worker, command, policy)?;
+        let (reply, copy) = self.partition.apply(worker, command, policy)?;
         self.scribe.write(me, worker, &asked, &reply);
         self.answered[worker as usize] = count + 1;
-        Ok(reply)
+        Ok((reply, copy))
     }
 
     /// Makes a checkpoint of the partition as `Partition::checkpoint` does, with its refusal; the history stays whole.

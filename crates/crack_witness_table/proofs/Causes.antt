@@ -2,7 +2,6 @@
 use Rattle.std.specs.Prelude.{◌≡◌, ℕ, Result, Ok, Err, IfErr, MatchResult}
 use Rattle.std.proofs.Common.{refl, inl, inr}
 use Rattle.crack_row.specs.declared.command.Command.{Command}
-use Rattle.crack_row.specs.declared.command.Reply.{Reply}
 use Rattle.crack_row.specs.declared.refusal.Refusal.{Refusal}
 use Rattle.crack_witness.specs.Witnesses.{AskerState, WitnessedState, MayRefuseAt}
 use Rattle.crack_table.specs.Tables.{TableState, with_limit}
@@ -21,6 +20,6 @@ at-table owner table may_refuse part w command old e cause = elim cause [
   ]
 ]
 
-pub causes-witnessed : (owner : ℕ → ℕ) (table : TableState) (may_refuse : ℕ → Type 0) (part : ℕ) (w : WitnessedState) (command : Command) (old : AskerState) (a r : Result Reply Refusal) → IfErr a (MayRefuseAt owner w part command old) → MatchResult a (λ reply. r ≡ Ok reply) (λ e. r ≡ Err (with_limit table.limits.history e)) → IfErr r (MayRefuseAsker table may_refuse part command old)
-causes-witnessed owner table may_refuse part w command old (Ok reply) r cause told = rw told tt
+pub causes-witnessed : {X : Type 0} (owner : ℕ → ℕ) (table : TableState) (may_refuse : ℕ → Type 0) (part : ℕ) (w : WitnessedState) (command : Command) (old : AskerState) (a r : Result X Refusal) → IfErr a (MayRefuseAt owner w part command old) → MatchResult a (λ x. r ≡ Ok x) (λ e. r ≡ Err (with_limit table.limits.history e)) → IfErr r (MayRefuseAsker table may_refuse part command old)
+causes-witnessed owner table may_refuse part w command old (Ok x) r cause told = rw told tt
 causes-witnessed owner table may_refuse part w command old (Err e) r cause told = rw told (at-table owner table may_refuse part w command old e cause)

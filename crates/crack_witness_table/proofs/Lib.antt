@@ -1,4 +1,5 @@
 mod Causes
 mod Hiring
 mod Partitions
+mod Placing
 pub mod Crosses

@@ -1,4 +1,5 @@
 pub mod Opening
 pub mod Asking
+pub mod Audit
 pub mod Gather
 pub mod Keeps

@@ -1,21 +1,23 @@
 //! A command after its gate, under a held lock.
 ghost use Rattle.std.specs.Prelude.{◌≡◌, ◌⊎◌, ℕ, ◌+◌, ◌<◌, ◌≤◌, [], ◌∷◌, ◌++◌, length, Err, IfOk, IfErr, OnErr, OnOk};
-ghost use Rattle.std.specs.Prelude.{slice_index_or, slice_set};
+ghost use Rattle.std.specs.Prelude.{Ok, MatchResult, slice_index_or, slice_set};
 ghost use mathlib.Core.List.{IsPrefix};
 ghost use Rattle.crack_plain.specs.Past.{with_entry};
 ghost use Rattle.crack_plain.specs.Plain.{IsSmall, reply_to};
 ghost use Rattle.crack_part.specs.Parts.{state_of};
 ghost use Rattle.crack_part.specs.Upkeep.{upkept};
+ghost use Rattle.crack_table.specs.Tables.{with_limit};
 ghost use Rattle.crack_witness.specs.Histories.{calls_at, AreHistories};
 ghost use Rattle.crack_witness.specs.Witnesses.{IsGiven, Knows, MayRefuseAt, replies_at, replies_to};
 
 use crack_row::{Command, Policy, Refusal, Reply};
 use crack_table::Gate;
 use crack_table::gate::pass;
+use crack_table::worker::with_limit;
 use crack_witness::{Asker, Naming, Witnessed};
 
 /// Asks the gate until it consents, and then the partition, which is to have number `part`, for the worker. The
-/// partition stays borrowed from the gate's first turn to the reply, so its lock can't be released in between. What
+/// partition stays borrowed from the gate's first turn to the reply, so its lock can't be released in between. The
 /// outcome of asking the partition, which may be a refusal, is the value, and `folded` is set to how many entries the
 /// history had at a checkpoint that was due. Refused with 7 if the gate refuses at each turn: then worker and partition
 /// are as they were.
@@ -27,30 +29,30 @@ pub(crate) fn ask_behind<J: Naming, G: Gate>(
     command: Command,
     policy: Policy,
     folded: &mut u64,
-) -> Result<Result<Reply, Refusal>, Refusal>
+) -> Result<Result<(Reply, Reply), Refusal>, Refusal>
     ensures cause { IfErr result (λ e. e ≡ Refusal.GateGaveUp) }
     ensures turns { OnErr result ((turn : ℕ) → turn < 1000 → G.may_refuse gate.now part turn) }
     ensures kept_out { OnErr result ((asker.new ≡ asker.old) × (witnessed.new ≡ witnessed.old)) }
 
-    ensures reply { IfOk result (λ answered. IfOk answered (λ reply. reply ≡
-        reply_to (state_of witnessed.old.held) command)) }
-    ensures small { IfOk result (λ answered. IfOk answered IsSmall) }
-    ensures given { IfOk result (λ answered. IfOk answered (λ reply. IsGiven J.owner part
-        (record { worker = asker.old.worker; command = command; reply = reply }) asker.old.seen asker.new.seen)) }
-    ensures mine { IfOk result (λ answered. IfOk answered (λ reply. calls_at J.owner part asker.old.worker
+    ensures replies { IfOk result (λ answered. IfOk answered (λ replies. (replies.0 ≡
+        reply_to (state_of witnessed.old.held) command) × (replies.1 ≡ replies.0))) }
+    ensures small { IfOk result (λ answered. IfOk answered (λ replies. IsSmall replies.0)) }
+    ensures given { IfOk result (λ answered. IfOk answered (λ replies. IsGiven J.owner part
+        (record { worker = asker.old.worker; command = command; reply = replies.0 }) asker.old.seen asker.new.seen)) }
+    ensures mine { IfOk result (λ answered. IfOk answered (λ replies. calls_at J.owner part asker.old.worker
         asker.new.seen ≡ calls_at J.owner part asker.old.worker (slice_index_or asker.old.fronts part []) ++
-        record { worker = asker.old.worker; command = command; reply = reply } ∷ [])) }
-    ensures replies { IfOk result (λ answered. OnOk answered (replies_to asker.new ≡ replies_to asker.old + 1)) }
+        record { worker = asker.old.worker; command = command; reply = replies.0 } ∷ [])) }
+    ensures count { IfOk result (λ answered. OnOk answered (replies_to asker.new ≡ replies_to asker.old + 1)) }
     ensures fronts { IfOk result (λ answered. OnOk answered (asker.new.fronts ≡ slice_set asker.old.fronts part
         asker.new.seen)) }
     ensures legal { IfOk result (λ answered. OnOk answered (AreHistories asker.new.seen)) }
     ensures whole { IfOk result (λ answered. OnOk answered ((witnessed.old.part ≡ part) ×
         (asker.new.seen ≡ witnessed.new.log))) }
-    ensures kept { IfOk result (λ answered. IfOk answered (λ reply. witnessed.new.held.past ≡
+    ensures kept { IfOk result (λ answered. IfOk answered (λ replies. witnessed.new.held.past ≡
         with_entry (upkept witnessed.old.held.limits witnessed.old.held.past) (record {
           worker = asker.old.worker;
           command = command;
-          reply = reply;
+          reply = replies.0;
         }))) }
     ensures folds { OnOk result (witnessed.new.held.past.base.folded ≡ witnessed.old.held.past.base.folded
         + folded.new) }
@@ -72,4 +74,18 @@ pub(crate) fn ask_behind<J: Naming, G: Gate>(
     let answered = asker.ask(witnessed, part, command, policy);
     *folded = witnessed.partition().folded() - before;
     Ok(answered)
+}
+
+/// The outcome of asking, with the table's limit if it reports a full history: a lock says nothing of its partition's
+/// own.
+pub(crate) fn with_table_limit(
+    answered: Result<(Reply, Reply), Refusal>,
+    limit: u64,
+) -> Result<(Reply, Reply), Refusal>
+    ensures { MatchResult answered (λ replies. result ≡ Ok replies) (λ e. result ≡ Err (with_limit limit e)) }
+{
+    match answered {
+        Ok(replies) => Ok(replies),
+        Err(refusal) => Err(with_limit(refusal, limit)),
+    }
 }

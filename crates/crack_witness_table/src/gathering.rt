@@ -157,7 +157,7 @@ fn match_all<J: Naming>(
 }
 
 /// States the invariants of every partition, and does nothing: O(partitions).
-fn facts<J: Naming>(parts: &Vec<Witnessed<J>>)
+pub(crate) fn facts<J: Naming>(parts: &Vec<Witnessed<J>>)
     ensures whole { All (λ (w : WitnessedState). IsWhole J.owner w) parts.now.items }
     ensures sound { All (λ (w : WitnessedState). IsSound w.held) parts.now.items }
 {

@@ -6,10 +6,10 @@ ghost use Rattle.crack_table.specs.Tables.{FoldsAt, LooksAt};
 ghost use Rattle.crack_witness.specs.Witnesses.{AreApart};
 ghost use Rattle.crack_witness_table.specs.Asking.{AsksWitnessed};
 
-use crate::asking::ask_behind;
+use crate::asking::{ask_behind, with_table_limit};
 use crack_row::{Bound, Command, Layout, Limits, Policy, Refusal, Reply};
 use crack_table::Gate;
-use crack_table::worker::{note_folded, with_table_limit};
+use crack_table::worker::note_folded;
 use crack_witness::{Asker, Naming, Witnessed};
 use std::marker::Model;
 use std::sync::{Mutex, Wait};
@@ -102,7 +102,8 @@ impl<J: Naming> WitnessedTable<J> {
         )?;
         drop(witnessed);
         note_folded(gate, part, folded);
-        with_table_limit(answered, self.limits.history)
+        let (reply, _copy) = with_table_limit(answered, self.limits.history)?;
+        Ok(reply)
     }
 
     /// Makes a checkpoint of partition `part`, under its lock, which it may wait for, and returns how many

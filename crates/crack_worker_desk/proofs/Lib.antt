@@ -1,3 +1,4 @@
 mod Receipting
 mod Standing
+mod Lines
 pub mod Holding

@@ -8,6 +8,7 @@ ghost use Rattle.crack_session.specs.Written.{AreWritten, AreWrittenThen};
 ghost use Rattle.crack_witness.specs.Witnesses.{WitnessedState};
 ghost use Rattle.crack_worker_desk.specs.Histories.{IsGathered, AreOfHistories};
 
+use crate::audited::AuditedDesk;
 use crate::witnessed::WitnessedDesk;
 use crack_session::Desk;
 use crack_table::Gate;
@@ -34,6 +35,31 @@ pub fn lines_stand_in_histories<'a, R: Wait, G: Gate, J: Naming>(desk: &Witnesse
         AreWrittenThen (AreAnswersOf ⟦<WitnessedDesk<'a, R, G, J> as Desk>⟧.leads old.table.now.splits policy old new)
         bytes out fault whole →
         AreWrittenThen (AreOfHistories J.owner parts old.asker.worker old.table.now.splits policy) bytes
+        out fault whole }
+{
+    let _desk = desk;
+}
+
+/// States the same of a desk whose worker keeps receipts. Does nothing.
+pub fn audited_lines_stand_in_histories<'a, R: Wait, G: Gate, J: Naming>(
+    desk: &AuditedDesk<'a, R, G, J>,
+)
+    // `old` and `new` are the desk before and after the session, which is what `serve` says of it.
+    ensures written { (old new : _) (later : List Call) (parts : List WitnessedState) (policy : Policy)
+        (readings : List Reading) (out : List ℕ) (short : Option ℕ) (whole : Option (List ℕ)) →
+        Calls ⟦<AuditedDesk<'a, R, G, J> as Desk>⟧.leads new later desk.now → IsGathered J.owner desk.now.table.now
+        parts desk.now.worker.asker →
+        AreWritten (AreAnswersOf ⟦<AuditedDesk<'a, R, G, J> as Desk>⟧.leads old.table.now.splits policy old new)
+        readings out short whole →
+        AreWritten (AreOfHistories J.owner parts old.worker.asker.worker old.table.now.splits policy) readings
+        out short whole }
+    ensures written_in_part { (old new : _) (later : List Call) (parts : List WitnessedState) (policy : Policy)
+        (bytes out : List ℕ) (fault : Fault) (whole : Option (List ℕ)) →
+        Calls ⟦<AuditedDesk<'a, R, G, J> as Desk>⟧.leads new later desk.now → IsGathered J.owner desk.now.table.now
+        parts desk.now.worker.asker →
+        AreWrittenThen (AreAnswersOf ⟦<AuditedDesk<'a, R, G, J> as Desk>⟧.leads old.table.now.splits policy old new)
+        bytes out fault whole →
+        AreWrittenThen (AreOfHistories J.owner parts old.worker.asker.worker old.table.now.splits policy) bytes
         out fault whole }
 {
     let _desk = desk;

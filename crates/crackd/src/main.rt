@@ -8,10 +8,10 @@ use crack_core::Core;
 use crack_csv::{export_csv, load_csv};
 use crack_row::{Policy, Refusal, Upkeep, Watched};
 use crack_server::{
-    Ending, Host, Notice, REPLY_BYTES, Terms, run_batch, run_service, run_witnessed_service,
+    Ending, Host, Notice, REPLY_BYTES, Terms, run_audited_service, run_batch, run_witnessed_service,
 };
 use crack_session::serve;
-use crack_table::{OpenGate, Table};
+use crack_table::OpenGate;
 use crack_witness::Naming;
 use crack_witness_table::UnnamedTable;
 use std::io::{BufWriter, ErrorKind, Write};
@@ -109,22 +109,20 @@ fn batch<H: Threads + Wait + Sync>(
     )
 }
 
-/// Lets workers serve connections to a port. They keep receipts if an audit is asked for.
+/// Lets workers serve connections to a port.
 fn serve_port<H: Threads + Wait + Net<Listener = TcpListener, Stream = TcpStream> + Sync>(
     handle: &H,
     rt: &HostRuntime,
     service: &Service,
 ) -> Result<(), Refusal> {
-    if service.is_audited {
-        return serve_audited(handle, rt, service);
-    }
     let Staffed { opening, workers } = &service.table;
     let splits = opening.splits.as_slice();
     let table = UnnamedTable::open(rt.alloc(), splits, opening.limits, *workers)?;
     serve_named::<Brand, H>(handle, rt, service, table)
 }
 
-/// Lets the workers of a table serve connections, once its book has its name.
+/// Lets the workers of a table serve connections, once its book has its name. They keep receipts if an audit is asked
+/// for.
 fn serve_named<
     J: Naming + Send + Sync,
     H: Threads + Wait + Net<Listener = TcpListener, Stream = TcpStream> + Sync,
@@ -134,14 +132,27 @@ fn serve_named<
     let (table, askers) = table.named::<J>(rt.alloc())?;
     let mut writer = rt.stdout();
     let host = console_of(handle, rt, service);
+    let terms = terms_of(service);
     match listen(&host, &mut writer) {
+        Ok(listener) if service.is_audited => run_audited_service(
+            handle,
+            rt.alloc(),
+            &listener,
+            table,
+            askers,
+            terms,
+            &OpenGate,
+            &host,
+            &mut rt.stdin(),
+            &mut writer,
+        ),
         Ok(listener) => run_witnessed_service(
             handle,
             rt.alloc(),
             &listener,
             table,
             askers,
-            terms_of(service),
+            terms,
             &OpenGate,
             &host,
             &mut rt.stdin(),
@@ -149,42 +160,6 @@ fn serve_named<
         ),
         Err(refusal) => {
             drop(askers);
-            drop(table);
-            Err(refusal)
-        }
-    }
-}
-
-/// Lets workers with books serve connections.
-fn serve_audited<H: Threads + Wait + Net<Listener = TcpListener, Stream = TcpStream> + Sync>(
-    handle: &H,
-    rt: &HostRuntime,
-    service: &Service,
-) -> Result<(), Refusal> {
-    let Staffed { opening, workers } = &service.table;
-    let (table, workers) = Table::open_with(
-        rt.alloc(),
-        opening.splits.as_slice(),
-        opening.limits,
-        *workers,
-    )?;
-    let mut writer = rt.stdout();
-    let host = console_of(handle, rt, service);
-    match listen(&host, &mut writer) {
-        Ok(listener) => run_service(
-            handle,
-            rt.alloc(),
-            &listener,
-            table,
-            workers,
-            terms_of(service),
-            &OpenGate,
-            &host,
-            &mut rt.stdin(),
-            &mut writer,
-        ),
-        Err(refusal) => {
-            drop(workers);
             drop(table);
             Err(refusal)
         }

@@ -1,29 +1,6 @@
-use Rattle.std.proofs.Common.{◌≡◌, ℕ, List, refl, sym, ap, ◌∙◌, subst}
-use Rattle.crack_commands.specs.Grammar.{Reading}
-use Rattle.crack_row.specs.declared.command.Policy.{Policy}
-use Rattle.crack_session.specs.declared.answer.Answer.{Answer}
-use Rattle.crack_session.specs.Calls.{Call, Calls, AreAnswersOf}
-use Rattle.crack_table.specs.Tables.{TableState}
-use Rattle.crack_witness.specs.Witnesses.{AskerState, WitnessedState}
-use Rattle.crack_worker_desk.specs.Histories.{IsGathered, AreOfHistories}
-use Rattle.crack_worker_desk.specs.Leads.{witnessed_leads}
-use Rattle.crack_worker_desk.proofs.Holding.{IsStep, Lead, Lead-all, AreWritten-follows, AreWrittenThen-follows}
-use Rattle.crack_worker_desk.proofs.Standing.{stands}
+use Rattle.crack_worker_desk.proofs.Holding.{AreWritten-follows, AreWrittenThen-follows}
+use Rattle.crack_worker_desk.proofs.Lines.{of_histories}
 use Rattle.crack_worker_desk.proofs.histories.lines_stand_in_histories.Goals as goal
-
-module _ {D G : Type 0} (owner : ℕ → ℕ) (may_refuse : G → ℕ → ℕ → Type 0) (leads : D → Call → D → Type 0) (table : D → TableState) (gate : D → G) (worker : D → AskerState) (step : IsStep (λ t g. witnessed_leads owner t (may_refuse g)) leads table gate worker) where
-  of_histories : (parts : List WitnessedState) (later : List Call) (policy : Policy) (old new last : D) → Calls leads new later last → IsGathered owner (table last) parts (worker last) → (readings : List Reading) (answers : List Answer)
-      → AreAnswersOf leads (table old).splits policy old new readings answers → AreOfHistories owner parts (worker old).worker (table old).splits policy readings answers
-  of_histories parts later policy old new last goes gathered readings answers are =
-      let here = Lead-all (λ t g. witnessed_leads owner t (may_refuse g)) leads table gate worker step are.0 old new are.1 in
-      let then = Lead-all (λ t g. witnessed_leads owner t (may_refuse g)) leads table gate worker step later new last goes in
-      let after : Lead (λ t g. witnessed_leads owner t (may_refuse g)) leads table gate worker (table old) (gate old) new later last =
-      subst (λ (g : G). Lead (λ t g. witnessed_leads owner t (may_refuse g)) leads table gate worker (table old) g new later last) here.1
-      (subst (λ (t : TableState). Lead (λ t g. witnessed_leads owner t (may_refuse g)) leads table gate worker t (gate new) new later last) here.0 then.2) in (
-        are.0,
-        stands owner (table old) (may_refuse (gate old)) parts (worker last) (subst (λ (t : TableState). IsGathered owner t parts (worker last)) (then.0 ∙ here.0) gathered) are.0 later (worker old) (worker new) here.2 after,
-        are.2,
-      )
 
 pub returns-clause-written : goal.returns-clause-written
 returns-clause-written g c = λ old new later parts policy readings out short whole goes gathered.

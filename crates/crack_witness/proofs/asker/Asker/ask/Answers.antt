@@ -57,8 +57,8 @@ invariant_of-self-2 g c =
 pub overflow_add-count : goal.overflow_add-count
 overflow_add-count g c = omega (arith, c.in_ok-reply.ensures.few)
 
-pub returns-clause-replies : goal.returns-clause-replies
-returns-clause-replies g c =
+pub returns-clause-count : goal.returns-clause-count
+returns-clause-count g c =
     let n = c.self.inside.number in
     let counts = c.self.inside.counts.items in
     let less : c.args.part < length counts = search rules in

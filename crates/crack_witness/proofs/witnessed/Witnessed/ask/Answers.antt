@@ -66,7 +66,7 @@ returns-clause-few g c =
 pub returns-clause-refused : goal.returns-clause-refused
 returns-clause-refused g c = λ in_step.
     let p = c.self.inside.partition in
-    let none : refusal_of p c.args.command ≡ None = replied-for (refusal_of p c.args.command) (c.in_ok-reply.reply, c.in_ok-reply._copy) (c.apply.new.self ≡ p) c.in_ok-reply.ensures.refused in
+    let none : refusal_of p c.args.command ≡ None = replied-for (refusal_of p c.args.command) (c.in_ok-reply.reply, c.in_ok-reply.copy) (c.apply.new.self ≡ p) c.in_ok-reply.ensures.refused in
     rw (← c.self.view_is, none) tt
 
 pub returns-in_err-reply-clause-refused : goal.returns-in_err-reply-clause-refused

@@ -1,24 +1,31 @@
-use Rattle.std.proofs.Common.{rules, vec_len}
-use Rattle.crack_witness.specs.Witnesses.{AskerState}
+use Rattle.std.proofs.Common.{rules, ◌≡◌, ◌≤◌, arith, length, Err, vec_len}
 use Rattle.crack_table.specs.Tables.{TableState}
 use Rattle.crack_witness_table.proofs.Causes.{causes-witnessed}
+use Rattle.crack_witness_table.proofs.Placing.{answered-err}
 use Rattle.crack_witness_table.proofs.table.WitnessedTable.ask.Goals as goal
 
-pub returns : goal.returns
-returns g c = record {
-  given = search rules;
-  mine = search rules;
-  fronts = search rules;
-  legal = search rules;
-  small = search rules;
-  there = search rules;
-  seen = search rules;
-  replies = search rules;
-  worker = search rules;
-  err = search rules;
-  causes =
-      let e = c.in_ok-answered.ensures in
-      let table : TableState = record { splits = c.self.inside.splits.items; limits = c.self.inside.limits; workers = c.self.inside.workers; locks = vec_len c.self.inside.locks } in
-      rw (← c.self.view_is) (causes-witnessed g.J.Naming.owner table (g.G.Gate.may_refuse c.args.gate.now c.args.part) c.args.part c.deref_mut.result.now c.args.command c.args.asker.now c.in_ok-answered.answered c.with_table_limit.result e.causes c.with_table_limit.ensures);
-  nowhere = search rules;
-}
+pub returns-in_err-reply : goal.returns-in_err-reply
+returns-in_err-reply g c =
+    let told = c.in_ok-answered.ensures in
+    let e0 = c.in_err-reply.field-0.0 in
+    let given : c.from_residual-in_err-reply.result ≡ Err e0 = search rules in
+    let limited : c.with_table_limit.result ≡ Err e0 = search rules in
+    let cause = answered-err c.in_ok-answered.answered c.with_table_limit.result c.self.inside.limits.history e0 c.with_table_limit.ensures limited in
+    let same = rw (cause.1) at told.err in
+    let table : TableState = record { splits = c.self.inside.splits.items; limits = c.self.inside.limits; workers = c.self.inside.workers; locks = vec_len c.self.inside.locks } in
+    let there : c.args.part ≤ length c.self.inside.splits.items = search rules in
+    let causes = causes-witnessed g.J.Naming.owner table (g.G.Gate.may_refuse c.args.gate.now c.args.part) c.args.part c.deref_mut.result.now c.args.command c.args.asker.now c.in_ok-answered.answered c.with_table_limit.result told.causes c.with_table_limit.ensures in
+    rw (given, ← c.self.view_is) (record {
+      given = tt;
+      mine = tt;
+      fronts = tt;
+      legal = tt;
+      small = tt;
+      there = tt;
+      seen = told.seen.0;
+      replies = tt;
+      worker = told.worker;
+      err = same.0;
+      causes = rw limited at causes;
+      nowhere = λ past. absurd (omega (arith, there, past));
+    })

@@ -1,0 +1,34 @@
+-- A desk's clauses about a known table say nothing here: the table isn't known.
+use Rattle.std.proofs.Common.{◌≡◌, length, Some, None, is_some, ap, refl}
+use Rattle.std.proofs.lemmas.Bool.{false≢true}
+use Rattle.crack_core.specs.Steps.{bounds_of}
+use Rattle.crack_table.specs.Tables.{TableState}
+use Rattle.crack_witness_table.specs.Audit.{AuditedState}
+use Rattle.crack_worker_desk.proofs.audited.AuditedDeskDesk.TheImpl.Goals as goal
+
+unknown : {X : Type 0} {P : Type 0} (x : X) → None ≡ Some x → P
+unknown x known = absurd (false≢true (ap is_some known))
+
+pub ask-tells : goal.ask-tells
+ask-tells g c = record {
+  outcome = λ tables known. unknown tables known;
+  after = λ tables known. unknown tables known;
+  small = c.ensures.asks.asks.small;
+  splits = ap (λ t. t.splits) c.ensures.table.0;
+  bounds = ap (λ (t : TableState). bounds_of t.limits) c.ensures.table.0;
+  receipts = c.ensures.receipts;
+  leads = (c.ensures.table.0, c.ensures.table.1, c.ensures.asks);
+}
+
+pub checkpoint-tells : goal.checkpoint-tells
+checkpoint-tells g c = record {
+  outcome = λ tables known. unknown tables known;
+  after = λ tables known. unknown tables known;
+  splits = ap (λ (t : TableState). t.splits) c.ensures.table.0;
+  bounds = ap (λ (t : TableState). bounds_of t.limits) c.ensures.table.0;
+  receipts = ap (λ (w : AuditedState). length w.book.receipts) c.ensures.worker;
+  leads = (c.ensures.table.0, c.ensures.table.1, (c.ensures.folds, c.ensures.worker));
+}
+
+pub layout-tells : goal.layout-tells
+layout-tells g c = record { outcome = λ tables known. unknown tables known; leads = (refl, refl, (c.ensures.looks, refl)) }
