@@ -1,8 +1,8 @@
 //! The pull.
-ghost use Rattle.std.specs.Prelude.{◌≡◌, ◌<◌, ◌≤◌, ◌⊎◌, ℕ, length, Contains};
+ghost use Rattle.std.specs.Prelude.{◌≡◌, ◌<◌, ◌≤◌, ◌⊎◌, ℕ, None, length, Contains};
 ghost use Rattle.crack_arena.specs.Arena.{StandsAt};
 ghost use Rattle.crack_arena.specs.Rows.{keys_at};
-ghost use Rattle.crack_pending.specs.Pending.{NoneIn};
+ghost use Rattle.crack_pending.specs.Pending.{Finds, NoneIn};
 ghost use Rattle.crack_state.specs.Steps.{hand_key, piece_end, buried, IsDoomed};
 ghost use Rattle.crack_merge.specs.Merges.{Begins, Pulls, PullsAll};
 
@@ -14,8 +14,8 @@ use crack_store::{Carrying, Store};
 /// insertion whose key is one of `fillers` fills the place of each, the first from the place `seen` on, and if there
 /// is none left the column's last row. No filler is before `seen`; pending insertions are passed over once. O(1)
 /// for each pending row that it passes; for each that it takes out O(log bounds) and the pieces on its way, and one
-/// search for its place. If no filler is found it takes them out in bulk, if that is worth it and there is memory
-/// for a list of them; else takes none.
+/// search for its place. Those for which there are fillers are taken out in bulk, and then the others, if that is worth
+/// it and there is memory for a list of them; else takes none.
 pub fn pull_range(mut store: Store, range: KeyRange, fillers: KeyRange, seen: usize) -> Store
     requires behind { fillers.low < fillers.high → range.high ≤ fillers.low }
     requires within { seen ≤ length store.pending_in }
@@ -27,15 +27,42 @@ pub fn pull_range(mut store: Store, range: KeyRange, fillers: KeyRange, seen: us
     let Some(_) = store.next_out(range, 0) else {
         return store;
     };
-    match store.next_in(fillers, seen) {
-        Some(_) => pull_each(store, range, fillers, seen),
-        None => {
-            if store.pull_in_bulk(range) {
-                return store;
-            }
-            pull_each(store, range, fillers, seen)
-        }
+    let Some(first) = store.next_in(fillers, seen) else {
+        return pull_unfilled(store, range, fillers, seen);
+    };
+    if !store.fill_in_bulk(range, fillers, first) {
+        return pull_each(store, range, fillers, seen);
     }
+    pull_rest(store, range, fillers)
+}
+
+/// Takes out those that are left after the first were pulled in bulk, each by a filler.
+fn pull_rest(store: Store, range: KeyRange, fillers: KeyRange) -> Store
+    requires behind { fillers.low < fillers.high → range.high ≤ fillers.low }
+    requires room { 0 < store.column_room }
+    ensures { PullsAll range fillers store result }
+{
+    match store.next_in(fillers, 0) {
+        Some(_) => pull_each(store, range, fillers, 0),
+        None => pull_unfilled(store, range, fillers, 0),
+    }
+}
+
+/// Takes them out where no filler is found from the place `seen` on: in bulk, if that is worth it and there is memory
+/// for a list of them.
+fn pull_unfilled(mut store: Store, range: KeyRange, fillers: KeyRange, seen: usize) -> Store
+    requires behind { fillers.low < fillers.high → range.high ≤ fillers.low }
+    requires within { seen ≤ length store.pending_in }
+    requires none { NoneIn fillers (keys_at store.cells store.pending_in) 0 seen }
+    requires left { Finds fillers (keys_at store.cells store.pending_in) seen None }
+    requires room { (length store.pending_in ≤ seen) ⊎ (0 < store.column_room) }
+    ensures { PullsAll range fillers store result }
+{
+    store.facts();
+    if store.pull_in_bulk(range) {
+        return store;
+    }
+    pull_each(store, range, fillers, seen)
 }
 
 /// Takes them out one after the other, as `pull_range` does.
