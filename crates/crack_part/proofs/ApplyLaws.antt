@@ -8,7 +8,7 @@ use Rattle.crack_row.specs.declared.command.Policy.{Policy}
 use Rattle.crack_row.specs.declared.command.Policy.TheVariants.{Complete}
 use Rattle.crack_row.specs.declared.command.Reply.{Reply}
 use Rattle.crack_row.specs.declared.refusal.Refusal.{Refusal}
-use Rattle.crack_row.specs.declared.refusal.Refusal.TheVariants.{OutOfMemory, NoCell}
+use Rattle.crack_row.specs.declared.refusal.Refusal.TheVariants.{OutOfMemory}
 use Rattle.crack_state.specs.State.{State}
 use Rattle.crack_part.specs.Cells.{lacks_cell, may_clear}
 use Rattle.crack_part.specs.Parts.{Part, CracksAndMerges, StopsAt, Serves, ServesCleared, Spares, SparesCleared}

@@ -10,3 +10,5 @@ pub mod Crosses
 pub mod UpkeepLaws
 pub mod ClearLaws
 pub mod ApplyLaws
+pub mod SumLaws
+pub mod KnownLemmas

@@ -1,6 +1,6 @@
 -- What deletes and updates make of the live rows, stated for a list of them.
 use Rattle.std.proofs.Common.{◌≡◌, ◌≢◌, ℕ, Bool, true, false, List, [], ◌∷◌, filter, map, Option, Some, None, Result, Ok, Err, refl, sym, ap}
-use Rattle.std.specs.Prelude.{IfSome, IfNone, OnErr, is_some, nat_lt}
+use Rattle.std.specs.Prelude.{IfSome, IfNone, OnOk, OnErr, is_some, nat_lt}
 use Rattle.std.specs.List.{All}
 use Rattle.std.specs.List.Sorted.{IsPermutation}
 use Rattle.std.specs.Option.{option_map}
@@ -47,3 +47,7 @@ live-put s t row None changed none rewrites intact = λ plain same.
 pub on_err : {T E P : Type 0} (r : Result T E) → P → OnErr r P
 on_err (Ok x) p = tt
 on_err (Err e) p = p
+
+pub on_ok : {T E P : Type 0} (r : Result T E) → P → OnOk r P
+on_ok (Ok x) p = p
+on_ok (Err e) p = tt

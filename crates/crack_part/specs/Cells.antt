@@ -1,5 +1,5 @@
 -- Which changes lack a cell, and what is done about it.
-use Rattle.std.specs.Prelude.{ℕ, Bool, true, false, ◌&&◌, ◌==◌, not, length, Option, Some, None, nat_le, unwrap_or, option_map}
+use Rattle.std.specs.Prelude.{ℕ, Bool, true, false, ◌&&◌, ◌==◌, not, length, Option, Some, nat_le, unwrap_or, option_map}
 use Rattle.crack_row.specs.declared.command.Change.{Change}
 use Rattle.crack_row.specs.declared.command.Change.TheVariants.{Place, Rewrite}
 use Rattle.crack_row.specs.declared.limit.Limits.{Limits}

@@ -4,13 +4,15 @@ ghost use Rattle.std.specs.List.Sorted.{IsPermutation};
 ghost use Rattle.crack_row.specs.Ranges.{IsIn};
 ghost use Rattle.crack_row.specs.Replies.{IsFlat};
 ghost use Rattle.crack_row.specs.Rows.{is_other, replaced};
-ghost use Rattle.crack_plain.specs.Plain.{PlainState, row_in, after, IsSmall};
+ghost use Rattle.crack_plain.specs.Plain.{PlainState, IsNumbered, row_in, after, IsSmall};
 ghost use Rattle.crack_plain.specs.Inside.{gone, rewritten};
 ghost use Rattle.crack_state.specs.State.{IsIntact, live_rows};
 ghost use Rattle.crack_state.specs.Steps.{SameButRoom, admitted, IsAdmissible};
 ghost use Rattle.crack_state.specs.Points.{pending_by, MayFree, IsRenewable, Removes, Rewrites};
+ghost use Rattle.crack_part.specs.KnownSums.{Knows};
 ghost use Rattle.crack_part.specs.Parts.{IsFaithful, placed};
 
+use crate::known::KnownSums;
 use crate::replies::{gone, rewritten};
 use crack_row::{Command, Key, Payload, Refusal, Reply, Row, Serial};
 use crack_store::Store;
@@ -47,7 +49,11 @@ pub(crate) fn place(
 
 /// Removes the row with a serial, if there is one; returns the reply. O(1), amortised.
 #[inline(never)]
-pub(crate) fn remove(store: &mut Store, serial: Serial) -> Result<Reply, Refusal>
+pub(crate) fn remove(
+    store: &mut Store,
+    known: &mut KnownSums,
+    serial: Serial,
+) -> Result<Reply, Refusal>
     requires few { MayFree store.old }
     ensures reply { IfOk result (λ reply. (plain : List Row) → IsPermutation (live_rows store.old) plain → reply ≡
         gone (row_in plain serial)) }
@@ -56,19 +62,22 @@ pub(crate) fn remove(store: &mut Store, serial: Serial) -> Result<Reply, Refusal
     ensures removed { OnOk result (Removes (pending_by store.old serial.0) serial.0 store.old store.new) }
     ensures live { OnOk result ((plain : List Row) → IsPermutation (live_rows store.old) plain →
         IsPermutation (live_rows store.new) (filter (is_other serial.0) plain)) }
+    ensures knows { OnOk result ((plain : PlainState) → IsNumbered plain → IsPermutation (live_rows store.old)
+        plain.rows → Knows known.old plain → Knows known.new (after plain (Command.Delete serial))) }
     ensures intact { OnOk result (IsIntact store.new []) }
-    ensures same { OnErr result (SameButRoom store.old store.new) }
+    ensures same { OnErr result (SameButRoom store.old store.new × (known.new ≡ known.old)) }
     ensures err { IfErr result (λ e. e ≡ Refusal.OutOfMemory) }
 {
     store.facts();
     let row = store.remove(serial)?;
     store.facts();
+    known.remove(serial, row);
     Ok(gone(row))
 }
 
 /// Replaces the row with the same serial, if there is one; returns the reply. O(1), amortised.
 #[inline(never)]
-pub(crate) fn rewrite(store: &mut Store, row: Row) -> Result<Reply, Refusal>
+pub(crate) fn rewrite(store: &mut Store, known: &mut KnownSums, row: Row) -> Result<Reply, Refusal>
     requires within { IsIn store.old.keys row.key.0 }
     requires renewable { IsRenewable store.old }
     ensures reply { IfOk result (λ reply. (plain : List Row) → IsPermutation (live_rows store.old) plain → reply ≡
@@ -78,12 +87,16 @@ pub(crate) fn rewrite(store: &mut Store, row: Row) -> Result<Reply, Refusal>
     ensures replaced { OnOk result (Rewrites (pending_by store.old row.serial.0) row store.old store.new) }
     ensures live { OnOk result ((plain : List Row) → IsPermutation (live_rows store.old) plain →
         IsPermutation (live_rows store.new) (map (replaced row) plain)) }
+    ensures knows { OnOk result ((plain : PlainState) → IsNumbered plain → IsPermutation (live_rows store.old)
+        plain.rows → Knows known.old plain → Knows known.new (after plain
+        (Command.Update row.serial row.key row.payload))) }
     ensures intact { OnOk result (IsIntact store.new []) }
-    ensures same { OnErr result (SameButRoom store.old store.new) }
+    ensures same { OnErr result (SameButRoom store.old store.new × (known.new ≡ known.old)) }
     ensures err { IfErr result (λ e. e ≡ Refusal.OutOfMemory) }
 {
     store.facts();
     let before = store.replace(row)?;
     store.facts();
+    known.replace(before, row);
     Ok(rewritten(before))
 }

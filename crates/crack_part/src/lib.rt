@@ -3,6 +3,7 @@
 
 mod changes;
 mod history;
+mod known;
 pub mod partition;
 mod reads;
 mod replies;

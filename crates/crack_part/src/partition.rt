@@ -14,12 +14,14 @@ ghost use Rattle.crack_store.specs.Inside.{no_cells, IsLayoutOf};
 ghost use Rattle.crack_part.specs.Parts.{state_of, folded_part, IsLimit, IsSound, IsFaithful, CracksAndMerges, StopsAt};
 ghost use Rattle.crack_part.specs.Parts.{Serves, ServesCleared, Spares, SparesCleared, Prepares, Performs};
 ghost use Rattle.crack_part.specs.Refusals.{is_key_in, refusal_of};
+ghost use Rattle.crack_part.specs.KnownSums.{Knows, KnowsThen};
 ghost use Rattle.crack_part.specs.Cells.{takes_cell, lacks_cell, may_clear};
 ghost use Rattle.crack_part.specs.Upkeep.{is_automatic, is_full, upkept};
 ghost use Rattle.crack_part.specs.Inside.{AreCommon, MayPerform, base_of, early_refusal_of, Frees, FreesNone, Applies};
 
 use crate::changes::{place, remove, rewrite};
 use crate::history::{Base, Fold, begin_anew, fresh_list, make_room, push_reserved};
+use crate::known::KnownSums;
 use crate::reads::{count, select, sum};
 use crate::replies::copied;
 use crate::settling::{crack_and_merge, settle};
@@ -41,12 +43,14 @@ pub struct Partition {
     limits: Limits,
     pub(crate) next: u64,
     pub(crate) store: Store,
+    known: KnownSums,
     base: Base,
     history: Vec<Entry>,
 }
 
 impl Model for Partition {
-    ghost use Rattle.crack_part.specs.Parts.{Part, IsSound};
+    ghost use Rattle.crack_part.specs.Parts.{Part};
+    ghost use Rattle.crack_part.specs.KnownSums.{KnowsPart};
 
     ghost Value = { Part };
 
@@ -80,7 +84,7 @@ impl Model for Partition {
       };
       next = p.next;
       store = p.store;
-    } in IsSound part };
+    } in KnowsPart p.known part };
 }
 
 impl Partition {
@@ -117,6 +121,7 @@ impl Partition {
             limits,
             next: 0,
             store,
+            known: KnownSums::new(alloc),
             base: Base {
                 rows: Vec::new(alloc),
                 folded: 0,
@@ -269,9 +274,10 @@ impl Partition {
     /// free and upkeep frees none, with 8 if no memory is found. After 4, 6, 10 and 9 nothing has changed. After 8
     /// no checkpoint is made; that merge may be made in part, or in whole; else a command that reads no range has
     /// changed nothing, and one that reads a range has at most cracked the column at its ends and merged in part, or in
-    /// whole. An insert, a delete and an update are O(1), amortised, without upkeep. A command that reads a range
-    /// cracks the pieces in which its ends fall and merges by the policy what its range needs; a count is then O(log
-    /// pieces), a sum O(m), and a select O(m log m) for m rows in the range.
+    /// whole. An insert is O(1), amortised, a delete and an update O(log pieces), without upkeep. A command that reads
+    /// a range cracks the pieces in which its ends fall and merges by the policy what its range needs; a count is then
+    /// O(log pieces), a sum as well, with a step for each piece in the range whose sum is known, and for each row of
+    /// the others, and a select O(m log m) for m rows in the range.
     #[inline(always)]
     pub fn apply(
         &mut self,
@@ -330,6 +336,7 @@ impl Partition {
         make_room(&mut self.history)?;
         let reply = answer(
             &mut self.store,
+            &mut self.known,
             &mut self.next,
             self.alloc,
             self.keys,
@@ -410,6 +417,7 @@ impl Partition {
         let ready = self.fold()?;
         let reply = answer(
             &mut self.store,
+            &mut self.known,
             &mut self.next,
             self.alloc,
             self.keys,
@@ -571,6 +579,7 @@ fn allows(keys: KeyRange, command: &Command) -> bool
 #[inline(always)]
 fn answer(
     store: &mut Store,
+    known: &mut KnownSums,
     next: &mut u64,
     alloc: Global,
     keys: KeyRange,
@@ -583,11 +592,13 @@ fn answer(
         MayPerform next.old (change_of command.now) ready }
     requires small { next.old + 1 < 2 ^ 64 }
     ensures replies { IfOk result (λ reply. (plain : PlainState) → IsNumbered plain → IsFaithful store.old next.old
-        plain → reply ≡ reply_to plain command.now) }
+        plain → Knows known.old plain → reply ≡ reply_to plain command.now) }
     ensures small { IfOk result (λ reply. (plain : PlainState) → IsNumbered plain → IsFaithful store.old next.old plain
         → length plain.rows < 2 ^ 32 → IsSmall reply) }
     ensures lists { IfOk result (λ reply. (Prepares policy keys (range_of command.now) store.old store.new ×
-        (next.new ≡ next.old)) ⊎ IsFlat reply) }
+        (next.new ≡ next.old) × (change_of command.now ≡ None)) ⊎ IsFlat reply) }
+    ensures knows { (plain : PlainState) → IsNumbered plain → IsFaithful store.old next.old plain →
+        Knows known.old plain → KnowsThen known.new plain command.now result }
     ensures served { OnOk result (ServesCleared policy keys next.old command.now store.old store.new) }
     ensures faithful { OnOk result ((plain : PlainState) → IsFaithful store.old next.old plain →
         IsFaithful store.new next.new (after plain command.now)) }
@@ -597,7 +608,7 @@ fn answer(
     ensures err { IfErr result (λ e. e ≡ Refusal.OutOfMemory) }
 {
     let common = prepare(store, alloc, keys, command.range(), policy)?;
-    carry_out(store, next, alloc, command, common)
+    carry_out(store, known, next, alloc, command, common)
 }
 
 /// Reads a range, if there is one, as far as it is within the keys: if none of them is in it, nothing is cracked or
@@ -636,6 +647,7 @@ fn prepare(
 #[inline(always)]
 fn carry_out(
     store: &mut Store,
+    known: &mut KnownSums,
     next: &mut u64,
     alloc: Global,
     command: &Command,
@@ -647,10 +659,12 @@ fn carry_out(
     requires admissible { MayPerform next.old (change_of command.now) store.old }
     requires small { next.old + 1 < 2 ^ 64 }
     ensures reply { IfOk result (λ reply. (plain : PlainState) → IsNumbered plain → IsFaithful store.old next.old plain
-        → reply ≡ reply_to plain command.now) }
+        → Knows known.old plain → reply ≡ reply_to plain command.now) }
     ensures flat { IfOk result (λ reply. (change_of command.now ≡ None) ⊎ IsFlat reply) }
     ensures small { IfOk result (λ reply. (plain : PlainState) → IsNumbered plain → IsFaithful store.old next.old plain
         → length plain.rows < 2 ^ 32 → IsSmall reply) }
+    ensures knows { (plain : PlainState) → IsNumbered plain → IsFaithful store.old next.old plain →
+        Knows known.old plain → KnowsThen known.new plain command.now result }
     ensures performed { OnOk result (Performs next.old (change_of command.now) store.old store.new) }
     ensures faithful { OnOk result ((plain : PlainState) → IsFaithful store.old next.old plain →
         IsFaithful store.new next.new (after plain command.now)) }
@@ -661,13 +675,14 @@ fn carry_out(
 {
     match *command {
         Command::Insert { key, payload } => place(store, next, key, payload),
-        Command::Delete { serial } => remove(store, serial),
+        Command::Delete { serial } => remove(store, known, serial),
         Command::Update {
             serial,
             key,
             payload,
         } => rewrite(
             store,
+            known,
             Row {
                 serial,
                 key,
@@ -675,7 +690,7 @@ fn carry_out(
             },
         ),
         Command::Count(_) => Ok(Reply::Counted(count(store, common))),
-        Command::Sum(_) => Ok(Reply::Summed(sum(store, common))),
+        Command::Sum(_) => Ok(Reply::Summed(sum(store, known, *next, common))),
         Command::Select(_) => {
             let rows = select(store, alloc, common)?;
             Ok(Reply::Rows(RowList::from_vec(rows)))

@@ -1,5 +1,5 @@
 //! Reads of a range of a store that is settled for it.
-ghost use Rattle.std.specs.Prelude.{◌≡◌, ◌<ℤ◌, neg_ℤ, pos, ◌^◌, List, count_by, IfOk, IfErr, IfSome};
+ghost use Rattle.std.specs.Prelude.{◌≡◌, ◌<◌, ◌<ℤ◌, neg_ℤ, pos, ◌^◌, ◌↔◌, List, count_by, IfOk, IfErr, IfSome, IsTrue};
 ghost use Rattle.std.specs.List.Sorted.{IsPermutation};
 ghost use Rattle.crack_row.specs.Ranges.{Range, in_range};
 ghost use Rattle.crack_row.specs.Rows.{sum_of};
@@ -7,10 +7,16 @@ ghost use Rattle.crack_plain.specs.Plain.{PlainState, IsNumbered, rows_in};
 ghost use Rattle.crack_state.specs.State.{live_rows};
 ghost use Rattle.crack_state.specs.Merge.{IsSettled};
 ghost use Rattle.crack_part.specs.Inside.{IsCommon};
+ghost use Rattle.crack_part.specs.KnownSums.{Knows};
+ghost use Rattle.crack_part.specs.Parts.{IsFaithful};
 
+use crate::known::KnownSums;
 use crack_row::{KeyRange, Refusal, Row};
 use crack_store::Store;
 use std::alloc::Global;
+
+/// No sum of rows is as far from 0.
+const GREATEST_SUM: i128 = 79228162514264337593543950336;
 
 /// How many rows have their key in a range: the difference of two places of the column, which is settled for the
 /// intersection of the range and the keys.
@@ -27,20 +33,32 @@ pub(crate) fn count(store: &Store, common: Option<KeyRange>) -> u64
     }
 }
 
-/// The sum of the payloads of the rows whose key is in a range: of those between two places of the column, as for a
-/// count.
+/// The sum of the payloads of the rows whose key is in a range: of the pieces in it, as far as their sums are known,
+/// and else of the rows between two places of the column, as for a count.
 #[inline(never)]
-pub(crate) fn sum(store: &Store, common: Option<KeyRange>) -> i128
+pub(crate) fn sum(store: &Store, known: &mut KnownSums, next: u64, common: Option<KeyRange>) -> i128
+    requires filled { IfSome common (λ r. r.low < r.high) }
     requires settled { IfSome common (λ r. IsSettled store.now r) }
-    ensures is { (range : Range) → IsCommon range store.now.keys common → (plain : List Row) →
-        IsPermutation (live_rows store.now) plain → result ≡ sum_of (rows_in range plain) }
+    ensures is { (range : Range) → IsCommon range store.now.keys common → (plain : PlainState) → IsNumbered plain →
+        IsFaithful store.now next plain → Knows known.old plain → (result ≡ sum_of (rows_in range plain.rows)) ×
+        Knows known.new plain }
     ensures small { (neg_ℤ (pos (2 ^ 96)) <ℤ result) × (result <ℤ pos (2 ^ 96)) }
 {
     store.facts();
-    match common {
-        Some(range) => store.sum_between(range),
-        None => 0,
+    let Some(range) = common else {
+        return 0;
+    };
+    match known.sum(store, next, range) {
+        Some(sum) if is_small(sum) => sum,
+        _ => store.sum_between(range),
     }
+}
+
+/// Whether a sum is one that rows can have.
+fn is_small(sum: i128) -> bool
+    ensures { IsTrue result ↔ (neg_ℤ (pos (2 ^ 96)) <ℤ sum) × (sum <ℤ pos (2 ^ 96)) }
+{
+    -GREATEST_SUM < sum && sum < GREATEST_SUM
 }
 
 /// The rows whose key is in a range, by rising serial: those between two places of the column, as for a count.

@@ -161,9 +161,9 @@ fn carry_rows(
     inside.tally.put_in = inside.tally.put_in.saturating_add(count as u64);
 }
 
-/// Takes the rows of a range out of a list, and puts them into the column from the place `from` on, in their order, each
-/// with what is to be remembered of it. Each row that stood there makes way for one of them, and goes after the last of
-/// the list. `taken` is a list for their handles. How many came in.
+/// Takes the rows of a range out of a list, and puts them into the column from the place `from` on, in their order,
+/// each with what is to be remembered of it. Each row that stood there makes way for one of them, and goes after the
+/// last of the list. `taken` is a list for their handles. How many came in.
 fn exchange_rows(
     rows: &mut PendingIn,
     column: &mut CrackerColumn,

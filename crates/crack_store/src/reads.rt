@@ -1,5 +1,6 @@
 //! What a range command reads from the column.
-ghost use Rattle.std.specs.Prelude.{◌≡◌, ◌<◌, ◌≤◌, ◌≤ℤ◌, ◌^◌, neg_ℤ, pos, Some, length, ◌↔◌, IfOk, IfErr, IsTrue, slice_index_or};
+ghost use Rattle.std.specs.Prelude.{◌≡◌, ◌<◌, ◌≤◌, ◌≤ℤ◌, ◌^◌, ◌↔◌, neg_ℤ, pos, Some, length};
+ghost use Rattle.std.specs.Prelude.{IfOk, IfErr, IsTrue, slice_index_or};
 ghost use Rattle.std.specs.List.Sorted.{IsPermutation, IsNonDecreasingBy};
 ghost use Rattle.crack_row.specs.Rows.{sum_of};
 ghost use Rattle.crack_arena.specs.Arena.{read, no_handle};

@@ -1,4 +1,4 @@
-use Rattle.std.proofs.Common.{ap, ◌∙◌}
+use Rattle.std.proofs.Common.{ap, sym, ◌∙◌}
 use Rattle.crack_plain.specs.Inside.{rewritten}
 use Rattle.crack_state.proofs.LookUpLaws.{row_by-find}
 use Rattle.crack_part.proofs.PointLemmas.{live-put}
@@ -11,3 +11,7 @@ returns-clause-reply c = λ plain same.
 pub returns-clause-live : goal.returns-clause-live
 returns-clause-live c =
     live-put c.args.store.now c.replace.new.self c.args.row c.in_ok-before.before c.in_ok-before.ensures.live c.in_ok-before.ensures.none c.in_ok-before.ensures.after c.facts.ensures
+
+pub returns-clause-knows : goal.returns-clause-knows
+returns-clause-knows c = λ plain numbered same knows.
+    c.replace-2.ensures plain numbered (sym (c.in_ok-before.ensures.row ∙ row_by-find c.args.store.now c.args.row.serial.0 plain.rows c.facts.ensures same)) knows

@@ -34,10 +34,10 @@ returns-clause-faithful c = on_ok_weaker c.carry_out.result (λ faithfully plain
     faithfully plain (IsFaithful-kept c.args.store.now c.prepare.new.store c.args.next.now plain keeps faithful)) c.carry_out.ensures.faithful
 
 pub returns-clause-replies : goal.returns-clause-replies
-returns-clause-replies c = IfOk-weaker c.carry_out.result _ _ (λ reply replied plain numbered faithful.
+returns-clause-replies c = IfOk-weaker c.carry_out.result _ _ (λ reply replied plain numbered faithful knows.
     let prepared = rw c.range.ensures at c.in_ok-common.ensures.prepared in
     let keeps = Keeps-prepared c.args.policy c.args.keys _ c.args.store.now c.prepare.new.store prepared in
-    replied plain numbered (IsFaithful-kept c.args.store.now c.prepare.new.store c.args.next.now plain keeps faithful)) c.carry_out.ensures.reply
+    replied plain numbered (IsFaithful-kept c.args.store.now c.prepare.new.store c.args.next.now plain keeps faithful) knows) c.carry_out.ensures.reply
 
 pub returns-clause-small : goal.returns-clause-small
 returns-clause-small c = IfOk-weaker c.carry_out.result _ _ (λ reply small plain numbered faithful few.
@@ -50,6 +50,12 @@ returns-clause-lists c = IfOk-weaker c.carry_out.result _ _ (λ reply flat. elim
   | inl none ↦
       let prepared = rw c.range.ensures at c.in_ok-common.ensures.prepared in
       let still = c.carry_out.ensures.none none in
-      inl (rw still.0 prepared, still.1)
+      inl (rw still.0 prepared, still.1, none)
   | inr flat ↦ inr flat
 ]) c.carry_out.ensures.flat
+
+pub returns-clause-knows : goal.returns-clause-knows
+returns-clause-knows c = λ plain numbered faithful knows.
+    let prepared = rw c.range.ensures at c.in_ok-common.ensures.prepared in
+    let keeps = Keeps-prepared c.args.policy c.args.keys _ c.args.store.now c.prepare.new.store prepared in
+    c.carry_out.ensures.knows plain numbered (IsFaithful-kept c.args.store.now c.prepare.new.store c.args.next.now plain keeps faithful) knows

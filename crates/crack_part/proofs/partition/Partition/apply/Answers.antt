@@ -1,8 +1,4 @@
-use Rattle.std.specs.Prelude.{◌≡◌, false}
-use Rattle.std.proofs.Common.{sym, ◌∙◌, refl}
 use Rattle.std.proofs.lemmas.Result.{on_ok_weaker, on_err_weaker}
-use Rattle.crack_row.specs.Commands.{change_of}
-use Rattle.crack_part.specs.Cells.{lacks_cell}
 use Rattle.crack_part.proofs.ClearLaws.{Serves-uncleared, Spares-uncleared}
 use Rattle.crack_part.proofs.RefusalLaws.{refused-with_cell}
 use Rattle.crack_part.proofs.partition.Partition.apply.Goals as goal

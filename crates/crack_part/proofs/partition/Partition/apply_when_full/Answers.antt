@@ -7,12 +7,14 @@ use Rattle.crack_row.specs.declared.command.Reply.{Reply}
 use Rattle.crack_plain.specs.Past.{Base, Past, base_after, folded, state_after, with_entry}
 use Rattle.crack_plain.specs.Plain.{IsSmall}
 use Rattle.crack_plain.proofs.PastLaws.{IsNumbered-after_past}
-use Rattle.crack_part.specs.Parts.{Part, IsSound, folded_part}
+use Rattle.crack_part.specs.Parts.{Part, folded_part}
 use Rattle.crack_part.specs.Inside.{base_of}
 use Rattle.crack_part.specs.Cells.{lacks_cell}
 use Rattle.crack_part.proofs.CellLemmas.{fits-served}
 use Rattle.crack_part.proofs.KeepLemmas.{Keeps-spared, IsIntact-spared, Keeps-prepared, Spares-same, Spares-prepared}
 use Rattle.crack_part.proofs.SoundLemmas.{lived, few_rows, next-le-life, MayPerform-prepared, IsSound-kept, IsSound-folded, IsSound-served, Spends-served}
+use Rattle.crack_part.specs.KnownSums.{KnowsPart}
+use Rattle.crack_part.proofs.KnownLemmas.{Knows-read}
 use Rattle.crack_part.proofs.PointLemmas.{on_err}
 use Rattle.crack_part.proofs.RefusalLaws.{may-keep}
 use Rattle.crack_part.proofs.UpkeepLaws.{upkept-full, past-anew, state_after-anew}
@@ -23,23 +25,23 @@ answer-requires-clause-admissible c =
     let at = c.self.inside in
     let part : Part = record { keys = at.keys; limits = at.limits; past = lived at.base.rows.items at.base.folded at.base.placed at.base.gone at.history.items; next = at.next; store = at.store } in
     let kept = may-keep part c.args.command (rw (← c.self.view_is) at c.in_ok-may_keep.ensures.ok) in
-    λ ready prepared. MayPerform-prepared c.args.policy _ c.args.command ready c.self.invariant kept.within prepared
+    λ ready prepared. MayPerform-prepared c.args.policy _ c.args.command ready c.self.invariant.sound kept.within prepared
 
 pub answer-requires-clause-small : goal.answer-requires-clause-small
-answer-requires-clause-small c = let next = next-le-life _ c.self.invariant in omega (arith, next)
+answer-requires-clause-small c = let next = next-le-life _ c.self.invariant.sound in omega (arith, next)
 
 pub invariant_of-self : goal.invariant_of-self
 invariant_of-self c =
     let spared = c.in_err-reply.ensures.spared in
     let keeps = Keeps-spared c.args.policy c.self.inside.keys (range_of c.args.command) _ c.answer.new.store spared.0 in
-    let intact = IsIntact-spared c.args.policy c.self.inside.keys (range_of c.args.command) _ c.answer.new.store spared.0 c.self.invariant.intact in
-    rw spared.1 (IsSound-kept _ c.answer.new.store c.self.invariant keeps intact)
+    let intact = IsIntact-spared c.args.policy c.self.inside.keys (range_of c.args.command) _ c.answer.new.store spared.0 c.self.invariant.sound.intact in
+    rw spared.1 (record { sound = IsSound-kept _ c.answer.new.store c.self.invariant.sound keeps intact; knows = c.in_err-reply.ensures.knows (state_after (lived c.self.inside.base.rows.items c.self.inside.base.folded c.self.inside.base.placed c.self.inside.base.gone c.self.inside.history.items)) (IsNumbered-after_past (lived c.self.inside.base.rows.items c.self.inside.base.folded c.self.inside.base.placed c.self.inside.base.gone c.self.inside.history.items) c.self.invariant.sound.legal.base) c.self.invariant.sound.faithful c.self.invariant.knows })
 
 pub invariant_of-self-in_err-copies : goal.invariant_of-self-in_err-copies
 invariant_of-self-in_err-copies c = elim c.in_ok-reply.ensures.lists [
   | inl read ↦
       let keeps = Keeps-prepared c.args.policy c.self.inside.keys (range_of c.args.command) _ c.answer.new.store read.0 in
-      rw read.1 (IsSound-kept _ c.answer.new.store c.self.invariant keeps c.in_ok-reply.ensures.intact)
+      rw read.1 (record { sound = IsSound-kept _ c.answer.new.store c.self.invariant.sound keeps c.in_ok-reply.ensures.intact; knows = Knows-read c.answer.new.known (state_after (lived c.self.inside.base.rows.items c.self.inside.base.folded c.self.inside.base.placed c.self.inside.base.gone c.self.inside.history.items)) c.args.command read.2 (c.in_ok-reply.ensures.knows (state_after (lived c.self.inside.base.rows.items c.self.inside.base.folded c.self.inside.base.placed c.self.inside.base.gone c.self.inside.history.items)) (IsNumbered-after_past (lived c.self.inside.base.rows.items c.self.inside.base.folded c.self.inside.base.placed c.self.inside.base.gone c.self.inside.history.items) c.self.invariant.sound.legal.base) c.self.invariant.sound.faithful c.self.invariant.knows) })
   | inr flat ↦ absurd (false≢true (c.in_err-copies.ensures.flat flat))
 ]
 
@@ -67,14 +69,15 @@ invariant_of-self-2 c =
     let base : base_of new.rows.items new.folded new.placed new.gone ≡ base_after part.past = rw c.begin_anew.ensures.base (rw (← c.self.view_is) at c.in_ok-ready.ensures.base) in
     let kept = may-keep part c.args.command (rw (← c.self.view_is) at c.in_ok-may_keep.ensures.ok) in
     let plain = state_after part.past in
-    let said = c.in_ok-reply.ensures.replies plain (IsNumbered-after_past part.past c.self.invariant.legal.base) c.self.invariant.faithful in
-    let faithful = c.in_ok-reply.ensures.faithful plain c.self.invariant.faithful in
-    let spends = Spends-served c.args.policy _ c.args.command c.answer.new.store c.self.invariant kept.within c.in_ok-reply.ensures.served in
+    let said = c.in_ok-reply.ensures.replies plain (IsNumbered-after_past part.past c.self.invariant.sound.legal.base) c.self.invariant.sound.faithful c.self.invariant.knows in
+    let faithful = c.in_ok-reply.ensures.faithful plain c.self.invariant.sound.faithful in
+    let spends = Spends-served c.args.policy _ c.args.command c.answer.new.store c.self.invariant.sound kept.within c.in_ok-reply.ensures.served in
     let cell : lacks_cell c.self.inside.limits.cells c.self.inside.store (change_of c.args.command) ≡ false = rw (← c.self.view_is) at c.requires.cell in
-    let fits = fits-served c.args.policy at.keys _ at.next c.args.command at.store c.answer.new.store c.self.invariant.cells cell c.in_ok-reply.ensures.served in
-    let folded = IsSound-folded part c.self.invariant in
-    let served = IsSound-served (folded_part part) e c.answer.new.next c.answer.new.store folded (omega (arith, c.self.invariant.limited.history.0)) (omega (arith, kept.lives)) fits kept.within (c.in_ok-copies.ensures.ok.2 ∙ said) c.in_ok-reply.ensures.intact faithful spends in
-    rw (alone, c.shrink_pending.ensures) (subst (λ (b : Base). IsSound (record part { past = record { base = b; tail = e ∷ [] }; next = c.answer.new.next; store = c.answer.new.store })) (sym base) served)
+    let fits = fits-served c.args.policy at.keys _ at.next c.args.command at.store c.answer.new.store c.self.invariant.sound.cells cell c.in_ok-reply.ensures.served in
+    let folded = IsSound-folded part c.self.invariant.sound in
+    let served = IsSound-served (folded_part part) e c.answer.new.next c.answer.new.store folded (omega (arith, c.self.invariant.sound.limited.history.0)) (omega (arith, kept.lives)) fits kept.within (c.in_ok-copies.ensures.ok.2 ∙ said) c.in_ok-reply.ensures.intact faithful spends in
+    let knows = c.in_ok-reply.ensures.knows plain (IsNumbered-after_past part.past c.self.invariant.sound.legal.base) c.self.invariant.sound.faithful c.self.invariant.knows in
+    rw (alone, c.shrink_pending.ensures) (subst (λ (b : Base). KnowsPart c.answer.new.known (record part { past = record { base = b; tail = e ∷ [] }; next = c.answer.new.next; store = c.answer.new.store })) (sym base) (record { sound = served; knows = knows }))
 
 pub returns-clause-state : goal.returns-clause-state
 returns-clause-state c =
@@ -89,7 +92,7 @@ returns-clause-state c =
 pub returns-clause-replies : goal.returns-clause-replies
 returns-clause-replies c =
     let past = lived c.self.inside.base.rows.items c.self.inside.base.folded c.self.inside.base.placed c.self.inside.base.gone c.self.inside.history.items in
-    let said = c.in_ok-reply.ensures.replies (state_after past) (IsNumbered-after_past past c.self.invariant.legal.base) c.self.invariant.faithful in
+    let said = c.in_ok-reply.ensures.replies (state_after past) (IsNumbered-after_past past c.self.invariant.sound.legal.base) c.self.invariant.sound.faithful c.self.invariant.knows in
     rw (← c.self.view_is) (c.in_ok-copies.ensures.ok.0 ∙ said, c.in_ok-copies.ensures.ok.1 ∙ sym c.in_ok-copies.ensures.ok.0)
 
 pub returns-clause-kept : goal.returns-clause-kept
@@ -114,5 +117,5 @@ returns-clause-store c = rw (← c.self.view_is, c.shrink_pending.ensures) c.in_
 pub returns-clause-small : goal.returns-clause-small
 returns-clause-small c =
     let past = lived c.self.inside.base.rows.items c.self.inside.base.folded c.self.inside.base.placed c.self.inside.base.gone c.self.inside.history.items in
-    let few : length (state_after past).rows < 2 ^ 32 = few_rows _ c.self.invariant in
-    subst IsSmall (sym c.in_ok-copies.ensures.ok.0) (c.in_ok-reply.ensures.small (state_after past) (IsNumbered-after_past past c.self.invariant.legal.base) c.self.invariant.faithful few)
+    let few : length (state_after past).rows < 2 ^ 32 = few_rows _ c.self.invariant.sound in
+    subst IsSmall (sym c.in_ok-copies.ensures.ok.0) (c.in_ok-reply.ensures.small (state_after past) (IsNumbered-after_past past c.self.invariant.sound.legal.base) c.self.invariant.sound.faithful few)

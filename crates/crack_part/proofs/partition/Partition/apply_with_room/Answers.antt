@@ -12,6 +12,8 @@ use Rattle.crack_part.specs.Cells.{lacks_cell}
 use Rattle.crack_part.proofs.CellLemmas.{fits-served}
 use Rattle.crack_part.proofs.KeepLemmas.{Keeps-spared, IsIntact-spared, Keeps-prepared, Spares-same, Spares-prepared}
 use Rattle.crack_part.proofs.SoundLemmas.{lived, few_rows, next-le-life, MayPerform-prepared, IsSound-kept, IsSound-served, Spends-served}
+use Rattle.crack_part.specs.KnownSums.{Knows}
+use Rattle.crack_part.proofs.KnownLemmas.{Knows-read}
 use Rattle.crack_part.proofs.PointLemmas.{on_err}
 use Rattle.crack_part.proofs.RefusalLaws.{may-keep}
 use Rattle.crack_part.proofs.UpkeepLaws.{upkept-room}
@@ -22,23 +24,23 @@ answer-requires-clause-admissible c =
     let at = c.self.inside in
     let part : Part = record { keys = at.keys; limits = at.limits; past = lived at.base.rows.items at.base.folded at.base.placed at.base.gone at.history.items; next = at.next; store = at.store } in
     let kept = may-keep part c.args.command (rw (← c.self.view_is) at c.in_ok-may_keep.ensures.ok) in
-    λ ready prepared. MayPerform-prepared c.args.policy _ c.args.command ready c.self.invariant kept.within prepared
+    λ ready prepared. MayPerform-prepared c.args.policy _ c.args.command ready c.self.invariant.sound kept.within prepared
 
 pub answer-requires-clause-small : goal.answer-requires-clause-small
-answer-requires-clause-small c = let next = next-le-life _ c.self.invariant in omega (arith, next)
+answer-requires-clause-small c = let next = next-le-life _ c.self.invariant.sound in omega (arith, next)
 
 pub invariant_of-self-in_err-reply : goal.invariant_of-self-in_err-reply
 invariant_of-self-in_err-reply c =
     let spared = c.in_err-reply.ensures.spared in
     let keeps = Keeps-spared c.args.policy c.self.inside.keys (range_of c.args.command) _ c.answer.new.store spared.0 in
-    let intact = IsIntact-spared c.args.policy c.self.inside.keys (range_of c.args.command) _ c.answer.new.store spared.0 c.self.invariant.intact in
-    rw (c.make_room.ensures.same, spared.1) (IsSound-kept _ c.answer.new.store c.self.invariant keeps intact)
+    let intact = IsIntact-spared c.args.policy c.self.inside.keys (range_of c.args.command) _ c.answer.new.store spared.0 c.self.invariant.sound.intact in
+    rw (c.make_room.ensures.same, spared.1) (record { sound = IsSound-kept _ c.answer.new.store c.self.invariant.sound keeps intact; knows = c.in_err-reply.ensures.knows (state_after (lived c.self.inside.base.rows.items c.self.inside.base.folded c.self.inside.base.placed c.self.inside.base.gone c.self.inside.history.items)) (IsNumbered-after_past (lived c.self.inside.base.rows.items c.self.inside.base.folded c.self.inside.base.placed c.self.inside.base.gone c.self.inside.history.items) c.self.invariant.sound.legal.base) c.self.invariant.sound.faithful c.self.invariant.knows })
 
 pub invariant_of-self-in_err-copies : goal.invariant_of-self-in_err-copies
 invariant_of-self-in_err-copies c = elim c.in_ok-reply.ensures.lists [
   | inl read ↦
       let keeps = Keeps-prepared c.args.policy c.self.inside.keys (range_of c.args.command) _ c.answer.new.store read.0 in
-      rw (c.make_room.ensures.same, read.1) (IsSound-kept _ c.answer.new.store c.self.invariant keeps c.in_ok-reply.ensures.intact)
+      rw (c.make_room.ensures.same, read.1) (record { sound = IsSound-kept _ c.answer.new.store c.self.invariant.sound keeps c.in_ok-reply.ensures.intact; knows = Knows-read c.answer.new.known (state_after (lived c.self.inside.base.rows.items c.self.inside.base.folded c.self.inside.base.placed c.self.inside.base.gone c.self.inside.history.items)) c.args.command read.2 (c.in_ok-reply.ensures.knows (state_after (lived c.self.inside.base.rows.items c.self.inside.base.folded c.self.inside.base.placed c.self.inside.base.gone c.self.inside.history.items)) (IsNumbered-after_past (lived c.self.inside.base.rows.items c.self.inside.base.folded c.self.inside.base.placed c.self.inside.base.gone c.self.inside.history.items) c.self.invariant.sound.legal.base) c.self.invariant.sound.faithful c.self.invariant.knows) })
   | inr flat ↦ absurd (false≢true (c.in_err-copies.ensures.flat flat))
 ]
 
@@ -64,14 +66,18 @@ invariant_of-self-2 c =
     let kept = may-keep part c.args.command (rw (← c.self.view_is) at c.in_ok-may_keep.ensures.ok) in
     let past = lived c.self.inside.base.rows.items c.self.inside.base.folded c.self.inside.base.placed c.self.inside.base.gone c.self.inside.history.items in
     let plain = state_after past in
-    let said = c.in_ok-reply.ensures.replies plain (IsNumbered-after_past past c.self.invariant.legal.base) c.self.invariant.faithful in
-    let faithful = c.in_ok-reply.ensures.faithful plain c.self.invariant.faithful in
-    let spends = Spends-served c.args.policy _ c.args.command c.answer.new.store c.self.invariant kept.within c.in_ok-reply.ensures.served in
+    let said = c.in_ok-reply.ensures.replies plain (IsNumbered-after_past past c.self.invariant.sound.legal.base) c.self.invariant.sound.faithful c.self.invariant.knows in
+    let faithful = c.in_ok-reply.ensures.faithful plain c.self.invariant.sound.faithful in
+    let spends = Spends-served c.args.policy _ c.args.command c.answer.new.store c.self.invariant.sound kept.within c.in_ok-reply.ensures.served in
     let grown = c.push_reserved.ensures ∙ ap (λ (h : List Entry). h ++ e ∷ []) c.make_room.ensures.same in
     let cell : lacks_cell c.self.inside.limits.cells c.self.inside.store (change_of c.args.command) ≡ false = rw (← c.self.view_is) at c.requires.cell in
-    let fits = fits-served c.args.policy c.self.inside.keys _ c.self.inside.next c.args.command c.self.inside.store c.answer.new.store c.self.invariant.cells cell c.in_ok-reply.ensures.served in
+    let fits = fits-served c.args.policy c.self.inside.keys _ c.self.inside.next c.args.command c.self.inside.store c.answer.new.store c.self.invariant.sound.cells cell c.in_ok-reply.ensures.served in
     let room : length at.history.items < at.limits.history = rw (← c.self.view_is) at c.requires.room in
-    rw grown (IsSound-served _ e c.answer.new.next c.answer.new.store c.self.invariant room kept.lives fits kept.within (c.in_ok-copies.ensures.ok.2 ∙ said) c.in_ok-reply.ensures.intact faithful spends)
+    let knows = c.in_ok-reply.ensures.knows plain (IsNumbered-after_past past c.self.invariant.sound.legal.base) c.self.invariant.sound.faithful c.self.invariant.knows in
+    rw grown (record {
+      sound = IsSound-served _ e c.answer.new.next c.answer.new.store c.self.invariant.sound room kept.lives fits kept.within (c.in_ok-copies.ensures.ok.2 ∙ said) c.in_ok-reply.ensures.intact faithful spends;
+      knows = subst (Knows c.answer.new.known) (sym (state_after-push past e)) knows;
+    })
 
 pub returns-clause-state : goal.returns-clause-state
 returns-clause-state c =
@@ -83,7 +89,7 @@ returns-clause-state c =
 pub returns-clause-replies : goal.returns-clause-replies
 returns-clause-replies c =
     let past = lived c.self.inside.base.rows.items c.self.inside.base.folded c.self.inside.base.placed c.self.inside.base.gone c.self.inside.history.items in
-    let said = c.in_ok-reply.ensures.replies (state_after past) (IsNumbered-after_past past c.self.invariant.legal.base) c.self.invariant.faithful in
+    let said = c.in_ok-reply.ensures.replies (state_after past) (IsNumbered-after_past past c.self.invariant.sound.legal.base) c.self.invariant.sound.faithful c.self.invariant.knows in
     rw (← c.self.view_is) (c.in_ok-copies.ensures.ok.0 ∙ said, c.in_ok-copies.ensures.ok.1 ∙ sym c.in_ok-copies.ensures.ok.0)
 
 pub returns-clause-kept : goal.returns-clause-kept
@@ -104,5 +110,5 @@ returns-clause-store c = rw (← c.self.view_is) c.in_ok-reply.ensures.served
 pub returns-clause-small : goal.returns-clause-small
 returns-clause-small c =
     let past = lived c.self.inside.base.rows.items c.self.inside.base.folded c.self.inside.base.placed c.self.inside.base.gone c.self.inside.history.items in
-    let few : length (state_after past).rows < 2 ^ 32 = few_rows _ c.self.invariant in
-    subst IsSmall (sym c.in_ok-copies.ensures.ok.0) (c.in_ok-reply.ensures.small (state_after past) (IsNumbered-after_past past c.self.invariant.legal.base) c.self.invariant.faithful few)
+    let few : length (state_after past).rows < 2 ^ 32 = few_rows _ c.self.invariant.sound in
+    subst IsSmall (sym c.in_ok-copies.ensures.ok.0) (c.in_ok-reply.ensures.small (state_after past) (IsNumbered-after_past past c.self.invariant.sound.legal.base) c.self.invariant.sound.faithful few)

@@ -4,7 +4,7 @@ use Rattle.crack_part.specs.Parts.{Serves, Spares}
 use Rattle.crack_part.specs.Refusals.{refusal_of}
 use Rattle.crack_part.proofs.ClearLaws.{Spares-unchanged}
 use Rattle.crack_part.proofs.RefusalLaws.{refused-early}
-use Rattle.crack_part.proofs.ApplyLaws.{applies-refused, applies-without, applies-upkept}
+use Rattle.crack_part.proofs.ApplyLaws.{applies-refused, applies-without}
 use Rattle.crack_part.proofs.partition.Partition.apply_with_upkeep.Goals as goal
 
 pub returns-in_err-may_keep : goal.returns-in_err-may_keep

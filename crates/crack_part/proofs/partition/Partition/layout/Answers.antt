@@ -8,5 +8,5 @@ use Rattle.crack_part.proofs.partition.Partition.layout.Goals as goal
 
 pub returns-clause-rows : goal.returns-clause-rows
 returns-clause-rows c =
-    let same = length_permutation (live_rows c.self.inside.store) (state_after (lived c.self.inside.base.rows.items c.self.inside.base.folded c.self.inside.base.placed c.self.inside.base.gone c.self.inside.history.items)).rows c.self.invariant.faithful.rows in
+    let same = length_permutation (live_rows c.self.inside.store) (state_after (lived c.self.inside.base.rows.items c.self.inside.base.folded c.self.inside.base.placed c.self.inside.base.gone c.self.inside.history.items)).rows c.self.invariant.sound.faithful.rows in
     rw (← c.self.view_is) (subst (λ (n : ℕ). IfOk c.layout.result (λ (layout : Layout). layout.rows ≡ n)) (sym same) c.layout.ensures.live)

@@ -1,4 +1,4 @@
-use Rattle.std.proofs.Common.{rules}
+use Rattle.std.proofs.Common.{rules, arith}
 use Rattle.crack_row.specs.Limits.{AreLimits}
 use Rattle.crack_part.proofs.SoundLemmas.{IsSound-opened}
 use Rattle.crack_part.proofs.partition.Partition.open_with.Goals as goal
@@ -6,4 +6,4 @@ use Rattle.crack_part.proofs.partition.Partition.open_with.Goals as goal
 pub invariant_of-result : goal.invariant_of-result
 invariant_of-result c =
     let limited : AreLimits c.args.limits = search rules in
-    rw (c.new.ensures.items, c.new-2.ensures.items) (IsSound-opened c.args.keys c.args.limits c.new-store.result c.new-store.ensures limited c.facts.ensures)
+    rw (c.new.ensures, c.new-2.ensures.items, c.new-3.ensures.items) (record { sound = IsSound-opened c.args.keys c.args.limits c.new-store.result c.new-store.ensures limited c.facts.ensures; knows = record { past = omega arith; right = tt } })

@@ -1,0 +1,9 @@
+use Rattle.std.proofs.Common.{◌≤◌}
+use Rattle.crack_plain.specs.Plain.{PlainState, IsNumbered}
+use Rattle.crack_sums.specs.Sums.{AreRight}
+use Rattle.crack_part.specs.Parts.{IsFaithful}
+use Rattle.crack_part.specs.KnownSums.{sum_before}
+use Rattle.crack_part.proofs.known.take_in.Given as goal
+
+abbrev pub invariant-serials : goal.invariant-serials
+invariant-serials l = (plain : PlainState) → IsNumbered plain → IsFaithful l.store l.next plain → l.from ≤ l.next → AreRight (sum_before l.from plain.rows) l.fn.pieces → AreRight (sum_before l.serial plain.rows) l.pieces

@@ -1,0 +1,56 @@
+-- What private clauses alone cite.
+-- The sums of the payloads of rows by ranges of keys, of the rows that were placed before a serial.
+use Rattle.std.specs.Prelude.{◌≡◌, ℕ, ℤ, pos, ◌+ℤ◌, ◌≤◌, ◌&&◌, nat_lt, if◌then◌else◌, List, Option, Some, None, cond, Result, Ok, Err}
+use Rattle.std.specs.List.Sorted.{IsPermutation}
+use Rattle.crack_row.specs.Ranges.{Range, is_in, in_range}
+use Rattle.crack_row.specs.Rows.{amount, total_by, sum_of}
+use Rattle.crack_row.specs.declared.Row.{Row}
+use Rattle.crack_row.specs.declared.command.Command.{Command}
+use Rattle.crack_row.specs.declared.command.Reply.{Reply}
+use Rattle.crack_row.specs.declared.refusal.Refusal.{Refusal}
+use Rattle.crack_plain.specs.Plain.{PlainState, rows_in, after}
+use Rattle.crack_state.specs.State.{State, live_rows}
+use Rattle.crack_state.specs.Merge.{IsSettled}
+use Rattle.crack_sums.specs.Sums.{AreRight}
+use Rattle.crack_part.specs.Parts.{Part, IsSound, state_of}
+
+-- what a row adds to the sum of a range: its payload, if its key is in the range and its serial below this one
+abbrev pub adds : ℕ → Range → Row → ℤ
+adds since range row = if in_range range row && nat_lt row.serial.0 since then amount row.payload else pos 0
+
+-- the sum of the payloads of the rows with a serial below this one whose key lies between two bounds
+abbrev pub sum_before : ℕ → List Row → ℕ → ℕ → ℤ
+sum_before since rows low high = total_by (adds since (record { low = low; high = high })) rows
+
+-- what a row adds to the sum of a range, if there is one
+abbrev pub added : ℕ → ℕ → Option Row → ℤ
+added low high None = pos 0
+added low high (Some row) = cond (is_in (record { low = low; high = high }) row.key.0) (amount row.payload) (pos 0)
+
+-- the sums of ranges with one more row, if there is one
+abbrev pub with_row : Option Row → (ℕ → ℕ → ℤ) → ℕ → ℕ → ℤ
+with_row row m low high = m low high +ℤ added low high row
+
+-- the pieces whose sums are known, of the rows that were placed before a serial
+pub record Known : Type 0 where
+  pub pieces : List (ℕ × ℤ)
+  pub since : ℕ
+
+-- each sum that is known is that of the plain rows placed before the serial
+pub record Knows (known : Known) (plain : PlainState) : Type 0 where
+  pub past : known.since ≤ plain.next
+  pub right : AreRight (sum_before known.since plain.rows) known.pieces
+
+-- what a store that is settled for a range says of a part of it: its sum, of any list of the live rows
+abbrev pub SaysSettled : State → Range → ℕ → ℕ → ℤ → Type 0
+SaysSettled s range low high sum = IsSettled s range → s.keys.low ≤ range.low → range.high ≤ s.keys.high → range.low ≤ low → low ≤ high → high ≤ range.high → (plain : List Row) → IsPermutation (live_rows s) plain → sum ≡ sum_of (rows_in (record { low = low; high = high }) plain)
+
+-- after an answer the sums that are known are those of the plain rows that it left
+abbrev pub KnowsThen : Known → PlainState → Command → Result Reply Refusal → Type 0
+KnowsThen known plain command (Ok reply) = Knows known (after plain command)
+KnowsThen known plain command (Err refusal) = Knows known plain
+
+-- a partition's invariant, and that the sums that it knows are those of its plain rows
+pub record KnowsPart (known : Known) (part : Part) : Type 0 where
+  pub sound : IsSound part
+  pub knows : Knows known (state_of part)

@@ -1,0 +1,146 @@
+//! The sums of pieces that a partition knows.
+ghost use Rattle.std.specs.Prelude.{◌≡◌, ℕ, ℤ, ◌<◌, ◌≤◌, [], IfSome};
+ghost use Rattle.crack_row.specs.Ranges.{Range};
+ghost use Rattle.crack_row.specs.Rows.{sum_of};
+ghost use Rattle.crack_plain.specs.Plain.{PlainState, IsNumbered, row_in, rows_in, after};
+ghost use Rattle.crack_state.specs.State.{IsIntact};
+ghost use Rattle.crack_state.specs.Merge.{IsSettled};
+ghost use Rattle.crack_sums.specs.Sums.{AreRight};
+ghost use Rattle.crack_part.specs.Parts.{IsFaithful};
+ghost use Rattle.crack_part.specs.KnownSums.{Knows, sum_before, with_row};
+
+use crack_row::{Command, KeyRange, Row, Serial};
+use crack_store::Store;
+use crack_sums::{PieceSums, Source};
+use std::alloc::Global;
+use std::marker::Model;
+
+/// If more rows than this were placed since the sums were last asked for, they are forgotten: to look the rows up
+/// would take longer than to sum anew.
+const MOST_PLACED: u64 = 256;
+
+/// The sums of pieces that are known, of the rows that were placed before a serial. They are sums of plain rows, by
+/// key: no crack and no merge makes them wrong.
+#[derive(Drop)]
+pub(crate) struct KnownSums {
+    pieces: PieceSums,
+    since: u64,
+}
+
+impl Model for KnownSums {
+    ghost use Rattle.crack_part.specs.KnownSums.{Known};
+
+    ghost Value = { Known };
+
+    ghost view = { λ k. record { pieces = k.pieces; since = k.since } };
+}
+
+impl KnownSums {
+    /// No sums. Takes no memory.
+    pub(crate) fn new(alloc: Global) -> KnownSums
+        ensures { result ≡ record { pieces = []; since = 0 } }
+    {
+        KnownSums {
+            pieces: PieceSums::new(alloc),
+            since: 0,
+        }
+    }
+
+    /// Notes that the row with a serial was removed, if there was one. O(log pieces).
+    pub(crate) fn remove(&mut self, serial: Serial, row: Option<Row>)
+        ensures { (plain : PlainState) → IsNumbered plain → row_in plain.rows serial ≡ row → Knows self.old plain →
+            Knows self.new (after plain (Command.Delete serial)) }
+    {
+        let Some(row) = row else {
+            return;
+        };
+        if serial.0 < self.since {
+            self.pieces.adjust(row.key, -row.payload.amount());
+        }
+    }
+
+    /// Notes that a row was put in the place of the one with its serial, if there was one. O(log pieces).
+    pub(crate) fn replace(&mut self, before: Option<Row>, row: Row)
+        ensures { (plain : PlainState) → IsNumbered plain → row_in plain.rows row.serial ≡ before → Knows self.old
+            plain → Knows self.new (after plain (Command.Update row.serial row.key row.payload)) }
+    {
+        let Some(before) = before else {
+            return;
+        };
+        if row.serial.0 < self.since {
+            self.pieces.adjust(before.key, -before.payload.amount());
+            self.pieces.adjust(row.key, row.payload.amount());
+        }
+    }
+
+    /// The sum of a range for which the store is settled. What isn't known of it is summed in the store. None if
+    /// that finds no memory, or the numbers don't suffice. O(log pieces) and a step for each piece in the range, once
+    /// its pieces are known.
+    pub(crate) fn sum(&mut self, store: &Store, next: u64, range: KeyRange) -> Option<i128>
+        requires filled { range.low < range.high }
+        requires settled { IsSettled store.now range }
+        ensures { store.now.keys.low ≤ range.low → range.high ≤ store.now.keys.high → (plain : PlainState) →
+            IsNumbered plain → IsFaithful store.now next plain → Knows self.old plain →
+            IfSome result (λ sum. sum ≡ sum_of (rows_in range plain.rows)) × Knows self.new plain }
+    {
+        self.catch_up(store, next);
+        self.pieces.sum(range, &Settled { store, range })
+    }
+
+    /// Takes in the rows that were placed since the sums were last asked for, or forgets the sums if they are many.
+    fn catch_up(&mut self, store: &Store, next: u64)
+        ensures { (plain : PlainState) → IsNumbered plain → IsFaithful store.now next plain → Knows self.old plain →
+            Knows self.new plain × (self.new.since ≡ next) }
+    {
+        if self.pieces.is_empty() || next.saturating_sub(self.since) > MOST_PLACED {
+            self.pieces.clear();
+        } else {
+            take_in(&mut self.pieces, store, self.since, next);
+        }
+        self.since = next;
+    }
+}
+
+/// Takes in the rows with these serials that are still there. O(rows * log pieces).
+fn take_in(pieces: &mut PieceSums, store: &Store, from: u64, next: u64)
+    ensures { (plain : PlainState) → IsNumbered plain → IsFaithful store.now next plain → from ≤ next →
+        AreRight (sum_before from plain.rows) pieces.old → AreRight (sum_before next plain.rows) pieces.new }
+{
+    store.facts();
+    'serials: for serial in from..next {
+        add(pieces, store.row_of(Serial(serial)));
+    }
+}
+
+/// Adds the payload of a row, if there is one, to the piece of its key.
+fn add(pieces: &mut PieceSums, row: Option<Row>)
+    ensures { (m : ℕ → ℕ → ℤ) → AreRight m pieces.old → AreRight (with_row row m) pieces.new }
+{
+    if let Some(row) = row {
+        pieces.adjust(row.key, row.payload.amount());
+    }
+}
+
+/// A store that is settled for a range, as what sums of parts of the range are asked of.
+#[derive(Clone, Copy)]
+struct Settled<'a> {
+    store: &'a Store,
+    range: KeyRange,
+}
+
+impl Source for Settled<'_> {
+    ghost use Rattle.crack_part.specs.KnownSums.{SaysSettled};
+
+    ghost says = { λ s low high sum. SaysSettled s.store.now s.range low high sum };
+
+    fn sum(&self, range: KeyRange) -> Option<i128> {
+        self.store.facts();
+        if range.low() < self.range.low()
+            || self.range.high() < range.high()
+            || !self.store.is_cracked(range)
+        {
+            return None;
+        }
+        Some(self.store.sum_between(range))
+    }
+}
