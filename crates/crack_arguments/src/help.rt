@@ -16,15 +16,15 @@ macro_rules! with_refusals {
     ($($before:expr),+) => {
         concat!(
             $($before,)+
-            "\n\nRefusals, told as `refused N`; one that ends a run gives exit status 1:\n",
-            "   1  no statement            12  more than 63 splits\n",
-            "   2  no range                13  the workers aren't 1 to 64\n",
-            "   4  a key beyond the split  14  a limit isn't 1 to its greatest\n",
+            "\n\nRefusals, written as `refused N`; one that ends a run gives exit status 1:\n",
+            "   1  not a statement         12  more than 63 splits\n",
+            "   2  not a range             13  not 1 to 64 workers\n",
+            "   4  another partition's key 14  a limit is out of range\n",
             "   5  no such partition       15  workers are missing at the end\n",
             "   6  the history is full     16  receipts and histories disagree\n",
-            "   8  no memory               17  reading failed, or the port\n",
+            "   8  memory ran out          17  reading or listening failed\n",
             "   9  no cell is free         18  writing failed\n",
-            "  10  no command more         19  no record of CSV: its number\n",
+            "  10  its life is over        19  not a CSV record: its number\n",
             "  11  splits that don't rise"
         )
     };
@@ -36,15 +36,15 @@ macro_rules! with_statements {
         with_refusals!(
             "Example:\n",
             $($example,)+
-            "\n\nStatements, a line each, and their replies:\n",
+            "\n\nStatements, one per line, and their replies:\n",
             "  insert KEY PAYLOAD          row P.N, the row's number\n",
             "  delete P.N                  gone KEY PAYLOAD, or none\n",
             "  update P.N KEY PAYLOAD      changed, or none\n",
-            "  count LOW HIGH              count N: rows with a key from LOW to below HIGH\n",
+            "  count LOW HIGH              count N: rows with keys from LOW to below HIGH\n",
             "  sum LOW HIGH                sum N: their payloads\n",
             "  select LOW HIGH             rows N, and N lines P.N KEY PAYLOAD\n",
-            "  layout P                    what stands where in partition P\n",
-            "  checkpoint P                folded N: its history begins anew, its rows stay\n",
+            "  layout P                    where the rows of partition P are\n",
+            "  checkpoint P                folded N: N entries are removed, its rows stay\n",
             "  policy NAME                 policy NAME: complete, gradual, ripple or auto\n",
             "  quit                        bye"
         )

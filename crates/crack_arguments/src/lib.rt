@@ -116,7 +116,7 @@ fn upkeep_option<'a>(alloc: Global) -> Arg<'a> {
     Arg::new(alloc, "auto-checkpoint")
         .long("auto-checkpoint")
         .action(ArgAction::SetTrue)
-        .help("Makes a checkpoint where a history is full")
+        .help("Makes a checkpoint when a history is full")
 }
 
 fn policy_option<'a>(alloc: Global) -> Arg<'a> {
@@ -134,7 +134,7 @@ fn split_values<'a>(alloc: Global) -> Arg<'a> {
         .action(ArgAction::Append)
         .num_args(0..)
         .value_parser(value_parser!(u64))
-        .help("Where keys are parted: rising, 1 to 2^64 - 1; 63 at most")
+        .help("First keys of partitions: rising, 1 to 2^64 - 1; 63 at most")
 }
 
 fn workers_option<'a>(alloc: Global) -> Arg<'a> {
@@ -143,7 +143,7 @@ fn workers_option<'a>(alloc: Global) -> Arg<'a> {
         .value_name("W")
         .required(true)
         .value_parser(value_parser!(u64))
-        .help("How many workers, each on a thread of its own: 1 to 64")
+        .help("How many workers, each on its own thread: 1 to 64")
 }
 
 fn port_option<'a>(alloc: Global) -> Arg<'a> {
@@ -167,7 +167,7 @@ fn until_eof_option<'a>(alloc: Global) -> Arg<'a> {
     Arg::new(alloc, "until-eof")
         .long("until-eof")
         .action(ArgAction::SetTrue)
-        .help("Serves until its input ends, in place of --sessions")
+        .help("Serves until its input ends, instead of --sessions")
 }
 
 fn idle_option<'a>(alloc: Global) -> Arg<'a> {
@@ -182,7 +182,7 @@ fn quiet_option<'a>(alloc: Global) -> Arg<'a> {
     Arg::new(alloc, "quiet")
         .long("quiet")
         .action(ArgAction::SetTrue)
-        .help("Writes nothing to standard error but a refusal")
+        .help("Writes only a refusal to standard error")
 }
 
 fn audit_option<'a>(alloc: Global) -> Arg<'a> {
@@ -197,7 +197,7 @@ fn words_option<'a>(alloc: Global) -> Arg<'a> {
         .long("words")
         .global(true)
         .action(ArgAction::SetTrue)
-        .help("Explains an error in words, on standard error")
+        .help("Explains errors in words, on standard error")
 }
 
 /// A subcommand with the options and the splits that all openings have.
@@ -231,7 +231,7 @@ fn batch_command<'a>(alloc: Global) -> Result<Command<'a>, AllocError> {
     opening_command(
         alloc,
         "batch",
-        "Answers numbered lines by workers that run at the same time",
+        "Answers numbered lines with workers that run in parallel",
         help::OF_BATCH,
     )?
     .arg(workers_option(alloc))
@@ -241,7 +241,7 @@ fn serve_command<'a>(alloc: Global) -> Result<Command<'a>, AllocError> {
     opening_command(
         alloc,
         "serve",
-        "Answers connections to a port, one for each worker at a time",
+        "Serves connections to a port, one per worker at a time",
         help::OF_SERVE,
     )?
     .arg(port_option(alloc))?
@@ -265,7 +265,7 @@ fn csv_command<'a>(alloc: Global) -> Result<Command<'a>, AllocError> {
 /// The common form of command lines.
 fn command_line<'a>(alloc: Global) -> Result<Command<'a>, AllocError> {
     Command::new(alloc, "crackd")
-        .about("An in-memory table that its queries put into order")
+        .about("An in-memory table that sorts itself as it is queried")
         .version(VERSION)
         .after_help(help::OF_PROGRAM)
         .subcommand_required(true)
