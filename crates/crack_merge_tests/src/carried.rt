@@ -15,7 +15,7 @@ use std::alloc::Global;
 use std::process::Abort;
 
 /// Asserts that a store has all keys.
-fn assert_all_keys(rt: &impl Abort, store: &Store)
+pub(crate) fn assert_all_keys(rt: &impl Abort, store: &Store)
     ensures low { store.now.keys.low ≡ 0 }
     ensures high { store.now.keys.high ≡ GREATEST_BOUND }
 {
@@ -26,7 +26,7 @@ fn assert_all_keys(rt: &impl Abort, store: &Store)
 }
 
 /// Dooms up to eight rows of the column.
-fn doom_some(rt: &impl Abort, store: &mut Store, numbers: &mut Numbers)
+pub(crate) fn doom_some(rt: &impl Abort, store: &mut Store, numbers: &mut Numbers)
     requires low { store.old.keys.low ≡ 0 }
     requires high { store.old.keys.high ≡ GREATEST_BOUND }
     ensures low { store.new.keys.low ≡ 0 }
@@ -148,7 +148,7 @@ fn carried_each(
 
 /// Puts a row with this serial and this key among the pending insertions, at the second time if memory was refused
 /// once.
-fn admit(rt: &impl Abort, store: &mut Store, serial: u64, key: KeyNumber) {
+pub(crate) fn admit(rt: &impl Abort, store: &mut Store, serial: u64, key: KeyNumber) {
     assert_all_keys(rt, store);
     let cells = store.cells();
     assert!(rt; cells < 1000);
@@ -249,7 +249,7 @@ fn carries_under_a_ceiling_leave_what_one_after_the_other_leaves(rt: HostRuntime
 }
 
 /// Cracks at the ends of a range, at the second time if memory was refused once.
-fn crack_at_last(rt: &impl Abort, store: &mut Store, range: KeyRange)
+pub(crate) fn crack_at_last(rt: &impl Abort, store: &mut Store, range: KeyRange)
     ensures keys { store.new.keys ≡ store.old.keys }
     ensures cracked { IsCracked store.new range }
 {
@@ -261,7 +261,7 @@ fn crack_at_last(rt: &impl Abort, store: &mut Store, range: KeyRange)
 }
 
 /// Merges all rows, at the second time if memory was refused once.
-fn merge_at_last(rt: &impl Abort, store: Store) -> Store {
+pub(crate) fn merge_at_last(rt: &impl Abort, store: Store) -> Store {
     let mut store = store;
     assert_all_keys(rt, &store);
     crack_at_last(rt, &mut store, KeyRange::all());
@@ -282,7 +282,7 @@ fn merge_again(rt: &impl Abort, store: Store) -> Store {
 }
 
 /// The serial of the column's last row, which is taken out.
-fn take_serial(rt: &impl Abort, store: Store) -> (Store, u64) {
+pub(crate) fn take_serial(rt: &impl Abort, store: Store) -> (Store, u64) {
     let mut store = store;
     if store.make_room().is_err() {
         let again = store.make_room();
@@ -318,7 +318,7 @@ fn sweep_carries_in_bulk(rt: HostRuntime) {
 }
 
 /// Dooms a row of the column, at the second time where memory was refused once.
-fn doom_at_last(rt: &impl Abort, store: &mut Store, serial: u64)
+pub(crate) fn doom_at_last(rt: &impl Abort, store: &mut Store, serial: u64)
     requires low { store.old.keys.low ≡ 0 }
     requires high { store.old.keys.high ≡ GREATEST_BOUND }
 {

@@ -6,4 +6,6 @@ mod bulk;
 #[cfg(test)]
 mod carried;
 #[cfg(test)]
+mod filled;
+#[cfg(test)]
 mod merge;
