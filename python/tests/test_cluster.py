@@ -516,6 +516,14 @@ class OfDask(OnWorkers, unittest.TestCase):
         with cluster.Table.from_dask(MODULE["client"], self.frame({"day": days}, 3), "day") as table:
             self.assertEqual(table.sum(np.datetime64("2020-01-02"), np.datetime64("2020-01-05")), 6)
 
+    def test_the_line_of_the_page(self):
+        line = PAGE.read_text(encoding="utf-8").split("```python\n")[2].split("```")[0]
+        frame = self.frame({"time": np.arange(1000), "price": np.arange(1000) % 7}, 2)
+        names = {"cluster": cluster, "client": MODULE["client"], "frame": frame}
+        exec(line, names)
+        with names["table"] as table:
+            self.assertEqual((table.count(), table.sum(0, 70)), (1000, 210))
+
     def test_arrays(self):
         import dask.array
 
