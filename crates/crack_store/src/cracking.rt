@@ -90,6 +90,7 @@ pub(crate) fn code_pending(inside: &mut Inside)
 
 /// Which ends of the range are missing. O(log bounds): each end is looked up once, and the high one only if it doesn't
 /// fall into the piece of the low one.
+#[inline(always)]
 pub(crate) fn missing_ends(inside: &Inside, range: KeyRange) -> Missing
     ensures { Misses (lists_of inside.now) range result }
 {

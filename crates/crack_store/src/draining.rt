@@ -21,10 +21,11 @@ use crack_pending::PendingOut;
 use crack_row::{KeyNumber, KeyRange, Row};
 use std::alloc::Global;
 
-/// Fewer rows are pulled one at a time, if there are more bounds than this: a walk over all of them isn't worth it.
+/// Fewer rows are pulled one at a time if there are many bounds: a walk over all of them isn't worth it.
 const FEWEST: usize = 16;
 
-const FEW_BOUNDS: usize = 64;
+/// More bounds than these are many.
+pub(crate) const FEW_BOUNDS: usize = 64;
 
 /// In a piece of more rows than this one pass finds all doomed rows there, which a search for each doesn't.
 const SHORT: usize = 4096;

@@ -12,7 +12,7 @@ ghost use Rattle.crack_store.specs.Inside.{lists_of};
 ghost use Rattle.crack_store.specs.Keeps.{KeepsIntact};
 
 use crate::Store;
-use crate::draining::{Drain, bury_all, doomed_in, is_worth_bulk};
+use crate::draining::{Drain, FEW_BOUNDS, bury_all, doomed_in, is_worth_bulk};
 use crate::inside::Inside;
 use crate::points::row_at;
 use crate::sifting::count_in;
@@ -25,11 +25,11 @@ use crack_row::{KeyNumber, KeyRange, Row};
 impl Store {
     /// Pulls pending deletions of a range in bulk, each by a filler: a pending insertion whose key is one of `fillers`,
     /// of which `first` is the first. It takes the first of both, until there are no more of the one or of the other,
-    /// and leaves what pulling them one after the other leaves; returns whether it did so. It doesn't if none or few
-    /// pending deletions are in the range, nor if one is in a long piece, nor if the keys of the fillers don't begin at
-    /// a bound or another bound is among them, nor if it finds no memory for a list: then all is as it was. O(pending
-    /// rows and holes); for each row that it pulls O(bounds) without a wait for memory, and one search of its piece,
-    /// which is short; O(bounds).
+    /// and leaves what pulling them one after the other leaves; returns whether it did so. It doesn't if there are many
+    /// bounds, all of which it would walk over, if no pending deletion is in the range, if one is in a long piece, if
+    /// the keys of the fillers don't begin at a bound, if another bound is among them, or if it finds no memory for a
+    /// list: then all is as it was. O(pending rows and holes); for each row that it pulls O(bounds) without a wait for
+    /// memory, and one search of its piece, which is short; O(bounds).
     pub fn fill_in_bulk(&mut self, range: KeyRange, fillers: KeyRange, first: usize) -> bool
         requires behind { range.high ≤ fillers.low }
         requires first { Finds fillers (keys_at self.old.cells self.old.pending_in) 0 (Some first) }
@@ -37,6 +37,9 @@ impl Store {
         ensures live { live_rows self.new ≡ live_rows self.old }
         ensures same { IsFalse result → self.new ≡ self.old }
     {
+        if FEW_BOUNDS < self.inside.index.len() {
+            return false;
+        }
         self.inside.pending_out.close_up();
         let Some(edge) = edge_of(&self.inside.index, fillers) else {
             return false;
