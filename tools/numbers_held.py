@@ -54,7 +54,7 @@ NUMBERS = [
     ("docs/PROOFS.md", "n is at most {}. On a fault", "crack_csv", "MOST_RECORDS"),
     ("docs/PROOFS.md", "each read asks for {} bytes", "crack_session", "READ_BYTES"),
     ("docs/ARCHITECTURE.md", "each session has a buffer of {} bytes for its replies", "crack_server", "REPLY_BYTES"),
-    ("docs/ARCHITECTURE.md", "An arena's cells stand in pages of {}:", "crack_arena", "CELLS"),
+    ("docs/ARCHITECTURE.md", "An arena's cells are in pages of {}.", "crack_arena", "CELLS"),
     ("docs/ARCHITECTURE.md", "its history has room for {} entries", "crack_part", "FIRST_ENTRIES"),
     ("docs/ARCHITECTURE.md", "its pending insertions for {} rows", "crack_pending", "FIRST_SPOTS"),
     ("docs/ARCHITECTURE.md", "The map of serials has room for {} rows at first", "crack_store", "FIRST_SERIALS"),
