@@ -1,5 +1,5 @@
 -- What changes of plain rows leave of the sums that are known.
-use Rattle.std.proofs.Common.{◌≡◌, ℕ, ℤ, pos, ◌+ℤ◌, ◌-ℤ◌, ◌≤ℤ◌, neg_ℤ, to_z, of_z, ◌<◌, ◌≤◌, Bool, true, false, cond, List, [], ◌∷◌, ◌++◌, map, filter, Some, None, arith, refl, sym, ◌∙◌}
+use Rattle.std.proofs.Common.{◌≡◌, ℕ, ℤ, pos, ◌+ℤ◌, ◌-◌, ◌-ℤ◌, ◌≤ℤ◌, neg_ℤ, to_z, of_z, ◌<◌, ◌≤◌, nat_lt, Bool, true, false, cond, List, [], ◌∷◌, ◌++◌, map, filter, Some, None, arith, refl, sym, ◌∙◌}
 use Rattle.std.specs.Prelude.{AllPairs, Result, Ok, Err, OnOk, OnErr}
 use Rattle.std.specs.List.{find}
 use Rattle.std.proofs.lemmas.Bool.Decides.{nat_tests}
@@ -19,7 +19,8 @@ use Rattle.crack_row.specs.declared.command.Command.TheVariants.{Insert, Delete,
 use Rattle.crack_plain.specs.Plain.{PlainState, row_in, after}
 use Rattle.crack_plain.proofs.Laws.{others-same, replaced-same}
 use Rattle.crack_sums.specs.Sums.{AreRight, Changes}
-use Rattle.crack_part.specs.KnownSums.{Known, Knows, KnowsThen, adds, added, sum_before, with_row}
+use Rattle.crack_part.specs.KnownSums.{Known, Knows, KnowsThen, adds, added, sum_before, with_row, left}
+use Rattle.crack_part.specs.declared.known.TheConstants.{MOST_PLACED}
 use Rattle.crack_part.proofs.SumLaws.{sum-placed, total-taken, total-put, found-serial, apart-none}
 
 -- sums that are the same are right for the same pieces
@@ -52,6 +53,14 @@ adds-early since low high row early = grind (arith, nat_tests, early)
 
 adds-late : (since low high : ℕ) (row : Row) → since ≤ row.serial.0 → adds since (record { low = low; high = high }) row ≡ pos 0
 adds-late since low high row late = grind (arith, nat_tests, late)
+
+-- what is left of the sums is right, and of the same rows
+pub Knows-left : (next : ℕ) (known : Known) (plain : PlainState) → Knows known plain → Knows (left next known) plain
+Knows-left next known plain knows = by_test (nat_lt MOST_PLACED (next - known.since))
+  where
+    by_test : (b : Bool) → Knows (cond b (record known { pieces = [] }) known) plain
+    by_test true = record { past = knows.past; right = tt }
+    by_test false = knows
 
 -- a row that is placed is later than the serial
 pub Knows-placed : (known : Known) (plain : PlainState) (key : Key) (payload : Payload) → Knows known plain → Knows known (after plain (Insert key payload))

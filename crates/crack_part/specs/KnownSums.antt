@@ -1,8 +1,8 @@
 -- What private clauses alone cite.
 -- The sums of the payloads of rows by ranges of keys, of the rows that were placed before a serial.
-use Rattle.std.specs.Prelude.{◌≡◌, ℕ, ℤ, pos, ◌+ℤ◌, ◌≤◌, ◌&&◌, nat_lt, if◌then◌else◌, List, Option, Some, None, cond, Result, Ok, Err}
+use Rattle.std.specs.Prelude.{◌≡◌, ℕ, ℤ, pos, ◌+ℤ◌, ◌-◌, ◌≤◌, nat_lt, cond, List, [], Option, Some, None, Result, Ok, Err}
 use Rattle.std.specs.List.Sorted.{IsPermutation}
-use Rattle.crack_row.specs.Ranges.{Range, is_in, in_range}
+use Rattle.crack_row.specs.Ranges.{Range, in_range}
 use Rattle.crack_row.specs.Rows.{amount, total_by, sum_of}
 use Rattle.crack_row.specs.declared.Row.{Row}
 use Rattle.crack_row.specs.declared.command.Command.{Command}
@@ -12,20 +12,21 @@ use Rattle.crack_plain.specs.Plain.{PlainState, rows_in, after}
 use Rattle.crack_state.specs.State.{State, live_rows}
 use Rattle.crack_state.specs.Merge.{IsSettled}
 use Rattle.crack_sums.specs.Sums.{AreRight}
+use Rattle.crack_part.specs.declared.known.TheConstants.{MOST_PLACED}
 use Rattle.crack_part.specs.Parts.{Part, IsSound, state_of}
 
--- what a row adds to the sum of a range: its payload, if its key is in the range and its serial below this one
+-- what a row adds to the sum of a range, if there is one: its payload, if its key is in the range
+abbrev pub added : ℕ → ℕ → Option Row → ℤ
+added low high None = pos 0
+added low high (Some row) = cond (in_range (record { low = low; high = high }) row) (amount row.payload) (pos 0)
+
+-- what a row with a serial below this one adds to the sum of a range; another adds nothing
 abbrev pub adds : ℕ → Range → Row → ℤ
-adds since range row = if in_range range row && nat_lt row.serial.0 since then amount row.payload else pos 0
+adds since range row = cond (nat_lt row.serial.0 since) (added range.low range.high (Some row)) (pos 0)
 
 -- the sum of the payloads of the rows with a serial below this one whose key lies between two bounds
 abbrev pub sum_before : ℕ → List Row → ℕ → ℕ → ℤ
 sum_before since rows low high = total_by (adds since (record { low = low; high = high })) rows
-
--- what a row adds to the sum of a range, if there is one
-abbrev pub added : ℕ → ℕ → Option Row → ℤ
-added low high None = pos 0
-added low high (Some row) = cond (is_in (record { low = low; high = high }) row.key.0) (amount row.payload) (pos 0)
 
 -- the sums of ranges with one more row, if there is one
 abbrev pub with_row : Option Row → (ℕ → ℕ → ℤ) → ℕ → ℕ → ℤ
@@ -40,6 +41,10 @@ pub record Known : Type 0 where
 pub record Knows (known : Known) (plain : PlainState) : Type 0 where
   pub past : known.since ≤ plain.next
   pub right : AreRight (sum_before known.since plain.rows) known.pieces
+
+-- what is left of the sums that are known where the next row gets this serial: none, if many rows were placed since
+abbrev pub left : ℕ → Known → Known
+left next known = cond (nat_lt MOST_PLACED (next - known.since)) (record known { pieces = [] }) known
 
 -- what a store that is settled for a range says of a part of it: its sum, of any list of the live rows
 abbrev pub SaysSettled : State → Range → ℕ → ℕ → ℤ → Type 0

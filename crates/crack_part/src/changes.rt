@@ -52,6 +52,7 @@ pub(crate) fn place(
 pub(crate) fn remove(
     store: &mut Store,
     known: &mut KnownSums,
+    next: u64,
     serial: Serial,
 ) -> Result<Reply, Refusal>
     requires few { MayFree store.old }
@@ -71,13 +72,18 @@ pub(crate) fn remove(
     store.facts();
     let row = store.remove(serial)?;
     store.facts();
-    known.remove(serial, row);
+    known.remove(serial, row, next);
     Ok(gone(row))
 }
 
 /// Replaces the row with the same serial, if there is one; returns the reply. O(1), amortised.
 #[inline(never)]
-pub(crate) fn rewrite(store: &mut Store, known: &mut KnownSums, row: Row) -> Result<Reply, Refusal>
+pub(crate) fn rewrite(
+    store: &mut Store,
+    known: &mut KnownSums,
+    next: u64,
+    row: Row,
+) -> Result<Reply, Refusal>
     requires within { IsIn store.old.keys row.key.0 }
     requires renewable { IsRenewable store.old }
     ensures reply { IfOk result (λ reply. (plain : List Row) → IsPermutation (live_rows store.old) plain → reply ≡
@@ -97,6 +103,6 @@ pub(crate) fn rewrite(store: &mut Store, known: &mut KnownSums, row: Row) -> Res
     store.facts();
     let before = store.replace(row)?;
     store.facts();
-    known.replace(before, row);
+    known.replace(before, row, next);
     Ok(rewritten(before))
 }

@@ -1,13 +1,11 @@
 //! The sums of pieces that a partition knows.
 ghost use Rattle.std.specs.Prelude.{◌≡◌, ℕ, ℤ, ◌<◌, ◌≤◌, [], IfSome};
-ghost use Rattle.crack_row.specs.Ranges.{Range};
 ghost use Rattle.crack_row.specs.Rows.{sum_of};
 ghost use Rattle.crack_plain.specs.Plain.{PlainState, IsNumbered, row_in, rows_in, after};
-ghost use Rattle.crack_state.specs.State.{IsIntact};
 ghost use Rattle.crack_state.specs.Merge.{IsSettled};
 ghost use Rattle.crack_sums.specs.Sums.{AreRight};
 ghost use Rattle.crack_part.specs.Parts.{IsFaithful};
-ghost use Rattle.crack_part.specs.KnownSums.{Knows, sum_before, with_row};
+ghost use Rattle.crack_part.specs.KnownSums.{Knows, left, sum_before, with_row};
 
 use crack_row::{Command, KeyRange, Row, Serial};
 use crack_store::Store;
@@ -46,27 +44,29 @@ impl KnownSums {
         }
     }
 
-    /// Notes that the row with a serial was removed, if there was one. O(log pieces).
-    pub(crate) fn remove(&mut self, serial: Serial, row: Option<Row>)
+    /// Notes that the row with a serial was removed, if there was one. O(log pieces), amortised.
+    pub(crate) fn remove(&mut self, serial: Serial, row: Option<Row>, next: u64)
         ensures { (plain : PlainState) → IsNumbered plain → row_in plain.rows serial ≡ row → Knows self.old plain →
             Knows self.new (after plain (Command.Delete serial)) }
     {
         let Some(row) = row else {
             return;
         };
+        self.forget_if_late(next);
         if serial.0 < self.since {
             self.pieces.adjust(row.key, -row.payload.amount());
         }
     }
 
-    /// Notes that a row was put in the place of the one with its serial, if there was one. O(log pieces).
-    pub(crate) fn replace(&mut self, before: Option<Row>, row: Row)
+    /// Notes that a row was put in the place of the one with its serial, if there was one. O(log pieces), amortised.
+    pub(crate) fn replace(&mut self, before: Option<Row>, row: Row, next: u64)
         ensures { (plain : PlainState) → IsNumbered plain → row_in plain.rows row.serial ≡ before → Knows self.old
             plain → Knows self.new (after plain (Command.Update row.serial row.key row.payload)) }
     {
         let Some(before) = before else {
             return;
         };
+        self.forget_if_late(next);
         if row.serial.0 < self.since {
             self.pieces.adjust(before.key, -before.payload.amount());
             self.pieces.adjust(row.key, row.payload.amount());
@@ -92,12 +92,21 @@ impl KnownSums {
         ensures { (plain : PlainState) → IsNumbered plain → IsFaithful store.now next plain → Knows self.old plain →
             Knows self.new plain × (self.new.since ≡ next) }
     {
-        if self.pieces.is_empty() || next.saturating_sub(self.since) > MOST_PLACED {
-            self.pieces.clear();
-        } else {
+        self.forget_if_late(next);
+        if !self.pieces.is_empty() {
             take_in(&mut self.pieces, store, self.since, next);
         }
         self.since = next;
+    }
+
+    /// Forgets the sums if many rows were placed since they were last asked for: the next sum would forget them, so a
+    /// change needn't adjust them.
+    fn forget_if_late(&mut self, next: u64)
+        ensures { self.new ≡ left next self.old }
+    {
+        if next.saturating_sub(self.since) > MOST_PLACED {
+            self.pieces.clear();
+        }
     }
 }
 

@@ -675,7 +675,7 @@ fn carry_out(
 {
     match *command {
         Command::Insert { key, payload } => place(store, next, key, payload),
-        Command::Delete { serial } => remove(store, known, serial),
+        Command::Delete { serial } => remove(store, known, *next, serial),
         Command::Update {
             serial,
             key,
@@ -683,6 +683,7 @@ fn carry_out(
         } => rewrite(
             store,
             known,
+            *next,
             Row {
                 serial,
                 key,

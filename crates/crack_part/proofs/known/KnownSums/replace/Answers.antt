@@ -3,12 +3,12 @@ use Rattle.crack_row.specs.declared.command.Command.TheVariants.{Update}
 use Rattle.crack_plain.specs.Plain.{after}
 use Rattle.crack_sums.specs.Sums.{Changes}
 use Rattle.crack_part.specs.KnownSums.{Known, Knows, sum_before}
-use Rattle.crack_part.proofs.KnownLemmas.{AreRight-same, Knows-unchanged, Changes-without, without, gained, lost, replaced-early, replaced-late}
+use Rattle.crack_part.proofs.KnownLemmas.{AreRight-same, Knows-left, Knows-unchanged, Changes-without, without, gained, lost, replaced-early, replaced-late}
 use Rattle.crack_part.proofs.known.KnownSums.replace.Goals as goal
 
 pub returns-then-row-self : goal.returns-then-row-self
 returns-then-row-self c = λ plain numbered found now.
-    let knows = subst (λ (k : Known). Knows k plain) (sym c.self.view_is) now in
+    let knows = subst (λ (k : Known). Knows k plain) (sym c.self.view_is) (rw c.forget_if_late.ensures (Knows-left c.args.next c.args.self.now plain now)) in
     let row = c.args.row in
     let before = c.in-Some.before in
     let m = sum_before c.self.inside.since plain.rows in
@@ -21,12 +21,14 @@ returns-then-row-self c = λ plain numbered found now.
     }
 
 pub returns-else-row-self : goal.returns-else-row-self
-returns-else-row-self c = λ plain numbered found knows.
+returns-else-row-self c = λ plain numbered found now.
+    let known = c.forget_if_late.new.self in
+    let knows : Knows known plain = rw c.forget_if_late.ensures (Knows-left c.args.next c.args.self.now plain now) in
     let row = c.args.row in
-    let since : c.args.self.now.since ≡ c.self.inside.since = ap (λ (k : Known). k.since) (sym c.self.view_is) in
+    let since : known.since ≡ c.self.inside.since = ap (λ (k : Known). k.since) (sym c.self.view_is) in
     record {
       past = knows.past;
-      right = AreRight-same (sum_before c.args.self.now.since plain.rows) (sum_before c.args.self.now.since (after plain (Update row.serial row.key row.payload)).rows) c.args.self.now.pieces (replaced-late c.args.self.now.since plain.rows row c.in-Some.before numbered.rising (rw c.in-Some.is at found) (omega (arith, since))) knows.right;
+      right = AreRight-same (sum_before known.since plain.rows) (sum_before known.since (after plain (Update row.serial row.key row.payload)).rows) known.pieces (replaced-late known.since plain.rows row c.in-Some.before numbered.rising (rw c.in-Some.is at found) (omega (arith, since))) knows.right;
     }
 
 pub returns-in_default : goal.returns-in_default
