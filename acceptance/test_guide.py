@@ -3,9 +3,10 @@ their output with what the page says.
 
 These fenced blocks of a page are run, those of a section in one shell, in a folder that has `events.csv` and `lib`:
 
-    console   what follows a `$ ` is a command for the shell; the lines up to the next `$ ` are its output pycon     a
-    session of Python, as doctest reads it python    a program, which must succeed, followed by a block `text` if it
-    writes something c         a program, which is written to rows.c
+    console   a line after `$ ` is a command for the shell; the lines up to the next `$ ` are its output
+    pycon     a session of Python, as doctest reads it
+    python    a program, which must succeed, followed by a block `text` if it writes something
+    c         a program, which is written to rows.c
 
 In output `...` stands for any text. `crackd` and the package are found, and the port 4000 of a server is replaced by a
 free one. A word `needs=NAME` after the kind of a block names what it can't be run without: a program on the path, a

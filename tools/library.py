@@ -103,6 +103,12 @@ def run(*words, **how):
         sys.exit(f"{ran.stdout[-4000:]}\n{words[0]} failed")
 
 
+def compiled(rt, made, *source):
+    """Compiles a source, named by words for the compiler, into an object for a shared library."""
+    run(compiler(rt), "--target=x86_64-unknown-linux-gnu", "-O2", "-fPIC", "-c", *source, "-o", made)
+    return made
+
+
 def unproved_object(rt, room):
     """The compiled code of the crate and of all that it uses, none of it proved."""
     folder = room / "crates" / CRATE
@@ -114,19 +120,7 @@ def unproved_object(rt, room):
     step.module(rt, str(folder), str(made))
     run(compiler(rt), "-x", "ir", made, "-S", "-emit-llvm", "-o", text)
     text.write_text(exported(text.read_text(encoding="utf-8"), functions), encoding="utf-8")
-    run(
-        compiler(rt),
-        "--target=x86_64-unknown-linux-gnu",
-        "-O2",
-        "-fPIC",
-        "-c",
-        "-x",
-        "ir",
-        text,
-        "-o",
-        room / "module.o",
-    )
-    return room / "module.o"
+    return compiled(rt, room / "module.o", "-x", "ir", text)
 
 
 def copy_sources(room):
@@ -146,16 +140,7 @@ def link(rt, room, code, is_proved):
     said = f"crackd {version()}" + ("" if is_proved else " (unproved)")
     (room / "version.c").write_text(f'const char *crackd_version(void) {{ return "{said}"; }}\n', encoding="utf-8")
     (room / "crackd.map").write_text("{ global: crackd_*; local: *; };\n", encoding="utf-8")
-    run(
-        compiler(rt),
-        "--target=x86_64-unknown-linux-gnu",
-        "-O2",
-        "-fPIC",
-        "-c",
-        room / "version.c",
-        "-o",
-        room / "version.o",
-    )
+    version_code = compiled(rt, room / "version.o", room / "version.c")
     tools, kit = f"{rt.rtlib.KIT}/toolchain", rt.rtlib.KIT
     words = [
         "-shared",
@@ -174,7 +159,7 @@ def link(rt, room, code, is_proved):
         room / name,
     ]
     whole = ["--whole-archive", code, "--no-whole-archive"]
-    run(f"{tools}/bin/ld.lld", *words, *whole, room / "version.o", f"{kit}/c/liblibc_c.a", f"{tools}/lib/libc.so.6")
+    run(f"{tools}/bin/ld.lld", *words, *whole, version_code, f"{kit}/c/liblibc_c.a", f"{tools}/lib/libc.so.6")
     LIB.mkdir(exist_ok=True)
     shutil.copyfile(HEADER, LIB / HEADER.name)
     for target in (LIB / name, PACKAGE / name):

@@ -1,7 +1,7 @@
 """Numbers in the documents that are constants of the code: each is compared with the constant that the source names.
 
-A line of NUMBERS has a document, a text in it in which {} stands for the number, and the crate and the constant. The
-text occurs in the document once, on one line or over several, with the digits of the number in groups of three or not.
+A line of NUMBERS has a document, a text in it with {} in place of the number, a crate or a file of Python, and its
+constant. The text is on one line or over several, with the digits of the number in groups of three or not.
 `mismatches` returns the lines that don't hold.
 """
 
@@ -11,6 +11,7 @@ import re
 
 TOP = pathlib.Path(__file__).resolve().parent.parent
 CONSTANT = re.compile(r"^(?:pub(?:\(crate\))? )?const ([A-Z_]+): \w+ =\s+(-?[0-9_]+);", re.MULTILINE)
+PYTHON_CONSTANT = re.compile(r"^([A-Z_]+) = (-?[0-9_]+)$", re.MULTILINE)
 
 NUMBERS = [
     ("README.md", "one has at most {} rows,", "crack_row", "GREATEST_CELLS"),
@@ -67,6 +68,19 @@ NUMBERS = [
     ("docs/DECISIONS.md", "the buffer of a line stays at {} bytes", "crack_commands", "TEXT_BYTES"),
     ("docs/DECISIONS.md", "the first {} bytes are enough", "crack_session", "KEPT_BYTES"),
     ("docs/DECISIONS.md", "A plain table accepts {} commands", "crack_plain", "MOST_ACCEPTED"),
+    ("docs/DECISIONS.md", "Histories in the process hold {} entries", "python/crackd/table.py", "HISTORY"),
+    ("docs/PYTHON.md", "a partition ({} by default)", "python/crackd/table.py", "HISTORY"),
+    ("docs/PYTHON.md", "one for each {} rows and at most", "python/crackd/base.py", "ROWS_A_PART"),
+    ("docs/PYTHON.md", "rows and at most {}.", "python/crackd/base.py", "MOST_PARTS"),
+    ("docs/CLUSTER.md", "A table of one process has at most {} partitions", "python/crackd/base.py", "MOST_PARTS"),
+    ("docs/CLUSTER.md", "of up to {} partitions", "python/crackd/base.py", "MOST_PARTS"),
+    ("docs/GUIDE.md", "divide the keys into up to {} partitions", "python/crackd/base.py", "MOST_PARTS"),
+    ("docs/C.md", "divide the keys into partitions, at most {}:", "python/crackd/base.py", "MOST_PARTS"),
+    ("README.md", "a table has at most {} of them", "python/crackd/base.py", "MOST_PARTS"),
+    *(
+        ("docs/C.md", f"| {{}} | `CRACKD_{name}` |", "crackd_c", name)
+        for name in ("CLOSED", "ALREADY_OPEN", "LENGTHS_DIFFER", "NO_SUCH_POLICY")
+    ),
 ]
 
 # for README's table of figures: the row of docs/BENCHMARKS.md for each column, and the column there for each row
@@ -156,11 +170,12 @@ MINUTES = {
 }
 
 
-def constants(crate, top=TOP):
-    """The constants of a crate that are whole numbers, by name: all values that a name has there."""
-    found = {}
-    for path in sorted((top / "crates" / crate / "src").rglob("*.rt")):
-        for name, number in CONSTANT.findall(path.read_text(encoding="utf-8")):
+def constants(source, top=TOP):
+    """The constants of a crate or of a file of Python that are whole numbers, by name: all values that a name has."""
+    found, is_python = {}, source.endswith(".py")
+    pattern = PYTHON_CONSTANT if is_python else CONSTANT
+    for path in [top / source] if is_python else sorted((top / "crates" / source / "src").rglob("*.rt")):
+        for name, number in pattern.findall(path.read_text(encoding="utf-8")):
             found.setdefault(name, set()).add(int(number.replace("_", "")))
     return found
 
@@ -168,11 +183,11 @@ def constants(crate, top=TOP):
 def mismatches(numbers=None, top=TOP):
     """The lines that don't hold, each with the reason."""
     wrong = []
-    for document, text, crate, name in NUMBERS if numbers is None else numbers:
+    for document, text, source, name in NUMBERS if numbers is None else numbers:
         written = " ".join((top / document).read_text(encoding="utf-8").split())
-        values = constants(crate, top).get(name, set())
+        values = constants(source, top).get(name, set())
         if len(values) != 1:
-            wrong.append(f"{crate} has {len(values)} values of {name}")
+            wrong.append(f"{source} has {len(values)} values of {name}")
             continue
         [value] = values
         if not any(text.format(it) in written for it in (str(value), f"{value:,}")):
