@@ -18,3 +18,5 @@ mod part;
 mod partitions;
 #[cfg(test)]
 mod plain;
+#[cfg(test)]
+mod sums;
