@@ -3,8 +3,8 @@
 # lists the targets
 help:
 	@echo 'make run     proves what changed, builds, and answers the statements of standard input:'
-	@echo '             18 minutes from nothing on 4 processors, 28 on 2'
-	@echo 'make try     the same without a proof, in a minute; it reads all of its input before it answers'
+	@echo '             36 minutes from nothing on 4 processors, beside other work'
+	@echo 'make try     the same without a proof, in two minutes; it reads all of its input before it answers'
 	@echo 'make lib     proves the library for C and Python as make run does, and builds lib/libcrackd.so and'
 	@echo '             lib/crackd.h; the package finds it'
 	@echo 'make lib-unproved  the same without a proof, in a minute: lib/libcrackd-unproved.so'

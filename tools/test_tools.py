@@ -403,7 +403,7 @@ class Numbers(unittest.TestCase):
 
     def test_documents_say_the_same_minutes(self):
         found = numbers_held.minutes()
-        self.assertEqual(sorted(found), ["edits", "run", "run2", "test"])
+        self.assertEqual(sorted(found), ["edits", "run", "test"])
         self.assertEqual([name for name, said in found.items() if len(said) > 1], [])
 
     def test_a_number_that_differs_is_found(self):
