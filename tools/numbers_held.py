@@ -160,6 +160,10 @@ SENTENCES = [
         }.items()
     ),
 ]
+# the bytes that a row takes, by the bars of docs/memory.svg
+BYTES = "{:.0f} while it is pending and {:.0f} in the column; {:.0f} and {:.0f} after a checkpoint."
+BARS = ("pending", "in the column", "pending, after a checkpoint", "in the column, after a checkpoint")
+BAR = re.compile(r">([^<>]+)</text>\n<rect[^>]*>\n<text[^>]*>([\d.]+) bytes<")
 # how many minutes commands take: what is found twice must be the same
 MINUTES = {
     "README.md": r"# proved: (?P<run>\d+) minutes the first time",
@@ -238,6 +242,13 @@ def sentence_mismatches(top=TOP):
         if text.format(*values) not in " ".join((top / document).read_text(encoding="utf-8").split()):
             wrong.append(f"{document} doesn't say {text.format(*values)!r}")
     return wrong
+
+
+def memory_mismatches(top=TOP):
+    """The sentence on a row's memory as it should be, if docs/GUIDE.md differs."""
+    bars = dict(BAR.findall((top / "docs" / "memory.svg").read_text(encoding="utf-8")))
+    written = BYTES.format(*(float(bars[it]) for it in BARS))
+    return [] if written in (top / "docs" / "GUIDE.md").read_text(encoding="utf-8") else [written]
 
 
 def minutes(top=TOP):

@@ -400,6 +400,7 @@ class Numbers(unittest.TestCase):
 
     def test_figures_in_sentences_are_those_of_the_benchmarks(self):
         self.assertEqual(numbers_held.sentence_mismatches(), [])
+        self.assertEqual(numbers_held.memory_mismatches(), [])
 
     def test_documents_say_the_same_minutes(self):
         found = numbers_held.minutes()
