@@ -1,4 +1,4 @@
-"""Numbers in the documents that are constants of the code: each is compared with the constant that the source names.
+"""Numbers in documents and help texts that are constants of the code: each is compared with its constant.
 
 A line of NUMBERS has a document, a text in it with {} in place of the number, a crate or a file of Python, and its
 constant. The text is on one line or over several, with the digits of the number in groups of three or not.
@@ -77,6 +77,19 @@ NUMBERS = [
     ("docs/GUIDE.md", "divide the keys into up to {} partitions", "python/crackd/base.py", "MOST_PARTS"),
     ("docs/C.md", "divide the keys into partitions, at most {}:", "python/crackd/base.py", "MOST_PARTS"),
     ("README.md", "a table has at most {} of them", "python/crackd/base.py", "MOST_PARTS"),
+    ("crates/crack_arguments/src/lib.rt", "Length of a history, 1 to {} [", "crack_row", "GREATEST_LIMIT"),
+    ("crates/crack_arguments/src/lib.rt", "Cells of a partition, 1 to {} [", "crack_row", "GREATEST_CELLS"),
+    ("crates/crack_arguments/src/lib.rt", "2^64 - 1; {} at most", "crack_core", "MOST_SPLITS"),
+    ("crates/crack_arguments/src/lib.rt", "each on its own thread: 1 to {}", "crack_table", "MOST_WORKERS"),
+    ("crates/crack_arguments/src/help.rt", "more than {} splits", "crack_core", "MOST_SPLITS"),
+    ("crates/crack_arguments/src/help.rt", "not 1 to {} workers", "crack_table", "MOST_WORKERS"),
+    ("python/crackd/shell/texts.py", "there are more than {} splits", "crack_core", "MOST_SPLITS"),
+    ("python/crackd/shell/texts.py", "the number of workers isn't 1 to {}", "crack_table", "MOST_WORKERS"),
+    ("python/crackd/shell/texts.py", "histories 1 to {}, cells", "crack_row", "GREATEST_LIMIT"),
+    ("python/crackd/shell/texts.py", "cells 1 to {}, lives", "crack_row", "GREATEST_CELLS"),
+    ("python/crackd/shell/texts.py", "lives 1 to {}", "crack_row", "GREATEST_LIFE"),
+    ("python/crackd/shell/texts.py", "GREATEST_KEY = {}", "crack_row", "GREATEST_KEY"),
+    ("python/crackd/errors.py", "the number of workers isn't 1 to {}", "crack_table", "MOST_WORKERS"),
     *(
         ("docs/C.md", f"| {{}} | `CRACKD_{name}` |", "crackd_c", name)
         for name in ("CLOSED", "ALREADY_OPEN", "LENGTHS_DIFFER", "NO_SUCH_POLICY")
