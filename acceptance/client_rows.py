@@ -226,7 +226,7 @@ class Account:
             # (Python accepts more spellings of a number than are ever written)
             expect("how a row is written", f"{number[0]}.{number[1]} {key} {payload}", line)
             if number <= before or bisect.bisect_right(self.splits, key) != number[0]:
-                raise Wrong(f"the row {line!r} stands after the row {before}")
+                raise Wrong(f"the row {line!r} comes after the row {before}")
             self.rows[number] = (key, payload)
             before = number
 

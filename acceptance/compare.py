@@ -18,7 +18,7 @@ from fixtures import Wrong, expect
 from plain_session import NO_CELL, RANGES, Part, Said, Session
 
 SHORT = "refused 8"
-# lines with numbers; each # stands for a number
+# lines with numbers; each # matches a number
 LAYOUT, PIECE = "layout # rows # column # out # in # cells # free # pieces #", "piece # # #"
 TOTALS, FOLDED = "accepted # inserted # deleted # held #", "folded #"
 # the totals, as replies show them: `least` and `most` commands in histories (since a refused range may have been

@@ -204,7 +204,7 @@ class Part:
         if self.has_a_cell():
             raise Refused(f"no {NO_CELL}: there is a cell")
         if serial is not None and (serial not in self.rows or serial in self.fresh):
-            raise Refused(f"no {NO_CELL}: the row {serial} stands in no column")
+            raise Refused(f"no {NO_CELL}: the row {serial} is in no column")
         raise Refused(NO_CELL)
 
     def put(self, serial: int, key: int, payload: int) -> None:

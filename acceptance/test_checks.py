@@ -42,7 +42,7 @@ class Kind(typing.NamedTuple):
 
 
 def kinds(section: str) -> list[Kind]:
-    """The kinds of a section, with words in capitals replaced by what they stand for."""
+    """The kinds of a section, with words in capitals replaced by their lines."""
     found, words = [], {}
     for line in fixtures.sections("doctored.txt")[section].splitlines():
         mark, _, rest = line.partition(" ")

@@ -8,7 +8,7 @@ These fenced blocks of a page are run, those of a section in one shell, in a fol
     python    a program, which must succeed, followed by a block `text` if it writes something
     c         a program, which is written to rows.c
 
-In output `...` stands for any text. `crackd` and the package are found, and the port 4000 of a server is replaced by a
+In output `...` matches any text. `crackd` and the package are found, and the port 4000 of a server is replaced by a
 free one. A word `needs=NAME` after the kind of a block names what it can't be run without: a program on the path, a
 module of Python, or `library`, which `make lib` builds. A section with a block that can't be run counts as skipped if
 its other blocks pass. The unproved library is used if there is no proved one.
@@ -75,7 +75,7 @@ def is_there(needed: str) -> bool:
 
 
 def fits(wanted: str, came: str) -> bool:
-    """Whether a text is the wanted one, in which `...` stands for any text."""
+    """Whether a text is the wanted one, in which `...` matches any text."""
     return re.fullmatch(".*".join(map(re.escape, wanted.split("..."))), came, re.DOTALL) is not None
 
 

@@ -87,7 +87,7 @@ def unescaped(text: str) -> str:
 
 
 def pattern_of(shown: str) -> str:
-    """The pattern of a line that must be shown: @ stands for a time, and % for the progress of a load."""
+    """The pattern of a line that must be shown: @ matches a time, and % the progress of a load."""
     text = shown[:1].replace("%", PROGRESS) + shown[1:]
     return text.replace(" @", TIME).replace("@", TIME.strip()) + ("" if "@" in shown else "\n")
 
