@@ -2,6 +2,7 @@
 use Rattle.std.proofs.Common.{◌≡◌, ℕ, ℤ, pos, ◌+ℤ◌, ◌-◌, ◌-ℤ◌, ◌≤ℤ◌, neg_ℤ, to_z, of_z, ◌<◌, ◌≤◌, nat_lt, Bool, true, false, cond, List, [], ◌∷◌, ◌++◌, map, filter, Some, None, arith, refl, sym, ◌∙◌}
 use Rattle.std.specs.Prelude.{AllPairs, Result, Ok, Err, OnOk, OnErr}
 use Rattle.std.specs.List.{find}
+use Rattle.std.proofs.lemmas.Bool.{le-ltb}
 use Rattle.std.proofs.lemmas.Bool.Decides.{nat_tests}
 use Rattle.std.specs.Int.{w128}
 use Rattle.std.proofs.lemmas.Int.{ints, to_z-of_z, fits_signed_from_abs}
@@ -19,7 +20,7 @@ use Rattle.crack_row.specs.declared.command.Command.TheVariants.{Insert, Delete,
 use Rattle.crack_plain.specs.Plain.{PlainState, row_in, after}
 use Rattle.crack_plain.proofs.Laws.{others-same, replaced-same}
 use Rattle.crack_sums.specs.Sums.{AreRight, Changes}
-use Rattle.crack_part.specs.KnownSums.{Known, Knows, KnowsThen, adds, added, sum_before, with_row, left}
+use Rattle.crack_part.specs.KnownSums.{Known, Knows, KnowsThen, adds, added, sum_before, with_row, IsFresh, left}
 use Rattle.crack_part.specs.declared.known.TheConstants.{MOST_PLACED}
 use Rattle.crack_part.proofs.SumLaws.{sum-placed, total-taken, total-put, found-serial, apart-none}
 
@@ -61,6 +62,9 @@ Knows-left next known plain knows = by_test (nat_lt MOST_PLACED (next - known.si
     by_test : (b : Bool) → Knows (cond b (record known { pieces = [] }) known) plain
     by_test true = record { past = knows.past; right = tt }
     by_test false = knows
+
+pub left-fresh : (next : ℕ) (known : Known) → IsFresh next known → left next known ≡ known
+left-fresh next known fresh = rw (le-ltb MOST_PLACED (next - known.since) (omega (arith, fresh))) refl
 
 -- a row that is placed is later than the serial
 pub Knows-placed : (known : Known) (plain : PlainState) (key : Key) (payload : Payload) → Knows known plain → Knows known (after plain (Insert key payload))

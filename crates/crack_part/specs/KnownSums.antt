@@ -1,6 +1,6 @@
 -- What private clauses alone cite.
 -- The sums of the payloads of rows by ranges of keys, of the rows that were placed before a serial.
-use Rattle.std.specs.Prelude.{◌≡◌, ℕ, ℤ, pos, ◌+ℤ◌, ◌-◌, ◌≤◌, nat_lt, cond, List, [], Option, Some, None, Result, Ok, Err}
+use Rattle.std.specs.Prelude.{◌≡◌, ℕ, ℤ, pos, ◌+◌, ◌+ℤ◌, ◌-◌, ◌≤◌, nat_lt, cond, List, [], Option, Some, None, Result, Ok, Err}
 use Rattle.std.specs.List.Sorted.{IsPermutation}
 use Rattle.crack_row.specs.Ranges.{Range, in_range}
 use Rattle.crack_row.specs.Rows.{amount, total_by, sum_of}
@@ -41,6 +41,10 @@ pub record Known : Type 0 where
 pub record Knows (known : Known) (plain : PlainState) : Type 0 where
   pub past : known.since ≤ plain.next
   pub right : AreRight (sum_before known.since plain.rows) known.pieces
+
+-- few rows were placed since the sums were last asked for, if the next row gets this serial
+abbrev pub IsFresh : ℕ → Known → Type 0
+IsFresh next known = next ≤ known.since + MOST_PLACED
 
 -- what is left of the sums that are known where the next row gets this serial: none, if many rows were placed since
 abbrev pub left : ℕ → Known → Known

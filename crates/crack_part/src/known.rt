@@ -1,11 +1,12 @@
 //! The sums of pieces that a partition knows.
-ghost use Rattle.std.specs.Prelude.{◌≡◌, ℕ, ℤ, ◌<◌, ◌≤◌, [], IfSome};
+ghost use Rattle.std.specs.Prelude.{◌≡◌, ℕ, ℤ, ◌<◌, ◌≤◌, ◌^◌, [], IfSome, IsSome, OnSome};
+ghost use Rattle.std.specs.Map.{keys_of};
 ghost use Rattle.crack_row.specs.Rows.{sum_of};
 ghost use Rattle.crack_plain.specs.Plain.{PlainState, IsNumbered, row_in, rows_in, after};
 ghost use Rattle.crack_state.specs.Merge.{IsSettled};
-ghost use Rattle.crack_sums.specs.Sums.{AreRight};
+ghost use Rattle.crack_sums.specs.Sums.{AreRight, AreKnown, IsEnd, distance_in};
 ghost use Rattle.crack_part.specs.Parts.{IsFaithful};
-ghost use Rattle.crack_part.specs.KnownSums.{Knows, left, sum_before, with_row};
+ghost use Rattle.crack_part.specs.KnownSums.{Knows, IsFresh, left, sum_before, with_row};
 
 use crack_row::{Command, KeyRange, Row, Serial};
 use crack_store::Store;
@@ -46,8 +47,9 @@ impl KnownSums {
 
     /// Notes that the row with a serial was removed, if there was one. O(log pieces), amortised.
     pub(crate) fn remove(&mut self, serial: Serial, row: Option<Row>, next: u64)
-        ensures { (plain : PlainState) → IsNumbered plain → row_in plain.rows serial ≡ row → Knows self.old plain →
-            Knows self.new (after plain (Command.Delete serial)) }
+        ensures knows { (plain : PlainState) → IsNumbered plain → row_in plain.rows serial ≡ row →
+            Knows self.old plain → Knows self.new (after plain (Command.Delete serial)) }
+        ensures stay { IsFresh next self.old → keys_of self.new.pieces ≡ keys_of self.old.pieces }
     {
         let Some(row) = row else {
             return;
@@ -60,8 +62,9 @@ impl KnownSums {
 
     /// Notes that a row was put in the place of the one with its serial, if there was one. O(log pieces), amortised.
     pub(crate) fn replace(&mut self, before: Option<Row>, row: Row, next: u64)
-        ensures { (plain : PlainState) → IsNumbered plain → row_in plain.rows row.serial ≡ before → Knows self.old
+        ensures knows { (plain : PlainState) → IsNumbered plain → row_in plain.rows row.serial ≡ before → Knows self.old
             plain → Knows self.new (after plain (Command.Update row.serial row.key row.payload)) }
+        ensures stay { IsFresh next self.old → keys_of self.new.pieces ≡ keys_of self.old.pieces }
     {
         let Some(before) = before else {
             return;
@@ -79,9 +82,13 @@ impl KnownSums {
     pub(crate) fn sum(&mut self, store: &Store, next: u64, range: KeyRange) -> Option<i128>
         requires filled { range.low < range.high }
         requires settled { IsSettled store.now range }
-        ensures { store.now.keys.low ≤ range.low → range.high ≤ store.now.keys.high → (plain : PlainState) →
+        ensures right { store.now.keys.low ≤ range.low → range.high ≤ store.now.keys.high → (plain : PlainState) →
             IsNumbered plain → IsFaithful store.now next plain → Knows self.old plain →
             IfSome result (λ sum. sum ≡ sum_of (rows_in range plain.rows)) × Knows self.new plain }
+        ensures known { OnSome result (AreKnown range self.new.pieces) }
+        ensures ends { OnSome result (IsEnd range.low self.new.pieces × IsEnd range.high self.new.pieces) }
+        ensures again { next ≡ self.old.since → IsEnd range.low self.old.pieces → IsEnd range.high self.old.pieces →
+            AreKnown range self.old.pieces → distance_in range self.old.pieces < 2 ^ 127 → IsSome result }
     {
         self.catch_up(store, next);
         self.pieces.sum(range, &Settled { store, range })
@@ -89,8 +96,10 @@ impl KnownSums {
 
     /// Takes in the rows that were placed since the sums were last asked for, or forgets the sums if they are many.
     fn catch_up(&mut self, store: &Store, next: u64)
-        ensures { (plain : PlainState) → IsNumbered plain → IsFaithful store.now next plain → Knows self.old plain →
-            Knows self.new plain × (self.new.since ≡ next) }
+        ensures knows { (plain : PlainState) → IsNumbered plain → IsFaithful store.now next plain →
+            Knows self.old plain → Knows self.new plain × (self.new.since ≡ next) }
+        ensures stay { IsFresh next self.old → keys_of self.new.pieces ≡ keys_of self.old.pieces }
+        ensures same { next ≡ self.old.since → self.new ≡ self.old }
     {
         self.forget_if_late(next);
         if !self.pieces.is_empty() {
@@ -112,8 +121,10 @@ impl KnownSums {
 
 /// Takes in the rows with these serials that are still there. O(rows * log pieces).
 fn take_in(pieces: &mut PieceSums, store: &Store, from: u64, next: u64)
-    ensures { (plain : PlainState) → IsNumbered plain → IsFaithful store.now next plain → from ≤ next →
+    ensures right { (plain : PlainState) → IsNumbered plain → IsFaithful store.now next plain → from ≤ next →
         AreRight (sum_before from plain.rows) pieces.old → AreRight (sum_before next plain.rows) pieces.new }
+    ensures keys { keys_of pieces.new ≡ keys_of pieces.old }
+    ensures same { next ≤ from → pieces.new ≡ pieces.old }
 {
     store.facts();
     'serials: for serial in from..next {
@@ -123,7 +134,8 @@ fn take_in(pieces: &mut PieceSums, store: &Store, from: u64, next: u64)
 
 /// Adds the payload of a row, if there is one, to the piece of its key.
 fn add(pieces: &mut PieceSums, row: Option<Row>)
-    ensures { (m : ℕ → ℕ → ℤ) → AreRight m pieces.old → AreRight (with_row row m) pieces.new }
+    ensures right { (m : ℕ → ℕ → ℤ) → AreRight m pieces.old → AreRight (with_row row m) pieces.new }
+    ensures keys { keys_of pieces.new ≡ keys_of pieces.old }
 {
     if let Some(row) = row {
         pieces.adjust(row.key, row.payload.amount());

@@ -14,4 +14,4 @@ returns-clause-live c =
 
 pub returns-clause-knows : goal.returns-clause-knows
 returns-clause-knows c = λ plain numbered same knows.
-    c.remove-2.ensures plain numbered (sym (c.in_ok-row.ensures.row ∙ row_by-find c.args.store.now c.args.serial.0 plain.rows c.facts.ensures same)) knows
+    c.remove-2.ensures.knows plain numbered (sym (c.in_ok-row.ensures.row ∙ row_by-find c.args.store.now c.args.serial.0 plain.rows c.facts.ensures same)) knows

@@ -6,8 +6,8 @@ use Rattle.crack_part.specs.KnownSums.{Known, Knows, sum_before}
 use Rattle.crack_part.proofs.KnownLemmas.{AreRight-same, Knows-left, Knows-unchanged, Changes-without, without, gained, lost, replaced-early, replaced-late}
 use Rattle.crack_part.proofs.known.KnownSums.replace.Goals as goal
 
-pub returns-then-row-self : goal.returns-then-row-self
-returns-then-row-self c = λ plain numbered found now.
+pub returns-then-row-self-clause-knows : goal.returns-then-row-self-clause-knows
+returns-then-row-self-clause-knows c = λ plain numbered found now.
     let knows = subst (λ (k : Known). Knows k plain) (sym c.self.view_is) (rw c.forget_if_late.ensures (Knows-left c.args.next c.args.self.now plain now)) in
     let row = c.args.row in
     let before = c.in-Some.before in
@@ -20,8 +20,8 @@ returns-then-row-self c = λ plain numbered found now.
       right = c.adjust-then-row-self.ensures.right (without before m) then gains (c.adjust.ensures.right m (without before m) loses knows.right);
     }
 
-pub returns-else-row-self : goal.returns-else-row-self
-returns-else-row-self c = λ plain numbered found now.
+pub returns-else-row-self-clause-knows : goal.returns-else-row-self-clause-knows
+returns-else-row-self-clause-knows c = λ plain numbered found now.
     let known = c.forget_if_late.new.self in
     let knows : Knows known plain = rw c.forget_if_late.ensures (Knows-left c.args.next c.args.self.now plain now) in
     let row = c.args.row in
@@ -31,5 +31,5 @@ returns-else-row-self c = λ plain numbered found now.
       right = AreRight-same (sum_before known.since plain.rows) (sum_before known.since (after plain (Update row.serial row.key row.payload)).rows) known.pieces (replaced-late known.since plain.rows row c.in-Some.before numbered.rising (rw c.in-Some.is at found) (omega (arith, since))) knows.right;
     }
 
-pub returns-in_default : goal.returns-in_default
-returns-in_default c = λ plain numbered found knows. Knows-unchanged c.args.self.now plain c.args.row (rw c.in_default.is at found) knows
+pub returns-in_default-clause-knows : goal.returns-in_default-clause-knows
+returns-in_default-clause-knows c = λ plain numbered found knows. Knows-unchanged c.args.self.now plain c.args.row (rw c.in_default.is at found) knows

@@ -7,9 +7,9 @@ use Rattle.crack_part.specs.KnownSums.{Known, Knows, sum_before}
 use Rattle.crack_part.proofs.SumLaws.{sum-parts, sum-nothing, sum-all}
 use Rattle.crack_part.proofs.known.KnownSums.sum.Goals as goal
 
-pub returns : goal.returns
-returns c = λ low high plain numbered faithful now.
-    let caught = c.catch_up.ensures plain numbered faithful now in
+pub returns-clause-right : goal.returns-clause-right
+returns-clause-right c = λ low high plain numbered faithful now.
+    let caught = c.catch_up.ensures.knows plain numbered faithful now in
     let knows = subst (λ (k : Known). Knows k plain) (sym c.self.view_is) caught.0 in
     let since = c.self.inside.since in
     let last : since ≡ plain.next = ap (λ (k : Known). k.since) c.self.view_is ∙ caught.1 ∙ faithful.serial in
