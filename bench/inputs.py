@@ -88,6 +88,15 @@ def reads(word):
     return script(f"{word}s-between-bounds-whole", [*before, *lines]), script(f"{word}s-between-bounds-front", before)
 
 
+def repeated_sums():
+    """Sums between bounds of a hundredth of the keys each, once and twice: a file of what precedes them, and one for
+    each."""
+    width = 2**32 // 100
+    ends = [f"{low} {low + width}" for low in range(0, 100 * width, width)]
+    before = [*random_insert_lines(sizes.PART_ROWS), *(f"count {it}" for it in ends)]
+    return [script(f"sums-{times}-times", [*before, *(f"sum {it}" for it in ends * times)]) for times in range(3)]
+
+
 def split_files():
     """What is measured with many splits and with none: its name, a file of it with what precedes it, and a file of that
     alone."""

@@ -15,6 +15,7 @@ from inputs import (
     random_inserts,
     reads,
     records,
+    repeated_sums,
     script,
     split_files,
 )
@@ -141,6 +142,12 @@ def insert_instructions(crackd, lines):
     return instructions([crackd, "script"], random_inserts(lines)) / lines
 
 
+def sums_instructions(crackd):
+    """How many instructions the sums of each hundredth of the keys take, and the same sums again."""
+    none, once, twice = (instructions([crackd, "script"], it) for it in repeated_sums())
+    return once - none, twice - once
+
+
 def measure_instructions(table, _runs):
     if not has_valgrind():
         return
@@ -149,6 +156,8 @@ def measure_instructions(table, _runs):
     for what, behind in DELETED.items():
         half, whole = deletes_instructions(CRACKD, behind)
         table.numbers(f"instructions of {sizes.DELETES} deletes of {what}, beside half", whole, half, 2.2)
+    first, again = sums_instructions(CRACKD)
+    table.numbers("instructions of the sums of each hundredth again, beside the first", again, first, 0.2)
 
 
 def read_instructions(crackd, word):
