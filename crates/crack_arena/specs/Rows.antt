@@ -1,5 +1,5 @@
 -- The keys and payloads of rows in cells.
-use Rattle.std.specs.Prelude.{◌≡◌, ℕ, ℤ, pos, ◌<◌, ◌⊎◌, List, length, map, Option, Some, None, slice_index, slice_index_or}
+use Rattle.std.specs.Prelude.{ℕ, ℤ, pos, List, map, Option, Some, None}
 use Rattle.crack_row.specs.Rows.{amount}
 use Rattle.crack_row.specs.declared.TheConstants.{GREATEST_KEY}
 use Rattle.crack_row.specs.declared.Payload.{Payload}
@@ -44,8 +44,3 @@ keys_at cells handles = map (key_at cells) handles
 -- what is beside a handle whose key isn't remembered; a row with the greatest key is never remembered
 abbrev pub unknown : ℕ
 unknown = GREATEST_KEY
-
--- each key that is remembered beside a handle is that of its row
-pub record RemembersKeys (cells : List (Cell Row)) (handles : List Handle) (keys : List ℕ) : Type 0 where
-  pub beside : length keys ≡ length handles
-  pub right : (k : ℕ) (d : Handle) → k < length handles → (slice_index keys k ≡ unknown) ⊎ (slice_index keys k ≡ key_at cells (slice_index_or handles k d))

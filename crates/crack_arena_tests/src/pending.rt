@@ -2,9 +2,10 @@
 ghost use Rattle.std.specs.Prelude.{List};
 ghost use Rattle.crack_row.specs.declared.Row.{Row};
 ghost use Rattle.crack_arena.specs.Arena.{Cell};
-ghost use Rattle.crack_arena.specs.Rows.{RemembersKeys};
+ghost use Rattle.crack_column.specs.Column.{Remembers};
 
 use crack_arena::{Arena, Handle, key_of};
+use crack_column::Remembered;
 use crack_pending::{PendingIn, PendingList, PendingOut};
 use crack_row::{
     Bound, BoundNumber, GREATEST_BOUND, GREATEST_KEY, Key, KeyNumber, KeyRange, Payload, Row,
@@ -21,7 +22,7 @@ fn put(rt: &impl Abort, arena: &mut Arena<Row>, key: KeyNumber) -> Result<Handle
     Ok(arena.put(Row {
         serial: Serial(cells as u64),
         key: Key::from_number(key),
-        payload: Payload::from_number(0),
+        payload: Payload::from_number(-(cells as i64)),
     })?)
 }
 
@@ -40,16 +41,16 @@ fn put_all(
     Ok(handles)
 }
 
-/// Puts a handle after all others, with its key or without.
+/// Puts a handle after all others, with its row remembered or not.
 fn push<Kind>(
     rt: &impl Abort,
     arena: &Arena<Row>,
     pending: &mut PendingList<Kind>,
     handle: Handle<Row>,
-    keyed: bool,
+    remembered: bool,
 ) -> Result<(), Fail>
-    requires { RemembersKeys arena.now.cells pending.old.handles pending.old.keys }
-    ensures { RemembersKeys arena.now.cells pending.new.handles pending.new.keys }
+    requires { Remembers arena.now.cells pending.old.handles pending.old.remembered }
+    ensures { Remembers arena.now.cells pending.new.handles pending.new.remembered }
 {
     let length = pending.len();
     let there = pending.contains(handle.slot());
@@ -57,23 +58,23 @@ fn push<Kind>(
     assert!(rt; !there);
     pending.reserve(1)?;
     pending.make_places(handle.slot() as usize + 1)?;
-    if keyed {
-        pending.push_keyed(handle, key_of(arena, handle));
+    if remembered {
+        pending.push_remembered(handle, Remembered::nothing().or_read(arena, handle));
     } else {
         pending.push(handle);
     }
     Ok(())
 }
 
-/// Pushes all, every third without its key.
+/// Pushes all; every third isn't remembered.
 fn push_all<Kind>(
     rt: &impl Abort,
     arena: &Arena<Row>,
     pending: &mut PendingList<Kind>,
     handles: &[Handle<Row>],
 ) -> Result<(), Fail>
-    requires { RemembersKeys arena.now.cells pending.old.handles pending.old.keys }
-    ensures { RemembersKeys arena.now.cells pending.new.handles pending.new.keys }
+    requires { Remembers arena.now.cells pending.old.handles pending.old.remembered }
+    ensures { Remembers arena.now.cells pending.new.handles pending.new.remembered }
 {
     'handles: for place in 0..handles.len() {
         push(rt, arena, pending, handles[place], place % 3 != 0)?;
@@ -123,7 +124,7 @@ fn assert_found<Kind>(
     low: KeyNumber,
     high: BoundNumber,
 ) -> Result<(), Fail>
-    requires { RemembersKeys arena.now.cells pending.now.handles pending.now.keys }
+    requires { Remembers arena.now.cells pending.now.handles pending.now.remembered }
 {
     let range = KeyRange::between(Key::from_number(low).bound(), Bound::from_number(high))?;
     assert_eq!(rt;
@@ -148,8 +149,8 @@ fn take<Kind>(
     place: usize,
     keys: &mut Vec<KeyNumber>,
 ) -> Handle<Row>
-    requires { RemembersKeys arena.now.cells pending.old.handles pending.old.keys }
-    ensures { RemembersKeys arena.now.cells pending.new.handles pending.new.keys }
+    requires { Remembers arena.now.cells pending.old.handles pending.old.remembered }
+    ensures { Remembers arena.now.cells pending.new.handles pending.new.remembered }
 {
     let length = pending.len();
     assert!(rt; place < length && place < keys.len());
@@ -171,8 +172,8 @@ fn strike<Kind>(
     handle: Handle<Row>,
     keys: &mut Vec<KeyNumber>,
 )
-    requires { RemembersKeys arena.now.cells pending.old.handles pending.old.keys }
-    ensures { RemembersKeys arena.now.cells pending.new.handles pending.new.keys }
+    requires { Remembers arena.now.cells pending.old.handles pending.old.remembered }
+    ensures { Remembers arena.now.cells pending.new.handles pending.new.remembered }
 {
     if !pending.contains(handle.slot()) {
         return;
@@ -200,7 +201,7 @@ fn go_and_come<Kind>(
     pending: &mut PendingList<Kind>,
     handles: &[Handle<Row>],
 ) -> Result<(), Fail>
-    requires { RemembersKeys arena.now.cells pending.old.handles pending.old.keys }
+    requires { Remembers arena.now.cells pending.old.handles pending.old.remembered }
 {
     assert!(rt; handles.len() == 4);
     push_all(rt, arena, pending, handles)?;
@@ -234,7 +235,7 @@ fn goes_and_comes<Kind: Drop>(
     alloc: Global,
     mut pending: PendingList<Kind>,
 ) -> Result<(), Fail>
-    requires { (cells : List (Cell Row)) → RemembersKeys cells pending.handles pending.keys }
+    requires { (cells : List (Cell Row)) → Remembers cells pending.handles pending.remembered }
 {
     let mut arena = Arena::new(alloc);
     let told = match put_all(rt, alloc, &mut arena, &[40, 10, GREATEST_KEY, 20]) {
@@ -261,8 +262,8 @@ fn step(
     step: usize,
     keys: &mut Vec<KeyNumber>,
 ) -> Result<(), Fail>
-    requires { RemembersKeys arena.now.cells pending.old.handles pending.old.keys }
-    ensures { RemembersKeys arena.now.cells pending.new.handles pending.new.keys }
+    requires { Remembers arena.now.cells pending.old.handles pending.old.remembered }
+    ensures { Remembers arena.now.cells pending.new.handles pending.new.remembered }
 {
     strike(rt, arena, pending, handle, keys);
     if step % 5 == 4 && keys.len() > 0 {
@@ -283,8 +284,8 @@ fn strike_all(
     handles: &[Handle<Row>],
     keys: &mut Vec<KeyNumber>,
 ) -> Result<(), Fail>
-    requires { RemembersKeys arena.now.cells pending.old.handles pending.old.keys }
-    ensures { RemembersKeys arena.now.cells pending.new.handles pending.new.keys }
+    requires { Remembers arena.now.cells pending.old.handles pending.old.remembered }
+    ensures { Remembers arena.now.cells pending.new.handles pending.new.remembered }
 {
     assert!(rt; handles.len() == 199);
     'steps: for round in 0..398usize {
@@ -318,7 +319,7 @@ fn push_and_strike_all(
     arena: &mut Arena<Row>,
     pending: &mut PendingIn,
 ) -> Result<(), Fail>
-    requires { (cells : List (Cell Row)) → RemembersKeys cells pending.old.handles pending.old.keys }
+    requires { (cells : List (Cell Row)) → Remembers cells pending.old.handles pending.old.remembered }
 {
     let mut keys = scattered(alloc)?;
     let handles = put_all(rt, alloc, arena, &keys)?;
@@ -337,15 +338,15 @@ fn rows_are_struck_in_any_order(rt: HostRuntime) -> Result<(), Fail> {
     told
 }
 
-/// Pushes all, each with its key.
-fn push_keyed_all(
+/// Pushes all, and remembers each.
+fn push_remembered_all(
     rt: &impl Abort,
     arena: &Arena<Row>,
     pending: &mut PendingIn,
     handles: &[Handle<Row>],
 ) -> Result<(), Fail>
-    requires { RemembersKeys arena.now.cells pending.old.handles pending.old.keys }
-    ensures { RemembersKeys arena.now.cells pending.new.handles pending.new.keys }
+    requires { Remembers arena.now.cells pending.old.handles pending.old.remembered }
+    ensures { Remembers arena.now.cells pending.new.handles pending.new.remembered }
 {
     'handles: for place in 0..handles.len() {
         push(rt, arena, pending, handles[place], true)?;
@@ -362,8 +363,8 @@ fn take_range(
     low: KeyNumber,
     high: BoundNumber,
 ) -> Result<(), Fail>
-    requires { RemembersKeys arena.now.cells pending.old.handles pending.old.keys }
-    ensures { RemembersKeys arena.now.cells pending.new.handles pending.new.keys }
+    requires { Remembers arena.now.cells pending.old.handles pending.old.remembered }
+    ensures { Remembers arena.now.cells pending.new.handles pending.new.remembered }
 {
     let range = KeyRange::between(Key::from_number(low).bound(), Bound::from_number(high))?;
     let mut from = 0;
@@ -389,12 +390,14 @@ fn take_range_at_once(
     low: KeyNumber,
     high: BoundNumber,
 ) -> Result<(), Fail>
-    requires { RemembersKeys arena.now.cells pending.old.handles pending.old.keys }
-    ensures { RemembersKeys arena.now.cells pending.new.handles pending.new.keys }
+    requires { Remembers arena.now.cells pending.old.handles pending.old.remembered }
+    ensures { Remembers arena.now.cells pending.new.handles pending.new.remembered }
 {
     let range = KeyRange::between(Key::from_number(low).bound(), Bound::from_number(high))?;
     let mut taken = Vec::with_capacity(alloc, pending.len())?;
-    pending.take_in(range, arena, &mut taken);
+    let mut known = Vec::with_capacity(alloc, pending.len())?;
+    pending.take_in(range, arena, &mut taken, &mut known);
+    assert_eq!(rt; known.len(), taken.len());
     assert_taken(rt, arena, pending, &taken, keys, low, high);
     Ok(())
 }
@@ -427,8 +430,8 @@ fn take_ranges_at_once(
     pending: &mut PendingIn,
     keys: &mut Vec<KeyNumber>,
 ) -> Result<(), Fail>
-    requires { RemembersKeys arena.now.cells pending.old.handles pending.old.keys }
-    ensures { RemembersKeys arena.now.cells pending.new.handles pending.new.keys }
+    requires { Remembers arena.now.cells pending.old.handles pending.old.remembered }
+    ensures { Remembers arena.now.cells pending.new.handles pending.new.remembered }
 {
     'rounds: for round in 0..10u64 {
         let low = round * 67 % 180;
@@ -446,8 +449,8 @@ fn take_ranges(
     pending: &mut PendingIn,
     keys: &mut Vec<KeyNumber>,
 ) -> Result<(), Fail>
-    requires { RemembersKeys arena.now.cells pending.old.handles pending.old.keys }
-    ensures { RemembersKeys arena.now.cells pending.new.handles pending.new.keys }
+    requires { Remembers arena.now.cells pending.old.handles pending.old.remembered }
+    ensures { Remembers arena.now.cells pending.new.handles pending.new.remembered }
 {
     'rounds: for round in 0..10u64 {
         let low = round * 67 % 180;
@@ -463,11 +466,11 @@ fn push_and_take_ranges(
     arena: &mut Arena<Row>,
     pending: &mut PendingIn,
 ) -> Result<(), Fail>
-    requires { (cells : List (Cell Row)) → RemembersKeys cells pending.old.handles pending.old.keys }
+    requires { (cells : List (Cell Row)) → Remembers cells pending.old.handles pending.old.remembered }
 {
     let mut keys = scattered(alloc)?;
     let handles = put_all(rt, alloc, arena, &keys)?;
-    push_keyed_all(rt, arena, pending, &handles)?;
+    push_remembered_all(rt, arena, pending, &handles)?;
     take_ranges(rt, arena, pending, &mut keys)
 }
 
@@ -489,11 +492,11 @@ fn push_and_take_ranges_at_once(
     arena: &mut Arena<Row>,
     pending: &mut PendingIn,
 ) -> Result<(), Fail>
-    requires { (cells : List (Cell Row)) → RemembersKeys cells pending.old.handles pending.old.keys }
+    requires { (cells : List (Cell Row)) → Remembers cells pending.old.handles pending.old.remembered }
 {
     let mut keys = scattered(alloc)?;
     let handles = put_all(rt, alloc, arena, &keys)?;
-    push_keyed_all(rt, arena, pending, &handles)?;
+    push_remembered_all(rt, arena, pending, &handles)?;
     take_ranges_at_once(rt, alloc, arena, pending, &mut keys)
 }
 

@@ -79,6 +79,17 @@ impl Remembered {
         }
     }
 
+    /// What is to be remembered about the handle's row; the arena is asked for it only if the row isn't known. O(1).
+    pub fn or_read(self, arena: &Arena<Row>, handle: Handle<Row>) -> Remembered
+        requires { Agrees arena.now.cells handle self }
+        ensures { result ≡ memory_at arena.now.cells handle }
+    {
+        if self.key == UNKNOWN {
+            return Remembered::read(arena, handle);
+        }
+        self
+    }
+
     /// For a row with this key and this payload.
     pub(crate) fn new(key: KeyNumber, payload: Payload) -> Remembered
         ensures { result ≡ record { key = key; payload = payload } }
@@ -86,7 +97,9 @@ impl Remembered {
         Remembered { key, payload }
     }
 
-    pub(crate) fn key(&self) -> KeyNumber
+    /// The number of the row's key; the greatest one if the row isn't known. O(1).
+    #[inline]
+    pub fn key(&self) -> KeyNumber
         ensures { result ≡ self.now.key }
     {
         self.key

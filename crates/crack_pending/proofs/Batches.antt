@@ -5,12 +5,14 @@ use Rattle.std.proofs.lemmas.List.{append_assoc}
 use Rattle.crack_row.specs.Ranges.{Range, IsIn, is_in}
 use Rattle.crack_row.specs.declared.Row.{Row}
 use Rattle.crack_arena.specs.Arena.{Cell, Handle, times, no_handle}
-use Rattle.crack_arena.specs.Rows.{key_at, unknown, RemembersKeys}
-use Rattle.crack_arena.proofs.Remembering.{RemembersKeys-remove}
+use Rattle.crack_arena.specs.Rows.{key_at, unknown}
+use Rattle.crack_column.specs.Column.{Memory, nothing, Remembers}
+use Rattle.crack_column.proofs.Remembering.{Remembers-append}
+use Rattle.crack_pending.proofs.Remembering.{Remembers-remove}
 use Rattle.crack_pending.specs.Ahead.{AreAhead, IsAmong}
 use Rattle.crack_pending.specs.Codes.{Coding, AreCoded, IsWindow}
-use Rattle.crack_pending.specs.Inside.{Lies, AreKnown, KnowKeys, IsMissed}
-use Rattle.crack_pending.specs.Keeps.{HasRow, place_at}
+use Rattle.crack_pending.specs.Inside.{Lies, AreKnown, KnowRows, IsMissed}
+use Rattle.crack_pending.specs.Keeps.{HasRow, place_at, keys_of}
 use Rattle.crack_pending.specs.Passed.{IsPassed}
 use Rattle.crack_pending.specs.Pending.{rows_inside}
 use Rattle.crack_pending.specs.Spots.{kept}
@@ -19,9 +21,9 @@ use Rattle.crack_pending.proofs.Kept.{Stands-within, kept-hole, place_at-hole_be
 use Rattle.crack_pending.proofs.Searches.{is_in-true, is_in-false}
 use Rattle.crack_pending.proofs.Taken.{stood, inside-hole, outside-hole}
 use Rattle.crack_pending.proofs.Unknown.{counted_hole}
-use Rattle.crack_pending.proofs.Views.{place-within}
+use Rattle.crack_pending.proofs.Views.{place-within, KnowRows-kept}
 
-module _ (keys : List ℕ) (stands : List Bool) (coding : Coding) (coded : AreCoded keys stands coding) (range : Range) (cells : List (Cell Row)) (handles : List Handle) (first last beyond : ℕ) (w : IsWindow coding.base coding.shift range first last beyond) (known : KnowKeys cells handles keys stands) (all : AreKnown keys stands) (from to : ℕ) (candidates : List ℕ) (ahead : AreAhead coding.codes first last from to candidates 0) (before : IsMissed range cells handles stands 0 from) where
+module _ (remembered : List Memory) (stands : List Bool) (coding : Coding) (coded : AreCoded remembered stands coding) (range : Range) (cells : List (Cell Row)) (handles : List Handle) (first last beyond : ℕ) (w : IsWindow coding.base coding.shift range first last beyond) (known : KnowRows cells handles remembered stands) (all : AreKnown remembered stands) (from to : ℕ) (candidates : List ℕ) (ahead : AreAhead coding.codes first last from to candidates 0) (before : IsMissed range cells handles stands 0 from) where
   -- no row up to a spot is in the range, if none of the candidates before it is any more
   pub missed_ahead : (stands' : List Bool) → ((spot : ℕ) → HasRow stands' spot → HasRow stands spot) → (k : ℕ) → ((j : ℕ) → j < k → HasRow stands' (get_or candidates j 0) → ¬ IsIn range (key_at cells (get_or handles (get_or candidates j 0) no_handle))) → (limit : ℕ) → limit ≤ to → ((j : ℕ) → k ≤ j → j < length candidates → limit ≤ get_or candidates j 0) → IsMissed range cells handles stands' 0 limit
   missed_ahead stands' still k done limit within others spot after less at = elim (cases_lt spot from) [
@@ -36,7 +38,7 @@ module _ (keys : List ℕ) (stands : List Bool) (coding : Coding) (coded : AreCo
   ]
     where
       out : ¬ Lies first last (get_or coding.codes spot 0) → ¬ IsIn range (key_at cells (get_or handles spot no_handle))
-      out apart = missed_code keys stands coding coded range cells handles first last beyond w known false (λ e. all) spot (omega (arith, less, within, ahead.within)) (still spot at) apart (λ e. absurd (true≢false (sym e)))
+      out apart = missed_code remembered stands coding coded range cells handles first last beyond w known false (λ e. all) spot (omega (arith, less, within, ahead.within)) (still spot at) apart (λ e. absurd (true≢false (sym e)))
 
       among : IsAmong candidates 0 spot → ¬ IsIn range (key_at cells (get_or handles spot no_handle))
       among one = elim (cases_lt one.place k) [
@@ -53,15 +55,16 @@ module _ (keys : List ℕ) (stands : List Bool) (coding : Coding) (coded : AreCo
         rw same (omega arith)
   ]
 
-module _ (cells : List (Cell Row)) (range : Range) (handles : List Handle) (keys : List ℕ) where
+module _ (cells : List (Cell Row)) (range : Range) (handles : List Handle) (remembered : List Memory) where
   -- nothing was passed
-  pub IsPassed-none : (stands : List Bool) (codes : Coding) (came : List Handle) (unknowns : ℕ) → RemembersKeys cells (kept stands handles) (kept stands keys) → unknowns ≡ times unknown (kept stands keys) → AreCoded keys stands codes → IsPassed cells range handles keys stands stands codes came came 0 0 unknowns
-  IsPassed-none stands codes came unknowns known are coded = record {
+  pub IsPassed-none : (stands : List Bool) (codes : Coding) (came : List Handle) (known : List Memory) (unknowns : ℕ) → Remembers cells came known → Remembers cells (kept stands handles) (kept stands remembered) → unknowns ≡ times unknown (keys_of (kept stands remembered)) → AreCoded remembered stands codes → IsPassed cells range handles remembered stands stands codes came came known 0 0 unknowns
+  IsPassed-none stands codes came known unknowns gone right are coded = record {
     within = omega arith;
     missed = λ spot after before. absurd (omega (arith, before));
     taken_are = refl;
     outside = refl;
-    known = known;
+    gone_are = gone;
+    known = right;
     unknowns_are = are;
     coded = coded;
     stood = λ spot there. there;
@@ -70,12 +73,13 @@ module _ (cells : List (Cell Row)) (range : Range) (handles : List Handle) (keys
   }
 
   -- the pass goes on
-  pub IsPassed-on : (before middle after : List Bool) (codes codes' : Coding) (came taken taken' : List Handle) (start start' count count' unknowns unknowns' : ℕ) → IsPassed cells range handles keys before middle codes came taken start count unknowns → IsPassed cells range handles keys middle after codes' taken taken' start' count' unknowns' → IsPassed cells range handles keys before after codes' came taken' start' (count + count') unknowns'
-  IsPassed-on before middle after codes codes' came taken taken' start start' count count' unknowns unknowns' one two = record {
+  pub IsPassed-on : (before middle after : List Bool) (codes codes' : Coding) (came taken taken' : List Handle) (known known' : List Memory) (start start' count count' unknowns unknowns' : ℕ) → IsPassed cells range handles remembered before middle codes came taken known start count unknowns → IsPassed cells range handles remembered middle after codes' taken taken' known' start' count' unknowns' → IsPassed cells range handles remembered before after codes' came taken' known' start' (count + count') unknowns'
+  IsPassed-on before middle after codes codes' came taken taken' known known' start start' count count' unknowns unknowns' one two = record {
     within = two.within;
     missed = two.missed;
     taken_are = two.taken_are ∙ one.taken_are;
     outside = two.outside ∙ one.outside;
+    gone_are = two.gone_are;
     known = two.known;
     unknowns_are = two.unknowns_are;
     coded = two.coded;
@@ -85,12 +89,13 @@ module _ (cells : List (Cell Row)) (range : Range) (handles : List Handle) (keys
   }
 
   -- the pass has come further, where no more is in the range
-  pub IsPassed-to : (before after : List Bool) (codes : Coding) (came taken : List Handle) (start start' count unknowns : ℕ) → IsPassed cells range handles keys before after codes came taken start count unknowns → start' ≤ length handles → IsMissed range cells handles after 0 start' → IsPassed cells range handles keys before after codes came taken start' count unknowns
-  IsPassed-to before after codes came taken start start' count unknowns one within missed = record {
+  pub IsPassed-to : (before after : List Bool) (codes : Coding) (came taken : List Handle) (known : List Memory) (start start' count unknowns : ℕ) → IsPassed cells range handles remembered before after codes came taken known start count unknowns → start' ≤ length handles → IsMissed range cells handles after 0 start' → IsPassed cells range handles remembered before after codes came taken known start' count unknowns
+  IsPassed-to before after codes came taken known start start' count unknowns one within missed = record {
     within = within;
     missed = missed;
     taken_are = one.taken_are;
     outside = one.outside;
+    gone_are = one.gone_are;
     known = one.known;
     unknowns_are = one.unknowns_are;
     coded = one.coded;
@@ -99,7 +104,7 @@ module _ (cells : List (Cell Row)) (range : Range) (handles : List Handle) (keys
     counted = one.counted;
   }
 
-  module _ (before stands : List Bool) (codes : Coding) (came taken : List Handle) (start count spot : ℕ) (one : IsPassed cells range handles keys before stands codes came taken start count 0) (beside : length before ≡ length handles) (keys_beside : length keys ≡ length handles) (at : HasRow stands spot) (holds : IsIn range (key_at cells (get_or handles spot no_handle))) (missed : IsMissed range cells handles stands 0 spot) where
+  module _ (before stands : List Bool) (codes : Coding) (came taken : List Handle) (known : List Memory) (start count spot : ℕ) (one : IsPassed cells range handles remembered before stands codes came taken known start count 0) (beside : length before ≡ length handles) (keys_beside : length remembered ≡ length handles) (at : HasRow stands spot) (holds : IsIn range (key_at cells (get_or handles spot no_handle))) (missed : IsMissed range cells handles stands 0 spot) where
     long : length stands ≡ length handles
     long = omega (arith, one.long, beside)
 
@@ -110,20 +115,21 @@ module _ (cells : List (Cell Row)) (range : Range) (handles : List Handle) (keys
     inside_is = inside-hole (λ h. is_in range (key_at cells h)) stands handles spot no_handle long at is (λ k less there. is_in-false range (key_at cells (get_or handles k no_handle)) (missed k (omega arith) less there))
 
     -- a row is taken
-    pub IsPassed-taken : IsPassed cells range handles keys before (set stands spot false) (record codes { codes = set codes.codes spot 65535 }) came (taken ++ get_or handles spot no_handle ∷ []) start (count + 1) 0
+    pub IsPassed-taken : IsPassed cells range handles remembered before (set stands spot false) (record codes { codes = set codes.codes spot 65535 }) came (taken ++ get_or handles spot no_handle ∷ []) (known ++ get_or remembered spot nothing ∷ []) start (count + 1) 0
     IsPassed-taken =
         let h = get_or handles spot no_handle in
         let left = kept (set stands spot false) handles in
         let hole = kept-hole stands handles spot long at in
-        let key_hole = kept-hole stands keys spot (omega (arith, long, keys_beside)) at in
+        let key_hole = kept-hole stands remembered spot (omega (arith, long, keys_beside)) at in
         record {
           within = one.within;
           missed = λ k after less there. one.missed k after less (stood stands spot k at there).1;
           taken_are = append_assoc taken (h ∷ []) (rows_inside cells range left) ∙ ap (λ xs. taken ++ xs) (sym inside_is) ∙ one.taken_are;
           outside = outside-hole (λ g. is_in range (key_at cells g)) stands handles spot no_handle long at is ∙ one.outside;
-          known = rw (hole, key_hole) (RemembersKeys-remove cells (kept stands handles) (kept stands keys) (place_at stands spot) (place-within handles stands long spot at) one.known);
-          unknowns_are = omega (arith, counted_hole keys stands (omega (arith, long, keys_beside)) spot at, one.unknowns_are);
-          coded = coded_hole keys stands codes one.coded spot at;
+          gone_are = Remembers-append cells taken known h (get_or remembered spot nothing) (KnowRows-kept cells handles remembered stands long keys_beside one.known spot at) one.gone_are;
+          known = rw (hole, key_hole) (Remembers-remove cells (kept stands handles) (kept stands remembered) (place_at stands spot) (place-within handles stands long spot at) one.known);
+          unknowns_are = omega (arith, counted_hole remembered stands (omega (arith, long, keys_beside)) spot at, one.unknowns_are);
+          coded = coded_hole remembered stands codes one.coded spot at;
           stood = λ k there. one.stood k (stood stands spot k at there).1;
           long = length-set stands spot false ∙ one.long;
           counted = rw (length-set stands spot false) (omega (arith, place_at-hole_before stands spot (length stands) at (Stands-within stands spot at), one.counted));

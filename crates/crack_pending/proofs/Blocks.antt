@@ -9,7 +9,8 @@ use Rattle.crack_row.specs.declared.TheConstants.{GREATEST_BOUND}
 use Rattle.crack_row.specs.declared.Row.{Row}
 use Rattle.crack_arena.specs.Arena.{Cell, Handle}
 use Rattle.crack_arena.specs.Rows.{unknown}
-use Rattle.crack_pending.specs.Inside.{KnowKeys, AreKnown, Lies, IsMissed}
+use Rattle.crack_column.specs.Column.{Memory, nothing}
+use Rattle.crack_pending.specs.Inside.{KnowRows, AreKnown, Lies, IsMissed}
 
 -- if no flag was set, the last wasn't
 pub no_flag : (any : ℕ) (b : Bool) → bit_or any (bool_byte b) ≡ 0 → (any ≡ 0) × (b ≡ false)
@@ -29,18 +30,18 @@ apart_code code low last order small far lies =
     absurd (omega (arith, beyond, order, small, lies.0, lies.1))
 
 -- if none of a block's keys lies between the ends of the range, and none is unknown, none of its rows has its key in the range
-pub missed_block : (range : Range) (cells : List (Cell Row)) (handles : List Handle) (keys : List ℕ) (stands : List Bool) (from low last : ℕ) (some_unknown : Bool) → KnowKeys cells handles keys stands → (some_unknown ≡ false → AreKnown keys stands) → range.low ≡ low → range.high ≡ last + 1 → ((k : ℕ) → k < 16 → ¬ Lies low last (get_or (take (from + 16 - from) (drop from keys)) k 0)) → (some_unknown ≡ true → (k : ℕ) → k < 16 → get_or (take (from + 16 - from) (drop from keys)) k 0 ≢ unknown) → IsMissed range cells handles stands from (from + 16)
-missed_block range cells handles keys stands from low last some_unknown known all_known is_low is_high none none_unknown spot after before at inside =
+pub missed_block : (range : Range) (cells : List (Cell Row)) (handles : List Handle) (remembered : List Memory) (stands : List Bool) (from low last : ℕ) (some_unknown : Bool) → KnowRows cells handles remembered stands → (some_unknown ≡ false → AreKnown remembered stands) → range.low ≡ low → range.high ≡ last + 1 → ((k : ℕ) → k < 16 → ¬ Lies low last (get_or (take (from + 16 - from) (drop from remembered)) k nothing).key) → (some_unknown ≡ true → (k : ℕ) → k < 16 → (get_or (take (from + 16 - from) (drop from remembered)) k nothing).key ≢ unknown) → IsMissed range cells handles stands from (from + 16)
+missed_block range cells handles remembered stands from low last some_unknown known all_known is_low is_high none none_unknown spot after before at inside =
     let k = spot - from in
     let within : k < 16 = omega (arith, after, before) in
     let place : from + k ≡ spot = omega (arith, after) in
-    let same : get_or (take (from + 16 - from) (drop from keys)) k 0 ≡ get_or keys spot 0 =
-    get_or-take (from + 16 - from) (drop from keys) k 0 (omega (arith, within)) ∙ get_or-drop from keys k 0 ∙ ap (λ n. get_or keys n 0) place in
-    let miss : ¬ Lies low last (get_or keys spot 0) = rw same at (none k within) in
-    let is_known : get_or keys spot 0 ≢ unknown = by_case some_unknown (λ e. all_known e spot at) (λ e. rw same at (none_unknown e k within)) in
+    let same : get_or (take (from + 16 - from) (drop from remembered)) k nothing ≡ get_or remembered spot nothing =
+    get_or-take (from + 16 - from) (drop from remembered) k nothing (omega (arith, within)) ∙ get_or-drop from remembered k nothing ∙ ap (λ n. get_or remembered n nothing) place in
+    let miss : ¬ Lies low last ((get_or remembered spot nothing).key) = rw same at (none k within) in
+    let is_known : (get_or remembered spot nothing).key ≢ unknown = by_case some_unknown (λ e. all_known e spot at) (λ e. rw same at (none_unknown e k within)) in
     elim (known spot at) [
       | inl e ↦ absurd (is_known e)
-      | inr e ↦ miss (omega (arith, e, inside.0, is_low), omega (arith, e, inside.1, is_high))
+      | inr e ↦ (let key = ap (λ (m : Memory). m.key) e in miss (omega (arith, key, inside.0, is_low), omega (arith, key, inside.1, is_high)))
     ]
   where
     by_case : {A : Type 0} (b : Bool) → (b ≡ false → A) → (b ≡ true → A) → A

@@ -9,9 +9,10 @@ use Rattle.crack_row.specs.Ranges.{Range, IsIn}
 use Rattle.crack_row.specs.declared.Row.{Row}
 use Rattle.crack_arena.specs.Arena.{Cell, Handle, no_handle}
 use Rattle.crack_arena.specs.Rows.{key_at, unknown}
+use Rattle.crack_column.specs.Column.{Memory, nothing}
 use Rattle.crack_pending.specs.Codes.{Coding, code_of, AreCoded, IsWindow}
 use Rattle.crack_pending.specs.Keeps.{HasRow}
-use Rattle.crack_pending.specs.Inside.{KnowKeys, AreKnown, Lies, IsMissed, IsHit}
+use Rattle.crack_pending.specs.Inside.{KnowRows, AreKnown, Lies, IsMissed, IsHit}
 use Rattle.crack_pending.proofs.Kept.{Stands-within}
 
 div-le : (a b k : ℕ) → 0 < k → a ≤ b → a / k ≤ b / k
@@ -49,16 +50,16 @@ pub window_beyond : (base shift : ℕ) (range : Range) (first last beyond : ℕ)
 window_beyond base shift range first last beyond w = rw (w.beyond_is) (code_of-small base shift unknown)
 
 -- if there is no code, all are right
-pub coded_none : (keys : List ℕ) (stands : List Bool) (coding : Coding) → coding.codes ≡ [] → AreCoded keys stands coding
-coded_none keys stands coding none = record {
+pub coded_none : (remembered : List Memory) (stands : List Bool) (coding : Coding) → coding.codes ≡ [] → AreCoded remembered stands coding
+coded_none remembered stands coding none = record {
   few = omega (arith, ap length none);
   right = λ spot within. absurd (omega (arith, within, ap length none));
   holes = λ spot within. absurd (omega (arith, within, ap length none));
 }
 
-module _ (keys : List ℕ) (stands : List Bool) (coding : Coding) (coded : AreCoded keys stands coding) where
+module _ (remembered : List Memory) (stands : List Bool) (coding : Coding) (coded : AreCoded remembered stands coding) where
   -- the next spot is coded
-  pub coded_more : (code : ℕ) → length coding.codes < length keys → (HasRow stands (length coding.codes) → code ≡ code_of coding.base coding.shift (get_or keys (length coding.codes) 0)) → (get_or stands (length coding.codes) false ≡ false → code ≡ 65535) → AreCoded keys stands (record coding { codes = coding.codes ++ code ∷ [] })
+  pub coded_more : (code : ℕ) → length coding.codes < length remembered → (HasRow stands (length coding.codes) → code ≡ code_of coding.base coding.shift ((get_or remembered (length coding.codes) nothing).key)) → (get_or stands (length coding.codes) false ≡ false → code ≡ 65535) → AreCoded remembered stands (record coding { codes = coding.codes ++ code ∷ [] })
   coded_more code within row hole =
       let long = length-append coding.codes (code ∷ []) in
       let here : (spot : ℕ) → spot ≡ length coding.codes → get_or (coding.codes ++ code ∷ []) spot 0 ≡ code = λ spot e. get_or_push coding.codes code 0 spot (sym e) in
@@ -80,7 +81,7 @@ module _ (keys : List ℕ) (stands : List Bool) (coding : Coding) (coded : AreCo
       }
 
   -- a row goes
-  pub coded_hole : (spot : ℕ) → HasRow stands spot → AreCoded keys (set stands spot false) (record coding { codes = set coding.codes spot 65535 })
+  pub coded_hole : (spot : ℕ) → HasRow stands spot → AreCoded remembered (set stands spot false) (record coding { codes = set coding.codes spot 65535 })
   coded_hole spot at =
       let long = length-set coding.codes spot 65535 in
       let gone = get_or-set_same stands spot false false (Stands-within stands spot at) in
@@ -99,19 +100,19 @@ module _ (keys : List ℕ) (stands : List Bool) (coding : Coding) (coded : AreCo
       }
 
   -- a row has another key
-  pub coded_key : (spot key : ℕ) → HasRow stands spot → AreCoded (set keys spot key) stands (record coding { codes = set coding.codes spot (code_of coding.base coding.shift key) })
-  coded_key spot key at =
-      let code = code_of coding.base coding.shift key in
+  pub coded_key : (spot : ℕ) (m : Memory) → HasRow stands spot → AreCoded (set remembered spot m) stands (record coding { codes = set coding.codes spot (code_of coding.base coding.shift m.key) })
+  coded_key spot m at =
+      let code = code_of coding.base coding.shift m.key in
       let long = length-set coding.codes spot code in
       record {
-        few = omega (arith, long, coded.few, length-set keys spot key);
+        few = omega (arith, long, coded.few, length-set remembered spot m);
         right = λ other inside there. elim (cases_eq other spot) [
           | inl e ↦
               let within : spot < length coding.codes = omega (arith, inside, long, e) in
-              let read : get_or (set keys spot key) spot 0 ≡ key = get_or-set_same keys spot key 0 (omega (arith, within, coded.few)) in
+              let read : get_or (set remembered spot m) spot nothing ≡ m = get_or-set_same remembered spot m nothing (omega (arith, within, coded.few)) in
               rw (e, read) (get_or-set_same coding.codes spot code 0 within)
           | inr ne ↦
-              rw (get_or-set_other keys spot other key 0 ne) (get_or-set_other coding.codes spot other code 0 ne ∙ coded.right other (omega (arith, inside, long)) there)
+              rw (get_or-set_other remembered spot other m nothing ne) (get_or-set_other coding.codes spot other code 0 ne ∙ coded.right other (omega (arith, inside, long)) there)
         ];
         holes = λ other inside none. elim (cases_eq other spot) [
           | inl e ↦ absurd (true≢false (sym at ∙ rw e at none))
@@ -120,14 +121,14 @@ module _ (keys : List ℕ) (stands : List Bool) (coding : Coding) (coded : AreCo
       }
 
   -- a row comes, without a code
-  pub coded_push : (key : ℕ) → length stands ≡ length keys → AreCoded (keys ++ key ∷ []) (stands ++ true ∷ []) coding
-  coded_push key beside =
+  pub coded_push : (m : Memory) → length stands ≡ length remembered → AreCoded (remembered ++ m ∷ []) (stands ++ true ∷ []) coding
+  coded_push m beside =
       let old : (spot : ℕ) → spot < length coding.codes → get_or (stands ++ true ∷ []) spot false ≡ get_or stands spot false = λ spot l.
       get_or_append_left stands (true ∷ []) false spot (omega (arith, l, coded.few, beside)) in
       record {
-        few = omega (arith, coded.few, length-append keys (key ∷ []));
+        few = omega (arith, coded.few, length-append remembered (m ∷ []));
         right = λ spot l there.
-            rw (get_or_append_left keys (key ∷ []) 0 spot (omega (arith, l, coded.few))) (coded.right spot l (sym (old spot l) ∙ there));
+            rw (get_or_append_left remembered (m ∷ []) nothing spot (omega (arith, l, coded.few))) (coded.right spot l (sym (old spot l) ∙ there));
         holes = λ spot l none. coded.holes spot l (sym (old spot l) ∙ none);
       }
 
@@ -139,19 +140,20 @@ module _ (keys : List ℕ) (stands : List Bool) (coding : Coding) (coded : AreCo
       by_mark true e = e
       by_mark false e = absurd (omega (arith, small, coded.holes spot within e))
 
-  module _ (range : Range) (cells : List (Cell Row)) (handles : List Handle) (first last beyond : ℕ) (w : IsWindow coding.base coding.shift range first last beyond) (known : KnowKeys cells handles keys stands) where
+  module _ (range : Range) (cells : List (Cell Row)) (handles : List Handle) (first last beyond : ℕ) (w : IsWindow coding.base coding.shift range first last beyond) (known : KnowRows cells handles remembered stands) where
     -- a row whose code is none that is looked for has its key outside of the range
-    pub missed_code : (some_unknown : Bool) → (some_unknown ≡ false → AreKnown keys stands) → (spot : ℕ) → spot < length coding.codes → HasRow stands spot → ¬ Lies first last (get_or coding.codes spot 0) → (some_unknown ≡ true → ¬ Lies beyond beyond (get_or coding.codes spot 0)) → ¬ IsIn range (key_at cells (get_or handles spot no_handle))
+    pub missed_code : (some_unknown : Bool) → (some_unknown ≡ false → AreKnown remembered stands) → (spot : ℕ) → spot < length coding.codes → HasRow stands spot → ¬ Lies first last (get_or coding.codes spot 0) → (some_unknown ≡ true → ¬ Lies beyond beyond (get_or coding.codes spot 0)) → ¬ IsIn range (key_at cells (get_or handles spot no_handle))
     missed_code some_unknown all_known spot within at apart elsewhere inside =
         let code = coded.right spot within at in
-        let not_unknown : get_or keys spot 0 ≢ unknown = λ e. by_flag some_unknown (λ none. all_known none spot at e) (λ some.
+        let not_unknown : (get_or remembered spot nothing).key ≢ unknown = λ e. by_flag some_unknown (λ none. all_known none spot at e) (λ some.
         let is : get_or coding.codes spot 0 ≡ beyond = code ∙ ap (code_of coding.base coding.shift) e ∙ sym w.beyond_is in
         elsewhere some (omega (arith, is), omega (arith, is))) in
         elim (known spot at) [
           | inl e ↦ not_unknown e
           | inr e ↦
-              let low = code_of-le coding.base coding.shift range.low (get_or keys spot 0) (omega (arith, e, inside.0)) in
-              let high = code_of-le coding.base coding.shift (get_or keys spot 0) (range.high - 1) (omega (arith, e, inside.1)) in
+              let key = ap (λ (m : Memory). m.key) e in
+              let low = code_of-le coding.base coding.shift range.low (get_or remembered spot nothing).key (omega (arith, key, inside.0)) in
+              let high = code_of-le coding.base coding.shift (get_or remembered spot nothing).key (range.high - 1) (omega (arith, key, inside.1)) in
               apart (rw (w.first_is, code) low, rw (w.last_is, code) high)
         ]
       where
@@ -164,21 +166,21 @@ module _ (keys : List ℕ) (stands : List Bool) (coding : Coding) (coded : AreCo
     hit_code spot within low high =
         let at = coded_row spot within (omega (arith, high, window_last coding.base coding.shift range first last beyond w)) in
         let code = coded.right spot within at in
-        let above : range.low < get_or keys spot 0 = code_of-lt coding.base coding.shift range.low (get_or keys spot 0) (rw (← w.first_is, ← code) low) in
-        let below : get_or keys spot 0 < range.high - 1 = code_of-lt coding.base coding.shift (get_or keys spot 0) (range.high - 1) (rw (← w.last_is, ← code) high) in
+        let above : range.low < (get_or remembered spot nothing).key = code_of-lt coding.base coding.shift range.low ((get_or remembered spot nothing).key) (rw (← w.first_is, ← code) low) in
+        let below : (get_or remembered spot nothing).key < range.high - 1 = code_of-lt coding.base coding.shift ((get_or remembered spot nothing).key) (range.high - 1) (rw (← w.last_is, ← code) high) in
         elim (known spot at) [
           | inl e ↦ absurd (omega (arith, e, below, w.fits))
-          | inr e ↦ (omega (arith, e, above), omega (arith, e, below))
+          | inr e ↦ (let key = ap (λ (m : Memory). m.key) e in (omega (arith, key, above), omega (arith, key, below)))
         ]
 
     -- if no code of a block is looked for, none of its rows has its key in the range
-    pub missed_codes : (some_unknown : Bool) → (some_unknown ≡ false → AreKnown keys stands) → (from : ℕ) → from + 32 ≤ length coding.codes → ((k : ℕ) → k < 32 → ¬ Lies first last (get_or (take (from + 32 - from) (drop from coding.codes)) k 0)) → (some_unknown ≡ true → (k : ℕ) → k < 32 → ¬ Lies beyond beyond (get_or (take (from + 32 - from) (drop from coding.codes)) k 0)) → IsMissed range cells handles stands from (from + 32)
-    missed_codes some_unknown all_known from short apart elsewhere spot after before at =
+    pub missed_codes : (some_unknown : Bool) → (some_unknown ≡ false → AreKnown remembered stands) → (many from : ℕ) → from + many ≤ length coding.codes → ((k : ℕ) → k < many → ¬ Lies first last (get_or (take (from + many - from) (drop from coding.codes)) k 0)) → (some_unknown ≡ true → (k : ℕ) → k < many → ¬ Lies beyond beyond (get_or (take (from + many - from) (drop from coding.codes)) k 0)) → IsMissed range cells handles stands from (from + many)
+    missed_codes some_unknown all_known many from short apart elsewhere spot after before at =
         let k = spot - from in
-        let within : k < 32 = omega (arith, after, before) in
+        let within : k < many = omega (arith, after, before) in
         let place : from + k ≡ spot = omega (arith, after) in
-        let same : get_or (take (from + 32 - from) (drop from coding.codes)) k 0 ≡ get_or coding.codes spot 0 =
-        get_or-take (from + 32 - from) (drop from coding.codes) k 0 (omega (arith, within)) ∙ get_or-drop from coding.codes k 0 ∙ ap (λ n. get_or coding.codes n 0) place in
+        let same : get_or (take (from + many - from) (drop from coding.codes)) k 0 ≡ get_or coding.codes spot 0 =
+        get_or-take (from + many - from) (drop from coding.codes) k 0 (omega (arith, within)) ∙ get_or-drop from coding.codes k 0 ∙ ap (λ n. get_or coding.codes n 0) place in
         missed_code some_unknown all_known spot (omega (arith, before, short)) at (rw same at (apart k within)) (λ e. rw same at (elsewhere e k within))
 
 -- what was missed up to one spot, and from there up to another

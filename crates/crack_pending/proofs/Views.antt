@@ -6,15 +6,16 @@ use Rattle.std.proofs.lemmas.List.{get_or_append_left, get_or_push, get_or-set_s
 use Rattle.crack_row.specs.Ranges.{Range}
 use Rattle.crack_row.specs.declared.Row.{Row}
 use Rattle.crack_arena.specs.Arena.{Cell, Handle, StandsAt, IsFirstAt, IsAbsent, no_handle, times, slots, place_in}
-use Rattle.crack_arena.specs.Rows.{key_at, keys_at, RemembersKeys}
+use Rattle.crack_arena.specs.Rows.{key_at, keys_at}
 use Rattle.crack_arena.proofs.Times.{times_map_at}
-use Rattle.crack_arena.proofs.Remembering.{RemembersKeys-anew}
+use Rattle.crack_pending.proofs.Remembering.{Remembers-anew}
 use Rattle.crack_arena.proofs.Places.{place_in-within, place_in-slot, place_in-is, times_apart_once}
+use Rattle.crack_column.specs.Column.{Memory, nothing, memory_at, Agrees, Remembers}
 use Rattle.std.specs.Prelude.{Result, Ok, Err, OnOk, min}
 use Rattle.crack_pending.specs.Pending.{Pending, NoneIn, IsFirstIn}
 use Rattle.crack_pending.specs.Spots.{kept, spot_room}
 use Rattle.crack_pending.specs.Keeps.{place_at, HasRow, LeadBack, StandApart, AreCovered, AreKept}
-use Rattle.crack_pending.specs.Inside.{KnowKeys, IsMissed, IsHit, IsSpotWith, IsNowhere, IsUnnoted, IsNotBehind}
+use Rattle.crack_pending.specs.Inside.{KnowRows, IsMissed, IsHit, IsSpotWith, IsNowhere, IsUnnoted, IsNotBehind}
 use Rattle.crack_pending.proofs.Kept.{place_at-le, place_at-more, place_at-before, place_at-hole_before, place_at-push, place_at-few, kept-full, Stands-within, length-kept, kept-at, kept-hole, kept-set, kept-at_place, spot_of}
 use Rattle.crack_pending.proofs.Moves.{kept-apart, kept-covered}
 use Rattle.crack_pending.proofs.Searches.{keys_at-StandsAt, length-keys_at, StandsAt-get_or}
@@ -112,18 +113,18 @@ module _ (handles : List Handle) (stands : List Bool) (spots : List ℕ) (slot :
     | inr m ↦ behind spot m with
   ]
 
-module _ (handles : List Handle) (keys : List ℕ) (stands : List Bool) (beside : length stands ≡ length handles) (keys_beside : length keys ≡ length handles) (apart : StandApart handles stands) (slot spot : ℕ) (with : IsSpotWith handles stands slot spot) where
+module _ (handles : List Handle) (remembered : List Memory) (stands : List Bool) (beside : length stands ≡ length handles) (keys_beside : length remembered ≡ length handles) (apart : StandApart handles stands) (slot spot : ℕ) (with : IsSpotWith handles stands slot spot) where
   -- another key beside a row
-  pub other_key : (key : ℕ) → kept stands (set keys spot key) ≡ set (kept stands keys) (place_in (kept stands handles) slot) key
-  other_key key =
-      kept-set stands keys spot key (omega (arith, beside, keys_beside)) with.stands_there ∙ ap (λ p. set (kept stands keys) p key) (sym (spot-place_in handles stands beside apart slot spot with))
+  pub other_key : (m : Memory) → kept stands (set remembered spot m) ≡ set (kept stands remembered) (place_in (kept stands handles) slot) m
+  other_key m =
+      kept-set stands remembered spot m (omega (arith, beside, keys_beside)) with.stands_there ∙ ap (λ p. set (kept stands remembered) p m) (sym (spot-place_in handles stands beside apart slot spot with))
 
-  pub anew : (cells cells' : List (Cell Row)) (key : ℕ) → key ≡ key_at cells' (get_or (kept stands handles) (place_in (kept stands handles) slot) no_handle) → ((h : Handle) → h.slot ≢ slot → key_at cells' h ≡ key_at cells h) → RemembersKeys cells (kept stands handles) (kept stands keys) → RemembersKeys cells' (kept stands handles) (kept stands (set keys spot key))
-  anew cells cells' key is others r =
+  pub anew : (cells cells' : List (Cell Row)) (m : Memory) → Agrees cells' (get_or (kept stands handles) (place_in (kept stands handles) slot) no_handle) m → ((h : Handle) → h.slot ≢ slot → memory_at cells' h ≡ memory_at cells h) → Remembers cells (kept stands handles) (kept stands remembered) → Remembers cells' (kept stands handles) (kept stands (set remembered spot m))
+  anew cells cells' m is others r =
       let rows = kept stands handles in
       let place = place_in rows slot in
       let within : place < length rows = place_in-within rows slot (spot-times handles stands beside slot spot with) in
-      rw (other_key key) (RemembersKeys-anew cells cells' rows (kept stands keys) place key is (λ k d k_within ne.
+      rw (other_key m) (Remembers-anew cells cells' rows (kept stands remembered) place m is (λ k d k_within ne.
       others (get_or rows k d) (λ same.
       let at_k : (get_or rows k no_handle).slot ≡ slot = ap (λ (h : Handle). h.slot) (get_or_default rows k no_handle d k_within) ∙ same in
       ne (kept-apart handles stands beside apart k place k_within within (at_k ∙ sym (place_in-slot rows slot no_handle within))))) r)
@@ -133,10 +134,10 @@ module _ (handles : List Handle) (keys : List ℕ) (stands : List Bool) (beside 
   struck xs xs_beside =
       kept-hole stands xs spot xs_beside with.stands_there ∙ ap (λ p. remove (kept stands xs) p) (sym (spot-place_in handles stands beside apart slot spot with))
 
--- a key that is remembered beside a row is right at its spot
-pub KnowKeys-kept : (cells : List (Cell Row)) (handles : List Handle) (keys : List ℕ) (stands : List Bool) → length stands ≡ length handles → length keys ≡ length handles → RemembersKeys cells (kept stands handles) (kept stands keys) → KnowKeys cells handles keys stands
-KnowKeys-kept cells handles keys stands beside keys_beside r spot at =
-    rw (kept-at stands handles spot no_handle beside at, kept-at stands keys spot 0 (omega (arith, beside, keys_beside)) at) at (r.right (place_at stands spot) no_handle (place-within handles stands beside spot at))
+-- what is remembered beside a row is right at its spot
+pub KnowRows-kept : (cells : List (Cell Row)) (handles : List Handle) (remembered : List Memory) (stands : List Bool) → length stands ≡ length handles → length remembered ≡ length handles → Remembers cells (kept stands handles) (kept stands remembered) → KnowRows cells handles remembered stands
+KnowRows-kept cells handles remembered stands beside keys_beside r spot at =
+    rw (kept-at stands handles spot no_handle beside at, kept-at stands remembered spot nothing (omega (arith, beside, keys_beside)) at) at (r.right (place_at stands spot) no_handle (place-within handles stands beside spot at))
 
 module _ (range : Range) (cells : List (Cell Row)) (handles : List Handle) (stands : List Bool) (beside : length stands ≡ length handles) where
   -- what no row between two spots has, none has between their places
@@ -188,9 +189,9 @@ kept_none spots = record {
   hinted = refl;
 }
 
-module _ (handles : List Handle) (keys : List ℕ) (stands : List Bool) (spots : List ℕ) (rows noted hint_place hint_spot : ℕ) (are : AreKept handles keys stands spots rows noted hint_place hint_spot) where
+module _ (handles : List Handle) (remembered : List Memory) (stands : List Bool) (spots : List ℕ) (rows noted hint_place hint_spot : ℕ) (are : AreKept handles remembered stands spots rows noted hint_place hint_spot) where
   -- one more hole
-  pub kept_hole : (spot hint_place' hint_spot' : ℕ) → HasRow stands spot → hint_spot' ≤ length handles → hint_place' ≡ place_at (set stands spot false) hint_spot' → AreKept handles keys (set stands spot false) spots (rows - 1) noted hint_place' hint_spot'
+  pub kept_hole : (spot hint_place' hint_spot' : ℕ) → HasRow stands spot → hint_spot' ≤ length handles → hint_place' ≡ place_at (set stands spot false) hint_spot' → AreKept handles remembered (set stands spot false) spots (rows - 1) noted hint_place' hint_spot'
   kept_hole spot hint_place' hint_spot' at near hinted =
       let within = Stands-within stands spot at in
       let long = length-set stands spot false in
@@ -214,8 +215,8 @@ module _ (handles : List Handle) (keys : List ℕ) (stands : List Bool) (spots :
       }
 
   -- one more row, after all spots
-  pub kept_more : (h : Handle) (key : ℕ) → length handles < 2 ^ 32 → h.slot < length spots → times h.slot (slots (kept stands handles)) ≡ 0 → AreKept (handles ++ h ∷ []) (keys ++ key ∷ []) (stands ++ true ∷ []) spots (rows + 1) noted hint_place hint_spot
-  kept_more h key few covered absent =
+  pub kept_more : (h : Handle) (m : Memory) → length handles < 2 ^ 32 → h.slot < length spots → times h.slot (slots (kept stands handles)) ≡ 0 → AreKept (handles ++ h ∷ []) (remembered ++ m ∷ []) (stands ++ true ∷ []) spots (rows + 1) noted hint_place hint_spot
+  kept_more h m few covered absent =
       let long = length-append handles (h ∷ []) in
       let stands_long = length-append stands (true ∷ []) in
       let whole : length (stands ++ true ∷ []) ≡ length stands + 1 = omega (arith, stands_long) in
@@ -235,7 +236,7 @@ module _ (handles : List Handle) (keys : List ℕ) (stands : List Bool) (spots :
       let slot_same : (spot : ℕ) → spot < length handles → (get_or (handles ++ h ∷ []) spot no_handle).slot ≡ (get_or handles spot no_handle).slot = λ spot within.
       ap (λ (x : Handle). x.slot) (same spot within) in
       record {
-        keys_beside = omega (arith, are.keys_beside, long, length-append keys (key ∷ []));
+        keys_beside = omega (arith, are.keys_beside, long, length-append remembered (m ∷ []));
         stands_beside = omega (arith, are.stands_beside, long, stands_long);
         counted = rw whole (omega (arith, are.counted, more, before));
         few = omega (arith, few, long);
@@ -268,9 +269,9 @@ module _ (handles : List Handle) (keys : List ℕ) (stands : List Bool) (spots :
       }
 
   -- another key beside
-  pub kept_key : (spot key : ℕ) → AreKept handles (set keys spot key) stands spots rows noted hint_place hint_spot
-  kept_key spot key = record {
-    keys_beside = length-set keys spot key ∙ are.keys_beside;
+  pub kept_key : (spot : ℕ) (m : Memory) → AreKept handles (set remembered spot m) stands spots rows noted hint_place hint_spot
+  kept_key spot m = record {
+    keys_beside = length-set remembered spot m ∙ are.keys_beside;
     stands_beside = are.stands_beside;
     counted = are.counted;
     few = are.few;
@@ -283,7 +284,7 @@ module _ (handles : List Handle) (keys : List ℕ) (stands : List Bool) (spots :
   }
 
   -- more cells covered
-  pub kept_covered : (spots' : List ℕ) → length spots ≤ length spots' → ((k : ℕ) → k < length spots → get_or spots' k 0 ≡ get_or spots k 0) → AreKept handles keys stands spots' rows noted hint_place hint_spot
+  pub kept_covered : (spots' : List ℕ) → length spots ≤ length spots' → ((k : ℕ) → k < length spots → get_or spots' k 0 ≡ get_or spots k 0) → AreKept handles remembered stands spots' rows noted hint_place hint_spot
   kept_covered spots' longer same = record {
     keys_beside = are.keys_beside;
     stands_beside = are.stands_beside;
@@ -301,7 +302,7 @@ module _ (handles : List Handle) (keys : List ℕ) (stands : List Bool) (spots :
   }
 
   -- all spots noted
-  pub kept_noted : (spots' : List ℕ) → length spots' ≡ length spots → LeadBack handles stands spots' (length handles) → AreKept handles keys stands spots' rows (length handles) hint_place hint_spot
+  pub kept_noted : (spots' : List ℕ) → length spots' ≡ length spots → LeadBack handles stands spots' (length handles) → AreKept handles remembered stands spots' rows (length handles) hint_place hint_spot
   kept_noted spots' long led = record {
     keys_beside = are.keys_beside;
     stands_beside = are.stands_beside;
@@ -316,10 +317,10 @@ module _ (handles : List Handle) (keys : List ℕ) (stands : List Bool) (spots :
   }
 
 -- lists that are the same, and the room
-pub same_view : (hs hs' : List Handle) (ks ks' : List ℕ) (room covered covered' : ℕ) → hs ≡ hs' → ks ≡ ks' → covered ≡ covered' → (let now : Pending = record { handles = hs; keys = ks; room = room; covered = covered } in let old : Pending = record { handles = hs'; keys = ks'; room = room; covered = covered' } in now ≡ old)
+pub same_view : (hs hs' : List Handle) (ks ks' : List Memory) (room covered covered' : ℕ) → hs ≡ hs' → ks ≡ ks' → covered ≡ covered' → (let now : Pending = record { handles = hs; remembered = ks; room = room; covered = covered } in let old : Pending = record { handles = hs'; remembered = ks'; room = room; covered = covered' } in now ≡ old)
 same_view hs hs' ks ks' room covered covered' e f g = rw (e, f, g) refl
 
-pub view_after : (hs hs' : List Handle) (ks ks' : List ℕ) (room room' covered covered' : ℕ) → hs ≡ hs' → ks ≡ ks' → room ≡ room' → covered ≡ covered' → (let now : Pending = record { handles = hs; keys = ks; room = room; covered = covered } in let old : Pending = record { handles = hs'; keys = ks'; room = room'; covered = covered' } in now ≡ old)
+pub view_after : (hs hs' : List Handle) (ks ks' : List Memory) (room room' covered covered' : ℕ) → hs ≡ hs' → ks ≡ ks' → room ≡ room' → covered ≡ covered' → (let now : Pending = record { handles = hs; remembered = ks; room = room; covered = covered } in let old : Pending = record { handles = hs'; remembered = ks'; room = room'; covered = covered' } in now ≡ old)
 view_after hs hs' ks ks' room room' covered covered' e f h g = rw (e, f, h, g) refl
 
 -- fewer spots and more memory: no less room
@@ -360,19 +361,19 @@ pub handle-is : (h k : Handle) → h.slot ≡ k.slot → h.generation ≡ k.gene
 handle-is h k e f = rw (e, f) refl
 
 -- where holes are closed up
-pub record IsClosed (handles : List Handle) (keys : List ℕ) (stands : List Bool) (rows : ℕ) (handles' : List Handle) (keys' : List ℕ) (stands' : List Bool) : Type 0 where
+pub record IsClosed (handles : List Handle) (remembered : List Memory) (stands : List Bool) (rows : ℕ) (handles' : List Handle) (remembered' : List Memory) (stands' : List Bool) : Type 0 where
   pub handles_are : handles' ≡ kept stands handles
-  pub keys_are : keys' ≡ kept stands keys
+  pub keys_are : remembered' ≡ kept stands remembered
   pub long : length stands' ≡ rows
   pub full : place_at stands' rows ≡ rows
 
-module _ (handles : List Handle) (keys : List ℕ) (stands : List Bool) (spots : List ℕ) (rows noted hint_place hint_spot : ℕ) (are : AreKept handles keys stands spots rows noted hint_place hint_spot) (handles' : List Handle) (keys' : List ℕ) (stands' : List Bool) (closed : IsClosed handles keys stands rows handles' keys' stands') where
+module _ (handles : List Handle) (remembered : List Memory) (stands : List Bool) (spots : List ℕ) (rows noted hint_place hint_spot : ℕ) (are : AreKept handles remembered stands spots rows noted hint_place hint_spot) (handles' : List Handle) (remembered' : List Memory) (stands' : List Bool) (closed : IsClosed handles remembered stands rows handles' remembered' stands') where
   closed-beside : length stands' ≡ length handles'
   closed-beside = closed.long ∙ are.counted ∙ sym (length-kept stands handles are.stands_beside) ∙ ap length (sym closed.handles_are)
 
-  closed-keys_beside : length keys' ≡ length handles'
+  closed-keys_beside : length remembered' ≡ length handles'
   closed-keys_beside =
-      ap length closed.keys_are ∙ length-kept stands keys (omega (arith, are.stands_beside, are.keys_beside)) ∙ sym (length-kept stands handles are.stands_beside) ∙ ap length (sym closed.handles_are)
+      ap length closed.keys_are ∙ length-kept stands remembered (omega (arith, are.stands_beside, are.keys_beside)) ∙ sym (length-kept stands handles are.stands_beside) ∙ ap length (sym closed.handles_are)
 
   closed-full : place_at stands' (length stands') ≡ length stands'
   closed-full = rw (closed.long) closed.full
@@ -395,7 +396,7 @@ module _ (handles : List Handle) (keys : List ℕ) (stands : List Bool) (spots :
       let all = kept-covered handles stands are.stands_beside (length spots) are.covered in
       (rw (← closed.handles_are) at all) spot no_handle (omega (arith, Stands-within stands' spot at, closed-beside))
 
-  pub closed-kept : AreKept handles' keys' stands' spots rows 0 0 0
+  pub closed-kept : AreKept handles' remembered' stands' spots rows 0 0 0
   closed-kept = record {
     keys_beside = closed-keys_beside;
     stands_beside = closed-beside;
@@ -412,5 +413,5 @@ module _ (handles : List Handle) (keys : List ℕ) (stands : List Bool) (spots :
   pub closed-handles : kept stands' handles' ≡ kept stands handles
   closed-handles = kept-full stands' handles' closed-beside closed-full ∙ closed.handles_are
 
-  pub closed-keys : kept stands' keys' ≡ kept stands keys
-  closed-keys = kept-full stands' keys' (closed-beside ∙ sym closed-keys_beside) closed-full ∙ closed.keys_are
+  pub closed-keys : kept stands' remembered' ≡ kept stands remembered
+  closed-keys = kept-full stands' remembered' (closed-beside ∙ sym closed-keys_beside) closed-full ∙ closed.keys_are

@@ -3,6 +3,7 @@
 use Rattle.std.specs.Prelude.{◌≡◌, ℕ, ◌/◌, ◌-◌, ◌^◌, ◌<◌, ◌≤◌, Bool, false, List, length, min, slice_index, slice_index_or}
 use Rattle.crack_row.specs.Ranges.{Range}
 use Rattle.crack_arena.specs.Rows.{unknown}
+use Rattle.crack_column.specs.Column.{Memory, nothing}
 use Rattle.crack_pending.specs.Keeps.{HasRow}
 
 -- the codes of the first spots, and what a key's code is made by
@@ -16,9 +17,9 @@ abbrev pub code_of : ℕ → ℕ → ℕ → ℕ
 code_of base shift key = min ((key - base) / 2 ^ shift) 65534
 
 -- at each spot that has a code, it is that of the row's key, or 65535 at a hole
-pub record AreCoded (keys : List ℕ) (stands : List Bool) (coding : Coding) : Type 0 where
-  pub few : length coding.codes ≤ length keys
-  pub right : (spot : ℕ) → spot < length coding.codes → HasRow stands spot → slice_index coding.codes spot ≡ code_of coding.base coding.shift (slice_index keys spot)
+pub record AreCoded (remembered : List Memory) (stands : List Bool) (coding : Coding) : Type 0 where
+  pub few : length coding.codes ≤ length remembered
+  pub right : (spot : ℕ) → spot < length coding.codes → HasRow stands spot → slice_index coding.codes spot ≡ code_of coding.base coding.shift ((slice_index_or remembered spot nothing).key)
   pub holes : (spot : ℕ) → spot < length coding.codes → slice_index_or stands spot false ≡ false → slice_index coding.codes spot ≡ 65535
 
 -- these are the codes of the range's first key, of its last and of a key that isn't known

@@ -1,9 +1,10 @@
 -- What private clauses alone cite.
-use Rattle.std.specs.Prelude.{◌≡◌, ◌≢◌, ℕ, ◌<◌, ◌≤◌, Bool, List, ◌⊎◌, slice_index, slice_index_or}
+use Rattle.std.specs.Prelude.{◌≡◌, ◌≢◌, ℕ, ◌<◌, ◌≤◌, Bool, List, slice_index, slice_index_or}
 use Rattle.crack_row.specs.Ranges.{Range, IsIn}
 use Rattle.crack_row.specs.declared.Row.{Row}
 use Rattle.crack_arena.specs.Arena.{Cell, Handle, no_handle}
 use Rattle.crack_arena.specs.Rows.{key_at, unknown}
+use Rattle.crack_column.specs.Column.{Memory, nothing, Agrees}
 use Rattle.crack_pending.specs.Keeps.{HasRow, LeadsTo}
 
 -- a key that lies between the two
@@ -11,13 +12,13 @@ abbrev pub Lies : ℕ → ℕ → ℕ → Type 0
 Lies low last key = (low ≤ key) × (key ≤ last)
 
 -- each key beside a row is known
-abbrev pub AreKnown : List ℕ → List Bool → Type 0
-AreKnown keys stands = (spot : ℕ) → HasRow stands spot → slice_index keys spot ≢ unknown
+abbrev pub AreKnown : List Memory → List Bool → Type 0
+AreKnown remembered stands = (spot : ℕ) → HasRow stands spot → (slice_index_or remembered spot nothing).key ≢ unknown
 
--- each key beside a row is unknown, or the row's
-abbrev pub KnowKeys : List (Cell Row) → List Handle → List ℕ → List Bool → Type 0
-KnowKeys cells handles keys stands =
-    (spot : ℕ) → HasRow stands spot → (slice_index keys spot ≡ unknown) ⊎ (slice_index keys spot ≡ key_at cells (slice_index_or handles spot no_handle))
+-- what is remembered beside each row is right
+abbrev pub KnowRows : List (Cell Row) → List Handle → List Memory → List Bool → Type 0
+KnowRows cells handles remembered stands =
+    (spot : ℕ) → HasRow stands spot → Agrees cells (slice_index_or handles spot no_handle) (slice_index_or remembered spot nothing)
 
 -- no row from one spot up to another has its key in the range
 abbrev pub IsMissed : Range → List (Cell Row) → List Handle → List Bool → ℕ → ℕ → Type 0

@@ -1,8 +1,9 @@
 -- What private clauses alone cite.
 -- What a pending list keeps of its spots, and a set of its bits.
-use Rattle.std.specs.Prelude.{◌≡◌, ℕ, ◌/◌, ◌%◌, ◌*◌, ◌<◌, ◌≤◌, ◌↔◌, List, length, slice_index, zero, suc, ◌+◌, ◌^◌, Bool, true, false, cond, [], ◌∷◌, slice_index_or}
+use Rattle.std.specs.Prelude.{◌≡◌, ℕ, ◌/◌, ◌%◌, ◌*◌, ◌<◌, ◌≤◌, ◌↔◌, List, length, slice_index, zero, suc, ◌+◌, ◌^◌, Bool, true, false, cond, [], ◌∷◌, slice_index_or, map}
 use Rattle.std.specs.Int.{bit_at}
 use Rattle.crack_arena.specs.Arena.{Handle, times, slots, no_handle}
+use Rattle.crack_column.specs.Column.{Memory}
 
 -- the bit of the number is set
 unfoldable pub Has : List ℕ → ℕ → Type 0
@@ -18,6 +19,10 @@ abbrev pub place_at : List Bool → ℕ → ℕ
 place_at bs zero = 0
 place_at [] (suc n) = 0
 place_at (b ∷ bs) (suc n) = cond b 1 0 + place_at bs n
+
+-- the keys that are remembered
+abbrev pub keys_of : List Memory → List ℕ
+keys_of remembered = map (λ (m : Memory). m.key) remembered
 
 -- a row is at the spot
 abbrev pub HasRow : List Bool → ℕ → Type 0
@@ -41,10 +46,10 @@ StandApart handles stands =
 abbrev pub AreCovered : List Handle → List Bool → ℕ → Type 0
 AreCovered handles stands cells = (spot : ℕ) → HasRow stands spot → (slice_index_or handles spot no_handle).slot < cells
 
--- each handle has a key and a mark beside it, the rows are counted, no two are of one cell, the cells of those at the first spots lead to
+-- each handle has what is remembered and a mark beside it, the rows are counted, no two are of one cell, the cells of those at the first spots lead to
 -- their spots, and this many rows are before the spot at which the last row was taken
-pub record AreKept (handles : List Handle) (keys : List ℕ) (stands : List Bool) (spots : List ℕ) (rows noted hint_place hint_spot : ℕ) : Type 0 where
-  pub keys_beside : length keys ≡ length handles
+pub record AreKept (handles : List Handle) (remembered : List Memory) (stands : List Bool) (spots : List ℕ) (rows noted hint_place hint_spot : ℕ) : Type 0 where
+  pub keys_beside : length remembered ≡ length handles
   pub stands_beside : length stands ≡ length handles
   pub counted : rows ≡ place_at stands (length stands)
   pub few : length handles ≤ 2 ^ 32

@@ -4,23 +4,25 @@ use Rattle.std.specs.Prelude.{◌≡◌, ℕ, ◌+◌, ◌≤◌, Bool, List, �
 use Rattle.crack_row.specs.Ranges.{Range}
 use Rattle.crack_row.specs.declared.Row.{Row}
 use Rattle.crack_arena.specs.Arena.{Cell, Handle, times}
-use Rattle.crack_arena.specs.Rows.{unknown, RemembersKeys}
+use Rattle.crack_arena.specs.Rows.{unknown}
+use Rattle.crack_column.specs.Column.{Memory, Remembers}
 use Rattle.crack_pending.specs.Codes.{Coding, AreCoded}
 use Rattle.crack_pending.specs.Inside.{IsMissed}
-use Rattle.crack_pending.specs.Keeps.{place_at, HasRow}
+use Rattle.crack_pending.specs.Keeps.{place_at, HasRow, keys_of}
 use Rattle.crack_pending.specs.Pending.{rows_inside, rows_outside}
 use Rattle.crack_pending.specs.Spots.{kept}
 
 -- the rows of the range at the spots before one went into the list, so many of them, and all others stand as they did; of so many of these the
 -- key isn't known
-pub record IsPassed (cells : List (Cell Row)) (range : Range) (handles : List Handle) (keys : List ℕ) (before after : List Bool) (codes : Coding) (came taken : List Handle) (start count unknowns : ℕ) : Type 0 where
+pub record IsPassed (cells : List (Cell Row)) (range : Range) (handles : List Handle) (remembered : List Memory) (before after : List Bool) (codes : Coding) (came taken : List Handle) (gone : List Memory) (start count unknowns : ℕ) : Type 0 where
   pub within : start ≤ length handles
   pub missed : IsMissed range cells handles after 0 start
   pub taken_are : taken ++ rows_inside cells range (kept after handles) ≡ came ++ rows_inside cells range (kept before handles)
   pub outside : rows_outside cells range (kept after handles) ≡ rows_outside cells range (kept before handles)
-  pub known : RemembersKeys cells (kept after handles) (kept after keys)
-  pub unknowns_are : unknowns ≡ times unknown (kept after keys)
-  pub coded : AreCoded keys after codes
+  pub gone_are : Remembers cells taken gone
+  pub known : Remembers cells (kept after handles) (kept after remembered)
+  pub unknowns_are : unknowns ≡ times unknown (keys_of (kept after remembered))
+  pub coded : AreCoded remembered after codes
   pub stood : (spot : ℕ) → HasRow after spot → HasRow before spot
   pub long : length after ≡ length before
   pub counted : place_at after (length after) + count ≡ place_at before (length before)

@@ -3,30 +3,31 @@ use Rattle.std.specs.Prelude.{◌≡◌, ◌≢◌, ℕ, ◌<◌, ◌≤◌, not
 use Rattle.crack_row.specs.Ranges.{Range, IsIn, is_in}
 use Rattle.crack_row.specs.declared.Row.{Row}
 use Rattle.crack_arena.specs.Arena.{Cell, Handle, place_in, no_handle}
-use Rattle.crack_arena.specs.Rows.{key_at, RemembersKeys}
+use Rattle.crack_arena.specs.Rows.{key_at}
+use Rattle.crack_column.specs.Column.{Memory, memory_at, Agrees, Remembers}
 
--- the handles in order of arrival, what is remembered of their keys, how many more need no memory, and how many
+-- the handles in order of arrival, what is remembered of their rows, how many more need no memory, and how many
 -- cells, from the first, may have a handle here
 pub record Pending : Type 0 where
   pub handles : List Handle
-  pub keys : List ℕ
+  pub remembered : List Memory
   pub room : ℕ
   pub covered : ℕ
 
--- over whatever cells the first list remembers its keys rightly, the second does
-abbrev pub StillRemembersKeys : Pending → Pending → Type 0
-StillRemembersKeys old new =
-    (cells : List (Cell Row)) → RemembersKeys cells old.handles old.keys → RemembersKeys cells new.handles new.keys
+-- over whatever cells the first list remembers its rows rightly, the second does
+abbrev pub StillRemembersRows : Pending → Pending → Type 0
+StillRemembersRows old new =
+    (cells : List (Cell Row)) → Remembers cells old.handles old.remembered → Remembers cells new.handles new.remembered
 
--- so does the second if it has one more handle, whose row has this key
-abbrev pub RemembersOneMore : Handle → ℕ → Pending → Pending → Type 0
-RemembersOneMore handle key old new =
-    (cells : List (Cell Row)) → key ≡ key_at cells handle → RemembersKeys cells old.handles old.keys → RemembersKeys cells new.handles new.keys
+-- so does the second if it has one more handle, and what is remembered of its row is right
+abbrev pub RemembersOneMore : Handle → Memory → Pending → Pending → Type 0
+RemembersOneMore handle memory old new =
+    (cells : List (Cell Row)) → Agrees cells handle memory → Remembers cells old.handles old.remembered → Remembers cells new.handles new.remembered
 
--- once the row with this slot has this key, and all others read as before, the second list remembers its keys rightly
-abbrev pub RemembersAnew : ℕ → ℕ → Pending → Pending → Type 0
-RemembersAnew slot key old new =
-    (cells cells' : List (Cell Row)) → key ≡ key_at cells' (slice_index_or old.handles (place_in old.handles slot) no_handle) → ((h : Handle) → h.slot ≢ slot → key_at cells' h ≡ key_at cells h) → RemembersKeys cells old.handles old.keys → RemembersKeys cells' new.handles new.keys
+-- once this is right of the row with this slot, and all others read as before, the second list remembers its rows rightly
+abbrev pub RemembersAnew : ℕ → Memory → Pending → Pending → Type 0
+RemembersAnew slot memory old new =
+    (cells cells' : List (Cell Row)) → Agrees cells' (slice_index_or old.handles (place_in old.handles slot) no_handle) memory → ((h : Handle) → h.slot ≢ slot → memory_at cells' h ≡ memory_at cells h) → Remembers cells old.handles old.remembered → Remembers cells' new.handles new.remembered
 
 -- none of the keys from one place up to another lies in the range
 abbrev pub NoneIn : Range → List ℕ → ℕ → ℕ → Type 0

@@ -3,34 +3,34 @@ ghost use Rattle.std.specs.Prelude.{◌≡◌, ◌≤◌, length, vec_len, vec_c
 ghost use Rattle.crack_pending.specs.Keeps.{place_at};
 ghost use Rattle.crack_pending.specs.Spots.{kept};
 
-use crate::spots::StoredKey;
 use crack_arena::Handle;
+use crack_column::Remembered;
 use crack_row::Row;
 
 /// Closes all holes up: the rows are in their order without any. No cell leads to the new spots until they are noted.
 /// O(spots), and O(1) if there are no holes.
 pub(crate) fn close_up(
     handles: &mut Vec<Handle<Row>>,
-    keys: &mut Vec<StoredKey>,
+    remembered: &mut Vec<Remembered>,
     stands: &mut Vec<bool>,
     rows: usize,
 )
-    requires keys { vec_len keys.old ≡ vec_len handles.old }
+    requires keys { vec_len remembered.old ≡ vec_len handles.old }
     requires stands { vec_len stands.old ≡ vec_len handles.old }
     requires rows { rows ≡ place_at stands.old.items (vec_len stands.old) }
     ensures handles { handles.new.items ≡ kept stands.old.items handles.old.items }
-    ensures keys { keys.new.items ≡ kept stands.old.items keys.old.items }
+    ensures keys { remembered.new.items ≡ kept stands.old.items remembered.old.items }
     ensures rows { vec_len stands.new ≡ rows }
     ensures full { place_at stands.new.items rows ≡ rows }
     ensures handle_capacity { vec_capacity handles.new ≡ vec_capacity handles.old }
-    ensures key_capacity { vec_capacity keys.new ≡ vec_capacity keys.old }
+    ensures key_capacity { vec_capacity remembered.new ≡ vec_capacity remembered.old }
     ensures stand_capacity { vec_capacity stands.new ≡ vec_capacity stands.old }
 {
     if rows == stands.len() {
         return;
     }
     close_up_handles(handles, stands);
-    close_up_keys(keys, stands);
+    close_up_remembered(remembered, stands);
     close_up_marks(stands, rows);
 }
 
@@ -51,19 +51,19 @@ fn close_up_handles(handles: &mut Vec<Handle<Row>>, stands: &[bool])
 }
 
 /// Moves the keys beside rows to the front, in order.
-fn close_up_keys(keys: &mut Vec<StoredKey>, stands: &[bool])
-    requires { length stands.now ≡ vec_len keys.old }
-    ensures kept { keys.new.items ≡ kept stands.now keys.old.items }
-    ensures capacity { vec_capacity keys.new ≡ vec_capacity keys.old }
+fn close_up_remembered(remembered: &mut Vec<Remembered>, stands: &[bool])
+    requires { length stands.now ≡ vec_len remembered.old }
+    ensures kept { remembered.new.items ≡ kept stands.now remembered.old.items }
+    ensures capacity { vec_capacity remembered.new ≡ vec_capacity remembered.old }
 {
     let mut low = 0;
     'spots: for spot in 0..stands.len() {
         if stands[spot] {
-            keys[low] = keys[spot];
+            remembered[low] = remembered[spot];
             low += 1;
         }
     }
-    keys.truncate(low);
+    remembered.truncate(low);
 }
 
 /// Marks this many spots, and no more, as those of rows.

@@ -7,16 +7,20 @@ ghost use Rattle.crack_arena.specs.Arena.{no_handle};
 ghost use Rattle.crack_arena.specs.Rows.{key_at};
 ghost use Rattle.crack_pending.specs.Keeps.{HasRow};
 ghost use Rattle.crack_pending.specs.Codes.{AreCoded, IsWindow};
-ghost use Rattle.crack_pending.specs.Inside.{Lies, AreKnown, IsMissed, IsHit, KnowKeys};
+ghost use Rattle.crack_pending.specs.Inside.{Lies, AreKnown, IsMissed, IsHit, KnowRows};
 
 use crate::codes::Codes;
-use crate::pass::{Wanted, key_beside};
-use crate::spots::{StoredKey, UNKNOWN};
+use crate::pass::Wanted;
+use crate::spots::UNKNOWN;
 use crack_arena::{Arena, Handle};
+use crack_column::Remembered;
 use crack_row::{KeyRange, Row};
 
 /// Read at once, without a branch for each.
 const BLOCK: usize = 32;
+
+/// Read at once where a pass meets none that it looks for.
+const MANY: usize = 128;
 
 /// The codes of a pass's ends, and of a key that isn't known.
 #[derive(Clone, Copy)]
@@ -80,6 +84,21 @@ pub(crate) fn any_lies(codes: &[u16], low: u16, last: u16) -> bool
     any != 0
 }
 
+/// Whether one of many codes lies between the two, as `any_lies`.
+#[inline(always)]
+fn any_of_many_lies(codes: &[u16], low: u16, last: u16) -> bool
+    requires block { length codes.now ≡ 128 }
+    requires order { low ≤ last }
+    ensures { OnFalse result ((k : ℕ) → k < 128 → ¬ Lies low last (slice_index codes.now k)) }
+{
+    let width = last - low;
+    let mut any = 0u16;
+    'codes: for i in 0..MANY {
+        any |= (codes[i].wrapping_sub(low) <= width) as u16;
+    }
+    any != 0
+}
+
 /// Whether a row of a block may have its key in the range, by the codes alone.
 fn may_hit(codes: &[u16], window: Window) -> bool
     requires block { length codes.now ≡ 32 }
@@ -94,12 +113,27 @@ fn may_hit(codes: &[u16], window: Window) -> bool
     window.some_unknown && any_lies(codes, window.beyond, window.beyond)
 }
 
+/// Whether one of many rows may have its key in the range, by the codes alone, as `may_hit`.
+#[inline(always)]
+fn many_may_hit(codes: &[u16], window: Window) -> bool
+    requires block { length codes.now ≡ 128 }
+    requires order { window.first ≤ window.last }
+    ensures lies { OnFalse result ((k : ℕ) → k < 128 → ¬ Lies window.first window.last (slice_index codes.now k)) }
+    ensures none_unknown { OnFalse result (IsTrue window.some_unknown → (k : ℕ) → k < 128 →
+        ¬ Lies window.beyond window.beyond (slice_index codes.now k)) }
+{
+    if any_of_many_lies(codes, window.first, window.last) {
+        return true;
+    }
+    window.some_unknown && any_of_many_lies(codes, window.beyond, window.beyond)
+}
+
 /// Whether a row is at the spot and has its key in the range. Reads its key only if the code is that of one of
 /// the range's ends, or of keys that aren't known.
 #[inline(always)]
 pub(crate) fn is_hit(
     handles: &[Handle<Row>],
-    keys: &[StoredKey],
+    remembered: &[Remembered],
     stands: &[bool],
     codes: &Codes,
     spot: usize,
@@ -107,13 +141,13 @@ pub(crate) fn is_hit(
     window: Window,
     arena: &Arena<Row>,
 ) -> bool
-    requires keys { length keys.now ≡ length handles.now }
+    requires keys { length remembered.now ≡ length handles.now }
     requires stands { length stands.now ≡ length handles.now }
     requires within { spot < length codes.now.codes }
-    requires coded { AreCoded keys.now stands.now codes.now }
+    requires coded { AreCoded remembered.now stands.now codes.now }
     requires window { IsWindow codes.now.base codes.now.shift range window.first window.last window.beyond }
-    requires known { KnowKeys arena.now.cells handles.now keys.now stands.now }
-    requires all_known { IsFalse window.some_unknown → AreKnown keys.now stands.now }
+    requires known { KnowRows arena.now.cells handles.now remembered.now stands.now }
+    requires all_known { IsFalse window.some_unknown → AreKnown remembered.now stands.now }
     ensures stands { IsTrue result → HasRow stands.now spot }
     ensures holds { IsTrue result → IsIn range (key_at arena.now.cells (slice_index_or handles.now spot no_handle)) }
     ensures missed { IsFalse result → HasRow stands.now spot → ¬ IsIn range (key_at arena.now.cells
@@ -126,13 +160,13 @@ pub(crate) fn is_hit(
     if window.is_inside(code) {
         return true;
     }
-    range.contains(key_beside(keys[spot], handles[spot], arena))
+    range.contains(remembered[spot].key_of(handles[spot], arena))
 }
 
 /// The first spot, from one up to another, whose row has its key in the range. Looks at the code of each.
 fn hit_between(
     handles: &[Handle<Row>],
-    keys: &[StoredKey],
+    remembered: &[Remembered],
     stands: &[bool],
     codes: &Codes,
     from: usize,
@@ -141,19 +175,21 @@ fn hit_between(
     window: Window,
     arena: &Arena<Row>,
 ) -> Option<usize>
-    requires keys { length keys.now ≡ length handles.now }
+    requires keys { length remembered.now ≡ length handles.now }
     requires stands { length stands.now ≡ length handles.now }
     requires within { to ≤ length codes.now.codes }
-    requires coded { AreCoded keys.now stands.now codes.now }
+    requires coded { AreCoded remembered.now stands.now codes.now }
     requires window { IsWindow codes.now.base codes.now.shift range window.first window.last window.beyond }
-    requires known { KnowKeys arena.now.cells handles.now keys.now stands.now }
-    requires all_known { IsFalse window.some_unknown → AreKnown keys.now stands.now }
+    requires known { KnowRows arena.now.cells handles.now remembered.now stands.now }
+    requires all_known { IsFalse window.some_unknown → AreKnown remembered.now stands.now }
     ensures { MatchOption result
         (IsMissed range arena.now.cells handles.now stands.now from to)
         (λ spot. IsHit range arena.now.cells handles.now stands.now from to spot) }
 {
     'spots: for spot in from..to {
-        if is_hit(handles, keys, stands, codes, spot, range, window, arena) {
+        if is_hit(
+            handles, remembered, stands, codes, spot, range, window, arena,
+        ) {
             return Some(spot);
         }
     }
@@ -164,7 +200,7 @@ fn hit_between(
 /// Looks at each only if one may have it, by the codes alone.
 fn hit_in_block(
     handles: &[Handle<Row>],
-    keys: &[StoredKey],
+    remembered: &[Remembered],
     stands: &[bool],
     codes: &Codes,
     from: usize,
@@ -172,13 +208,13 @@ fn hit_in_block(
     window: Window,
     arena: &Arena<Row>,
 ) -> Option<usize>
-    requires keys { length keys.now ≡ length handles.now }
+    requires keys { length remembered.now ≡ length handles.now }
     requires stands { length stands.now ≡ length handles.now }
     requires within { from + 32 ≤ length codes.now.codes }
-    requires coded { AreCoded keys.now stands.now codes.now }
+    requires coded { AreCoded remembered.now stands.now codes.now }
     requires window { IsWindow codes.now.base codes.now.shift range window.first window.last window.beyond }
-    requires known { KnowKeys arena.now.cells handles.now keys.now stands.now }
-    requires all_known { IsFalse window.some_unknown → AreKnown keys.now stands.now }
+    requires known { KnowRows arena.now.cells handles.now remembered.now stands.now }
+    requires all_known { IsFalse window.some_unknown → AreKnown remembered.now stands.now }
     ensures { MatchOption result
         (IsMissed range arena.now.cells handles.now stands.now from (from + 32))
         (λ spot. IsHit range arena.now.cells handles.now stands.now from (from + 32) spot) }
@@ -188,7 +224,7 @@ fn hit_in_block(
     }
     hit_between(
         handles,
-        keys,
+        remembered,
         stands,
         codes,
         from,
@@ -202,7 +238,7 @@ fn hit_in_block(
 /// The first spot at or after `from`, among those that have a code, whose row has its key in a non-empty range.
 pub(crate) fn hit_in_codes(
     handles: &[Handle<Row>],
-    keys: &[StoredKey],
+    remembered: &[Remembered],
     stands: &[bool],
     codes: &Codes,
     from: usize,
@@ -210,27 +246,33 @@ pub(crate) fn hit_in_codes(
     window: Window,
     arena: &Arena<Row>,
 ) -> Option<usize>
-    requires keys { length keys.now ≡ length handles.now }
+    requires keys { length remembered.now ≡ length handles.now }
     requires stands { length stands.now ≡ length handles.now }
     requires within { from ≤ length codes.now.codes }
-    requires coded { AreCoded keys.now stands.now codes.now }
+    requires coded { AreCoded remembered.now stands.now codes.now }
     requires window { IsWindow codes.now.base codes.now.shift range window.first window.last window.beyond }
-    requires known { KnowKeys arena.now.cells handles.now keys.now stands.now }
-    requires all_known { IsFalse window.some_unknown → AreKnown keys.now stands.now }
+    requires known { KnowRows arena.now.cells handles.now remembered.now stands.now }
+    requires all_known { IsFalse window.some_unknown → AreKnown remembered.now stands.now }
     ensures { MatchOption result
         (IsMissed range arena.now.cells handles.now stands.now from (length codes.now.codes))
         (λ spot. IsHit range arena.now.cells handles.now stands.now from (length codes.now.codes) spot) }
 {
     let mut spot = from;
     'far: while BLOCK <= codes.len() - spot {
-        if let Some(hit) = hit_in_block(handles, keys, stands, codes, spot, range, window, arena) {
+        if MANY <= codes.len() - spot && !many_may_hit(&codes.list()[spot..spot + MANY], window) {
+            spot += MANY;
+            continue;
+        }
+        if let Some(hit) = hit_in_block(
+            handles, remembered, stands, codes, spot, range, window, arena,
+        ) {
             return Some(hit);
         }
         spot += BLOCK;
     }
     hit_between(
         handles,
-        keys,
+        remembered,
         stands,
         codes,
         spot,

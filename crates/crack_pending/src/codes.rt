@@ -6,6 +6,7 @@ ghost use Rattle.crack_pending.specs.Codes.{AreCoded, code_of};
 use crate::ahead::Ahead;
 use crate::spots::{StoredKey, UNKNOWN};
 use crack_arena::{Arena, Handle};
+use crack_column::Remembered;
 use crack_row::Row;
 use std::alloc::Global;
 use std::marker::Model;
@@ -152,41 +153,45 @@ impl Codes {
     /// Codes the rows at all spots that have no code yet. O(1) for each of them. If it finds no memory it codes
     /// none.
     #[inline(never)]
-    pub(crate) fn catch_up(&mut self, keys: &[StoredKey], stands: &[bool])
-        requires beside { length stands.now ≡ length keys.now }
-        requires coded { AreCoded keys.now stands.now self.old }
-        ensures { AreCoded keys.now stands.now self.new }
+    pub(crate) fn catch_up(&mut self, remembered: &[Remembered], stands: &[bool])
+        requires beside { length stands.now ≡ length remembered.now }
+        requires coded { AreCoded remembered.now stands.now self.old }
+        ensures { AreCoded remembered.now stands.now self.new }
     {
-        if self.codes.reserve(keys.len() - self.codes.len()).is_err() {
+        if self
+            .codes
+            .reserve(remembered.len() - self.codes.len())
+            .is_err()
+        {
             return;
         }
         if self.codes.is_empty() {
-            self.scale = scale_of(keys);
+            self.scale = scale_of(remembered);
         }
-        append_codes(&mut self.codes, self.scale, keys, stands);
+        append_codes(&mut self.codes, self.scale, remembered, stands);
     }
 }
 
 /// Codes the rows at all spots that have no code yet, after room was made for them.
-fn append_codes(codes: &mut Vec<u16>, scale: Scale, keys: &[StoredKey], stands: &[bool])
-    requires beside { length stands.now ≡ length keys.now }
-    requires room { length keys.now ≤ vec_capacity codes.old }
+fn append_codes(codes: &mut Vec<u16>, scale: Scale, remembered: &[Remembered], stands: &[bool])
+    requires beside { length stands.now ≡ length remembered.now }
+    requires room { length remembered.now ≤ vec_capacity codes.old }
     requires small { scale.shift < 64 }
-    requires coded { AreCoded keys.now stands.now (record {
+    requires coded { AreCoded remembered.now stands.now (record {
       codes = codes.old.items;
       base = scale.base;
       shift = scale.shift;
     }) }
-    ensures coded { AreCoded keys.now stands.now (record {
+    ensures coded { AreCoded remembered.now stands.now (record {
       codes = codes.new.items;
       base = scale.base;
       shift = scale.shift;
     }) }
     ensures kept { take (length codes.old.items) codes.new.items ≡ codes.old.items }
 {
-    'spots: for spot in codes.len()..keys.len() {
+    'spots: for spot in codes.len()..remembered.len() {
         let code = if stands[spot] {
-            scale.code(keys[spot])
+            scale.code(remembered[spot].key())
         } else {
             HOLE
         };
@@ -195,10 +200,10 @@ fn append_codes(codes: &mut Vec<u16>, scale: Scale, keys: &[StoredKey], stands: 
 }
 
 /// How keys are coded, so that the highest of these has one of the highest codes.
-fn scale_of(keys: &[StoredKey]) -> Scale
+fn scale_of(remembered: &[Remembered]) -> Scale
     ensures { result.shift < 64 }
 {
-    let (least, greatest) = least_and_greatest(keys);
+    let (least, greatest) = least_and_greatest(remembered);
     let bits = 64 - greatest.saturating_sub(least).leading_zeros();
     Scale {
         base: least,
@@ -207,11 +212,11 @@ fn scale_of(keys: &[StoredKey]) -> Scale
 }
 
 /// The least of some keys, and the greatest of those that are known.
-fn least_and_greatest(keys: &[StoredKey]) -> (StoredKey, StoredKey) {
+fn least_and_greatest(remembered: &[Remembered]) -> (StoredKey, StoredKey) {
     let mut least = UNKNOWN;
     let mut greatest = 0;
-    'keys: for i in 0..keys.len() {
-        let key = keys[i];
+    'keys: for i in 0..remembered.len() {
+        let key = remembered[i].key();
         least = least.min(key);
         greatest = greatest.max(if key == UNKNOWN { 0 } else { key });
     }

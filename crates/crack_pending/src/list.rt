@@ -3,16 +3,18 @@ ghost use Rattle.std.specs.Prelude.{◌≡◌, ◌+◌, ◌-◌, ◌<◌, ◌≤
 ghost use Rattle.std.specs.Prelude.{MatchOption, IfErr, OnOk, OnErr, List, slice_set, drop, vec_len, vec_capacity};
 ghost use Rattle.std.specs.List.{remove};
 ghost use Rattle.crack_row.specs.declared.Row.{Row};
-ghost use Rattle.crack_arena.specs.Rows.{keys_at, unknown, RemembersKeys};
+ghost use Rattle.crack_arena.specs.Rows.{keys_at};
 ghost use Rattle.crack_arena.specs.Arena.{Cell, StandsAt, IsFirstAt, IsAbsent, times, slots, place_in};
+ghost use Rattle.crack_column.specs.Column.{nothing, Memory, Remembers};
 ghost use Rattle.crack_pending.specs.Keeps.{Has, AreMarked};
-ghost use Rattle.crack_pending.specs.Pending.{Finds, StillRemembersKeys, RemembersOneMore, RemembersAnew};
+ghost use Rattle.crack_pending.specs.Pending.{Finds, StillRemembersRows, RemembersOneMore, RemembersAnew};
 ghost use Rattle.crack_pending.specs.Pending.{rows_inside, rows_outside};
 
 use crate::bits::BitSet;
-use crate::spots::{SpotList, StoredKey, UNKNOWN};
+use crate::spots::SpotList;
 use crack_arena::{Arena, Handle};
-use crack_row::{Key, KeyRange, Refusal, Row};
+use crack_column::Remembered;
+use crack_row::{KeyRange, Refusal, Row};
 use std::alloc::Global;
 use std::marker::{Model, PhantomData};
 
@@ -31,7 +33,8 @@ pub type PendingIn = PendingList<Insertions>;
 pub type PendingOut = PendingList<Deletions>;
 
 /// The handles of pending rows in order of arrival (the pending columns of "Updating a Cracked Database",
-/// SIGMOD 2007), each beside the key of its row if that is remembered. No cell has two handles in a list.
+/// SIGMOD 2007), each beside the key and the payload of its row if these are remembered. No cell has two handles in a
+/// list.
 /// A row that goes leaves a hole; holes are closed up once there are as many as rows. Places count rows, never holes.
 #[derive(Drop)]
 pub struct PendingList<Kind> {
@@ -55,8 +58,8 @@ impl<Kind> Model for PendingList<Kind> {
 impl<Kind> PendingList<Kind> {
     /// An empty list. It takes no memory.
     pub fn new(alloc: Global) -> Self
-        ensures after { result ≡ record { handles = []; keys = []; room = 0; covered = 0 } }
-        ensures remembered { (cells : List (Cell Row)) → RemembersKeys cells result.handles result.keys }
+        ensures after { result ≡ record { handles = []; remembered = []; room = 0; covered = 0 } }
+        ensures remembered { (cells : List (Cell Row)) → Remembers cells result.handles result.remembered }
     {
         PendingList {
             list: SpotList::new(alloc),
@@ -69,7 +72,7 @@ impl<Kind> PendingList<Kind> {
     pub fn facts(&self)
         ensures once { (slot : ℕ) → times slot (slots self.now.handles) ≤ 1 }
         ensures covered { All (λ h. h.slot < self.now.covered) self.now.handles }
-        ensures beside { length self.now.keys ≡ length self.now.handles }
+        ensures beside { length self.now.remembered ≡ length self.now.handles }
     {
         self.list.facts();
     }
@@ -82,7 +85,7 @@ impl<Kind> PendingList<Kind> {
         ensures kept { self.old.room ≤ self.new.room }
         ensures full { OnErr result (self.old.room < additional) }
         ensures err { IfErr result (λ e. e ≡ Refusal.OutOfMemory) }
-        ensures remembered { StillRemembersKeys self.old self.new }
+        ensures remembered { StillRemembersRows self.old self.new }
     {
         self.list.reserve(additional)
     }
@@ -94,7 +97,7 @@ impl<Kind> PendingList<Kind> {
         requires { room ≤ self.old.room }
         ensures same { self.new ≡ record self.old { room = self.new.room } }
         ensures sure { room ≤ self.new.room }
-        ensures remembered { StillRemembersKeys self.old self.new }
+        ensures remembered { StillRemembersRows self.old self.new }
     {
         self.list.shrink(room);
     }
@@ -106,7 +109,7 @@ impl<Kind> PendingList<Kind> {
         requires { room ≤ self.old.room }
         ensures same { self.new ≡ record self.old { room = self.new.room } }
         ensures sure { room ≤ self.new.room }
-        ensures remembered { StillRemembersKeys self.old self.new }
+        ensures remembered { StillRemembersRows self.old self.new }
     {
         if self.is_empty() {
             self.shrink(room);
@@ -122,58 +125,57 @@ impl<Kind> PendingList<Kind> {
         ensures full { OnErr result (self.old.covered < cells) }
         ensures unchanged { OnErr result (self.new ≡ self.old) }
         ensures err { IfErr result (λ e. e ≡ Refusal.OutOfMemory) }
-        ensures remembered { StillRemembersKeys self.old self.new }
+        ensures remembered { StillRemembersRows self.old self.new }
     {
         self.list.make_places(cells, &mut self.marks)
     }
 
-    /// Puts the handle after all others; the key of its row isn't remembered. It takes no memory. O(1).
+    /// Puts the handle after all others; its row isn't remembered. It takes no memory. O(1).
     pub fn push(&mut self, handle: Handle<Row>)
         requires room { 0 < self.old.room }
         requires covered { handle.slot < self.old.covered }
         requires absent { times handle.slot (slots self.old.handles) ≡ 0 }
         ensures after { self.new ≡ record self.old {
           handles = self.old.handles ++ handle ∷ [];
-          keys = self.old.keys ++ unknown ∷ [];
+          remembered = self.old.remembered ++ nothing ∷ [];
           room = self.old.room - 1;
         } }
-        ensures remembered { StillRemembersKeys self.old self.new }
+        ensures remembered { StillRemembersRows self.old self.new }
     {
-        self.add(handle, UNKNOWN);
+        self.add(handle, Remembered::nothing());
     }
 
-    /// Puts the handle after all others, and remembers the key of its row. It takes no memory. O(1).
+    /// Puts the handle after all others, with what is to be remembered of its row. It takes no memory. O(1).
     #[inline(always)]
-    pub fn push_keyed(&mut self, handle: Handle<Row>, key: Key)
+    pub fn push_remembered(&mut self, handle: Handle<Row>, remembered: Remembered)
         requires room { 0 < self.old.room }
         requires covered { handle.slot < self.old.covered }
         requires absent { times handle.slot (slots self.old.handles) ≡ 0 }
         ensures after { self.new ≡ record self.old {
           handles = self.old.handles ++ handle ∷ [];
-          keys = self.old.keys ++ key.0 ∷ [];
+          remembered = self.old.remembered ++ remembered ∷ [];
           room = self.old.room - 1;
         } }
-        ensures remembered { RemembersOneMore handle key.0 self.old self.new }
+        ensures remembered { RemembersOneMore handle remembered self.old self.new }
     {
-        self.add(handle, key.number());
+        self.add(handle, remembered);
     }
 
     /// Puts the handle after all others, with what is beside it, and marks its cell.
     #[inline(always)]
-    fn add(&mut self, handle: Handle<Row>, key: StoredKey)
+    fn add(&mut self, handle: Handle<Row>, remembered: Remembered)
         requires room { 0 < self.old.room }
         requires covered { handle.slot < self.old.covered }
         requires absent { times handle.slot (slots self.old.handles) ≡ 0 }
         ensures after { self.new ≡ record self.old {
           handles = self.old.handles ++ handle ∷ [];
-          keys = self.old.keys ++ key ∷ [];
+          remembered = self.old.remembered ++ remembered ∷ [];
           room = self.old.room - 1;
         } }
-        ensures remembered { RemembersOneMore handle key self.old self.new }
-        ensures forgotten { key ≡ unknown → StillRemembersKeys self.old self.new }
+        ensures remembered { RemembersOneMore handle remembered self.old self.new }
     {
         self.marks.put(handle.slot());
-        self.list.push(handle, key);
+        self.list.push(handle, remembered);
     }
 
     /// The handle at the place, counted from the first arrival. O(1) if there are no holes, and else one pass over
@@ -200,10 +202,10 @@ impl<Kind> PendingList<Kind> {
         requires { place < length self.old.handles }
         ensures value { StandsAt self.old.handles place result }
         ensures handles { self.new.handles ≡ remove self.old.handles place }
-        ensures keys { self.new.keys ≡ remove self.old.keys place }
+        ensures keys { self.new.remembered ≡ remove self.old.remembered place }
         ensures room { self.old.room ≤ self.new.room }
         ensures covered { self.new.covered ≡ self.old.covered }
-        ensures remembered { StillRemembersKeys self.old self.new }
+        ensures remembered { StillRemembersRows self.old self.new }
     {
         self.list.facts();
         let handle = self.list.take(place);
@@ -212,22 +214,33 @@ impl<Kind> PendingList<Kind> {
     }
 
     /// Takes all rows of a range out, in order of arrival, and puts their handles after the others of a list that
-    /// has room for them. It takes memory only for codes and candidates; the room stays. One pass over the codes or
-    /// keys, and O(1) for each row that it takes: no row's place is counted.
-    pub fn take_in(&mut self, range: KeyRange, arena: &Arena<Row>, taken: &mut Vec<Handle<Row>>)
-        requires keys { RemembersKeys arena.now.cells self.old.handles self.old.keys }
+    /// has room for them, and what is remembered of each after what another list has. It takes memory only for codes
+    /// and candidates; the room stays. One pass over the codes or keys, and O(1) for each row that it takes: no row's
+    /// place is counted.
+    pub fn take_in(
+        &mut self,
+        range: KeyRange,
+        arena: &Arena<Row>,
+        taken: &mut Vec<Handle<Row>>,
+        known: &mut Vec<Remembered>,
+    )
+        requires keys { Remembers arena.now.cells self.old.handles self.old.remembered }
         requires room { vec_len taken.old + length (rows_inside arena.now.cells range self.old.handles) ≤
             vec_capacity taken.old }
+        requires known { Remembers arena.now.cells taken.old.items known.old.items }
+        requires known_room { vec_len known.old + length (rows_inside arena.now.cells range self.old.handles) ≤
+            vec_capacity known.old }
+        ensures known { Remembers arena.now.cells taken.new.items known.new.items }
         ensures taken { taken.new.items ≡ taken.old.items ++ rows_inside arena.now.cells range self.old.handles }
         ensures left { self.new.handles ≡ rows_outside arena.now.cells range self.old.handles }
-        ensures keys { RemembersKeys arena.now.cells self.new.handles self.new.keys }
+        ensures keys { Remembers arena.now.cells self.new.handles self.new.remembered }
         ensures room { self.old.room ≤ self.new.room }
         ensures covered { self.new.covered ≡ self.old.covered }
     {
         let from = taken.len();
         self.list.facts();
         self.list.code_keys();
-        self.list.take_in(range, arena, taken);
+        self.list.take_in(range, arena, taken, known);
         strike_from(&mut self.marks, taken, from);
     }
 
@@ -235,7 +248,7 @@ impl<Kind> PendingList<Kind> {
     pub fn close_up(&mut self)
         ensures same { self.new ≡ record self.old { room = self.new.room } }
         ensures kept { self.old.room ≤ self.new.room }
-        ensures remembered { StillRemembersKeys self.old self.new }
+        ensures remembered { StillRemembersRows self.old self.new }
     {
         self.list.close_up();
     }
@@ -243,7 +256,7 @@ impl<Kind> PendingList<Kind> {
     /// Takes all handles out. It takes no memory; the room stays. O(rows and holes).
     pub fn clear(&mut self)
         ensures handles { self.new.handles ≡ [] }
-        ensures keys { self.new.keys ≡ [] }
+        ensures keys { self.new.remembered ≡ [] }
         ensures room { self.old.room ≤ self.new.room }
         ensures covered { self.new.covered ≡ self.old.covered }
     {
@@ -265,10 +278,10 @@ impl<Kind> PendingList<Kind> {
     pub fn strike(&mut self, handle: Handle<Row>)
         requires { 0 < times handle.slot (slots self.old.handles) }
         ensures handles { self.new.handles ≡ remove self.old.handles (place_in self.old.handles handle.slot) }
-        ensures keys { self.new.keys ≡ remove self.old.keys (place_in self.old.handles handle.slot) }
+        ensures keys { self.new.remembered ≡ remove self.old.remembered (place_in self.old.handles handle.slot) }
         ensures room { self.old.room ≤ self.new.room }
         ensures covered { self.new.covered ≡ self.old.covered }
-        ensures remembered { StillRemembersKeys self.old self.new }
+        ensures remembered { StillRemembersRows self.old self.new }
     {
         let slot = handle.slot();
         self.list.facts();
@@ -276,20 +289,20 @@ impl<Kind> PendingList<Kind> {
         self.marks.strike(slot);
     }
 
-    /// Remembers another key for the row whose cell this handle names. O(1).
-    pub fn remember(&mut self, handle: Handle<Row>, key: Key)
+    /// Remembers something else of the row whose cell this handle names. O(1).
+    pub fn remember(&mut self, handle: Handle<Row>, remembered: Remembered)
         requires { 0 < times handle.slot (slots self.old.handles) }
         ensures after { self.new ≡ record self.old {
-          keys = slice_set self.old.keys (place_in self.old.handles handle.slot) key.0;
+          remembered = slice_set self.old.remembered (place_in self.old.handles handle.slot) remembered;
         } }
-        ensures remembered { RemembersAnew handle.slot key.0 self.old self.new }
+        ensures remembered { RemembersAnew handle.slot remembered self.old self.new }
     {
-        self.list.remember(handle.slot(), key.number());
+        self.list.remember(handle.slot(), remembered);
     }
 
     /// The first place whose row has its key in the range. O(len), without a branch for each key.
     pub fn first_in(&self, range: KeyRange, arena: &Arena<Row>) -> Option<usize>
-        requires { RemembersKeys arena.now.cells self.now.handles self.now.keys }
+        requires { Remembers arena.now.cells self.now.handles self.now.remembered }
         ensures { Finds range (keys_at arena.now.cells self.now.handles) 0 result }
     {
         self.next_in(range, 0, arena)
@@ -299,7 +312,7 @@ impl<Kind> PendingList<Kind> {
     /// without a branch for each key. It looks at a handle only if a key lies in the range, or isn't remembered. A
     /// command that takes rows goes on from where it took the last one, and so passes over the list once.
     pub fn next_in(&self, range: KeyRange, from: usize, arena: &Arena<Row>) -> Option<usize>
-        requires { RemembersKeys arena.now.cells self.now.handles self.now.keys }
+        requires { Remembers arena.now.cells self.now.handles self.now.remembered }
         ensures { Finds range (keys_at arena.now.cells self.now.handles) from result }
     {
         self.list.next_in(range, from, arena)
@@ -308,7 +321,7 @@ impl<Kind> PendingList<Kind> {
     /// Like `next_in`, but goes on from the place that it finds when one is next looked up: finding a row and then
     /// taking it is one pass.
     pub fn seek_in(&mut self, range: KeyRange, from: usize, arena: &Arena<Row>) -> Option<usize>
-        requires { RemembersKeys arena.now.cells self.old.handles self.old.keys }
+        requires { Remembers arena.now.cells self.old.handles self.old.remembered }
         ensures finds { Finds range (keys_at arena.now.cells self.old.handles) from result }
         ensures same { self.new ≡ self.old }
     {

@@ -1,15 +1,17 @@
 //! The pass over the keys of pending rows.
-ghost use Rattle.std.specs.Prelude.{◌≡◌, ◌≢◌, ◌+◌, ◌<◌, ◌≤◌, ◌⊎◌, ℕ, length, slice_index, MatchOption, IsTrue, IsFalse};
+ghost use Rattle.std.specs.Prelude.{◌≡◌, ◌≢◌, ◌+◌, ◌<◌, ◌≤◌, ℕ, length, slice_index_or, MatchOption, IsTrue, IsFalse};
 ghost use Rattle.std.specs.Bool.{OnFalse};
-ghost use Rattle.crack_arena.specs.Rows.{key_at, unknown};
+ghost use Rattle.crack_arena.specs.Rows.{unknown};
+ghost use Rattle.crack_column.specs.Column.{nothing};
 ghost use Rattle.crack_pending.specs.Codes.{AreCoded};
-ghost use Rattle.crack_pending.specs.Inside.{Lies, AreKnown, IsMissed, IsHit, KnowKeys};
+ghost use Rattle.crack_pending.specs.Inside.{Lies, AreKnown, IsMissed, IsHit, KnowRows};
 
 use crate::code_pass::{Window, hit_in_codes, is_hit};
 use crate::codes::Codes;
 use crate::spots::{StoredKey, UNKNOWN};
-use crack_arena::{Arena, Handle, key_of};
-use crack_row::{Key, KeyRange, Row};
+use crack_arena::{Arena, Handle};
+use crack_column::Remembered;
+use crack_row::{KeyRange, Row};
 
 /// Read at once, without a branch for each.
 const BLOCK: usize = 16;
@@ -23,77 +25,66 @@ pub(crate) struct Wanted {
 }
 
 /// Whether one of a block's keys lies between the two. Determined by one comparison for each key, without a branch.
-fn any_lies(keys: &[StoredKey], low: StoredKey, last: StoredKey) -> bool
-    requires block { length keys.now ≡ 16 }
+fn any_lies(remembered: &[Remembered], low: StoredKey, last: StoredKey) -> bool
+    requires block { length remembered.now ≡ 16 }
     requires order { low ≤ last }
-    ensures { OnFalse result ((k : ℕ) → k < 16 → ¬ Lies low last (slice_index keys.now k)) }
+    ensures { OnFalse result ((k : ℕ) → k < 16 → ¬ Lies low last (slice_index_or remembered.now k nothing).key) }
 {
     let width = last - low;
     let mut any = 0u32;
     'keys: for i in 0..BLOCK {
-        any |= (keys[i].wrapping_sub(low) <= width) as u32;
+        any |= (remembered[i].key().wrapping_sub(low) <= width) as u32;
     }
     any != 0
 }
 
 /// Whether one of a block's keys isn't known.
-fn any_unknown(keys: &[StoredKey]) -> bool
-    requires { length keys.now ≡ 16 }
-    ensures { OnFalse result ((k : ℕ) → k < 16 → slice_index keys.now k ≢ unknown) }
+fn any_unknown(remembered: &[Remembered]) -> bool
+    requires { length remembered.now ≡ 16 }
+    ensures { OnFalse result ((k : ℕ) → k < 16 → (slice_index_or remembered.now k nothing).key ≢ unknown) }
 {
     let mut any = 0u32;
     'keys: for i in 0..BLOCK {
-        any |= (keys[i] == UNKNOWN) as u32;
+        any |= (remembered[i].key() == UNKNOWN) as u32;
     }
     any != 0
 }
 
 /// Whether a row of a block may have its key between the two, by the keys alone.
-fn may_hit(keys: &[StoredKey], wanted: Wanted) -> bool
-    requires block { length keys.now ≡ 16 }
+fn may_hit(remembered: &[Remembered], wanted: Wanted) -> bool
+    requires block { length remembered.now ≡ 16 }
     requires order { wanted.low ≤ wanted.last }
-    ensures lies { OnFalse result ((k : ℕ) → k < 16 → ¬ Lies wanted.low wanted.last (slice_index keys.now k)) }
+    ensures lies { OnFalse result ((k : ℕ) → k < 16 →
+        ¬ Lies wanted.low wanted.last (slice_index_or remembered.now k nothing).key) }
     ensures none_unknown { OnFalse result (IsTrue wanted.some_unknown → (k : ℕ) → k < 16 →
-        slice_index keys.now k ≢ unknown) }
+        (slice_index_or remembered.now k nothing).key ≢ unknown) }
 {
-    if any_lies(keys, wanted.low, wanted.last) {
+    if any_lies(remembered, wanted.low, wanted.last) {
         return true;
     }
-    wanted.some_unknown && any_unknown(keys)
-}
-
-/// The key of the handle's row, which is beside it if it is known.
-pub(crate) fn key_beside(key: StoredKey, handle: Handle<Row>, arena: &Arena<Row>) -> Key
-    requires { (key ≡ unknown) ⊎ (key ≡ key_at arena.now.cells handle) }
-    ensures { result.0 ≡ key_at arena.now.cells handle }
-{
-    if key == UNKNOWN {
-        key_of(arena, handle)
-    } else {
-        Key::from_number(key)
-    }
+    wanted.some_unknown && any_unknown(remembered)
 }
 
 /// The first spot, from one up to another, whose row has its key in the range. Looks at each.
 fn hit_between(
     handles: &[Handle<Row>],
-    keys: &[StoredKey],
+    remembered: &[Remembered],
     stands: &[bool],
     from: usize,
     to: usize,
     range: KeyRange,
     arena: &Arena<Row>,
 ) -> Option<usize>
-    requires keys { length keys.now ≡ length handles.now }
+    requires keys { length remembered.now ≡ length handles.now }
     requires stands { length stands.now ≡ length handles.now }
     requires within { to ≤ length handles.now }
-    requires known { KnowKeys arena.now.cells handles.now keys.now stands.now }
+    requires known { KnowRows arena.now.cells handles.now remembered.now stands.now }
     ensures { MatchOption result
         (IsMissed range arena.now.cells handles.now stands.now from to)
         (λ spot. IsHit range arena.now.cells handles.now stands.now from to spot) }
 {
     'spots: for spot in from..to {
-        if stands[spot] && range.contains(key_beside(keys[spot], handles[spot], arena)) {
+        if stands[spot] && range.contains(remembered[spot].key_of(handles[spot], arena)) {
             return Some(spot);
         }
     }
@@ -104,18 +95,18 @@ fn hit_between(
 /// Looks at each only if one may have it, by the keys alone.
 fn hit_in_block(
     handles: &[Handle<Row>],
-    keys: &[StoredKey],
+    remembered: &[Remembered],
     stands: &[bool],
     from: usize,
     range: KeyRange,
     wanted: Wanted,
     arena: &Arena<Row>,
 ) -> Option<usize>
-    requires keys { length keys.now ≡ length handles.now }
+    requires keys { length remembered.now ≡ length handles.now }
     requires stands { length stands.now ≡ length handles.now }
     requires within { from + 16 ≤ length handles.now }
-    requires known { KnowKeys arena.now.cells handles.now keys.now stands.now }
-    requires all_known { IsFalse wanted.some_unknown → AreKnown keys.now stands.now }
+    requires known { KnowRows arena.now.cells handles.now remembered.now stands.now }
+    requires all_known { IsFalse wanted.some_unknown → AreKnown remembered.now stands.now }
     requires low { range.low ≡ wanted.low }
     requires last { range.high ≡ wanted.last + 1 }
     requires order { wanted.low ≤ wanted.last }
@@ -123,27 +114,35 @@ fn hit_in_block(
         (IsMissed range arena.now.cells handles.now stands.now from (from + 16))
         (λ spot. IsHit range arena.now.cells handles.now stands.now from (from + 16) spot) }
 {
-    if !may_hit(&keys[from..from + BLOCK], wanted) {
+    if !may_hit(&remembered[from..from + BLOCK], wanted) {
         return None;
     }
-    hit_between(handles, keys, stands, from, from + BLOCK, range, arena)
+    hit_between(
+        handles,
+        remembered,
+        stands,
+        from,
+        from + BLOCK,
+        range,
+        arena,
+    )
 }
 
 /// The first spot at or after `from` whose row has its key in a non-empty range.
 fn hit_in_blocks(
     handles: &[Handle<Row>],
-    keys: &[StoredKey],
+    remembered: &[Remembered],
     stands: &[bool],
     from: usize,
     range: KeyRange,
     wanted: Wanted,
     arena: &Arena<Row>,
 ) -> Option<usize>
-    requires keys { length keys.now ≡ length handles.now }
+    requires keys { length remembered.now ≡ length handles.now }
     requires stands { length stands.now ≡ length handles.now }
     requires within { from ≤ length handles.now }
-    requires known { KnowKeys arena.now.cells handles.now keys.now stands.now }
-    requires all_known { IsFalse wanted.some_unknown → AreKnown keys.now stands.now }
+    requires known { KnowRows arena.now.cells handles.now remembered.now stands.now }
+    requires all_known { IsFalse wanted.some_unknown → AreKnown remembered.now stands.now }
     requires low { range.low ≡ wanted.low }
     requires last { range.high ≡ wanted.last + 1 }
     requires order { wanted.low ≤ wanted.last }
@@ -152,20 +151,28 @@ fn hit_in_blocks(
         (λ spot. IsHit range arena.now.cells handles.now stands.now from (length handles.now) spot) }
 {
     let mut spot = from;
-    'far: while BLOCK <= keys.len() - spot {
-        if let Some(hit) = hit_in_block(handles, keys, stands, spot, range, wanted, arena) {
+    'far: while BLOCK <= remembered.len() - spot {
+        if let Some(hit) = hit_in_block(handles, remembered, stands, spot, range, wanted, arena) {
             return Some(hit);
         }
         spot += BLOCK;
     }
-    hit_between(handles, keys, stands, spot, keys.len(), range, arena)
+    hit_between(
+        handles,
+        remembered,
+        stands,
+        spot,
+        remembered.len(),
+        range,
+        arena,
+    )
 }
 
 /// The first spot at or after `from` whose row has its key in the range; it tests whether a key isn't known only if
 /// some aren't. Reads the codes of the spots that have one, and the keys at the others.
 pub(crate) fn first_hit(
     handles: &[Handle<Row>],
-    keys: &[StoredKey],
+    remembered: &[Remembered],
     stands: &[bool],
     codes: &Codes,
     from: usize,
@@ -173,12 +180,12 @@ pub(crate) fn first_hit(
     arena: &Arena<Row>,
     some_unknown: bool,
 ) -> Option<usize>
-    requires keys { length keys.now ≡ length handles.now }
+    requires keys { length remembered.now ≡ length handles.now }
     requires stands { length stands.now ≡ length handles.now }
     requires within { from ≤ length handles.now }
-    requires coded { AreCoded keys.now stands.now codes.now }
-    requires known { KnowKeys arena.now.cells handles.now keys.now stands.now }
-    requires all_known { IsFalse some_unknown → AreKnown keys.now stands.now }
+    requires coded { AreCoded remembered.now stands.now codes.now }
+    requires known { KnowRows arena.now.cells handles.now remembered.now stands.now }
+    requires all_known { IsFalse some_unknown → AreKnown remembered.now stands.now }
     ensures { MatchOption result
         (IsMissed range arena.now.cells handles.now stands.now from (length handles.now))
         (λ spot. IsHit range arena.now.cells handles.now stands.now from (length handles.now) spot) }
@@ -193,12 +200,14 @@ pub(crate) fn first_hit(
     };
     let coded = codes.len();
     if coded <= from {
-        return hit_in_blocks(handles, keys, stands, from, range, wanted, arena);
+        return hit_in_blocks(handles, remembered, stands, from, range, wanted, arena);
     }
     let window = Window::of(wanted, codes, range);
-    match hit_in_codes(handles, keys, stands, codes, from, range, window, arena) {
+    match hit_in_codes(
+        handles, remembered, stands, codes, from, range, window, arena,
+    ) {
         Some(hit) => Some(hit),
-        None => hit_in_blocks(handles, keys, stands, coded, range, wanted, arena),
+        None => hit_in_blocks(handles, remembered, stands, coded, range, wanted, arena),
     }
 }
 
@@ -206,7 +215,7 @@ pub(crate) fn first_hit(
 /// the other cost one pass.
 pub(crate) fn next_hit(
     handles: &[Handle<Row>],
-    keys: &[StoredKey],
+    remembered: &[Remembered],
     stands: &[bool],
     codes: &mut Codes,
     from: usize,
@@ -214,12 +223,12 @@ pub(crate) fn next_hit(
     arena: &Arena<Row>,
     some_unknown: bool,
 ) -> Option<usize>
-    requires keys { length keys.now ≡ length handles.now }
+    requires keys { length remembered.now ≡ length handles.now }
     requires stands { length stands.now ≡ length handles.now }
     requires within { from ≤ length handles.now }
-    requires coded { AreCoded keys.now stands.now codes.old }
-    requires known { KnowKeys arena.now.cells handles.now keys.now stands.now }
-    requires all_known { IsFalse some_unknown → AreKnown keys.now stands.now }
+    requires coded { AreCoded remembered.now stands.now codes.old }
+    requires known { KnowRows arena.now.cells handles.now remembered.now stands.now }
+    requires all_known { IsFalse some_unknown → AreKnown remembered.now stands.now }
     ensures hit { MatchOption result
         (IsMissed range arena.now.cells handles.now stands.now from (length handles.now))
         (λ spot. IsHit range arena.now.cells handles.now stands.now from (length handles.now) spot) }
@@ -231,7 +240,7 @@ pub(crate) fn next_hit(
     if some_unknown || codes.len() <= from {
         return first_hit(
             handles,
-            keys,
+            remembered,
             stands,
             codes,
             from,
@@ -247,12 +256,16 @@ pub(crate) fn next_hit(
     };
     let window = Window::of(wanted, codes, range);
     let near = codes.seek(window.first, window.last, from);
-    if near < codes.len() && is_hit(handles, keys, stands, codes, near, range, window, arena) {
+    if near < codes.len()
+        && is_hit(
+            handles, remembered, stands, codes, near, range, window, arena,
+        )
+    {
         return Some(near);
     }
     first_hit(
         handles,
-        keys,
+        remembered,
         stands,
         codes,
         near,

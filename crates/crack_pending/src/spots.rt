@@ -1,11 +1,13 @@
 //! A list that leaves a hole where a row goes.
 ghost use Rattle.std.specs.Prelude.{◌≡◌, ◌+◌, ◌-◌, ◌*◌, ◌<◌, ◌≤◌, ◌^◌, ◌↔◌, ◌∷◌, [], ◌++◌, ℕ, length, All, MatchOption};
-ghost use Rattle.std.specs.Prelude.{false, IfErr, OnOk, OnErr, slice_set, slice_index, vec_len, vec_capacity};
+ghost use Rattle.std.specs.Prelude.{false, IfErr, OnOk, OnErr, slice_set, slice_index, slice_index_or, vec_len};
+ghost use Rattle.std.specs.Prelude.{vec_capacity};
 ghost use Rattle.std.specs.List.{remove};
-ghost use Rattle.crack_arena.specs.Rows.{keys_at, unknown, RemembersKeys};
+ghost use Rattle.crack_arena.specs.Rows.{keys_at, unknown};
 ghost use Rattle.crack_arena.specs.Arena.{StandsAt, IsFirstAt, IsAbsent, times, slots, place_in, no_handle};
-ghost use Rattle.crack_pending.specs.Pending.{Finds, StillRemembersKeys, RemembersOneMore, RemembersAnew};
+ghost use Rattle.crack_pending.specs.Pending.{Finds, StillRemembersRows, RemembersOneMore, RemembersAnew};
 ghost use Rattle.crack_pending.specs.Pending.{rows_inside, rows_outside};
+ghost use Rattle.crack_column.specs.Column.{nothing, Memory, Remembers};
 ghost use Rattle.crack_pending.specs.Keeps.{place_at, HasRow, Has};
 
 use crate::bits::BitSet;
@@ -16,11 +18,12 @@ use crate::pass::{first_hit, next_hit};
 use crate::rows::{rows_between, spot_before, spot_of};
 use crate::taking::take_hits;
 use crack_arena::{Arena, Handle};
+use crack_column::Remembered;
 use crack_row::{GREATEST_KEY, KeyNumber, KeyRange, Refusal, Row};
 use std::alloc::Global;
 use std::marker::Model;
 
-/// What is beside a handle.
+/// What a pass looks for.
 pub(crate) type StoredKey = KeyNumber;
 
 /// Marks a key that isn't remembered. A row with this very key is always looked up.
@@ -44,7 +47,7 @@ const MOST_UNCODED: usize = 64;
 #[derive(Drop)]
 pub(crate) struct SpotList {
     handles: Vec<Handle<Row>>,
-    keys: Vec<StoredKey>,
+    remembered: Vec<Remembered>,
     codes: Codes,
     /// Whether a row is at the spot.
     stands: Vec<bool>,
@@ -67,31 +70,32 @@ impl Model for SpotList {
     ghost use Rattle.crack_arena.specs.Rows.{unknown};
     ghost use Rattle.crack_pending.specs.Pending.{Pending};
     ghost use Rattle.crack_pending.specs.Codes.{AreCoded};
-    ghost use Rattle.crack_pending.specs.Keeps.{AreKept};
+    ghost use Rattle.crack_pending.specs.Keeps.{AreKept, keys_of};
     ghost use Rattle.crack_pending.specs.Spots.{kept, spot_room};
 
     ghost Value = { Pending };
 
     ghost view = { λ l. record {
       handles = kept l.stands.items l.handles.items;
-      keys = kept l.stands.items l.keys.items;
-      room = spot_room (length l.handles.items) (vec_capacity l.handles) (vec_capacity l.keys) (vec_capacity l.stands);
+      remembered = kept l.stands.items l.remembered.items;
+      room = spot_room (length l.handles.items) (vec_capacity l.handles) (vec_capacity l.remembered)
+          (vec_capacity l.stands);
       covered = length l.spots.items;
     } };
 
     ghost invariant = { λ l.
-        AreKept l.handles.items l.keys.items l.stands.items l.spots.items l.rows l.noted l.hint_place l.hint_spot
-        × (l.unknowns ≡ times unknown (kept l.stands.items l.keys.items))
-        × AreCoded l.keys.items l.stands.items l.codes };
+        AreKept l.handles.items l.remembered.items l.stands.items l.spots.items l.rows l.noted l.hint_place l.hint_spot
+        × (l.unknowns ≡ times unknown (keys_of (kept l.stands.items l.remembered.items)))
+        × AreCoded l.remembered.items l.stands.items l.codes };
 }
 
 impl SpotList {
     pub(crate) fn new(alloc: Global) -> SpotList
-        ensures { result ≡ record { handles = []; keys = []; room = 0; covered = 0 } }
+        ensures { result ≡ record { handles = []; remembered = []; room = 0; covered = 0 } }
     {
         SpotList {
             handles: Vec::new(alloc),
-            keys: Vec::new(alloc),
+            remembered: Vec::new(alloc),
             codes: Codes::new(alloc),
             stands: Vec::new(alloc),
             rows: 0,
@@ -106,7 +110,7 @@ impl SpotList {
     pub(crate) fn facts(&self)
         ensures once { (slot : ℕ) → times slot (slots self.now.handles) ≤ 1 }
         ensures covered { All (λ h. h.slot < self.now.covered) self.now.handles }
-        ensures beside { length self.now.keys ≡ length self.now.handles }
+        ensures beside { length self.now.remembered ≡ length self.now.handles }
     {
         let _ = &self.handles;
     }
@@ -125,7 +129,7 @@ impl SpotList {
             .min(
                 self.handles
                     .capacity()
-                    .min(self.keys.capacity().min(self.stands.capacity())),
+                    .min(self.remembered.capacity().min(self.stands.capacity())),
             )
             .saturating_sub(self.handles.len())
     }
@@ -139,7 +143,7 @@ impl SpotList {
         ensures kept { self.old.room ≤ self.new.room }
         ensures full { OnErr result (self.old.room < additional) }
         ensures err { IfErr result (λ e. e ≡ Refusal.OutOfMemory) }
-        ensures remembered { StillRemembersKeys self.old self.new }
+        ensures remembered { StillRemembersRows self.old self.new }
     {
         if additional <= self.room() {
             return Ok(());
@@ -156,11 +160,11 @@ impl SpotList {
         ensures room { OnOk result (additional ≤ self.new.room) }
         ensures kept { self.old.room ≤ self.new.room }
         ensures err { IfErr result (λ e. e ≡ Refusal.OutOfMemory) }
-        ensures remembered { StillRemembersKeys self.old self.new }
+        ensures remembered { StillRemembersRows self.old self.new }
     {
         close_up(
             &mut self.handles,
-            &mut self.keys,
+            &mut self.remembered,
             &mut self.stands,
             self.rows,
         );
@@ -169,7 +173,12 @@ impl SpotList {
         self.hint_place = 0;
         self.hint_spot = 0;
         let wanted = additional.max(self.rows / 2).max(FIRST_SPOTS);
-        grow(&mut self.handles, &mut self.keys, &mut self.stands, wanted)
+        grow(
+            &mut self.handles,
+            &mut self.remembered,
+            &mut self.stands,
+            wanted,
+        )
     }
 
     /// Frees the memory of more spots than a growth would leave room for; this many more rows still need none.
@@ -178,11 +187,11 @@ impl SpotList {
         requires { room ≤ self.old.room }
         ensures same { self.new ≡ record self.old { room = self.new.room } }
         ensures sure { room ≤ self.new.room }
-        ensures remembered { StillRemembersKeys self.old self.new }
+        ensures remembered { StillRemembersRows self.old self.new }
     {
         close_up(
             &mut self.handles,
-            &mut self.keys,
+            &mut self.remembered,
             &mut self.stands,
             self.rows,
         );
@@ -193,7 +202,7 @@ impl SpotList {
         let wanted = room.max(self.rows / 2).max(FIRST_SPOTS);
         let spots = self.rows + wanted;
         self.handles.shrink_to(spots);
-        self.keys.shrink_to(spots);
+        self.remembered.shrink_to(spots);
         self.stands.shrink_to(spots);
     }
 
@@ -207,7 +216,7 @@ impl SpotList {
         ensures full { OnErr result (self.old.covered < cells) }
         ensures unchanged { OnErr result (self.new ≡ self.old) }
         ensures err { IfErr result (λ e. e ≡ Refusal.OutOfMemory) }
-        ensures remembered { StillRemembersKeys self.old self.new }
+        ensures remembered { StillRemembersRows self.old self.new }
         ensures marks { (slot : ℕ) → Has marks.new slot ↔ Has marks.old slot }
         ensures marked { self.new.covered ≤ 64 * length marks.new }
     {
@@ -218,23 +227,22 @@ impl SpotList {
     }
 
     #[inline(always)]
-    pub(crate) fn push(&mut self, handle: Handle<Row>, key: StoredKey)
+    pub(crate) fn push(&mut self, handle: Handle<Row>, remembered: Remembered)
         requires room { 0 < self.old.room }
         requires covered { handle.slot < self.old.covered }
         requires absent { times handle.slot (slots self.old.handles) ≡ 0 }
         ensures after { self.new ≡ record self.old {
           handles = self.old.handles ++ handle ∷ [];
-          keys = self.old.keys ++ key ∷ [];
+          remembered = self.old.remembered ++ remembered ∷ [];
           room = self.old.room - 1;
         } }
-        ensures remembered { RemembersOneMore handle key self.old self.new }
-        ensures forgotten { key ≡ unknown → StillRemembersKeys self.old self.new }
+        ensures remembered { RemembersOneMore handle remembered self.old self.new }
     {
         self.handles.push_reserved(handle);
-        self.keys.push_reserved(key);
+        self.remembered.push_reserved(remembered);
         self.stands.push_reserved(true);
         self.rows += 1;
-        self.unknowns += (key == UNKNOWN) as usize;
+        self.unknowns += (remembered.key() == UNKNOWN) as usize;
     }
 
     pub(crate) fn at(&self, place: usize) -> Handle<Row>
@@ -269,10 +277,10 @@ impl SpotList {
         requires { place < length self.old.handles }
         ensures value { StandsAt self.old.handles place result }
         ensures handles { self.new.handles ≡ remove self.old.handles place }
-        ensures keys { self.new.keys ≡ remove self.old.keys place }
+        ensures keys { self.new.remembered ≡ remove self.old.remembered place }
         ensures room { self.old.room ≤ self.new.room }
         ensures covered { self.new.covered ≡ self.old.covered }
-        ensures remembered { StillRemembersKeys self.old self.new }
+        ensures remembered { StillRemembersRows self.old self.new }
     {
         let spot = spot_of(
             &self.stands,
@@ -285,7 +293,7 @@ impl SpotList {
         self.stands[spot] = false;
         self.codes.leave_hole(spot);
         self.rows -= 1;
-        self.unknowns = unknowns_without(&self.keys, self.unknowns, spot);
+        self.unknowns = unknowns_without(&self.remembered, self.unknowns, spot);
         self.hint_place = place;
         self.hint_spot = spot;
         self.close_up_if_sparse();
@@ -295,10 +303,10 @@ impl SpotList {
     pub(crate) fn strike(&mut self, slot: u32)
         requires { 0 < times slot (slots self.old.handles) }
         ensures handles { self.new.handles ≡ remove self.old.handles (place_in self.old.handles slot) }
-        ensures keys { self.new.keys ≡ remove self.old.keys (place_in self.old.handles slot) }
+        ensures keys { self.new.remembered ≡ remove self.old.remembered (place_in self.old.handles slot) }
         ensures room { self.old.room ≤ self.new.room }
         ensures covered { self.new.covered ≡ self.old.covered }
-        ensures remembered { StillRemembersKeys self.old self.new }
+        ensures remembered { StillRemembersRows self.old self.new }
     {
         let Some(spot) = spot_noted(
             &mut self.spots,
@@ -313,7 +321,7 @@ impl SpotList {
         self.stands[spot] = false;
         self.codes.leave_hole(spot);
         self.rows -= 1;
-        self.unknowns = unknowns_without(&self.keys, self.unknowns, spot);
+        self.unknowns = unknowns_without(&self.remembered, self.unknowns, spot);
         self.close_up_if_sparse();
     }
 
@@ -323,25 +331,31 @@ impl SpotList {
         range: KeyRange,
         arena: &Arena<Row>,
         taken: &mut Vec<Handle<Row>>,
+        known: &mut Vec<Remembered>,
     )
-        requires keys { RemembersKeys arena.now.cells self.old.handles self.old.keys }
+        requires keys { Remembers arena.now.cells self.old.handles self.old.remembered }
         requires room { vec_len taken.old + length (rows_inside arena.now.cells range self.old.handles) ≤
             vec_capacity taken.old }
+        requires known { Remembers arena.now.cells taken.old.items known.old.items }
+        requires known_room { vec_len known.old + length (rows_inside arena.now.cells range self.old.handles) ≤
+            vec_capacity known.old }
+        ensures known { Remembers arena.now.cells taken.new.items known.new.items }
         ensures taken { taken.new.items ≡ taken.old.items ++ rows_inside arena.now.cells range self.old.handles }
         ensures left { self.new.handles ≡ rows_outside arena.now.cells range self.old.handles }
-        ensures keys { RemembersKeys arena.now.cells self.new.handles self.new.keys }
+        ensures keys { Remembers arena.now.cells self.new.handles self.new.remembered }
         ensures room { self.old.room ≤ self.new.room }
         ensures covered { self.new.covered ≡ self.old.covered }
     {
         let left = take_hits(
             &self.handles,
-            &self.keys,
+            &self.remembered,
             &mut self.stands,
             &mut self.codes,
             self.unknowns,
             range,
             arena,
             taken,
+            known,
         );
         self.rows -= left.taken;
         self.unknowns = left.unknowns;
@@ -371,7 +385,7 @@ impl SpotList {
         }
         close_up(
             &mut self.handles,
-            &mut self.keys,
+            &mut self.remembered,
             &mut self.stands,
             self.rows,
         );
@@ -384,12 +398,12 @@ impl SpotList {
     /// Takes all rows out.
     pub(crate) fn clear(&mut self)
         ensures handles { self.new.handles ≡ [] }
-        ensures keys { self.new.keys ≡ [] }
+        ensures keys { self.new.remembered ≡ [] }
         ensures room { self.old.room ≤ self.new.room }
         ensures covered { self.new.covered ≡ self.old.covered }
     {
         self.handles.clear();
-        self.keys.clear();
+        self.remembered.clear();
         self.codes.clear();
         self.stands.clear();
         self.rows = 0;
@@ -399,13 +413,13 @@ impl SpotList {
         self.hint_spot = 0;
     }
 
-    pub(crate) fn remember(&mut self, slot: u32, key: StoredKey)
+    pub(crate) fn remember(&mut self, slot: u32, remembered: Remembered)
         requires { 0 < times slot (slots self.old.handles) }
         ensures after { self.new ≡ record self.old {
-          keys = slice_set self.old.keys
-              (place_in self.old.handles slot) key;
+          remembered = slice_set self.old.remembered
+              (place_in self.old.handles slot) remembered;
         } }
-        ensures remembered { RemembersAnew slot key self.old self.new }
+        ensures remembered { RemembersAnew slot remembered self.old self.new }
     {
         if let Some(spot) = spot_noted(
             &mut self.spots,
@@ -414,10 +428,10 @@ impl SpotList {
             &self.stands,
             slot,
         ) {
-            self.unknowns = unknowns_without(&self.keys, self.unknowns, spot)
-                + (key == UNKNOWN) as usize;
-            self.keys[spot] = key;
-            self.codes.recode(spot, key);
+            self.unknowns = unknowns_without(&self.remembered, self.unknowns, spot)
+                + (remembered.key() == UNKNOWN) as usize;
+            self.remembered[spot] = remembered;
+            self.codes.recode(spot, remembered.key());
         }
     }
 
@@ -442,7 +456,7 @@ impl SpotList {
     }
 
     pub(crate) fn next_in(&self, range: KeyRange, from: usize, arena: &Arena<Row>) -> Option<usize>
-        requires { RemembersKeys arena.now.cells self.now.handles self.now.keys }
+        requires { Remembers arena.now.cells self.now.handles self.now.remembered }
         ensures { Finds range (keys_at arena.now.cells self.now.handles) from result }
     {
         if self.rows <= from {
@@ -458,7 +472,7 @@ impl SpotList {
         let some_unknown = self.unknowns > 0;
         match first_hit(
             &self.handles,
-            &self.keys,
+            &self.remembered,
             &self.stands,
             &self.codes,
             start,
@@ -475,10 +489,10 @@ impl SpotList {
     pub(crate) fn code_keys(&mut self)
         ensures { self.new ≡ self.old }
     {
-        if self.keys.len() - self.codes.len() <= MOST_UNCODED {
+        if self.remembered.len() - self.codes.len() <= MOST_UNCODED {
             return;
         }
-        self.codes.catch_up(&self.keys, &self.stands);
+        self.codes.catch_up(&self.remembered, &self.stands);
     }
 
     /// Like `next_in`; the next look-up of a place goes on from the one that is found.
@@ -488,7 +502,7 @@ impl SpotList {
         from: usize,
         arena: &Arena<Row>,
     ) -> Option<usize>
-        requires { RemembersKeys arena.now.cells self.old.handles self.old.keys }
+        requires { Remembers arena.now.cells self.old.handles self.old.remembered }
         ensures finds { Finds range (keys_at arena.now.cells self.old.handles) from result }
         ensures same { self.new ≡ self.old }
     {
@@ -505,7 +519,7 @@ impl SpotList {
         let some_unknown = self.unknowns > 0;
         match next_hit(
             &self.handles,
-            &self.keys,
+            &self.remembered,
             &self.stands,
             &mut self.codes,
             start,
@@ -527,23 +541,23 @@ impl SpotList {
 /// Makes room for this many more spots.
 fn grow(
     handles: &mut Vec<Handle<Row>>,
-    keys: &mut Vec<StoredKey>,
+    remembered: &mut Vec<Remembered>,
     stands: &mut Vec<bool>,
     additional: usize,
 ) -> Result<(), Refusal>
     ensures handles { handles.new.items ≡ handles.old.items }
-    ensures keys { keys.new.items ≡ keys.old.items }
+    ensures keys { remembered.new.items ≡ remembered.old.items }
     ensures stands { stands.new.items ≡ stands.old.items }
     ensures handle_room { OnOk result (vec_len handles.old + additional ≤ vec_capacity handles.new) }
-    ensures key_room { OnOk result (vec_len keys.old + additional ≤ vec_capacity keys.new) }
+    ensures key_room { OnOk result (vec_len remembered.old + additional ≤ vec_capacity remembered.new) }
     ensures stand_room { OnOk result (vec_len stands.old + additional ≤ vec_capacity stands.new) }
     ensures handle_kept { vec_capacity handles.old ≤ vec_capacity handles.new }
-    ensures key_kept { vec_capacity keys.old ≤ vec_capacity keys.new }
+    ensures key_kept { vec_capacity remembered.old ≤ vec_capacity remembered.new }
     ensures stand_kept { vec_capacity stands.old ≤ vec_capacity stands.new }
     ensures err { IfErr result (λ e. e ≡ Refusal.OutOfMemory) }
 {
     handles.reserve(additional)?;
-    keys.reserve(additional)?;
+    remembered.reserve(additional)?;
     stands.reserve(additional)?;
     Ok(())
 }
@@ -584,15 +598,15 @@ fn place_of_spot(stands: &[bool], rows: usize, spot: usize) -> usize
 }
 
 /// Of how many rows the key isn't known after the row at the spot has gone. If all are known, no key is looked at.
-pub(crate) fn unknowns_without(keys: &[StoredKey], unknowns: usize, spot: usize) -> usize
-    requires within { spot < length keys.now }
-    requires counted { slice_index keys.now spot ≡ unknown → 0 < unknowns }
-    ensures { result + times unknown (slice_index keys.now spot ∷ []) ≡ unknowns }
+pub(crate) fn unknowns_without(remembered: &[Remembered], unknowns: usize, spot: usize) -> usize
+    requires within { spot < length remembered.now }
+    requires counted { (slice_index_or remembered.now spot nothing).key ≡ unknown → 0 < unknowns }
+    ensures { result + times unknown ((slice_index_or remembered.now spot nothing).key ∷ []) ≡ unknowns }
 {
     if unknowns == 0 {
         return 0;
     }
-    if keys[spot] == UNKNOWN {
+    if remembered[spot].key() == UNKNOWN {
         unknowns - 1
     } else {
         unknowns

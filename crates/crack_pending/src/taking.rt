@@ -1,11 +1,12 @@
 //! How all rows of a range are taken out.
 ghost use Rattle.std.specs.Prelude.{◌≡◌, ◌+◌, ◌≤◌, ◌^◌, ◌++◌, ℕ, length, vec_len, vec_capacity};
 ghost use Rattle.crack_arena.specs.Arena.{times};
-ghost use Rattle.crack_arena.specs.Rows.{unknown, RemembersKeys};
+ghost use Rattle.crack_arena.specs.Rows.{unknown};
+ghost use Rattle.crack_column.specs.Column.{Memory, Remembers};
 ghost use Rattle.crack_pending.specs.Ahead.{AreAhead};
 ghost use Rattle.crack_pending.specs.Codes.{AreCoded, IsWindow};
 ghost use Rattle.crack_pending.specs.Inside.{IsMissed};
-ghost use Rattle.crack_pending.specs.Keeps.{place_at, HasRow};
+ghost use Rattle.crack_pending.specs.Keeps.{place_at, HasRow, keys_of};
 ghost use Rattle.crack_pending.specs.Passed.{IsPassed};
 ghost use Rattle.crack_pending.specs.Pending.{rows_inside, rows_outside};
 ghost use Rattle.crack_pending.specs.Spots.{kept};
@@ -14,8 +15,9 @@ use crate::ahead::{MOST_AHEAD, gather};
 use crate::code_pass::{Window, is_hit};
 use crate::codes::Codes;
 use crate::pass::{Wanted, next_hit};
-use crate::spots::{StoredKey, unknowns_without};
+use crate::spots::unknowns_without;
 use crack_arena::{Arena, Handle};
+use crack_column::Remembered;
 use crack_row::{KeyRange, Row};
 
 /// What is left of a list whose rows of a range were taken.
@@ -31,31 +33,36 @@ pub(crate) struct Left {
 /// pass: a row's place isn't asked for.
 pub(crate) fn take_hits(
     handles: &[Handle<Row>],
-    keys: &[StoredKey],
+    remembered: &[Remembered],
     stands: &mut Vec<bool>,
     codes: &mut Codes,
     unknowns: usize,
     range: KeyRange,
     arena: &Arena<Row>,
     taken: &mut Vec<Handle<Row>>,
+    known: &mut Vec<Remembered>,
 ) -> Left
-    requires keys { length keys.now ≡ length handles.now }
+    requires keys { length remembered.now ≡ length handles.now }
     requires stands { vec_len stands.old ≡ length handles.now }
     requires few { length handles.now ≤ 2 ^ 32 }
-    requires coded { AreCoded keys.now stands.old.items codes.old }
-    requires known { RemembersKeys arena.now.cells (kept stands.old.items handles.now)
-        (kept stands.old.items keys.now) }
-    requires unknowns { unknowns ≡ times unknown (kept stands.old.items keys.now) }
+    requires coded { AreCoded remembered.now stands.old.items codes.old }
+    requires known { Remembers arena.now.cells (kept stands.old.items handles.now)
+        (kept stands.old.items remembered.now) }
+    requires unknowns { unknowns ≡ times unknown (keys_of (kept stands.old.items remembered.now)) }
     requires room { vec_len taken.old + length (rows_inside arena.now.cells range (kept stands.old.items handles.now))
         ≤ vec_capacity taken.old }
+    requires remembered { Remembers arena.now.cells taken.old.items known.old.items }
+    requires known_room { vec_len known.old + length (rows_inside arena.now.cells range
+        (kept stands.old.items handles.now)) ≤ vec_capacity known.old }
     ensures taken { taken.new.items ≡ taken.old.items ++ rows_inside arena.now.cells range
         (kept stands.old.items handles.now) }
     ensures left { kept stands.new.items handles.now ≡ rows_outside arena.now.cells range
         (kept stands.old.items handles.now) }
-    ensures known { RemembersKeys arena.now.cells (kept stands.new.items handles.now)
-        (kept stands.new.items keys.now) }
-    ensures unknowns { result.unknowns ≡ times unknown (kept stands.new.items keys.now) }
-    ensures coded { AreCoded keys.now stands.new.items codes.new }
+    ensures known { Remembers arena.now.cells (kept stands.new.items handles.now)
+        (kept stands.new.items remembered.now) }
+    ensures remembered { Remembers arena.now.cells taken.new.items known.new.items }
+    ensures unknowns { result.unknowns ≡ times unknown (keys_of (kept stands.new.items remembered.now)) }
+    ensures coded { AreCoded remembered.now stands.new.items codes.new }
     ensures stood { (spot : ℕ) → HasRow stands.new.items spot → HasRow stands.old.items spot }
     ensures long { length stands.new.items ≡ length stands.old.items }
     ensures capacity { vec_capacity stands.new ≡ vec_capacity stands.old }
@@ -63,7 +70,7 @@ pub(crate) fn take_hits(
         place_at stands.old.items (length stands.old.items) }
 {
     let (mut start, count) = take_coded(
-        handles, keys, stands, codes, unknowns, range, arena, taken,
+        handles, remembered, stands, codes, unknowns, range, arena, taken, known,
     );
     let mut left = Left {
         taken: count,
@@ -71,7 +78,7 @@ pub(crate) fn take_hits(
     };
     'hits: while let Some(spot) = next_hit(
         handles,
-        keys,
+        remembered,
         stands,
         codes,
         start,
@@ -82,7 +89,8 @@ pub(crate) fn take_hits(
         stands[spot] = false;
         codes.leave_hole(spot);
         taken.push_reserved(handles[spot]);
-        left.unknowns = unknowns_without(keys, left.unknowns, spot);
+        known.push_reserved(remembered[spot]);
+        left.unknowns = unknowns_without(remembered, left.unknowns, spot);
         left.taken += 1;
         start = spot + 1;
     }
@@ -94,27 +102,32 @@ pub(crate) fn take_hits(
 /// that no row waits for the memory of another. If it finds no memory for the candidates it takes none.
 fn take_coded(
     handles: &[Handle<Row>],
-    keys: &[StoredKey],
+    remembered: &[Remembered],
     stands: &mut Vec<bool>,
     codes: &mut Codes,
     unknowns: usize,
     range: KeyRange,
     arena: &Arena<Row>,
     taken: &mut Vec<Handle<Row>>,
+    known: &mut Vec<Remembered>,
 ) -> (usize, usize)
-    requires keys { length keys.now ≡ length handles.now }
+    requires keys { length remembered.now ≡ length handles.now }
     requires stands { vec_len stands.old ≡ length handles.now }
     requires few { length handles.now ≤ 2 ^ 32 }
-    requires coded { AreCoded keys.now stands.old.items codes.old }
-    requires known { RemembersKeys arena.now.cells (kept stands.old.items handles.now)
-        (kept stands.old.items keys.now) }
-    requires unknowns { unknowns ≡ times unknown (kept stands.old.items keys.now) }
+    requires coded { AreCoded remembered.now stands.old.items codes.old }
+    requires known { Remembers arena.now.cells (kept stands.old.items handles.now)
+        (kept stands.old.items remembered.now) }
+    requires unknowns { unknowns ≡ times unknown (keys_of (kept stands.old.items remembered.now)) }
     requires room { vec_len taken.old + length (rows_inside arena.now.cells range (kept stands.old.items handles.now))
         ≤ vec_capacity taken.old }
-    ensures passed { IsPassed arena.now.cells range handles.now keys.now stands.old.items stands.new.items codes.new
-        taken.old.items taken.new.items result.0 result.1 unknowns }
+    requires remembered { Remembers arena.now.cells taken.old.items known.old.items }
+    requires known_room { vec_len known.old + length (rows_inside arena.now.cells range
+        (kept stands.old.items handles.now)) ≤ vec_capacity known.old }
+    ensures passed { IsPassed arena.now.cells range handles.now remembered.now stands.old.items stands.new.items
+        codes.new taken.old.items taken.new.items known.new.items result.0 result.1 unknowns }
     ensures capacity { vec_capacity stands.new ≡ vec_capacity stands.old }
     ensures room { vec_capacity taken.new ≡ vec_capacity taken.old }
+    ensures known_room { vec_capacity known.new ≡ vec_capacity known.old }
 {
     let Some((first, last)) = range.first_and_last() else {
         return (0, 0);
@@ -133,7 +146,7 @@ fn take_coded(
     };
     take_blocks(
         handles,
-        keys,
+        remembered,
         stands,
         codes,
         &mut candidates,
@@ -141,6 +154,7 @@ fn take_coded(
         window,
         arena,
         taken,
+        known,
     )
 }
 
@@ -148,7 +162,7 @@ fn take_coded(
 /// up to which spot it did so, and how many it took.
 fn take_blocks(
     handles: &[Handle<Row>],
-    keys: &[StoredKey],
+    remembered: &[Remembered],
     stands: &mut Vec<bool>,
     codes: &mut Codes,
     candidates: &mut Vec<usize>,
@@ -156,22 +170,27 @@ fn take_blocks(
     window: Window,
     arena: &Arena<Row>,
     taken: &mut Vec<Handle<Row>>,
+    known: &mut Vec<Remembered>,
 ) -> (usize, usize)
-    requires keys { length keys.now ≡ length handles.now }
+    requires keys { length remembered.now ≡ length handles.now }
     requires stands { vec_len stands.old ≡ length handles.now }
     requires few { length handles.now ≤ 2 ^ 32 }
-    requires coded { AreCoded keys.now stands.old.items codes.old }
-    requires known { RemembersKeys arena.now.cells (kept stands.old.items handles.now)
-        (kept stands.old.items keys.now) }
-    requires all_known { times unknown (kept stands.old.items keys.now) ≡ 0 }
+    requires coded { AreCoded remembered.now stands.old.items codes.old }
+    requires known { Remembers arena.now.cells (kept stands.old.items handles.now)
+        (kept stands.old.items remembered.now) }
+    requires all_known { times unknown (keys_of (kept stands.old.items remembered.now)) ≡ 0 }
     requires list { 1024 ≤ vec_capacity candidates.old }
     requires window { IsWindow codes.old.base codes.old.shift range window.first window.last window.beyond }
     requires room { vec_len taken.old + length (rows_inside arena.now.cells range (kept stands.old.items handles.now))
         ≤ vec_capacity taken.old }
-    ensures passed { IsPassed arena.now.cells range handles.now keys.now stands.old.items stands.new.items codes.new
-        taken.old.items taken.new.items result.0 result.1 0 }
+    requires remembered { Remembers arena.now.cells taken.old.items known.old.items }
+    requires known_room { vec_len known.old + length (rows_inside arena.now.cells range
+        (kept stands.old.items handles.now)) ≤ vec_capacity known.old }
+    ensures passed { IsPassed arena.now.cells range handles.now remembered.now stands.old.items stands.new.items
+        codes.new taken.old.items taken.new.items known.new.items result.0 result.1 0 }
     ensures capacity { vec_capacity stands.new ≡ vec_capacity stands.old }
     ensures room { vec_capacity taken.new ≡ vec_capacity taken.old }
+    ensures known_room { vec_capacity known.new ≡ vec_capacity known.old }
 {
     let mut spot = 0;
     let mut count = 0;
@@ -179,7 +198,8 @@ fn take_blocks(
         candidates.clear();
         let to = gather(candidates, codes.list(), window.first, window.last, spot);
         count += take_candidates(
-            handles, keys, stands, codes, candidates, spot, to, range, window, arena, taken,
+            handles, remembered, stands, codes, candidates, spot, to, range, window, arena, taken,
+            known,
         );
         if to == spot {
             return (spot, count);
@@ -192,7 +212,7 @@ fn take_blocks(
 /// Takes those of the candidates that are in a range, which are all of its rows from one spot up to another; how many.
 fn take_candidates(
     handles: &[Handle<Row>],
-    keys: &[StoredKey],
+    remembered: &[Remembered],
     stands: &mut Vec<bool>,
     codes: &mut Codes,
     candidates: &[usize],
@@ -202,36 +222,42 @@ fn take_candidates(
     window: Window,
     arena: &Arena<Row>,
     taken: &mut Vec<Handle<Row>>,
+    known: &mut Vec<Remembered>,
 ) -> usize
-    requires keys { length keys.now ≡ length handles.now }
+    requires keys { length remembered.now ≡ length handles.now }
     requires stands { vec_len stands.old ≡ length handles.now }
     requires few { length handles.now ≤ 2 ^ 32 }
-    requires coded { AreCoded keys.now stands.old.items codes.old }
-    requires known { RemembersKeys arena.now.cells (kept stands.old.items handles.now)
-        (kept stands.old.items keys.now) }
-    requires all_known { times unknown (kept stands.old.items keys.now) ≡ 0 }
+    requires coded { AreCoded remembered.now stands.old.items codes.old }
+    requires known { Remembers arena.now.cells (kept stands.old.items handles.now)
+        (kept stands.old.items remembered.now) }
+    requires all_known { times unknown (keys_of (kept stands.old.items remembered.now)) ≡ 0 }
     requires window { IsWindow codes.old.base codes.old.shift range window.first window.last window.beyond }
     requires ahead { AreAhead codes.old.codes window.first window.last from to candidates.now 0 }
     requires missed { IsMissed range arena.now.cells handles.now stands.old.items 0 from }
     requires room { vec_len taken.old + length (rows_inside arena.now.cells range (kept stands.old.items handles.now))
         ≤ vec_capacity taken.old }
-    ensures passed { IsPassed arena.now.cells range handles.now keys.now stands.old.items stands.new.items codes.new
-        taken.old.items taken.new.items to result 0 }
+    requires remembered { Remembers arena.now.cells taken.old.items known.old.items }
+    requires known_room { vec_len known.old + length (rows_inside arena.now.cells range
+        (kept stands.old.items handles.now)) ≤ vec_capacity known.old }
+    ensures passed { IsPassed arena.now.cells range handles.now remembered.now stands.old.items stands.new.items
+        codes.new taken.old.items taken.new.items known.new.items to result 0 }
     ensures base { codes.new.base ≡ codes.old.base }
     ensures shift { codes.new.shift ≡ codes.old.shift }
     ensures long { length codes.new.codes ≡ length codes.old.codes }
     ensures capacity { vec_capacity stands.new ≡ vec_capacity stands.old }
     ensures room { vec_capacity taken.new ≡ vec_capacity taken.old }
+    ensures known_room { vec_capacity known.new ≡ vec_capacity known.old }
 {
     let mut count = 0;
     'candidates: for k in 0..candidates.len() {
         let candidate = candidates[k];
         if is_hit(
-            handles, keys, stands, codes, candidate, range, window, arena,
+            handles, remembered, stands, codes, candidate, range, window, arena,
         ) {
             stands[candidate] = false;
             codes.leave_hole(candidate);
             taken.push_reserved(handles[candidate]);
+            known.push_reserved(remembered[candidate]);
             count += 1;
         }
     }

@@ -9,7 +9,7 @@ use Rattle.std.proofs.lemmas.List.Elements.{All-head, All-tail}
 use Rattle.crack_row.specs.declared.InnerBound.{InnerBound}
 use Rattle.crack_row.specs.declared.Row.{Row}
 use Rattle.crack_arena.specs.Arena.{Cell, Handle, read, cell_at, empty_cell}
-use Rattle.crack_arena.specs.Rows.{key_at, RemembersKeys}
+use Rattle.crack_arena.specs.Rows.{key_at}
 use Rattle.crack_column.specs.declared.draining.Doomed.{Doomed}
 use Rattle.crack_column.specs.Column.{Memory, Remembers, StillRemembers}
 use Rattle.crack_column.specs.Drains.{count_below, doomed_key, doomed_handle, drained_once, drained, drawn_once, drawn, is_under, left_by}
@@ -319,12 +319,6 @@ buried-length (g ∷ gs) t = buried-length gs (buried (record { store = t; hand 
 
 pub Remembers-buried : (hs : List Handle) (t : State) (rows : List Handle) (ms : List Memory) → All (Reads (buried_all hs t).cells) rows → Remembers t.cells rows ms → Remembers (buried_all hs t).cells rows ms
 Remembers-buried hs t rows ms reads r = record {
-  beside = r.beside;
-  right = λ k d l. rw (buried-read hs t (get_or rows k d) (reads k d l)) (r.right k d l);
-}
-
-pub RemembersKeys-buried : (hs : List Handle) (t : State) (rows : List Handle) (keys : List ℕ) → All (Reads (buried_all hs t).cells) rows → RemembersKeys t.cells rows keys → RemembersKeys (buried_all hs t).cells rows keys
-RemembersKeys-buried hs t rows keys reads r = record {
   beside = r.beside;
   right = λ k d l. rw (buried-read hs t (get_or rows k d) (reads k d l)) (r.right k d l);
 }

@@ -9,7 +9,7 @@ use Rattle.std.proofs.lemmas.List.Elements.{All-drop}
 use Rattle.crack_row.specs.Ranges.{Range, is_in}
 use Rattle.crack_row.specs.declared.Row.{Row}
 use Rattle.crack_arena.specs.Arena.{Cell, Handle, no_handle, times, slots}
-use Rattle.crack_arena.specs.Rows.{key_at, RemembersKeys}
+use Rattle.crack_arena.specs.Rows.{key_at}
 use Rattle.crack_arena.proofs.Times.{times-cons, times-map-append}
 use Rattle.crack_bulk.specs.Carried.{inside_of}
 use Rattle.crack_column.specs.Column.{Column, Memory, Remembers, memory_at}
@@ -90,14 +90,14 @@ module _ (cells : List (Cell Row)) (from : ℕ) (hs : List Handle) (c0 : Column)
     pub long : length c.handles ≡ max (length c0.handles) (from + i)
     pub read : take (from + i) c.remembered ≡ take from c0.remembered ++ map (memory_at cells) (take i hs)
     pub remembers : Remembers cells c.handles c.remembered
-    pub keys : RemembersKeys cells p.handles p.keys
+    pub keys : Remembers cells p.handles p.remembered
     pub apart : AreApart p.covered (drop (from + i) c.handles) p.handles
     pub column_room : length hs - (length c0.handles - from) ≤ c.room + (length c.handles - length c0.handles)
     pub in_room : min (length hs) (length c0.handles - from) ≤ p.room + min i (length c0.handles - from)
     pub room : p0.room ≤ p.room + min i (length c0.handles - from)
     pub covered : p.covered ≡ p0.covered
 
-  pub begins : from ≤ length c0.handles → Remembers cells c0.handles c0.remembered → RemembersKeys cells p0.handles p0.keys → AreApart p0.covered (drop from c0.handles) p0.handles → length hs - (length c0.handles - from) ≤ c0.room → min (length hs) (length c0.handles - from) ≤ p0.room → IsOnWay 0 c0 p0
+  pub begins : from ≤ length c0.handles → Remembers cells c0.handles c0.remembered → Remembers cells p0.handles p0.remembered → AreApart p0.covered (drop from c0.handles) p0.handles → length hs - (length c0.handles - from) ≤ c0.room → min (length hs) (length c0.handles - from) ≤ p0.room → IsOnWay 0 c0 p0
   begins inside remembers keys apart column_room in_room =
       let here : from + 0 ≡ from = omega arith in
       record {

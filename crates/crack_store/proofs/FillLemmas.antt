@@ -7,7 +7,7 @@ use Rattle.std.proofs.lemmas.List.Elements.{All-nil, All-cons, All-head, All-tai
 use Rattle.crack_row.specs.Ranges.{Range, IsIn}
 use Rattle.crack_row.specs.declared.Row.{Row}
 use Rattle.crack_arena.specs.Arena.{Cell, Handle, no_handle}
-use Rattle.crack_arena.specs.Rows.{key_at, keys_at, RemembersKeys}
+use Rattle.crack_arena.specs.Rows.{key_at, keys_at}
 use Rattle.crack_column.specs.declared.draining.Doomed.{Doomed}
 use Rattle.crack_column.specs.Column.{Column, Remembers}
 use Rattle.crack_column.specs.Drains.{count_below, doomed_handle, drained, drawn}
@@ -211,14 +211,14 @@ module _ (cells : List (Cell Row)) (fillers : Range) (place count : ℕ) (c0 : C
     pub front : take (place - i) c.handles ≡ take (place - i) c0.handles
     pub rest : reverse (take (count - i) (inside_of cells fillers p.handles)) ++ drop (place - i) c.handles ≡ reverse (take count (inside_of cells fillers p0.handles)) ++ drop place c0.handles
     pub remembers : Remembers cells c.handles c.remembered
-    pub keys : RemembersKeys cells p.handles p.keys
+    pub keys : Remembers cells p.handles p.remembered
     pub reads : All (Reads cells) p.handles
     pub long : length c.handles ≡ length c0.handles
     pub column_room : c.room ≡ c0.room
     pub in_room : p0.room ≤ p.room
     pub covered : p.covered ≡ p0.covered
 
-  pub IsFilling-begins : (first : ℕ) → NoneIn fillers (keys_at cells p0.handles) 0 first → count ≤ length (inside_of cells fillers p0.handles) → Remembers cells c0.handles c0.remembered → RemembersKeys cells p0.handles p0.keys → All (Reads cells) p0.handles → IsFilling 0 first c0 p0
+  pub IsFilling-begins : (first : ℕ) → NoneIn fillers (keys_at cells p0.handles) 0 first → count ≤ length (inside_of cells fillers p0.handles) → Remembers cells c0.handles c0.remembered → Remembers cells p0.handles p0.remembered → All (Reads cells) p0.handles → IsFilling 0 first c0 p0
   IsFilling-begins first none enough remembers keys reads =
       let all : count - 0 ≡ count = omega arith in
       let whole : place - 0 ≡ place = omega arith in
@@ -259,7 +259,7 @@ module _ (cells : List (Cell Row)) (fillers : Range) (place count : ℕ) (c0 : C
         ]
       ]
 
-      pub IsFilling-next : (c' : Column) (p' : Pending) (h : Handle) → count ≤ place → place ≤ length c0.handles → p'.handles ≡ remove p.handles found → get_or p.handles found no_handle ≡ h → c'.handles ≡ set c.handles (place - 1 - i) h → Remembers cells c'.handles c'.remembered → RemembersKeys cells p'.handles p'.keys → c'.room ≡ c.room → p.room ≤ p'.room → p'.covered ≡ p.covered → IsFilling (i + 1) found c' p'
+      pub IsFilling-next : (c' : Column) (p' : Pending) (h : Handle) → count ≤ place → place ≤ length c0.handles → p'.handles ≡ remove p.handles found → get_or p.handles found no_handle ≡ h → c'.handles ≡ set c.handles (place - 1 - i) h → Remembers cells c'.handles c'.remembered → Remembers cells p'.handles p'.remembered → c'.room ≡ c.room → p.room ≤ p'.room → p'.covered ≡ p.covered → IsFilling (i + 1) found c' p'
       IsFilling-next c' p' h fits within handles stands put remembers keys room in_room covered =
           let n : ℕ = count - (i + 1) in
           let k : ℕ = place - (i + 1) in

@@ -1,15 +1,14 @@
 -- What the column and the pending lists remember stays right if a cell changes of which they have no row.
-use Rattle.std.proofs.Common.{◌≡◌, ℕ, List, [], get_or, refl}
+use Rattle.std.proofs.Common.{◌≡◌, ◌≢◌, ℕ, List, [], Some, get_or, refl}
 use Rattle.crack_row.specs.declared.Row.{Row}
-use Rattle.crack_arena.specs.Arena.{Cell, Handle, times, slots, cells_with}
-use Rattle.crack_arena.specs.Rows.{key_at, RemembersKeys}
-use Rattle.crack_column.specs.Column.{Column, Memory, Remembers}
+use Rattle.crack_arena.specs.Arena.{Cell, Handle, read, times, slots, cells_with}
+use Rattle.crack_column.specs.Column.{Column, Memory, memory_at, Remembers}
 use Rattle.crack_index.specs.Marks.{Index}
 use Rattle.crack_state.specs.declared.MergeReport.{MergeReport}
 use Rattle.crack_state.specs.State.{State, IsIntact}
 use Rattle.crack_state.specs.Steps.{next_handle}
 use Rattle.crack_state.proofs.OwnedLaws.{apart_from_times}
-use Rattle.crack_state.proofs.CellLaws.{AgreeOff, read-off, key_at-off}
+use Rattle.crack_state.proofs.CellLaws.{AgreeOff, read-off}
 use Rattle.crack_state.proofs.AdmitLaws.{filled, unused, read-new}
 use Rattle.crack_store.specs.declared.inside.Inside.{Inside}
 use Rattle.crack_store.specs.declared.notes.Notes.{Notes}
@@ -38,17 +37,22 @@ KeepsIntact-column p column index notes tally before after kept intact remembers
   covered = kept.covered;
 }
 
--- the same for what a pending list remembers
-pub RemembersKeys-off : (n : ℕ) (cells after : List (Cell Row)) (hs : List Handle) (keys : List ℕ) → AgreeOff n cells after → times n (slots hs) ≡ 0 → RemembersKeys cells hs keys → RemembersKeys after hs keys
-RemembersKeys-off n cells after hs keys agree none remembers = record {
-  beside = remembers.beside;
-  right = λ k d h. rw (key_at-off n cells after (get_or hs k d) agree (apart_from_times hs n none k d h)) (remembers.right k d h);
-}
+-- what is to be remembered about a row
+abbrev pub memory_of : Row → Memory
+memory_of row = record { key = row.key.0; payload = row.payload }
+
+-- about the row that a handle reads
+pub memory-read : (cells : List (Cell Row)) (h : Handle) (row : Row) → read cells h ≡ Some row → memory_of row ≡ memory_at cells h
+memory-read cells h row reads = rw reads refl
+
+-- what the cells of others say stays
+pub memory_at-off : (n : ℕ) (cells after : List (Cell Row)) (h : Handle) → AgreeOff n cells after → h.slot ≢ n → memory_at after h ≡ memory_at cells h
+memory_at-off n cells after h agree ne = rw (read-off n cells after h agree ne) refl
 
 -- what is known of the cell of a row that is admitted
 pub record Added (row : Row) (s : State) (h : Handle) : Type 0 where
   pub agree : AgreeOff h.slot s.cells (cells_with row s.cells s.free)
-  pub key : row.key.0 ≡ key_at (cells_with row s.cells s.free) h
+  pub memory : memory_of row ≡ memory_at (cells_with row s.cells s.free) h
   pub off_column : times h.slot (slots s.column) ≡ 0
   pub off_in : times h.slot (slots s.pending_in) ≡ 0
   pub off_out : times h.slot (slots s.pending_out) ≡ 0
@@ -60,7 +64,7 @@ added row s intact h is =
     let off = unused s s.free refl intact.owned in
     record {
       agree = rw is fill.others;
-      key = rw (is, read-new s.cells (cells_with row s.cells s.free) (next_handle s) row fill) refl;
+      memory = rw (is, read-new s.cells (cells_with row s.cells s.free) (next_handle s) row fill) refl;
       off_column = rw is off.column;
       off_in = rw is off.pending;
       off_out = rw is off.doomed;

@@ -3,10 +3,10 @@
 use Rattle.std.specs.Prelude.{◌≡◌, ⊤, ℕ, ◌+◌, ◌-◌, ◌<◌, ◌≤◌, Some, None, min, map, take, List, [], ◌∷◌, length, slice_set}
 use Rattle.std.specs.List.{All, remove}
 use Rattle.crack_arena.specs.Arena.{Cell, Handle, times, slots, place_in}
-use Rattle.crack_arena.specs.Rows.{key_at, RemembersKeys}
+use Rattle.crack_arena.specs.Rows.{key_at}
 use Rattle.crack_row.specs.declared.Row.{Row}
 use Rattle.crack_column.specs.declared.draining.Doomed.{Doomed}
-use Rattle.crack_column.specs.Column.{Column, StillRemembers}
+use Rattle.crack_column.specs.Column.{Column, Remembers, StillRemembers}
 use Rattle.crack_column.specs.Drains.{count_below, doomed_handle, Drains}
 use Rattle.crack_index.specs.declared.mark.Mark.{Mark}
 use Rattle.crack_state.specs.State.{State, Reads, IsIntact, freed_of, greatest}
@@ -71,7 +71,7 @@ AreBuried (h ∷ hs) cells out =
 -- what is remembered of the keys of pending deletions stays right, and nothing else changes but the cells, the pending deletions and the tally
 pub record KeepsKeys (p q : Inside) : Type 0 where
   pub same : q ≡ record p { arena = q.arena; pending_out = q.pending_out; tally = q.tally }
-  pub keys : (cells : List (Cell Row)) → RemembersKeys cells p.pending_out.handles p.pending_out.keys → RemembersKeys cells q.pending_out.handles q.pending_out.keys
+  pub keys : (cells : List (Cell Row)) → Remembers cells p.pending_out.handles p.pending_out.remembered → Remembers cells q.pending_out.handles q.pending_out.remembered
 
 -- these doomed rows can be pulled, one after the other: their keys are right, and what is left then is intact, where each bound has fallen by as
 -- many as were below it

@@ -5,7 +5,6 @@ use Rattle.std.specs.List.{All}
 use Rattle.crack_row.specs.Ranges.{Range}
 use Rattle.crack_row.specs.declared.Row.{Row}
 use Rattle.crack_arena.specs.Arena.{Cell, Handle, times, slots}
-use Rattle.crack_arena.specs.Rows.{RemembersKeys}
 use Rattle.crack_bulk.specs.Carried.{inside_of}
 use Rattle.crack_column.specs.Column.{Column, Remembers, memory_at}
 use Rattle.crack_column.specs.Sifts.{AreRead}
@@ -57,7 +56,7 @@ pub record IsPut (cells : List (Cell Row)) (place : ℕ) (h : Handle) (c : Colum
   pub remembered_are : c'.remembered ≡ take place c.remembered ++ memory_at cells h ∷ drop (place + 1) c.remembered
   pub pending_are : p'.handles ≡ p.handles ++ take 1 (drop place c.handles)
   pub remembers : Remembers cells c'.handles c'.remembered
-  pub keys : RemembersKeys cells p'.handles p'.keys
+  pub keys : Remembers cells p'.handles p'.remembered
   pub column_room : c'.room + (length c'.handles - length c.handles) ≡ c.room
   pub in_room : p'.room + length (take 1 (drop place c.handles)) ≡ p.room
   pub covered : p'.covered ≡ p.covered
@@ -68,7 +67,7 @@ pub record ArePut (cells : List (Cell Row)) (from : ℕ) (hs : List Handle) (c :
   pub pending_are : p'.handles ≡ p.handles ++ take (length hs) (drop from c.handles)
   pub read : AreRead cells from (from + length hs) c'
   pub remembers : Remembers cells c'.handles c'.remembered
-  pub keys : RemembersKeys cells p'.handles p'.keys
+  pub keys : Remembers cells p'.handles p'.remembered
   pub in_room : p.room ≤ p'.room + min (length hs) (length c.handles - from)
   pub covered : p'.covered ≡ p.covered
 
@@ -78,6 +77,6 @@ pub record IsExchanged (cells : List (Cell Row)) (r : Range) (from : ℕ) (c : C
   pub pending_are : p'.handles ≡ outside_of cells r p.handles ++ take (length (inside_of cells r p.handles)) (drop from c.handles)
   pub read : AreRead cells from (from + length (inside_of cells r p.handles)) c'
   pub remembers : Remembers cells c'.handles c'.remembered
-  pub keys : RemembersKeys cells p'.handles p'.keys
+  pub keys : Remembers cells p'.handles p'.remembered
   pub in_room : p.room ≤ p'.room + min (length (inside_of cells r p.handles)) (length c.handles - from)
   pub covered : p'.covered ≡ p.covered

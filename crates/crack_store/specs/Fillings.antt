@@ -5,7 +5,7 @@ use Rattle.std.specs.List.{All}
 use Rattle.crack_row.specs.Ranges.{Range}
 use Rattle.crack_row.specs.declared.Row.{Row}
 use Rattle.crack_arena.specs.Arena.{Cell}
-use Rattle.crack_arena.specs.Rows.{key_at, RemembersKeys}
+use Rattle.crack_arena.specs.Rows.{key_at}
 use Rattle.crack_bulk.specs.Pieces.{column_of, marks_of}
 use Rattle.crack_bulk.specs.Carried.{inside_of}
 use Rattle.crack_bulk.specs.Pulled.{pulled, itself}
@@ -36,7 +36,7 @@ pub record IsStocked (cells : List (Cell Row)) (fillers : Range) (place count : 
   pub handles_are : c'.handles ≡ take (place - count) c.handles ++ (reverse (take count (inside_of cells fillers p.handles)) ++ drop place c.handles)
   pub pending_are : p'.handles ≡ lacking cells fillers count p.handles
   pub remembers : Remembers cells c'.handles c'.remembered
-  pub keys : RemembersKeys cells p'.handles p'.keys
+  pub keys : Remembers cells p'.handles p'.remembered
   pub column_room : c'.room ≡ c.room
   pub in_room : p.room ≤ p'.room
   pub covered : p'.covered ≡ p.covered

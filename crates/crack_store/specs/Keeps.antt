@@ -2,7 +2,7 @@
 -- What a store keeps, with no hand or one.
 use Rattle.std.specs.Prelude.{◌≡◌, ⊤, ◌<◌, ℕ, List, [], ◌∷◌, length, ◌≤◌}
 use Rattle.crack_arena.specs.Arena.{Handle}
-use Rattle.crack_arena.specs.Rows.{key_at, RemembersKeys}
+use Rattle.crack_arena.specs.Rows.{key_at}
 use Rattle.crack_column.specs.Column.{Agrees, first_aside, Remembers}
 use Rattle.crack_index.specs.declared.mark.Mark.{Mark}
 use Rattle.crack_index.specs.Marks.{next_mark, last_mark}
@@ -18,8 +18,8 @@ use Rattle.crack_store.specs.Hand.{hand_of}
 pub record KeepsIntact (p : Inside) (hand : List Handle) : Type 0 where
   pub intact : IsIntact (lists_of p) hand
   pub remembers : Remembers p.arena.cells p.column.handles p.column.remembered
-  pub keys_in : RemembersKeys p.arena.cells p.pending_in.handles p.pending_in.keys
-  pub keys_out : RemembersKeys p.arena.cells p.pending_out.handles p.pending_out.keys
+  pub keys_in : Remembers p.arena.cells p.pending_in.handles p.pending_in.remembered
+  pub keys_out : Remembers p.arena.cells p.pending_out.handles p.pending_out.remembered
   pub room : p.in_room ≤ p.pending_in.room
   pub covered : length p.arena.cells ≤ p.pending_in.covered
 

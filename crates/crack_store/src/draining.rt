@@ -1,7 +1,8 @@
 //! All pending deletions of a range are pulled in bulk: the doomed rows are taken out of the column's pieces from the
 //! lowest up, and then buried in order of arrival.
 ghost use Rattle.std.specs.Prelude.{◌≡◌, ◌<◌, ◌≤◌, [], length, map, All, IfSome, IsTrue, IsFalse};
-ghost use Rattle.crack_arena.specs.Rows.{RemembersKeys, key_at};
+ghost use Rattle.crack_arena.specs.Rows.{key_at};
+ghost use Rattle.crack_column.specs.Column.{Remembers};
 ghost use Rattle.crack_bulk.specs.Carried.{inside_of};
 ghost use Rattle.crack_bulk.specs.Pulled.{buried_all, pulled_from, pulled_in_bulk};
 ghost use Rattle.crack_column.specs.Drains.{doomed_handle};
@@ -62,7 +63,7 @@ pub(crate) fn doomed_in(
     arena: &Arena<Row>,
     alloc: Global,
 ) -> Option<Vec<Doomed>>
-    requires keys { RemembersKeys arena.now.cells rows.now.handles rows.now.keys }
+    requires keys { Remembers arena.now.cells rows.now.handles rows.now.remembered }
     requires few { length rows.now.handles < usize.MAX }
     ensures { IfSome result (λ doomed. doomed.items ≡ map (doomed_of arena.now.cells) (inside_of arena.now.cells range
         rows.now.handles)) }

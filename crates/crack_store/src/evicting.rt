@@ -2,12 +2,12 @@
 //! beyond it, which are evicted, and are sifted through the pieces below it from the highest down.
 ghost use Rattle.std.specs.Prelude.{◌≡◌, ◌+◌, ◌-◌, ◌<◌, ◌≤◌, ◌^◌, [], Some, length, min, drop, vec_capacity};
 ghost use Rattle.std.specs.Prelude.{All, Contains, IsTrue, IsFalse, IfSome};
-ghost use Rattle.crack_arena.specs.Rows.{RemembersKeys, keys_at};
+ghost use Rattle.crack_arena.specs.Rows.{keys_at};
 ghost use Rattle.crack_bulk.specs.Carried.{carried_in_bulk, inside_of};
-ghost use Rattle.crack_column.specs.Column.{Remembers};
+ghost use Rattle.crack_column.specs.Column.{Agrees, Remembers};
 ghost use Rattle.crack_index.specs.Marks.{Rising};
 ghost use Rattle.crack_pending.specs.Pending.{Finds};
-ghost use Rattle.crack_state.specs.State.{Reads, live_rows};
+ghost use Rattle.crack_state.specs.State.{live_rows};
 ghost use Rattle.crack_state.specs.Steps.{SameButRoom};
 ghost use Rattle.crack_store.specs.Evictions.{AreApart, ArePut, IsExchanged, IsPut, IsSiftedBelow};
 ghost use Rattle.crack_store.specs.Inside.{lists_of};
@@ -16,7 +16,6 @@ ghost use Rattle.crack_store.specs.Sieves.{IsReady};
 
 use crate::Store;
 use crate::inside::Inside;
-use crate::points::row_at;
 use crate::sifting::{FEWEST, MANY_PENDING, Sieve, count_in};
 use crack_arena::{Arena, Handle};
 use crack_column::{CrackerColumn, Remembered};
@@ -58,6 +57,9 @@ impl Store {
         let Ok(taken) = Vec::with_capacity(alloc, most) else {
             return false;
         };
+        let Ok(known) = Vec::with_capacity(alloc, most) else {
+            return false;
+        };
         let evicted = most.min(self.inside.column.len() - edge.position);
         if self.inside.column.reserve(most - evicted).is_err() {
             return false;
@@ -65,7 +67,7 @@ impl Store {
         if self.inside.pending_in.reserve(evicted).is_err() {
             return false;
         }
-        carry_rows(&mut self.inside, range, first, taken, edge);
+        carry_rows(&mut self.inside, range, first, taken, known, edge);
         true
     }
 }
@@ -116,6 +118,7 @@ fn carry_rows(
     range: KeyRange,
     first: usize,
     taken: Vec<Handle<Row>>,
+    known: Vec<Remembered>,
     edge: Mark,
 )
     requires intact { KeepsIntact inside.old [] }
@@ -130,6 +133,9 @@ fn carry_rows(
     requires empty { taken.items ≡ [] }
     requires list { length (inside_of inside.old.arena.cells range inside.old.pending_in.handles) ≤
         vec_capacity taken }
+    requires none_known { known.items ≡ [] }
+    requires known_list { length (inside_of inside.old.arena.cells range inside.old.pending_in.handles) ≤
+        vec_capacity known }
     ensures carried { SameButRoom (carried_in_bulk (Some edge.bound.0) range (lists_of inside.old))
         (lists_of inside.new) }
     ensures live { live_rows (lists_of inside.new) ≡ live_rows (lists_of inside.old) }
@@ -142,6 +148,7 @@ fn carry_rows(
         &mut inside.column,
         range,
         taken,
+        known,
         from,
         &inside.arena,
     );
@@ -163,12 +170,14 @@ fn carry_rows(
 
 /// Takes the rows of a range out of a list, and puts them into the column from the place `from` on, in their order,
 /// each with what is to be remembered of it. Each row that stood there makes way for one of them, and goes after the
-/// last of the list. `taken` is a list for their handles. How many came in.
+/// last of the list. `taken` is a list for their handles, and `known` one for what is remembered of them. How many came
+/// in.
 fn exchange_rows(
     rows: &mut PendingIn,
     column: &mut CrackerColumn,
     range: KeyRange,
     mut taken: Vec<Handle<Row>>,
+    mut known: Vec<Remembered>,
     from: usize,
     arena: &Arena<Row>,
 ) -> usize
@@ -180,15 +189,16 @@ fn exchange_rows(
         from) ≤ rows.old.room }
     requires empty { taken.items ≡ [] }
     requires list { length (inside_of arena.now.cells range rows.old.handles) ≤ vec_capacity taken }
-    requires reads { All (Reads arena.now.cells) rows.old.handles }
-    requires keys { RemembersKeys arena.now.cells rows.old.handles rows.old.keys }
+    requires none_known { known.items ≡ [] }
+    requires known_list { length (inside_of arena.now.cells range rows.old.handles) ≤ vec_capacity known }
+    requires keys { Remembers arena.now.cells rows.old.handles rows.old.remembered }
     requires remembered { Remembers arena.now.cells column.old.handles column.old.remembered }
     requires apart { AreApart rows.old.covered (drop from column.old.handles) rows.old.handles }
     ensures exchanged { IsExchanged arena.now.cells range from column.old rows.old column.new rows.new }
     ensures count { result ≡ length (inside_of arena.now.cells range rows.old.handles) }
 {
-    rows.take_in(range, arena, &mut taken);
-    put_rows(rows, column, &taken, from, arena);
+    rows.take_in(range, arena, &mut taken, &mut known);
+    put_rows(rows, column, &taken, &known, from, arena);
     taken.len()
 }
 
@@ -198,6 +208,7 @@ fn put_rows(
     rows: &mut PendingIn,
     column: &mut CrackerColumn,
     handles: &[Handle<Row>],
+    known: &[Remembered],
     from: usize,
     arena: &Arena<Row>,
 )
@@ -205,39 +216,40 @@ fn put_rows(
     requires few { length column.old.handles + length handles.now ≤ 2 ^ 32 }
     requires column_room { length handles.now - (length column.old.handles - from) ≤ column.old.room }
     requires in_room { min (length handles.now) (length column.old.handles - from) ≤ rows.old.room }
-    requires reads { All (Reads arena.now.cells) handles.now }
+    requires known { Remembers arena.now.cells handles.now known.now }
     requires remembered { Remembers arena.now.cells column.old.handles column.old.remembered }
-    requires keys { RemembersKeys arena.now.cells rows.old.handles rows.old.keys }
+    requires keys { Remembers arena.now.cells rows.old.handles rows.old.remembered }
     requires apart { AreApart rows.old.covered (drop from column.old.handles) rows.old.handles }
     ensures { ArePut arena.now.cells from handles.now column.old rows.old column.new rows.new }
 {
     'handles: for i in 0..handles.len() {
-        put_at(rows, column, from + i, handles[i], arena);
+        put_at(rows, column, from + i, handles[i], known[i], arena);
     }
 }
 
-/// Puts a handle at a place of the column, with what is to be remembered of its row. A row that stood there goes after
-/// the last of the list; where none did, the handle is the column's last. O(1).
+/// Puts a handle at a place of the column, with what is to be remembered of its row, which is read if it isn't known. A
+/// row that stood there goes after the last of the list; where none did, the handle is the column's last. O(1).
 fn put_at(
     rows: &mut PendingIn,
     column: &mut CrackerColumn,
     place: usize,
     handle: Handle<Row>,
+    known: Remembered,
     arena: &Arena<Row>,
 )
     requires within { place ≤ length column.old.handles }
     requires column_room { place ≡ length column.old.handles → 0 < column.old.room }
     requires in_room { place < length column.old.handles → 0 < rows.old.room }
-    requires reads { Reads arena.now.cells handle }
+    requires known { Agrees arena.now.cells handle known }
     requires remembered { Remembers arena.now.cells column.old.handles column.old.remembered }
-    requires keys { RemembersKeys arena.now.cells rows.old.handles rows.old.keys }
+    requires keys { Remembers arena.now.cells rows.old.handles rows.old.remembered }
     requires apart { AreApart rows.old.covered (drop place column.old.handles) rows.old.handles }
     ensures { IsPut arena.now.cells place handle column.old rows.old column.new rows.new }
 {
-    let known = Remembered::of(row_at(arena, handle));
+    let known = known.or_read(arena, handle);
     if place < column.len() {
         let (evicted, memory) = column.swap_in_remembered(place, handle, known);
-        rows.push_keyed(evicted, memory.key_of(evicted, arena));
+        rows.push_remembered(evicted, memory.or_read(arena, evicted));
     } else {
         column.append_remembered(handle, known);
     }

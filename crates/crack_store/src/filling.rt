@@ -1,7 +1,7 @@
 //! The first pulls of a range in bulk, each by a filler: the doomed rows are taken out of the column's pieces from the
 //! lowest up to a bound, the fillers take the places before it, and the doomed rows are buried in order of arrival.
 ghost use Rattle.std.specs.Prelude.{◌≡◌, ◌<◌, ◌≤◌, [], Some, length, All, Contains, IfSome, IsTrue, IsFalse};
-ghost use Rattle.crack_arena.specs.Rows.{RemembersKeys, keys_at};
+ghost use Rattle.crack_arena.specs.Rows.{keys_at};
 ghost use Rattle.crack_bulk.specs.Carried.{inside_of};
 ghost use Rattle.crack_bulk.specs.Filled.{IsFilled};
 ghost use Rattle.crack_column.specs.Column.{Remembers};
@@ -144,7 +144,7 @@ fn put_fillers(
     requires fits { count ≤ place }
     requires enough { count ≤ length (inside_of arena.now.cells fillers rows.old.handles) }
     requires reads { All (Reads arena.now.cells) rows.old.handles }
-    requires keys { RemembersKeys arena.now.cells rows.old.handles rows.old.keys }
+    requires keys { Remembers arena.now.cells rows.old.handles rows.old.remembered }
     requires first { Finds fillers (keys_at arena.now.cells rows.old.handles) 0 (Some first) }
     requires remembered { Remembers arena.now.cells column.old.handles column.old.remembered }
     ensures { IsStocked arena.now.cells fillers place count column.old rows.old column.new rows.new }

@@ -14,6 +14,7 @@ ghost use Rattle.crack_state.specs.Points.{Cancels, Dooms, Removes, Renews, Rewr
 use crate::Store;
 use crate::inside::Serials;
 use crack_arena::{Arena, Handle};
+use crack_column::Remembered;
 use crack_row::{Key, Payload, Refusal, Row, Serial};
 
 impl Store {
@@ -123,7 +124,9 @@ impl Store {
         let handle = lead.handle;
         forget_at(&mut self.inside.serials, lead);
         let row = row_at(&self.inside.arena, handle);
-        self.inside.pending_out.push_keyed(handle, row.key);
+        self.inside
+            .pending_out
+            .push_remembered(handle, Remembered::of(row));
         Ok(row)
     }
 
@@ -188,7 +191,7 @@ impl Store {
     {
         let before = row_at(&self.inside.arena, handle);
         let _ = self.inside.arena.set(handle, row);
-        self.inside.pending_in.remember(handle, row.key);
+        self.inside.pending_in.remember(handle, Remembered::of(row));
         before
     }
 
@@ -222,8 +225,12 @@ impl Store {
         let before = row_at(&self.inside.arena, doomed);
         let handle = self.inside.arena.put_reserved(row);
         lead_to(&mut self.inside.serials, lead, handle);
-        self.inside.pending_out.push_keyed(doomed, before.key);
-        self.inside.pending_in.push_keyed(handle, row.key);
+        self.inside
+            .pending_out
+            .push_remembered(doomed, Remembered::of(before));
+        self.inside
+            .pending_in
+            .push_remembered(handle, Remembered::of(row));
         self.inside.in_room = 0;
         Ok(before)
     }

@@ -1,7 +1,8 @@
 //! All pending insertions of a range carried in bulk: their rows are put after the column's last one, and sifted
 //! through its pieces from the highest down.
 ghost use Rattle.std.specs.Prelude.{◌≡◌, ◌≤◌, ◌^◌, [], None, Some, length, vec_capacity, IsTrue, IsFalse};
-ghost use Rattle.crack_arena.specs.Rows.{RemembersKeys, keys_at};
+ghost use Rattle.crack_arena.specs.Rows.{keys_at};
+ghost use Rattle.crack_column.specs.Column.{Remembers};
 ghost use Rattle.crack_bulk.specs.Carried.{carried_in_bulk, inside_of};
 ghost use Rattle.crack_pending.specs.Pending.{Finds};
 ghost use Rattle.crack_state.specs.Merge.{outside_of};
@@ -16,7 +17,7 @@ use crate::inside::Inside;
 use crate::sweeping::carry_by_sweeping;
 use crate::taking::take_rows;
 use crack_arena::{Arena, Handle, key_of};
-use crack_column::CrackerColumn;
+use crack_column::{CrackerColumn, Remembered};
 use crack_index::{Mark, Piece, Raiser};
 use crack_pending::PendingIn;
 use crack_row::{KeyRange, Row};
@@ -110,10 +111,13 @@ fn carry_at_most(inside: &mut Inside, range: KeyRange, first: usize, most: usize
     let Ok(taken) = Vec::with_capacity(alloc, most) else {
         return false;
     };
+    let Ok(known) = Vec::with_capacity(alloc, most) else {
+        return false;
+    };
     if let Err(_) = inside.column.reserve(most) {
         return false;
     }
-    carry_rows(inside, range, first, taken);
+    carry_rows(inside, range, first, taken, known);
     true
 }
 
@@ -125,7 +129,7 @@ pub(crate) fn count_in(
     arena: &Arena<Row>,
 ) -> usize
     requires few { length rows.old.handles ≤ 2 ^ 32 }
-    requires keys { RemembersKeys arena.now.cells rows.old.handles rows.old.keys }
+    requires keys { Remembers arena.now.cells rows.old.handles rows.old.remembered }
     requires first { Finds range (keys_at arena.now.cells rows.old.handles) 0 (Some first) }
     ensures counts { result ≡ length (inside_of arena.now.cells range rows.old.handles) }
     ensures same { rows.new ≡ rows.old }
@@ -180,8 +184,14 @@ fn is_in_way(inside: &Inside, handle: Handle<Row>, count: usize) -> bool
 }
 
 /// Carries the pending insertions of a range, the first of which is `first`, where no doomed row is in the way and
-/// there is room for them, and for their handles in a list.
-fn carry_rows(inside: &mut Inside, range: KeyRange, first: usize, taken: Vec<Handle<Row>>)
+/// there is room for them, for their handles in a list and for what is remembered of them in another.
+fn carry_rows(
+    inside: &mut Inside,
+    range: KeyRange,
+    first: usize,
+    taken: Vec<Handle<Row>>,
+    known: Vec<Remembered>,
+)
     requires intact { KeepsIntact inside.old [] }
     requires clear { AreClear (length (inside_of inside.old.arena.cells range inside.old.pending_in.handles))
         (lists_of inside.old) }
@@ -191,6 +201,9 @@ fn carry_rows(inside: &mut Inside, range: KeyRange, first: usize, taken: Vec<Han
     requires empty { taken.items ≡ [] }
     requires list { length (inside_of inside.old.arena.cells range inside.old.pending_in.handles) ≤
         vec_capacity taken }
+    requires none_known { known.items ≡ [] }
+    requires known_list { length (inside_of inside.old.arena.cells range inside.old.pending_in.handles) ≤
+        vec_capacity known }
     ensures carried { SameButRoom (carried_in_bulk None range (lists_of inside.old)) (lists_of inside.new) }
     ensures left { inside.new.pending_in.handles ≡ outside_of inside.old.arena.cells range
         inside.old.pending_in.handles }
@@ -203,6 +216,7 @@ fn carry_rows(inside: &mut Inside, range: KeyRange, first: usize, taken: Vec<Han
         &mut inside.column,
         range,
         taken,
+        known,
         &inside.arena,
     );
     inside.pending_in.shrink_if_empty(inside.in_room);

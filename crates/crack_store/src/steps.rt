@@ -87,8 +87,8 @@ pub(crate) fn give_back(inside: &mut Inside)
     ensures intact { KeepsIntact inside.new [] }
 {
     let hand = inside.column.aside();
-    let key = inside.column.aside_key(&inside.arena);
-    inside.pending_in.push_keyed(hand, key);
+    let known = inside.column.aside_memory().or_read(&inside.arena, hand);
+    inside.pending_in.push_remembered(hand, known);
     inside.in_room -= 1;
     inside.tally.evicted = inside.tally.evicted.saturating_add(1);
 }

@@ -19,7 +19,7 @@ use crate::notes::Notes;
 use crate::serial_hash::SerialHashing;
 use crate::steps::{take_in, take_last};
 use crack_arena::{Arena, Handle};
-use crack_column::CrackerColumn;
+use crack_column::{CrackerColumn, Remembered};
 use crack_index::CrackerIndex;
 use crack_pending::{PendingIn, PendingOut};
 use crack_row::{Bound, KeyRange, Layout, PieceList, Refusal, Row, Serial};
@@ -105,7 +105,9 @@ impl Store {
             .make_places(self.inside.arena.cells() + new_cells)?;
         let handle = self.inside.arena.put_reserved(row);
         let _ = self.inside.serials.insert(row.serial.0, handle);
-        self.inside.pending_in.push_keyed(handle, row.key);
+        self.inside
+            .pending_in
+            .push_remembered(handle, Remembered::of(row));
         self.inside.in_room = 0;
         Ok(())
     }

@@ -20,7 +20,7 @@ use crate::draining::{bury_all, shorten};
 use crate::inside::Inside;
 use crate::taking::take_rows;
 use crack_arena::{Arena, Handle};
-use crack_column::{CrackerColumn, Doomed};
+use crack_column::{CrackerColumn, Doomed, Remembered};
 use crack_index::{Mark, Placer};
 use crack_pending::PendingOut;
 use crack_row::{Bound, InnerBound, KeyNumber, KeyRange, Row};
@@ -49,13 +49,16 @@ pub(crate) fn carry_by_sweeping(
     let Ok(taken) = Vec::with_capacity(alloc, count) else {
         return false;
     };
+    let Ok(known) = Vec::with_capacity(alloc, count) else {
+        return false;
+    };
     let Ok(doomed) = Vec::with_capacity(alloc, count) else {
         return false;
     };
     if let Err(_) = inside.column.reserve(count) {
         return false;
     }
-    sweep_rows(inside, range, first, taken, doomed);
+    sweep_rows(inside, range, first, taken, known, doomed);
     true
 }
 
@@ -66,6 +69,7 @@ fn sweep_rows(
     range: KeyRange,
     first: usize,
     taken: Vec<Handle<Row>>,
+    known: Vec<Remembered>,
     mut doomed: Vec<Doomed>,
 )
     requires intact { KeepsIntact inside.old [] }
@@ -75,6 +79,9 @@ fn sweep_rows(
     requires empty { taken.items ≡ [] }
     requires list { length (inside_of inside.old.arena.cells range inside.old.pending_in.handles) ≤
         vec_capacity taken }
+    requires none_known { known.items ≡ [] }
+    requires known_list { length (inside_of inside.old.arena.cells range inside.old.pending_in.handles) ≤
+        vec_capacity known }
     requires none { doomed.items ≡ [] }
     requires doomed_room { length (inside_of inside.old.arena.cells range inside.old.pending_in.handles) ≤
         vec_capacity doomed }
@@ -90,6 +97,7 @@ fn sweep_rows(
         &mut inside.column,
         range,
         taken,
+        known,
         &inside.arena,
     );
     inside.pending_in.shrink_if_empty(inside.in_room);

@@ -19,4 +19,4 @@ returns-then-rows-len-clause-keys c =
     let stands = c.args.stands.now.items in
     let same : vec_len c.args.stands.now ≡ length stands = omega arith in
     let full : place_at stands (length stands) ≡ length stands = sym (rw same at c.requires.rows) ∙ omega (arith, c.if-rows-len.true, c.len.ensures) in
-    sym (kept-full stands c.args.keys.now.items (omega (arith, c.requires.stands, c.requires.keys)) full)
+    sym (kept-full stands c.args.remembered.now.items (omega (arith, c.requires.stands, c.requires.keys)) full)

@@ -11,7 +11,7 @@ missed c = λ spot after before at.
     let a = c.args in
     let w = c.of-window.result in
     let next = c.seek-near.ensures.next in
-    missed_code a.keys.now a.stands.now a.codes.now c.requires.coded a.range a.arena.now.cells a.handles.now w.first w.last w.beyond c.of-window.ensures.window c.requires.known false (λ e. c.requires.all_known c.if-some_unknown.false) spot (omega (arith, before, next.within)) at (next.passed spot after before) (λ e. absurd (true≢false (sym e)))
+    missed_code a.remembered.now a.stands.now a.codes.now c.requires.coded a.range a.arena.now.cells a.handles.now w.first w.last w.beyond c.of-window.ensures.window c.requires.known false (λ e. c.requires.all_known c.if-some_unknown.false) spot (omega (arith, before, next.within)) at (next.passed spot after before) (λ e. absurd (true≢false (sym e)))
 
 pub returns-then-is_hit-clause-hit : goal.returns-then-is_hit-clause-hit
 returns-then-is_hit-clause-hit c =

@@ -2,6 +2,7 @@ use Rattle.std.proofs.Common.{◌≡◌, ℕ, length, get_or, sym, ap, ◌∙◌
 use Rattle.std.proofs.lemmas.Bool.{cases_lt}
 use Rattle.std.proofs.lemmas.List.{get_or_default}
 use Rattle.crack_arena.specs.Arena.{no_handle}
+use Rattle.crack_column.specs.Column.{nothing}
 use Rattle.crack_pending.specs.Inside.{IsMissed}
 use Rattle.crack_pending.specs.Keeps.{HasRow}
 use Rattle.crack_pending.specs.Pending.{rows_inside}
@@ -10,7 +11,7 @@ use Rattle.crack_pending.proofs.Batches.{missed_ahead, lowest, IsPassed-to, insi
 use Rattle.crack_pending.proofs.Kept.{Stands-within, place_at-few}
 use Rattle.crack_pending.proofs.Taken.{stood}
 use Rattle.crack_pending.proofs.Unknown.{counted_none}
-use Rattle.crack_pending.proofs.Views.{KnowKeys-kept}
+use Rattle.crack_pending.proofs.Views.{KnowRows-kept}
 use Rattle.crack_pending.proofs.taking.take_candidates.Goals as goal
 use Rattle.crack_pending.proofs.taking.take_candidates.Goals.{In-candidates, then-is_hit, else-is_hit}
 
@@ -18,12 +19,12 @@ pub is_hit-requires-clause-known : goal.is_hit-requires-clause-known
 is_hit-requires-clause-known c =
     let a = c.args in
     let i = c.candidates.invariant.passed in
-    rw (c.deref.ensures.value) (KnowKeys-kept a.arena.now.cells a.handles.now a.keys.now c.candidates.stands.items (omega (arith, i.long, c.requires.stands)) c.requires.keys i.known)
+    rw (c.deref.ensures.value) (KnowRows-kept a.arena.now.cells a.handles.now a.remembered.now c.candidates.stands.items (omega (arith, i.long, c.requires.stands)) c.requires.keys i.known)
 
 pub is_hit-requires-clause-all_known : goal.is_hit-requires-clause-all_known
 is_hit-requires-clause-all_known c = λ none.
     let i = c.candidates.invariant.passed in
-    rw (c.deref.ensures.value) (counted_none c.args.keys.now c.candidates.stands.items (omega (arith, i.long, c.requires.stands, c.requires.keys)) (sym i.unknowns_are))
+    rw (c.deref.ensures.value) (counted_none c.args.remembered.now c.candidates.stands.items (omega (arith, i.long, c.requires.stands, c.requires.keys)) (sym i.unknowns_are))
 
 -- the spot of the candidate, before which no row is in the range
 abbrev spot_of : In-candidates → ℕ
@@ -33,13 +34,13 @@ missed : (c : In-candidates) → IsMissed c.args.range c.args.arena.now.cells c.
 missed c =
     let a = c.args in
     let i = c.candidates.invariant in
-    let keys = a.keys.now in
+    let remembered = a.remembered.now in
     let stands = a.stands.now.items in
     let w = a.window in
-    let known = KnowKeys-kept a.arena.now.cells a.handles.now keys stands (omega (arith, c.requires.stands)) c.requires.keys c.requires.known in
-    let all = counted_none keys stands (omega (arith, c.requires.stands, c.requires.keys)) c.requires.all_known in
+    let known = KnowRows-kept a.arena.now.cells a.handles.now remembered stands (omega (arith, c.requires.stands)) c.requires.keys c.requires.known in
+    let all = counted_none remembered stands (omega (arith, c.requires.stands, c.requires.keys)) c.requires.all_known in
     let inside = c.requires.ahead.inside c.candidates.k (omega arith) c.candidates-test.true in
-    missed_ahead keys stands a.codes.now c.requires.coded a.range a.arena.now.cells a.handles.now w.first w.last w.beyond c.requires.window known all a.from a.to a.candidates.now c.requires.ahead c.requires.missed c.candidates.stands.items i.passed.stood c.candidates.k i.done (spot_of c) (omega (arith, inside.1)) (lowest keys stands a.codes.now c.requires.coded a.range a.arena.now.cells a.handles.now w.first w.last w.beyond c.requires.window known all a.from a.to a.candidates.now c.requires.ahead c.requires.missed c.candidates.k c.candidates-test.true)
+    missed_ahead remembered stands a.codes.now c.requires.coded a.range a.arena.now.cells a.handles.now w.first w.last w.beyond c.requires.window known all a.from a.to a.candidates.now c.requires.ahead c.requires.missed c.candidates.stands.items i.passed.stood c.candidates.k i.done (spot_of c) (omega (arith, inside.1)) (lowest remembered stands a.codes.now c.requires.coded a.range a.arena.now.cells a.handles.now w.first w.last w.beyond c.requires.window known all a.from a.to a.candidates.now c.requires.ahead c.requires.missed c.candidates.k c.candidates-test.true)
 
 pub is_hit-requires-clause-within : goal.is_hit-requires-clause-within
 is_hit-requires-clause-within c =
@@ -52,8 +53,17 @@ push_reserved-requires c =
     let a = c.args in
     let i = c.candidates.invariant in
     let at = rw c.deref.ensures.value at (c.is_hit.ensures.stands c.if-is_hit.true) in
-    let more = inside_is a.arena.now.cells a.range a.handles.now a.keys.now a.stands.now.items c.candidates.stands.items c.candidates.codes a.taken.now.items c.candidates.taken.items a.from c.candidates.count (spot_of now) i.passed (omega (arith, c.requires.stands)) c.requires.keys at (c.is_hit.ensures.holds c.if-is_hit.true) (missed now) in
+    let more = inside_is a.arena.now.cells a.range a.handles.now a.remembered.now a.stands.now.items c.candidates.stands.items c.candidates.codes a.taken.now.items c.candidates.taken.items c.candidates.known.items a.from c.candidates.count (spot_of now) i.passed (omega (arith, c.requires.stands)) c.requires.keys at (c.is_hit.ensures.holds c.if-is_hit.true) (missed now) in
     omega (arith, ap length more, ap length i.passed.taken_are, length-append c.candidates.taken.items (rows_inside a.arena.now.cells a.range (kept c.candidates.stands.items a.handles.now)), length-append a.taken.now.items (rows_inside a.arena.now.cells a.range (kept a.stands.now.items a.handles.now)), i.room, c.requires.room)
+
+pub push_reserved-requires-then-is_hit : goal.push_reserved-requires-then-is_hit
+push_reserved-requires-then-is_hit c =
+    let now = (goal.at.push_reserved-requires-then-is_hit c).In-candidates in
+    let a = c.args in
+    let i = c.candidates.invariant in
+    let at = rw c.deref.ensures.value at (c.is_hit.ensures.stands c.if-is_hit.true) in
+    let more = inside_is a.arena.now.cells a.range a.handles.now a.remembered.now a.stands.now.items c.candidates.stands.items c.candidates.codes a.taken.now.items c.candidates.taken.items c.candidates.known.items a.from c.candidates.count (spot_of now) i.passed (omega (arith, c.requires.stands)) c.requires.keys at (c.is_hit.ensures.holds c.if-is_hit.true) (missed now) in
+    omega (arith, ap length more, ap length i.passed.taken_are, length-append c.candidates.taken.items (rows_inside a.arena.now.cells a.range (kept c.candidates.stands.items a.handles.now)), length-append a.taken.now.items (rows_inside a.arena.now.cells a.range (kept a.stands.now.items a.handles.now)), i.passed.gone_are.beside, c.requires.remembered.beside, i.known_room, c.requires.known_room)
 
 pub overflow_add-count : goal.overflow_add-count
 overflow_add-count c =
@@ -71,9 +81,10 @@ candidates-preserved c =
       | then-is_hit w ↦
           let at : HasRow stands (spot_of now) = rw c.deref.ensures.value at (c.is_hit.ensures.stands w.if-is_hit.true) in
           let same : get_or a.handles.now (spot_of now) no_handle ≡ w.index-handles-candidate.result = get_or_default a.handles.now (spot_of now) no_handle w.index-handles-candidate.result (omega (arith, Stands-within stands (spot_of now) at, i.passed.long, c.requires.stands)) ∙ sym w.index-handles-candidate.is in
-          let taken = IsPassed-taken a.arena.now.cells a.range a.handles.now a.keys.now a.stands.now.items stands c.candidates.codes a.taken.now.items c.candidates.taken.items a.from c.candidates.count (spot_of now) i.passed (omega (arith, c.requires.stands)) c.requires.keys at (c.is_hit.ensures.holds w.if-is_hit.true) (missed now) in
-          rw (w.stands-is, w.codes-is, w.taken-is, w.count-is, w.leave_hole.ensures) (record {
-            passed = rw (w.push_reserved.ensures.items) (rw same at taken);
+          let memory : get_or a.remembered.now (spot_of now) nothing ≡ w.index-remembered-candidate.result = get_or_default a.remembered.now (spot_of now) nothing w.index-remembered-candidate.result (omega (arith, Stands-within stands (spot_of now) at, i.passed.long, c.requires.stands, c.requires.keys)) ∙ sym w.index-remembered-candidate.is in
+          let taken = IsPassed-taken a.arena.now.cells a.range a.handles.now a.remembered.now a.stands.now.items stands c.candidates.codes a.taken.now.items c.candidates.taken.items c.candidates.known.items a.from c.candidates.count (spot_of now) i.passed (omega (arith, c.requires.stands)) c.requires.keys at (c.is_hit.ensures.holds w.if-is_hit.true) (missed now) in
+          rw (w.stands-is, w.codes-is, w.taken-is, w.known-is, w.count-is, w.leave_hole.ensures) (record {
+            passed = rw (w.push_reserved.ensures.items, w.push_reserved-then-is_hit.ensures.items) (rw (same, memory) at taken);
             done = λ j less there.
                 let still = stood stands (spot_of now) (get_or a.candidates.now j 0) at there in
                 elim (cases_lt j k) [
@@ -87,10 +98,11 @@ candidates-preserved c =
             long = length-set c.candidates.codes.codes (spot_of now) 65535 ∙ i.long;
             capacity = i.capacity;
             room = w.push_reserved.ensures.capacity ∙ i.room;
+            known_room = w.push_reserved-then-is_hit.ensures.capacity ∙ i.known_room;
           })
       | else-is_hit w ↦
           let none = rw c.deref.ensures.value at (c.is_hit.ensures.missed w.if-is_hit.false) in
-          rw (w.stands-is, w.codes-is, w.taken-is, w.count-is) (record {
+          rw (w.stands-is, w.codes-is, w.taken-is, w.known-is, w.count-is) (record {
             passed = i.passed;
             done = λ j less there. elim (cases_lt j k) [
               | inl l ↦ i.done j l there
@@ -103,6 +115,7 @@ candidates-preserved c =
             long = i.long;
             capacity = i.capacity;
             room = i.room;
+            known_room = i.known_room;
           })
     ]
 
@@ -110,10 +123,10 @@ pub returns-clause-passed : goal.returns-clause-passed
 returns-clause-passed c =
     let a = c.args in
     let i = c.candidates.invariant in
-    let keys = a.keys.now in
+    let remembered = a.remembered.now in
     let stands = a.stands.now.items in
     let w = a.window in
-    let known = KnowKeys-kept a.arena.now.cells a.handles.now keys stands (omega (arith, c.requires.stands)) c.requires.keys c.requires.known in
-    let all = counted_none keys stands (omega (arith, c.requires.stands, c.requires.keys)) c.requires.all_known in
-    let missed = missed_ahead keys stands a.codes.now c.requires.coded a.range a.arena.now.cells a.handles.now w.first w.last w.beyond c.requires.window known all a.from a.to a.candidates.now c.requires.ahead c.requires.missed c.candidates.stands.items i.passed.stood c.candidates.k i.done a.to (omega arith) (λ j after within. absurd (omega (arith, after, within, c.candidates-test.false))) in
-    IsPassed-to a.arena.now.cells a.range a.handles.now keys stands c.candidates.stands.items c.candidates.codes a.taken.now.items c.candidates.taken.items a.from a.to c.candidates.count 0 i.passed (omega (arith, c.requires.ahead.within, c.requires.coded.few, c.requires.keys)) missed
+    let known = KnowRows-kept a.arena.now.cells a.handles.now remembered stands (omega (arith, c.requires.stands)) c.requires.keys c.requires.known in
+    let all = counted_none remembered stands (omega (arith, c.requires.stands, c.requires.keys)) c.requires.all_known in
+    let missed = missed_ahead remembered stands a.codes.now c.requires.coded a.range a.arena.now.cells a.handles.now w.first w.last w.beyond c.requires.window known all a.from a.to a.candidates.now c.requires.ahead c.requires.missed c.candidates.stands.items i.passed.stood c.candidates.k i.done a.to (omega arith) (λ j after within. absurd (omega (arith, after, within, c.candidates-test.false))) in
+    IsPassed-to a.arena.now.cells a.range a.handles.now remembered stands c.candidates.stands.items c.candidates.codes a.taken.now.items c.candidates.taken.items c.candidates.known.items a.from a.to c.candidates.count 0 i.passed (omega (arith, c.requires.ahead.within, c.requires.coded.few, c.requires.keys)) missed

@@ -3,7 +3,9 @@ use Rattle.std.proofs.lemmas.List.{append-nil, append_assoc, get_or_default}
 use Rattle.crack_row.specs.Ranges.{is_in}
 use Rattle.crack_arena.specs.Arena.{Handle, no_handle}
 use Rattle.crack_arena.specs.Rows.{key_at}
-use Rattle.crack_arena.proofs.Remembering.{RemembersKeys-remove}
+use Rattle.crack_column.specs.Column.{nothing}
+use Rattle.crack_column.proofs.Remembering.{Remembers-append}
+use Rattle.crack_pending.proofs.Remembering.{Remembers-remove}
 use Rattle.crack_pending.specs.Inside.{IsHit, IsMissed}
 use Rattle.crack_pending.specs.Pending.{rows_inside}
 use Rattle.crack_pending.specs.Spots.{kept}
@@ -13,7 +15,7 @@ use Rattle.crack_pending.proofs.Kept.{Stands-within, kept-hole, place_at-few, pl
 use Rattle.crack_pending.proofs.Searches.{is_in-true, is_in-false}
 use Rattle.crack_pending.proofs.Taken.{stood, inside-hole, outside-hole, none-inside}
 use Rattle.crack_pending.proofs.Unknown.{counted_hole, counted_none, counted_some}
-use Rattle.crack_pending.proofs.Views.{KnowKeys-kept, place-within}
+use Rattle.crack_pending.proofs.Views.{KnowRows-kept, place-within}
 use Rattle.crack_pending.proofs.taking.take_hits.Goals as goal
 use Rattle.crack_pending.proofs.taking.take_hits.Goals.{After-index-handles-spot}
 
@@ -27,6 +29,7 @@ hits-init c =
       missed = passed.missed;
       taken = refl;
       outside = refl;
+      gone = passed.gone_are;
       known = passed.known;
       unknowns = passed.unknowns_are;
       coded = passed.coded;
@@ -35,6 +38,7 @@ hits-init c =
       capacity = refl;
       counted = refl;
       room = omega (arith, ap length passed.taken_are, length-append c.take_coded-start.new.taken.items (rows_inside a.arena.now.cells a.range (kept c.take_coded-start.new.stands.items a.handles.now)), length-append a.taken.now.items (rows_inside a.arena.now.cells a.range (kept a.stands.now.items a.handles.now)), coded.room, c.requires.room);
+      known_room = omega (arith, ap length passed.taken_are, length-append c.take_coded-start.new.taken.items (rows_inside a.arena.now.cells a.range (kept c.take_coded-start.new.stands.items a.handles.now)), length-append a.taken.now.items (rows_inside a.arena.now.cells a.range (kept a.stands.now.items a.handles.now)), passed.gone_are.beside, c.requires.remembered.beside, coded.known_room, c.requires.known_room);
     }
 
 pub next_hit-requires-clause-stands : goal.next_hit-requires-clause-stands
@@ -44,19 +48,19 @@ pub next_hit-requires-clause-known : goal.next_hit-requires-clause-known
 next_hit-requires-clause-known c =
     let a = c.args in
     let i = c.hits.invariant in
-    rw (c.deref.ensures.value) (KnowKeys-kept a.arena.now.cells a.handles.now a.keys.now c.hits.stands.items (omega (arith, i.long, c.take_coded-start.ensures.passed.long, c.requires.stands)) c.requires.keys i.known)
+    rw (c.deref.ensures.value) (KnowRows-kept a.arena.now.cells a.handles.now a.remembered.now c.hits.stands.items (omega (arith, i.long, c.take_coded-start.ensures.passed.long, c.requires.stands)) c.requires.keys i.known)
 
 pub next_hit-requires-clause-all_known : goal.next_hit-requires-clause-all_known
 next_hit-requires-clause-all_known c = λ none.
     let i = c.hits.invariant in
     let zero : c.hits.left.unknowns ≡ 0 = omega (arith, ltb-false 0 c.hits.left.unknowns none) in
-    rw (c.deref.ensures.value) (counted_none c.args.keys.now c.hits.stands.items (omega (arith, i.long, c.take_coded-start.ensures.passed.long, c.requires.stands, c.requires.keys)) (omega (arith, i.unknowns, zero)))
+    rw (c.deref.ensures.value) (counted_none c.args.remembered.now c.hits.stands.items (omega (arith, i.long, c.take_coded-start.ensures.passed.long, c.requires.stands, c.requires.keys)) (omega (arith, i.unknowns, zero)))
 
 -- the row at the spot that was found is the first of the range
 record IsTaken (c : After-index-handles-spot) : Type 0 where
   hit : IsHit c.args.range c.args.arena.now.cells c.args.handles.now c.hits.stands.items c.hits.start (length c.args.handles.now) c.in-Some.spot
   beside : length c.hits.stands.items ≡ length c.args.handles.now
-  keys_beside : length c.hits.stands.items ≡ length c.args.keys.now
+  keys_beside : length c.hits.stands.items ≡ length c.args.remembered.now
   missed : IsMissed c.args.range c.args.arena.now.cells c.args.handles.now c.hits.stands.items 0 c.in-Some.spot
   inside : rows_inside c.args.arena.now.cells c.args.range (kept c.hits.stands.items c.args.handles.now) ≡ c.index-handles-spot.result ∷ rows_inside c.args.arena.now.cells c.args.range (kept (set c.hits.stands.items c.in-Some.spot false) c.args.handles.now)
 
@@ -88,10 +92,15 @@ push_reserved-requires c =
     let it = is_taken (goal.at.push_reserved-requires c).After-index-handles-spot in
     omega (arith, ap length it.inside, c.hits.invariant.room)
 
+pub push_reserved-requires-in-Some : goal.push_reserved-requires-in-Some
+push_reserved-requires-in-Some c =
+    let it = is_taken (goal.at.push_reserved-requires-in-Some c).After-index-handles-spot in
+    omega (arith, ap length it.inside, c.hits.invariant.known_room)
+
 pub unknowns_without-requires-clause-counted : goal.unknowns_without-requires-clause-counted
 unknowns_without-requires-clause-counted c = λ is.
     let it = is_taken (goal.at.unknowns_without-requires-clause-counted c).After-index-handles-spot in
-    omega (arith, c.hits.invariant.unknowns, counted_some c.args.keys.now c.hits.stands.items it.keys_beside c.in-Some.spot it.hit.stands_there is)
+    omega (arith, c.hits.invariant.unknowns, counted_some c.args.remembered.now c.hits.stands.items it.keys_beside c.in-Some.spot it.hit.stands_there is)
 
 pub overflow_add-left : goal.overflow_add-left
 overflow_add-left c =
@@ -108,7 +117,7 @@ hits-preserved c =
     let a = c.args in
     let cells = a.arena.now.cells in
     let hs = a.handles.now in
-    let keys = a.keys.now in
+    let remembered = a.remembered.now in
     let stands = c.hits.stands.items in
     let spot = c.in-Some.spot in
     let i = c.hits.invariant in
@@ -116,8 +125,10 @@ hits-preserved c =
     let at = it.hit.stands_there in
     let test : Handle → Bool = λ h. is_in a.range (key_at cells h) in
     let left = kept (set stands spot false) hs in
+    let same : get_or hs spot no_handle ≡ c.index-handles-spot.result = get_or_default hs spot no_handle c.index-handles-spot.result it.hit.within ∙ sym c.index-handles-spot.is in
+    let memory : get_or remembered spot nothing ≡ c.index-remembered-spot.result = get_or_default remembered spot nothing c.index-remembered-spot.result (omega (arith, it.hit.within, c.requires.keys)) ∙ sym c.index-remembered-spot.is in
     let hole : left ≡ _ = kept-hole stands hs spot it.beside at in
-    let key_hole = kept-hole stands keys spot it.keys_beside at in
+    let key_hole = kept-hole stands remembered spot it.keys_beside at in
     record {
       within = omega (arith, it.hit.within);
       missed = λ k after before there.
@@ -125,14 +136,16 @@ hits-preserved c =
           it.missed k after (omega (arith, before, other.0)) other.1;
       taken = rw (c.push_reserved.ensures.items) (append_assoc c.hits.taken.items (c.index-handles-spot.result ∷ []) (rows_inside cells a.range left) ∙ ap (λ xs. c.hits.taken.items ++ xs) (sym it.inside) ∙ i.taken);
       outside = outside-hole test stands hs spot no_handle it.beside at (is_in-true a.range (key_at cells (get_or hs spot no_handle)) it.hit.holds) ∙ i.outside;
-      known = rw (hole, key_hole) (RemembersKeys-remove cells (kept stands hs) (kept stands keys) (place_at stands spot) (place-within hs stands it.beside spot at) i.known);
-      unknowns = omega (arith, c.unknowns_without.ensures, counted_hole keys stands it.keys_beside spot at, i.unknowns);
-      coded = rw (c.leave_hole.ensures, c.next_hit.ensures.same) (coded_hole keys stands c.hits.codes i.coded spot at);
+      gone = rw (c.push_reserved.ensures.items, c.push_reserved-in-Some.ensures.items) (rw (same, memory) at (Remembers-append cells c.hits.taken.items c.hits.known.items (get_or hs spot no_handle) (get_or remembered spot nothing) (KnowRows-kept cells hs remembered stands it.beside c.requires.keys i.known spot at) i.gone));
+      known = rw (hole, key_hole) (Remembers-remove cells (kept stands hs) (kept stands remembered) (place_at stands spot) (place-within hs stands it.beside spot at) i.known);
+      unknowns = omega (arith, c.unknowns_without.ensures, counted_hole remembered stands it.keys_beside spot at, i.unknowns);
+      coded = rw (c.leave_hole.ensures, c.next_hit.ensures.same) (coded_hole remembered stands c.hits.codes i.coded spot at);
       stood = λ k there. i.stood k (stood stands spot k at there).1;
       long = length-set stands spot false ∙ i.long;
       capacity = i.capacity;
       counted = rw (length-set stands spot false) (omega (arith, place_at-hole_before stands spot (length stands) at (Stands-within stands spot at), i.counted));
       room = omega (arith, c.push_reserved.ensures.len, c.push_reserved.ensures.capacity, ap length it.inside, i.room);
+      known_room = omega (arith, c.push_reserved-in-Some.ensures.len, c.push_reserved-in-Some.ensures.capacity, ap length it.inside, i.known_room);
     }
 
 pub returns-clause-taken : goal.returns-clause-taken

@@ -1,9 +1,10 @@
 use Rattle.std.proofs.Common.{◌≡◌, ◌+◌, ◌-◌, ◌≤◌, ◌++◌, ℕ, length, vec_len, vec_capacity}
 use Rattle.crack_arena.specs.Arena.{times}
-use Rattle.crack_arena.specs.Rows.{unknown, RemembersKeys}
+use Rattle.crack_arena.specs.Rows.{unknown}
+use Rattle.crack_column.specs.Column.{Remembers}
 use Rattle.crack_pending.specs.Codes.{AreCoded}
 use Rattle.crack_pending.specs.Inside.{IsMissed}
-use Rattle.crack_pending.specs.Keeps.{place_at, HasRow}
+use Rattle.crack_pending.specs.Keeps.{place_at, HasRow, keys_of}
 use Rattle.crack_pending.specs.Pending.{rows_inside, rows_outside}
 use Rattle.crack_pending.specs.Spots.{kept}
 use Rattle.crack_pending.proofs.taking.take_hits.Given as goal
@@ -15,14 +16,16 @@ invariant-hits l = record {
   missed : IsMissed l.range l.arena.cells l.handles l.stands.items 0 l.start;
   taken : l.taken.items ++ rows_inside l.arena.cells l.range (kept l.stands.items l.handles) ≡ l.initial.taken.items ++ rows_inside l.arena.cells l.range (kept l.initial.stands.items l.handles);
   outside : rows_outside l.arena.cells l.range (kept l.stands.items l.handles) ≡ rows_outside l.arena.cells l.range (kept l.initial.stands.items l.handles);
-  known : RemembersKeys l.arena.cells (kept l.stands.items l.handles) (kept l.stands.items l.keys);
-  unknowns : l.left.unknowns ≡ times unknown (kept l.stands.items l.keys);
-  coded : AreCoded l.keys l.stands.items l.codes;
+  gone : Remembers l.arena.cells l.taken.items l.known.items;
+  known : Remembers l.arena.cells (kept l.stands.items l.handles) (kept l.stands.items l.remembered);
+  unknowns : l.left.unknowns ≡ times unknown (keys_of (kept l.stands.items l.remembered));
+  coded : AreCoded l.remembered l.stands.items l.codes;
   stood : (spot : ℕ) → HasRow l.stands.items spot → HasRow l.initial.stands.items spot;
   long : length l.stands.items ≡ length l.initial.stands.items;
   capacity : vec_capacity l.stands ≡ vec_capacity l.initial.stands;
   counted : place_at l.stands.items (length l.stands.items) + l.left.taken ≡ place_at l.initial.stands.items (length l.initial.stands.items) + l.initial.left.taken;
   room : vec_len l.taken + length (rows_inside l.arena.cells l.range (kept l.stands.items l.handles)) ≤ vec_capacity l.taken;
+  known_room : vec_len l.known + length (rows_inside l.arena.cells l.range (kept l.stands.items l.handles)) ≤ vec_capacity l.known;
 }
 
 abbrev pub decreases-hits : goal.decreases-hits

@@ -6,7 +6,7 @@ use Rattle.crack_state.specs.State.{State, IsIntact}
 use Rattle.crack_store.specs.Inside.{lists_of}
 use Rattle.crack_store.specs.declared.draining.Drain.{Drain}
 use Rattle.crack_store.specs.declared.inside.Inside.{Inside}
-use Rattle.crack_store.proofs.DrainLemmas.{IsPulled, pulled-whole, buried-length, Remembers-buried, RemembersKeys-buried}
+use Rattle.crack_store.proofs.DrainLemmas.{IsPulled, pulled-whole, buried-length, Remembers-buried}
 use Rattle.crack_store.proofs.draining.pull_rows.Goals as goal
 use Rattle.crack_store.proofs.draining.pull_rows.Goals.{After-drain_last}
 
@@ -45,8 +45,8 @@ returns-clause-intact c =
     record {
       intact = whole;
       remembers = rw cells_are (Remembers-buried hs t q.column.handles q.column.remembered (rw cells_are at whole.owned.column_reads) (rw column d.remembers));
-      keys_in = rw cells_are (RemembersKeys-buried hs t q.pending_in.handles q.pending_in.keys (rw cells_are at whole.owned.pending_reads) (rw pending c.requires.intact.keys_in));
-      keys_out = rw cells_are (RemembersKeys-buried hs t q.pending_out.handles q.pending_out.keys (rw cells_are at whole.owned.doomed_reads) (keys.keys p.arena.cells c.requires.intact.keys_out));
+      keys_in = rw cells_are (Remembers-buried hs t q.pending_in.handles q.pending_in.remembered (rw cells_are at whole.owned.pending_reads) (rw pending c.requires.intact.keys_in));
+      keys_out = rw cells_are (Remembers-buried hs t q.pending_out.handles q.pending_out.remembered (rw cells_are at whole.owned.doomed_reads) (keys.keys p.arena.cells c.requires.intact.keys_out));
       room = rw (in_room, pending) c.requires.intact.room;
       covered = rw (cells_are, pending) (omega (arith, buried-length hs t, c.requires.intact.covered));
     }

@@ -1,10 +1,6 @@
-use Rattle.std.proofs.Common.{◌≡◌, Bool, length, ap, ◌∙◌, arith}
-use Rattle.std.proofs.lemmas.List.Elements.{All-filter}
-use Rattle.crack_row.specs.Ranges.{is_in}
-use Rattle.crack_arena.specs.Arena.{Handle}
-use Rattle.crack_arena.specs.Rows.{key_at}
+use Rattle.std.proofs.Common.{◌≡◌, length, ap, ◌∙◌, arith}
 use Rattle.crack_bulk.specs.Carried.{inside_of}
-use Rattle.crack_state.specs.State.{Reads}
+use Rattle.crack_pending.proofs.Remembering.{Remembers-none}
 use Rattle.crack_store.proofs.TakeLemmas.{inside-few}
 use Rattle.crack_store.proofs.ExchangeLemmas.{apart-left, IsExchanged-put}
 use Rattle.crack_store.proofs.evicting.exchange_rows.Goals as goal
@@ -29,12 +25,11 @@ put_rows-requires-clause-in_room c =
     let is = taken (goal.at.put_rows-requires-clause-in_room c).After-take_in in
     omega (arith, ap length (c.deref.ensures.value ∙ is), c.requires.in_room, c.take_in.ensures.room)
 
-pub put_rows-requires-clause-reads : goal.put_rows-requires-clause-reads
-put_rows-requires-clause-reads c =
-    let is = taken (goal.at.put_rows-requires-clause-reads c).After-take_in in
-    let cells = c.args.arena.now.cells in
-    let test : Handle → Bool = λ h. is_in c.args.range (key_at cells h) in
-    rw (c.deref.ensures.value, is) (All-filter test (Reads cells) c.args.rows.now.handles c.requires.reads)
+pub take_in-requires-clause-known : goal.take_in-requires-clause-known
+take_in-requires-clause-known c = rw (c.requires.empty, c.requires.none_known) (Remembers-none c.args.arena.now.cells)
+
+pub put_rows-requires-clause-known : goal.put_rows-requires-clause-known
+put_rows-requires-clause-known c = rw (c.deref.ensures.value, c.deref-2.ensures.value) c.take_in.ensures.known
 
 pub put_rows-requires-clause-apart : goal.put_rows-requires-clause-apart
 put_rows-requires-clause-apart c = rw (c.take_in.ensures.covered, c.take_in.ensures.left) (apart-left c.args.arena.now.cells c.args.range c.args.rows.now.covered _ c.args.rows.now.handles c.requires.apart)

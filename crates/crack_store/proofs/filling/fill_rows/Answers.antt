@@ -1,7 +1,7 @@
 use Rattle.std.proofs.Common.{◌≡◌, ℕ, ◌+◌, ◌-◌, List, [], ◌∷◌, ◌++◌, map, min, length, take, drop, reverse, refl, ap, ◌∙◌, arith}
 use Rattle.std.proofs.lemmas.List.{length-map, length-take-le}
 use Rattle.crack_arena.specs.Arena.{Handle}
-use Rattle.crack_arena.specs.Rows.{key_at, RemembersKeys}
+use Rattle.crack_arena.specs.Rows.{key_at}
 use Rattle.crack_bulk.specs.Pieces.{column_of, marks_of}
 use Rattle.crack_bulk.specs.Carried.{inside_of}
 use Rattle.crack_bulk.specs.Pulled.{all_drawn, itself, pulled, buried_all}
@@ -9,14 +9,14 @@ use Rattle.crack_bulk.specs.Filled.{lacking, pieces_under}
 use Rattle.crack_bulk.proofs.FillLaws.{edge-within}
 use Rattle.crack_bulk.proofs.SiftedLaws.{min_and}
 use Rattle.crack_column.specs.Drains.{doomed_handle}
-use Rattle.crack_column.specs.Column.{Column}
+use Rattle.crack_column.specs.Column.{Column, Remembers}
 use Rattle.crack_pending.specs.Pending.{Pending}
 use Rattle.crack_state.specs.State.{State, IsIntact, greatest}
 use Rattle.crack_store.specs.declared.draining.Drain.{Drain}
 use Rattle.crack_store.specs.declared.inside.Inside.{Inside}
 use Rattle.crack_store.specs.Fillings.{IsStocked}
 use Rattle.crack_store.specs.Inside.{lists_of}
-use Rattle.crack_store.proofs.DrainLemmas.{buried-length, Remembers-buried, RemembersKeys-buried}
+use Rattle.crack_store.proofs.DrainLemmas.{buried-length, Remembers-buried}
 use Rattle.crack_store.proofs.FillLemmas.{IsBelow, below-whole}
 use Rattle.crack_store.proofs.filling.fill_rows.Goals as goal
 use Rattle.crack_store.proofs.filling.fill_rows.Goals.{After-place_each, After-put_fillers}
@@ -92,13 +92,13 @@ returns-clause-intact c =
     let column : q.column ≡ c.put_fillers.new.column = ap (λ (x : Inside). x.column) keys.same in
     let pending : q.pending_in ≡ c.shrink_if_empty.new.self = ap (λ (x : Inside). x.pending_in) keys.same in
     let in_room : q.in_room ≡ p.in_room = ap (λ (x : Inside). x.in_room) keys.same in
-    let known : RemembersKeys p.arena.cells c.shrink_if_empty.new.self.handles c.shrink_if_empty.new.self.keys = c.shrink_if_empty.ensures.remembered p.arena.cells st.keys in
+    let known : Remembers p.arena.cells c.shrink_if_empty.new.self.handles c.shrink_if_empty.new.self.remembered = c.shrink_if_empty.ensures.remembered p.arena.cells st.keys in
     let covered : c.shrink_if_empty.new.self.covered ≡ p.pending_in.covered = ap (λ (x : Pending). x.covered) c.shrink_if_empty.ensures.same ∙ st.covered in
     record {
       intact = whole;
       remembers = rw cells_are (Remembers-buried hs t q.column.handles q.column.remembered (rw cells_are at whole.owned.column_reads) (rw column st.remembers));
-      keys_in = rw cells_are (RemembersKeys-buried hs t q.pending_in.handles q.pending_in.keys (rw cells_are at whole.owned.pending_reads) (rw pending known));
-      keys_out = rw cells_are (RemembersKeys-buried hs t q.pending_out.handles q.pending_out.keys (rw cells_are at whole.owned.doomed_reads) (keys.keys p.arena.cells c.requires.intact.keys_out));
+      keys_in = rw cells_are (Remembers-buried hs t q.pending_in.handles q.pending_in.remembered (rw cells_are at whole.owned.pending_reads) (rw pending known));
+      keys_out = rw cells_are (Remembers-buried hs t q.pending_out.handles q.pending_out.remembered (rw cells_are at whole.owned.doomed_reads) (keys.keys p.arena.cells c.requires.intact.keys_out));
       room = rw (in_room, pending) c.shrink_if_empty.ensures.sure;
       covered = rw (cells_are, pending) (omega (arith, buried-length hs t, c.requires.intact.covered, covered));
     }

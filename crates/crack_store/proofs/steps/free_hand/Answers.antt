@@ -7,7 +7,7 @@ use Rattle.crack_state.proofs.CellLaws.{AgreeOff-set}
 use Rattle.crack_state.proofs.BuryLaws.{doomed_stands, off_buried, freed-doomed, IsIntact-buried, live_rows-buried}
 use Rattle.crack_store.specs.Hand.{hand_of, carried_of}
 use Rattle.crack_store.proofs.HandLemmas.{when_some}
-use Rattle.crack_store.proofs.RememberLemmas.{Remembers-off, RemembersKeys-off}
+use Rattle.crack_store.proofs.RememberLemmas.{Remembers-off}
 use Rattle.crack_store.proofs.steps.free_hand.Goals as goal
 
 pub strike-requires : goal.strike-requires
@@ -36,8 +36,8 @@ returns-clause-intact c =
     record {
       intact = rw (freed c, c.shrink_if_empty.ensures.same, c.strike.ensures.handles, c.aside-hand.ensures, c.saturating_add-inside.ensures) (IsIntact-buried carried c.requires.doomed c.requires.hand.kept.intact);
       remembers = rw (freed c) (Remembers-off hand.slot s.cells (buried carried).cells s.column c.args.inside.now.column.remembered agree apart.off_column c.requires.hand.kept.remembers);
-      keys_in = rw (freed c) (RemembersKeys-off hand.slot s.cells (buried carried).cells s.pending_in c.args.inside.now.pending_in.keys agree apart.off_pending c.requires.hand.kept.keys_in);
-      keys_out = rw (freed c) (RemembersKeys-off hand.slot s.cells (buried carried).cells c.shrink_if_empty.new.self.handles c.shrink_if_empty.new.self.keys agree (rw (c.shrink_if_empty.ensures.same, c.strike.ensures.handles, c.aside-hand.ensures) (off_buried carried c.requires.doomed c.requires.hand.kept.intact)) (c.shrink_if_empty.ensures.remembered s.cells (c.strike.ensures.remembered s.cells c.requires.hand.kept.keys_out)));
+      keys_in = rw (freed c) (Remembers-off hand.slot s.cells (buried carried).cells s.pending_in c.args.inside.now.pending_in.remembered agree apart.off_pending c.requires.hand.kept.keys_in);
+      keys_out = rw (freed c) (Remembers-off hand.slot s.cells (buried carried).cells c.shrink_if_empty.new.self.handles c.shrink_if_empty.new.self.remembered agree (rw (c.shrink_if_empty.ensures.same, c.strike.ensures.handles, c.aside-hand.ensures) (off_buried carried c.requires.doomed c.requires.hand.kept.intact)) (c.shrink_if_empty.ensures.remembered s.cells (c.strike.ensures.remembered s.cells c.requires.hand.kept.keys_out)));
       room = c.requires.hand.kept.room;
       covered = rw (freed c) (omega (arith, c.requires.hand.kept.covered, length-set s.cells hand.slot (record { generation = hand.generation + 1; value = None })));
     }

@@ -8,7 +8,7 @@ use Rattle.crack_bulk.specs.Pulled.{buried_all}
 use Rattle.crack_bulk.proofs.AllLaws.{IsKept-in_bulk}
 use Rattle.crack_store.specs.Inside.{lists_of}
 use Rattle.crack_store.specs.declared.inside.Inside.{Inside}
-use Rattle.crack_store.proofs.DrainLemmas.{buried-length, Remembers-buried, RemembersKeys-buried}
+use Rattle.crack_store.proofs.DrainLemmas.{buried-length, Remembers-buried}
 use Rattle.crack_store.proofs.SweepWalks.{IsDone, ready-begins, done-of, take-done, hands, carried-is, buried-hands}
 use Rattle.crack_store.proofs.sweeping.sweep_rows.Goals as goal
 use Rattle.crack_store.proofs.sweeping.sweep_rows.Goals.{After-sweep_last, After-deref}
@@ -109,8 +109,8 @@ returns-clause-intact c =
     record {
       intact = whole;
       remembers = rw cells_are (Remembers-buried hs t q.column.handles q.column.remembered (rw cells_are at whole.owned.column_reads) (rw column c.take_doomed.ensures.remembers));
-      keys_in = rw cells_are (RemembersKeys-buried hs t q.pending_in.handles q.pending_in.keys (rw cells_are at whole.owned.pending_reads) (rw pending (c.shrink_if_empty.ensures.remembered p.arena.cells c.take_rows.ensures.keys)));
-      keys_out = rw cells_are (RemembersKeys-buried hs t q.pending_out.handles q.pending_out.keys (rw cells_are at whole.owned.doomed_reads) (keys.keys p.arena.cells c.requires.intact.keys_out));
+      keys_in = rw cells_are (Remembers-buried hs t q.pending_in.handles q.pending_in.remembered (rw cells_are at whole.owned.pending_reads) (rw pending (c.shrink_if_empty.ensures.remembered p.arena.cells c.take_rows.ensures.keys)));
+      keys_out = rw cells_are (Remembers-buried hs t q.pending_out.handles q.pending_out.remembered (rw cells_are at whole.owned.doomed_reads) (keys.keys p.arena.cells c.requires.intact.keys_out));
       room = rw (in_room, pending) c.shrink_if_empty.ensures.sure;
       covered = rw (cells_are, pending) (omega (arith, buried-length hs t, covered, c.requires.intact.covered));
     }

@@ -1,7 +1,7 @@
-use Rattle.std.proofs.Common.{◌≡◌, ◌+◌, ◌++◌, ◌∷◌, [], length, map, get_or, take, drop, Some, sym, ap, ◌∙◌, inr, arith}
+use Rattle.std.proofs.Common.{◌≡◌, ◌+◌, ◌++◌, ◌∷◌, [], length, map, get_or, take, drop, sym, ap, ◌∙◌, inr, arith}
 use Rattle.std.proofs.lemmas.List.{append-nil, append_assoc, map-append, length_push, drop_all, take_all, take_more, get_or_default}
-use Rattle.crack_arena.specs.Arena.{read, no_handle}
-use Rattle.crack_column.specs.Column.{Column, memory_at}
+use Rattle.crack_arena.specs.Arena.{no_handle}
+use Rattle.crack_column.specs.Column.{Column, memory_at, nothing}
 use Rattle.crack_store.proofs.TakeLemmas.{drop-push, behind-read}
 use Rattle.crack_store.proofs.taking.append_taken.Goals as goal
 
@@ -18,8 +18,15 @@ rows-init c =
       room = omega (arith, c.requires.room);
     }
 
-pub row_at-requires : goal.row_at-requires
-row_at-requires c = rw (← c.index-rows-i.is) at (c.requires.reads c.rows.i c.index-rows-i.result c.rows-test.true)
+pub or_read-requires : goal.or_read-requires
+or_read-requires c =
+    let rows = c.args.rows.now in
+    let known = c.args.known.now in
+    let h = c.index-rows-i.result in
+    let m = c.index-known-i.result in
+    let same : get_or rows c.rows.i no_handle ≡ h = get_or_default rows c.rows.i no_handle h c.rows-test.true ∙ sym c.index-rows-i.is in
+    let memory : get_or known c.rows.i nothing ≡ m = get_or_default known c.rows.i nothing m (omega (arith, c.rows-test.true, c.requires.known.beside)) ∙ sym c.index-known-i.is in
+    rw (same, memory) at (c.requires.known.right c.rows.i no_handle c.rows-test.true)
 
 pub append_remembered-requires : goal.append_remembered-requires
 append_remembered-requires c = omega (arith, c.rows.invariant.room, c.rows-test.true)
@@ -32,15 +39,14 @@ rows-preserved c =
     let h = c.index-rows-i.result in
     let after = c.append_remembered.ensures.after in
     let column : c.append_remembered.new.self.handles ≡ c.rows.column.handles ++ h ∷ [] = ap (λ (x : Column). x.handles) after in
-    let memories : c.append_remembered.new.self.remembered ≡ c.rows.column.remembered ++ c.of.result ∷ [] = ap (λ (x : Column). x.remembered) after in
+    let memories : c.append_remembered.new.self.remembered ≡ c.rows.column.remembered ++ c.or_read.result ∷ [] = ap (λ (x : Column). x.remembered) after in
     let places = ap (λ (x : Column). x.room) after in
-    let reads : read cells h ≡ Some c.row_at.result = c.row_at.ensures in
-    let known : c.of.result ≡ memory_at cells h = rw reads c.of.ensures in
+    let known : c.or_read.result ≡ memory_at cells h = c.or_read.ensures in
     let same : get_or rows i no_handle ≡ h = get_or_default rows i no_handle h (omega (arith, c.rows-test.true)) ∙ sym c.index-rows-i.is in
     let more : take (i + 1) rows ≡ take i rows ++ h ∷ [] = take_more rows i no_handle (omega (arith, c.rows-test.true)) ∙ ap (λ x. take i rows ++ x ∷ []) same in
     let start = length c.args.column.now.handles in
     let beside = c.rows.invariant.remembered.beside in
-    let behind_memories = drop-push start c.rows.column.remembered c.of.result (omega (arith, beside, c.rows.invariant.longer)) in
+    let behind_memories = drop-push start c.rows.column.remembered c.or_read.result (omega (arith, beside, c.rows.invariant.longer)) in
     let behind_handles = drop-push start c.rows.column.handles h c.rows.invariant.longer in
     record {
       handles = rw (column, more) (ap (λ xs. xs ++ h ∷ []) c.rows.invariant.handles ∙ append_assoc c.args.column.now.handles (take i rows) (h ∷ []));

@@ -5,6 +5,3 @@ pub invariant_of-self : goal.invariant_of-self
 invariant_of-self g c =
     let i = c.self.inside in
     rw (c.push.ensures.after) (marked_more i.marks c.put.new.self i.list.handles i.list.covered c.self.invariant c.args.handle c.put.ensures.long (rw c.slot.ensures at c.put.ensures.there) (rw c.slot.ensures at c.put.ensures.others))
-
-pub returns-clause-forgotten : goal.returns-clause-forgotten
-returns-clause-forgotten g c = rw (← c.self.view_is) c.push.ensures.forgotten

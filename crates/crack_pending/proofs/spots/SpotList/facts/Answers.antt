@@ -17,4 +17,4 @@ returns-clause-covered c =
 pub returns-clause-beside : goal.returns-clause-beside
 returns-clause-beside c =
     let a = c.self.invariant.0 in
-    rw (← c.self.view_is) (length-kept c.self.inside.stands.items c.self.inside.keys.items (omega (arith, a.stands_beside, a.keys_beside)) ∙ sym (length-kept c.self.inside.stands.items c.self.inside.handles.items a.stands_beside))
+    rw (← c.self.view_is) (length-kept c.self.inside.stands.items c.self.inside.remembered.items (omega (arith, a.stands_beside, a.keys_beside)) ∙ sym (length-kept c.self.inside.stands.items c.self.inside.handles.items a.stands_beside))

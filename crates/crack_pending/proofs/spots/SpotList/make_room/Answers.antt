@@ -8,15 +8,15 @@ pub invariant_of-self : goal.invariant_of-self
 invariant_of-self c =
     let a = c.self.invariant.0 in
     let i = c.self.inside in
-    let closed : IsClosed i.handles.items i.keys.items i.stands.items i.rows c.close_up.new.handles.items c.close_up.new.keys.items c.close_up.new.stands.items = record {
+    let closed : IsClosed i.handles.items i.remembered.items i.stands.items i.rows c.close_up.new.handles.items c.close_up.new.remembered.items c.close_up.new.stands.items = record {
       handles_are = c.close_up.ensures.handles;
       keys_are = c.close_up.ensures.keys;
       long = omega (arith, c.close_up.ensures.rows);
       full = c.close_up.ensures.full;
     } in
     rw (c.grow.ensures.handles, c.grow.ensures.keys, c.grow.ensures.stands) (
-      closed-kept i.handles.items i.keys.items i.stands.items i.spots.items i.rows i.noted i.hint_place i.hint_spot a _ _ _ closed,
-      rw (closed-keys i.handles.items i.keys.items i.stands.items i.spots.items i.rows i.noted i.hint_place i.hint_spot a _ _ _ closed) c.self.invariant.1,
+      closed-kept i.handles.items i.remembered.items i.stands.items i.spots.items i.rows i.noted i.hint_place i.hint_spot a _ _ _ closed,
+      rw (closed-keys i.handles.items i.remembered.items i.stands.items i.spots.items i.rows i.noted i.hint_place i.hint_spot a _ _ _ closed) c.self.invariant.1,
       coded_none _ _ c.clear.new.self c.clear.ensures,
     )
 
@@ -24,48 +24,48 @@ pub returns-clause-same : goal.returns-clause-same
 returns-clause-same c =
     let a = c.self.invariant.0 in
     let i = c.self.inside in
-    let closed : IsClosed i.handles.items i.keys.items i.stands.items i.rows c.close_up.new.handles.items c.close_up.new.keys.items c.close_up.new.stands.items = record {
+    let closed : IsClosed i.handles.items i.remembered.items i.stands.items i.rows c.close_up.new.handles.items c.close_up.new.remembered.items c.close_up.new.stands.items = record {
       handles_are = c.close_up.ensures.handles;
       keys_are = c.close_up.ensures.keys;
       long = omega (arith, c.close_up.ensures.rows);
       full = c.close_up.ensures.full;
     } in
-    let handles = closed-handles i.handles.items i.keys.items i.stands.items i.spots.items i.rows i.noted i.hint_place i.hint_spot a _ _ _ closed in
-    let keys = closed-keys i.handles.items i.keys.items i.stands.items i.spots.items i.rows i.noted i.hint_place i.hint_spot a _ _ _ closed in
-    rw (← c.self.view_is) (same_view _ _ _ _ _ _ _ (rw (c.grow.ensures.handles, c.grow.ensures.stands) handles) (rw (c.grow.ensures.keys, c.grow.ensures.stands) keys) refl)
+    let handles = closed-handles i.handles.items i.remembered.items i.stands.items i.spots.items i.rows i.noted i.hint_place i.hint_spot a _ _ _ closed in
+    let remembered = closed-keys i.handles.items i.remembered.items i.stands.items i.spots.items i.rows i.noted i.hint_place i.hint_spot a _ _ _ closed in
+    rw (← c.self.view_is) (same_view _ _ _ _ _ _ _ (rw (c.grow.ensures.handles, c.grow.ensures.stands) handles) (rw (c.grow.ensures.keys, c.grow.ensures.stands) remembered) refl)
 
 pub returns-clause-room : goal.returns-clause-room
 returns-clause-room c =
     let a = c.self.invariant.0 in
     let i = c.self.inside in
-    let closed : IsClosed i.handles.items i.keys.items i.stands.items i.rows c.close_up.new.handles.items c.close_up.new.keys.items c.close_up.new.stands.items = record {
+    let closed : IsClosed i.handles.items i.remembered.items i.stands.items i.rows c.close_up.new.handles.items c.close_up.new.remembered.items c.close_up.new.stands.items = record {
       handles_are = c.close_up.ensures.handles;
       keys_are = c.close_up.ensures.keys;
       long = omega (arith, c.close_up.ensures.rows);
       full = c.close_up.ensures.full;
     } in
-    let rows = closed-rows i.handles.items i.keys.items i.stands.items i.spots.items i.rows i.noted i.hint_place i.hint_spot a _ _ _ closed in
+    let rows = closed-rows i.handles.items i.remembered.items i.stands.items i.spots.items i.rows i.noted i.hint_place i.hint_spot a _ _ _ closed in
     let few = rw (← c.self.view_is) at c.requires in
     let long : length c.grow.new.handles.items ≡ i.rows = ap length c.grow.ensures.handles ∙ rows in
     let kept_rows = length-kept i.stands.items i.handles.items a.stands_beside in
     let more : c.args.additional ≤ c.max-wanted.result = omega (arith, c.max-wanted.ensures) in
     let h : vec_len c.close_up.new.handles ≡ i.rows = omega (arith, rows) in
-    let k : vec_len c.close_up.new.keys ≡ i.rows = omega (arith, ap length c.close_up.ensures.keys, length-kept i.stands.items i.keys.items (omega (arith, a.stands_beside, a.keys_beside)), a.counted) in
+    let k : vec_len c.close_up.new.remembered ≡ i.rows = omega (arith, ap length c.close_up.ensures.keys, length-kept i.stands.items i.remembered.items (omega (arith, a.stands_beside, a.keys_beside)), a.counted) in
     let s : vec_len c.close_up.new.stands ≡ i.rows = omega (arith, c.close_up.ensures.rows) in
     OnOk_three c.grow.result _ _ _ _ c.grow.ensures.handle_room c.grow.ensures.key_room c.grow.ensures.stand_room (λ handle_room key_room stand_room.
-    rw long (room-enough i.rows c.args.additional (vec_capacity c.grow.new.handles) (vec_capacity c.grow.new.keys) (vec_capacity c.grow.new.stands) (omega (arith, few, kept_rows, a.counted)) (omega (arith, handle_room, h, more)) (omega (arith, key_room, k, more)) (omega (arith, stand_room, s, more))))
+    rw long (room-enough i.rows c.args.additional (vec_capacity c.grow.new.handles) (vec_capacity c.grow.new.remembered) (vec_capacity c.grow.new.stands) (omega (arith, few, kept_rows, a.counted)) (omega (arith, handle_room, h, more)) (omega (arith, key_room, k, more)) (omega (arith, stand_room, s, more))))
 
 pub returns-clause-kept : goal.returns-clause-kept
 returns-clause-kept c =
     let a = c.self.invariant.0 in
     let i = c.self.inside in
-    let closed : IsClosed i.handles.items i.keys.items i.stands.items i.rows c.close_up.new.handles.items c.close_up.new.keys.items c.close_up.new.stands.items = record {
+    let closed : IsClosed i.handles.items i.remembered.items i.stands.items i.rows c.close_up.new.handles.items c.close_up.new.remembered.items c.close_up.new.stands.items = record {
       handles_are = c.close_up.ensures.handles;
       keys_are = c.close_up.ensures.keys;
       long = omega (arith, c.close_up.ensures.rows);
       full = c.close_up.ensures.full;
     } in
-    let fewer = closed-fewer i.handles.items i.keys.items i.stands.items i.spots.items i.rows i.noted i.hint_place i.hint_spot a _ _ _ closed in
+    let fewer = closed-fewer i.handles.items i.remembered.items i.stands.items i.spots.items i.rows i.noted i.hint_place i.hint_spot a _ _ _ closed in
     let long : length c.grow.new.handles.items ≤ length i.handles.items = omega (arith, ap length c.grow.ensures.handles, fewer) in
     rw (← c.self.view_is) (room-more _ _ _ _ _ _ _ _ long (omega (arith, c.grow.ensures.handle_kept, c.close_up.ensures.handle_capacity)) (omega (arith, c.grow.ensures.key_kept, c.close_up.ensures.key_capacity)) (omega (arith, c.grow.ensures.stand_kept, c.close_up.ensures.stand_capacity)))
 
@@ -73,11 +73,11 @@ pub returns-clause-remembered : goal.returns-clause-remembered
 returns-clause-remembered c = λ cells r.
     let a = c.self.invariant.0 in
     let i = c.self.inside in
-    let closed : IsClosed i.handles.items i.keys.items i.stands.items i.rows c.close_up.new.handles.items c.close_up.new.keys.items c.close_up.new.stands.items = record {
+    let closed : IsClosed i.handles.items i.remembered.items i.stands.items i.rows c.close_up.new.handles.items c.close_up.new.remembered.items c.close_up.new.stands.items = record {
       handles_are = c.close_up.ensures.handles;
       keys_are = c.close_up.ensures.keys;
       long = omega (arith, c.close_up.ensures.rows);
       full = c.close_up.ensures.full;
     } in
     let known = rw (← c.self.view_is) at r in
-    rw (c.grow.ensures.handles, c.grow.ensures.keys, c.grow.ensures.stands, closed-handles i.handles.items i.keys.items i.stands.items i.spots.items i.rows i.noted i.hint_place i.hint_spot a _ _ _ closed, closed-keys i.handles.items i.keys.items i.stands.items i.spots.items i.rows i.noted i.hint_place i.hint_spot a _ _ _ closed) known
+    rw (c.grow.ensures.handles, c.grow.ensures.keys, c.grow.ensures.stands, closed-handles i.handles.items i.remembered.items i.stands.items i.spots.items i.rows i.noted i.hint_place i.hint_spot a _ _ _ closed, closed-keys i.handles.items i.remembered.items i.stands.items i.spots.items i.rows i.noted i.hint_place i.hint_spot a _ _ _ closed) known

@@ -1,5 +1,6 @@
-use Rattle.std.proofs.Common.{◌≡◌, ◌+◌, ◌-◌, ◌∷◌, [], ◌++◌, length, nat_eq, vec_capacity, refl, ap, inl, inr, ◌∙◌, arith, length-append}
-use Rattle.crack_arena.proofs.Remembering.{RemembersKeys-append}
+use Rattle.std.proofs.Common.{◌≡◌, ◌+◌, ◌-◌, ◌∷◌, [], ◌++◌, length, nat_eq, vec_capacity, refl, ap, ◌∙◌, arith, length-append}
+use Rattle.crack_column.proofs.Remembering.{Remembers-append}
+use Rattle.crack_arena.specs.Arena.{times}
 use Rattle.crack_arena.specs.Rows.{unknown}
 use Rattle.crack_pending.specs.Spots.{kept, spot_room}
 use Rattle.crack_pending.proofs.Kept.{kept-push, place_at-few}
@@ -17,7 +18,7 @@ pub overflow_add-self-2 : goal.overflow_add-self-2
 overflow_add-self-2 c =
     let a = c.self.invariant.0 in
     let i = c.self.inside in
-    omega (arith, c.self.invariant.1, counted_few i.keys.items i.stands.items (omega (arith, a.stands_beside, a.keys_beside)), a.few, a.keys_beside, byte_few (nat_eq c.args.key unknown))
+    omega (arith, c.self.invariant.1, counted_few i.remembered.items i.stands.items (omega (arith, a.stands_beside, a.keys_beside)), a.few, a.keys_beside, byte_few (nat_eq c.key.result unknown))
 
 pub invariant_of-self : goal.invariant_of-self
 invariant_of-self c =
@@ -27,9 +28,9 @@ invariant_of-self c =
     let covered = rw (← c.self.view_is) at c.requires.covered in
     let absent = rw (← c.self.view_is) at c.requires.absent in
     rw (c.push_reserved.ensures.items, c.push_reserved-2.ensures.items, c.push_reserved-3.ensures.items) (
-      kept_more i.handles.items i.keys.items i.stands.items i.spots.items i.rows i.noted i.hint_place i.hint_spot a c.args.handle c.args.key (room-some _ _ _ _ room).0 covered absent,
-      omega (arith, c.self.invariant.1, counted_one c.args.key, counted_push i.keys.items i.stands.items (omega (arith, a.stands_beside, a.keys_beside)) c.args.key),
-      coded_push i.keys.items i.stands.items i.codes c.self.invariant.2 c.args.key (omega (arith, a.stands_beside, a.keys_beside)),
+      kept_more i.handles.items i.remembered.items i.stands.items i.spots.items i.rows i.noted i.hint_place i.hint_spot a c.args.handle c.args.remembered (room-some _ _ _ _ room).0 covered absent,
+      omega (arith, c.self.invariant.1, counted_one c.key.result ∙ ap (λ k. times unknown (k ∷ [])) c.key.ensures, counted_push i.remembered.items i.stands.items (omega (arith, a.stands_beside, a.keys_beside)) c.args.remembered),
+      coded_push i.remembered.items i.stands.items i.codes c.self.invariant.2 c.args.remembered (omega (arith, a.stands_beside, a.keys_beside)),
     )
 
 pub returns-clause-after : goal.returns-clause-after
@@ -39,27 +40,18 @@ returns-clause-after c =
     let h = c.args.handle in
     let handles : kept c.push_reserved-3.new.self.items c.push_reserved.new.self.items ≡ kept i.stands.items i.handles.items ++ h ∷ [] =
     rw (c.push_reserved.ensures.items, c.push_reserved-3.ensures.items) (kept-push i.stands.items i.handles.items h a.stands_beside) in
-    let keys : kept c.push_reserved-3.new.self.items c.push_reserved-2.new.self.items ≡ kept i.stands.items i.keys.items ++ c.args.key ∷ [] =
-    rw (c.push_reserved-2.ensures.items, c.push_reserved-3.ensures.items) (kept-push i.stands.items i.keys.items c.args.key (omega (arith, a.stands_beside, a.keys_beside))) in
+    let remembered : kept c.push_reserved-3.new.self.items c.push_reserved-2.new.self.items ≡ kept i.stands.items i.remembered.items ++ c.args.remembered ∷ [] =
+    rw (c.push_reserved-2.ensures.items, c.push_reserved-3.ensures.items) (kept-push i.stands.items i.remembered.items c.args.remembered (omega (arith, a.stands_beside, a.keys_beside))) in
     let long : length c.push_reserved.new.self.items ≡ length i.handles.items + 1 = ap length c.push_reserved.ensures.items ∙ omega (arith, length-append i.handles.items (h ∷ [])) in
-    let room : spot_room (length c.push_reserved.new.self.items) (vec_capacity c.push_reserved.new.self) (vec_capacity c.push_reserved-2.new.self) (vec_capacity c.push_reserved-3.new.self) ≡ spot_room (length i.handles.items) (vec_capacity i.handles) (vec_capacity i.keys) (vec_capacity i.stands) - 1 =
-    rw (long, c.push_reserved.ensures.capacity, c.push_reserved-2.ensures.capacity, c.push_reserved-3.ensures.capacity) (room-less (length i.handles.items) (vec_capacity i.handles) (vec_capacity i.keys) (vec_capacity i.stands)) in
-    rw (← c.self.view_is) (view_after _ _ _ _ _ _ _ _ handles keys room refl)
+    let room : spot_room (length c.push_reserved.new.self.items) (vec_capacity c.push_reserved.new.self) (vec_capacity c.push_reserved-2.new.self) (vec_capacity c.push_reserved-3.new.self) ≡ spot_room (length i.handles.items) (vec_capacity i.handles) (vec_capacity i.remembered) (vec_capacity i.stands) - 1 =
+    rw (long, c.push_reserved.ensures.capacity, c.push_reserved-2.ensures.capacity, c.push_reserved-3.ensures.capacity) (room-less (length i.handles.items) (vec_capacity i.handles) (vec_capacity i.remembered) (vec_capacity i.stands)) in
+    rw (← c.self.view_is) (view_after _ _ _ _ _ _ _ _ handles remembered room refl)
 
 pub returns-clause-remembered : goal.returns-clause-remembered
 returns-clause-remembered c = λ cells is r.
     let a = c.self.invariant.0 in
     let i = c.self.inside in
     let known = rw (← c.self.view_is) at r in
-    let beside : length i.stands.items ≡ length i.keys.items = omega (arith, a.stands_beside, a.keys_beside) in
-    rw (c.push_reserved.ensures.items, c.push_reserved-2.ensures.items, c.push_reserved-3.ensures.items, kept-push i.stands.items i.handles.items c.args.handle a.stands_beside, kept-push i.stands.items i.keys.items c.args.key beside)
-    (RemembersKeys-append cells (kept i.stands.items i.handles.items) (kept i.stands.items i.keys.items) c.args.handle c.args.key (inr is) known)
-
-pub returns-clause-forgotten : goal.returns-clause-forgotten
-returns-clause-forgotten c = λ is cells r.
-    let a = c.self.invariant.0 in
-    let i = c.self.inside in
-    let known = rw (← c.self.view_is) at r in
-    let beside : length i.stands.items ≡ length i.keys.items = omega (arith, a.stands_beside, a.keys_beside) in
-    rw (c.push_reserved.ensures.items, c.push_reserved-2.ensures.items, c.push_reserved-3.ensures.items, kept-push i.stands.items i.handles.items c.args.handle a.stands_beside, kept-push i.stands.items i.keys.items c.args.key beside)
-    (RemembersKeys-append cells (kept i.stands.items i.handles.items) (kept i.stands.items i.keys.items) c.args.handle c.args.key (inl is) known)
+    let beside : length i.stands.items ≡ length i.remembered.items = omega (arith, a.stands_beside, a.keys_beside) in
+    rw (c.push_reserved.ensures.items, c.push_reserved-2.ensures.items, c.push_reserved-3.ensures.items, kept-push i.stands.items i.handles.items c.args.handle a.stands_beside, kept-push i.stands.items i.remembered.items c.args.remembered beside)
+    (Remembers-append cells (kept i.stands.items i.handles.items) (kept i.stands.items i.remembered.items) c.args.handle c.args.remembered is known)

@@ -1,7 +1,7 @@
 use Rattle.std.proofs.Common.{◌≡◌, arith, ltb-false}
 use Rattle.crack_pending.proofs.Kept.{length-kept, place_at-few}
 use Rattle.crack_pending.proofs.Searches.{length-keys_at}
-use Rattle.crack_pending.proofs.Views.{KnowKeys-kept, finds-none, finds-some}
+use Rattle.crack_pending.proofs.Views.{KnowRows-kept, finds-none, finds-some}
 use Rattle.crack_pending.specs.Spots.{kept}
 use Rattle.crack_pending.proofs.Unknown.{counted_none}
 use Rattle.crack_pending.proofs.spots.SpotList.seek_in.Goals as goal
@@ -17,14 +17,14 @@ pub next_hit-requires-clause-known : goal.next_hit-requires-clause-known
 next_hit-requires-clause-known c =
     let a = c.self.invariant.0 in
     let right = rw (← c.self.view_is) at c.requires in
-    rw (c.deref-2.ensures.value, c.deref-3.ensures.value, c.deref-4.ensures.value) (KnowKeys-kept c.args.arena.now.cells c.self.inside.handles.items c.self.inside.keys.items c.self.inside.stands.items a.stands_beside a.keys_beside right)
+    rw (c.deref-2.ensures.value, c.deref-3.ensures.value, c.deref-4.ensures.value) (KnowRows-kept c.args.arena.now.cells c.self.inside.handles.items c.self.inside.remembered.items c.self.inside.stands.items a.stands_beside a.keys_beside right)
 
 pub next_hit-requires-clause-all_known : goal.next_hit-requires-clause-all_known
 next_hit-requires-clause-all_known c = λ none.
     let a = c.self.invariant.0 in
     let i = c.self.inside in
     let zero : i.unknowns ≡ 0 = omega (arith, ltb-false 0 i.unknowns none) in
-    rw (c.deref-3.ensures.value, c.deref-4.ensures.value) (counted_none i.keys.items i.stands.items (omega (arith, a.stands_beside, a.keys_beside)) (omega (arith, c.self.invariant.1, zero)))
+    rw (c.deref-3.ensures.value, c.deref-4.ensures.value) (counted_none i.remembered.items i.stands.items (omega (arith, a.stands_beside, a.keys_beside)) (omega (arith, c.self.invariant.1, zero)))
 
 pub overflow_add-self : goal.overflow_add-self
 overflow_add-self c =

@@ -2,7 +2,7 @@ use Rattle.std.proofs.Common.{◌≡◌, length, ap, ◌∙◌, arith}
 use Rattle.std.specs.List.{remove}
 use Rattle.crack_arena.specs.Arena.{place_in}
 use Rattle.crack_arena.proofs.Places.{place_in-within}
-use Rattle.crack_arena.proofs.Remembering.{RemembersKeys-remove}
+use Rattle.crack_pending.proofs.Remembering.{Remembers-remove}
 use Rattle.crack_pending.specs.Pending.{Pending}
 use Rattle.crack_pending.specs.Spots.{kept}
 use Rattle.crack_pending.proofs.Kept.{place_at-before, Stands-within}
@@ -37,7 +37,7 @@ unknowns_without-self-inside-requires-clause-counted c = λ is.
     let a = c.self.invariant.0 in
     let i = c.self.inside in
     let with = rw (c.deref.ensures.value, c.deref-2.ensures.value) at c.in-Some.ensures.found in
-    omega (arith, c.self.invariant.1, counted_some i.keys.items i.stands.items (omega (arith, a.stands_beside, a.keys_beside)) c.in-Some.spot with.stands_there (rw (c.deref-4.ensures.value) at is))
+    omega (arith, c.self.invariant.1, counted_some i.remembered.items i.stands.items (omega (arith, a.stands_beside, a.keys_beside)) c.in-Some.spot with.stands_there (rw (c.deref-4.ensures.value) at is))
 
 pub invariant_of-self : goal.invariant_of-self
 invariant_of-self c =
@@ -46,7 +46,7 @@ invariant_of-self c =
     let all = rw (c.deref.ensures.value) at c.spot_noted.ensures.all in
     let led = rw (c.deref.ensures.value, c.deref-2.ensures.value) at c.spot_noted.ensures.led in
     rw all (
-      kept_noted i.handles.items i.keys.items i.stands.items i.spots.items i.rows i.noted i.hint_place i.hint_spot a c.spot_noted.new.spots.items (omega (arith, c.spot_noted.ensures.covered)) led,
+      kept_noted i.handles.items i.remembered.items i.stands.items i.spots.items i.rows i.noted i.hint_place i.hint_spot a c.spot_noted.new.spots.items (omega (arith, c.spot_noted.ensures.covered)) led,
       c.self.invariant.1,
       c.self.invariant.2,
     )
@@ -60,11 +60,11 @@ invariant_of-self-2 c =
     let less = rw (c.deref-4.ensures.value) at c.unknowns_without-self-inside.ensures in
     let all = rw (c.deref.ensures.value) at c.spot_noted.ensures.all in
     let led = rw (c.deref.ensures.value, c.deref-2.ensures.value) at c.spot_noted.ensures.led in
-    let noted = kept_noted i.handles.items i.keys.items i.stands.items i.spots.items i.rows i.noted i.hint_place i.hint_spot a c.spot_noted.new.spots.items (omega (arith, c.spot_noted.ensures.covered)) led in
+    let noted = kept_noted i.handles.items i.remembered.items i.stands.items i.spots.items i.rows i.noted i.hint_place i.hint_spot a c.spot_noted.new.spots.items (omega (arith, c.spot_noted.ensures.covered)) led in
     rw all (
-      kept_hole i.handles.items i.keys.items i.stands.items c.spot_noted.new.spots.items i.rows (length i.handles.items) i.hint_place i.hint_spot noted c.in-Some.spot c.hint_without-self-inside.result i.hint_spot with.stands_there a.near hint,
-      omega (arith, c.self.invariant.1, less, counted_hole i.keys.items i.stands.items (omega (arith, a.stands_beside, a.keys_beside)) c.in-Some.spot with.stands_there),
-      rw (c.leave_hole.ensures) (coded_hole i.keys.items i.stands.items i.codes c.self.invariant.2 c.in-Some.spot with.stands_there),
+      kept_hole i.handles.items i.remembered.items i.stands.items c.spot_noted.new.spots.items i.rows (length i.handles.items) i.hint_place i.hint_spot noted c.in-Some.spot c.hint_without-self-inside.result i.hint_spot with.stands_there a.near hint,
+      omega (arith, c.self.invariant.1, less, counted_hole i.remembered.items i.stands.items (omega (arith, a.stands_beside, a.keys_beside)) c.in-Some.spot with.stands_there),
+      rw (c.leave_hole.ensures) (coded_hole i.remembered.items i.stands.items i.codes c.self.invariant.2 c.in-Some.spot with.stands_there),
     )
 
 pub returns-clause-handles : goal.returns-clause-handles
@@ -72,14 +72,14 @@ returns-clause-handles c =
     let a = c.self.invariant.0 in
     let i = c.self.inside in
     let with = rw (c.deref.ensures.value, c.deref-2.ensures.value) at c.in-Some.ensures.found in
-    rw (← c.self.view_is) (ap (λ (p : Pending). p.handles) c.close_up_if_sparse.ensures.same ∙ struck i.handles.items i.keys.items i.stands.items a.stands_beside a.keys_beside a.apart c.args.slot c.in-Some.spot with i.handles.items a.stands_beside)
+    rw (← c.self.view_is) (ap (λ (p : Pending). p.handles) c.close_up_if_sparse.ensures.same ∙ struck i.handles.items i.remembered.items i.stands.items a.stands_beside a.keys_beside a.apart c.args.slot c.in-Some.spot with i.handles.items a.stands_beside)
 
 pub returns-clause-keys : goal.returns-clause-keys
 returns-clause-keys c =
     let a = c.self.invariant.0 in
     let i = c.self.inside in
     let with = rw (c.deref.ensures.value, c.deref-2.ensures.value) at c.in-Some.ensures.found in
-    rw (← c.self.view_is) (ap (λ (p : Pending). p.keys) c.close_up_if_sparse.ensures.same ∙ struck i.handles.items i.keys.items i.stands.items a.stands_beside a.keys_beside a.apart c.args.slot c.in-Some.spot with i.keys.items (omega (arith, a.stands_beside, a.keys_beside)))
+    rw (← c.self.view_is) (ap (λ (p : Pending). p.remembered) c.close_up_if_sparse.ensures.same ∙ struck i.handles.items i.remembered.items i.stands.items a.stands_beside a.keys_beside a.apart c.args.slot c.in-Some.spot with i.remembered.items (omega (arith, a.stands_beside, a.keys_beside)))
 
 pub returns-clause-remembered : goal.returns-clause-remembered
 returns-clause-remembered c = λ cells r.
@@ -89,7 +89,7 @@ returns-clause-remembered c = λ cells r.
     let known = rw (← c.self.view_is) at r in
     let rows = kept i.stands.items i.handles.items in
     let handles : c.close_up_if_sparse.new.self.handles ≡ remove rows (place_in rows c.args.slot) =
-    ap (λ (p : Pending). p.handles) c.close_up_if_sparse.ensures.same ∙ struck i.handles.items i.keys.items i.stands.items a.stands_beside a.keys_beside a.apart c.args.slot c.in-Some.spot with i.handles.items a.stands_beside in
-    let keys : c.close_up_if_sparse.new.self.keys ≡ remove (kept i.stands.items i.keys.items) (place_in rows c.args.slot) =
-    ap (λ (p : Pending). p.keys) c.close_up_if_sparse.ensures.same ∙ struck i.handles.items i.keys.items i.stands.items a.stands_beside a.keys_beside a.apart c.args.slot c.in-Some.spot with i.keys.items (omega (arith, a.stands_beside, a.keys_beside)) in
-    rw (handles, keys) (RemembersKeys-remove cells rows (kept i.stands.items i.keys.items) (place_in rows c.args.slot) (place_in-within rows c.args.slot (spot-times i.handles.items i.stands.items a.stands_beside c.args.slot c.in-Some.spot with)) known)
+    ap (λ (p : Pending). p.handles) c.close_up_if_sparse.ensures.same ∙ struck i.handles.items i.remembered.items i.stands.items a.stands_beside a.keys_beside a.apart c.args.slot c.in-Some.spot with i.handles.items a.stands_beside in
+    let remembered : c.close_up_if_sparse.new.self.remembered ≡ remove (kept i.stands.items i.remembered.items) (place_in rows c.args.slot) =
+    ap (λ (p : Pending). p.remembered) c.close_up_if_sparse.ensures.same ∙ struck i.handles.items i.remembered.items i.stands.items a.stands_beside a.keys_beside a.apart c.args.slot c.in-Some.spot with i.remembered.items (omega (arith, a.stands_beside, a.keys_beside)) in
+    rw (handles, remembered) (Remembers-remove cells rows (kept i.stands.items i.remembered.items) (place_in rows c.args.slot) (place_in-within rows c.args.slot (spot-times i.handles.items i.stands.items a.stands_beside c.args.slot c.in-Some.spot with)) known)

@@ -1,6 +1,6 @@
 use Rattle.std.proofs.Common.{◌≡◌, sym, ap, ◌∙◌, arith}
 use Rattle.std.specs.List.{remove}
-use Rattle.crack_arena.proofs.Remembering.{RemembersKeys-remove}
+use Rattle.crack_pending.proofs.Remembering.{Remembers-remove}
 use Rattle.crack_pending.specs.Pending.{Pending}
 use Rattle.crack_pending.specs.Spots.{kept}
 use Rattle.crack_pending.proofs.Kept.{place_at-hole_behind, Stands-within, kept-hole, length-kept}
@@ -26,7 +26,7 @@ unknowns_without-self-inside-requires-clause-counted c = λ is.
     let a = c.self.invariant.0 in
     let i = c.self.inside in
     let stands = rw (c.deref.ensures.value) at c.spot_of-spot.ensures.stands in
-    omega (arith, c.self.invariant.1, counted_some i.keys.items i.stands.items (omega (arith, a.stands_beside, a.keys_beside)) c.spot_of-spot.result stands (rw (c.deref-2.ensures.value) at is))
+    omega (arith, c.self.invariant.1, counted_some i.remembered.items i.stands.items (omega (arith, a.stands_beside, a.keys_beside)) c.spot_of-spot.result stands (rw (c.deref-2.ensures.value) at is))
 
 pub invariant_of-self : goal.invariant_of-self
 invariant_of-self c =
@@ -36,9 +36,9 @@ invariant_of-self c =
     let stands = rw (c.deref.ensures.value) at c.spot_of-spot.ensures.stands in
     let place = rw (c.deref.ensures.value) at c.spot_of-spot.ensures.place in
     let less = rw (c.deref-2.ensures.value) at c.unknowns_without-self-inside.ensures in (
-      kept_hole i.handles.items i.keys.items i.stands.items i.spots.items i.rows i.noted i.hint_place i.hint_spot a spot c.args.place spot stands (omega (arith, Stands-within i.stands.items spot stands, a.stands_beside)) (sym place ∙ sym (place_at-hole_behind i.stands.items spot spot (omega arith))),
-      omega (arith, c.self.invariant.1, less, counted_hole i.keys.items i.stands.items (omega (arith, a.stands_beside, a.keys_beside)) spot stands),
-      rw (c.leave_hole.ensures) (coded_hole i.keys.items i.stands.items i.codes c.self.invariant.2 spot stands),
+      kept_hole i.handles.items i.remembered.items i.stands.items i.spots.items i.rows i.noted i.hint_place i.hint_spot a spot c.args.place spot stands (omega (arith, Stands-within i.stands.items spot stands, a.stands_beside)) (sym place ∙ sym (place_at-hole_behind i.stands.items spot spot (omega arith))),
+      omega (arith, c.self.invariant.1, less, counted_hole i.remembered.items i.stands.items (omega (arith, a.stands_beside, a.keys_beside)) spot stands),
+      rw (c.leave_hole.ensures) (coded_hole i.remembered.items i.stands.items i.codes c.self.invariant.2 spot stands),
     )
 
 pub returns-clause-value : goal.returns-clause-value
@@ -64,8 +64,8 @@ returns-clause-keys c =
     let i = c.self.inside in
     let stands = rw (c.deref.ensures.value) at c.spot_of-spot.ensures.stands in
     let place = rw (c.deref.ensures.value) at c.spot_of-spot.ensures.place in
-    let hole = kept-hole i.stands.items i.keys.items c.spot_of-spot.result (omega (arith, a.stands_beside, a.keys_beside)) stands in
-    rw (← c.self.view_is) (ap (λ (p : Pending). p.keys) c.close_up_if_sparse.ensures.same ∙ (rw place at hole))
+    let hole = kept-hole i.stands.items i.remembered.items c.spot_of-spot.result (omega (arith, a.stands_beside, a.keys_beside)) stands in
+    rw (← c.self.view_is) (ap (λ (p : Pending). p.remembered) c.close_up_if_sparse.ensures.same ∙ (rw place at hole))
 
 pub returns-clause-remembered : goal.returns-clause-remembered
 returns-clause-remembered c = λ cells r.
@@ -76,7 +76,7 @@ returns-clause-remembered c = λ cells r.
     let stands = rw (c.deref.ensures.value) at c.spot_of-spot.ensures.stands in
     let place = rw (c.deref.ensures.value) at c.spot_of-spot.ensures.place in
     let hole = kept-hole i.stands.items i.handles.items c.spot_of-spot.result a.stands_beside stands in
-    let key_hole = kept-hole i.stands.items i.keys.items c.spot_of-spot.result (omega (arith, a.stands_beside, a.keys_beside)) stands in
+    let key_hole = kept-hole i.stands.items i.remembered.items c.spot_of-spot.result (omega (arith, a.stands_beside, a.keys_beside)) stands in
     let handles : c.close_up_if_sparse.new.self.handles ≡ remove (kept i.stands.items i.handles.items) c.args.place = ap (λ (p : Pending). p.handles) c.close_up_if_sparse.ensures.same ∙ (rw place at hole) in
-    let keys : c.close_up_if_sparse.new.self.keys ≡ remove (kept i.stands.items i.keys.items) c.args.place = ap (λ (p : Pending). p.keys) c.close_up_if_sparse.ensures.same ∙ (rw place at key_hole) in
-    rw (handles, keys) (RemembersKeys-remove cells (kept i.stands.items i.handles.items) (kept i.stands.items i.keys.items) c.args.place within known)
+    let remembered : c.close_up_if_sparse.new.self.remembered ≡ remove (kept i.stands.items i.remembered.items) c.args.place = ap (λ (p : Pending). p.remembered) c.close_up_if_sparse.ensures.same ∙ (rw place at key_hole) in
+    rw (handles, remembered) (Remembers-remove cells (kept i.stands.items i.handles.items) (kept i.stands.items i.remembered.items) c.args.place within known)

@@ -11,7 +11,7 @@ invariant_of-self c =
     let a = c.self.invariant.0 in
     let i = c.self.inside in
     let e = c.take_hits-left.ensures in (
-      kept_taken i.handles.items i.keys.items i.stands.items i.spots.items i.rows i.noted i.hint_place i.hint_spot a c.take_hits-left.new.stands.items (i.rows - c.take_hits-left.result.taken) e.long e.stood (omega (arith, a.counted, e.counted)),
+      kept_taken i.handles.items i.remembered.items i.stands.items i.spots.items i.rows i.noted i.hint_place i.hint_spot a c.take_hits-left.new.stands.items (i.rows - c.take_hits-left.result.taken) e.long e.stood (omega (arith, a.counted, e.counted)),
       rw (c.deref-2.ensures.value) at e.unknowns,
       rw (c.deref-2.ensures.value) at e.coded,
     )
@@ -31,3 +31,6 @@ returns-clause-keys c =
 pub returns-clause-room : goal.returns-clause-room
 returns-clause-room c =
     rw (← c.self.view_is) (omega (arith, c.close_up_if_sparse.ensures.kept, c.take_hits-left.ensures.capacity))
+
+pub returns-clause-known : goal.returns-clause-known
+returns-clause-known c = c.take_hits-left.ensures.remembered

@@ -1,4 +1,4 @@
-use Rattle.std.proofs.Common.{◌≡◌, [], ◌∷◌, ◌++◌, Result, Ok, Err, OnOk, IsOk, None, refl, sym, ap, ◌∙◌, arith}
+use Rattle.std.proofs.Common.{◌≡◌, [], ◌∷◌, ◌++◌, Result, Ok, Err, OnOk, IsOk, None, refl, sym, ap, ◌∙◌, inr, arith}
 use Rattle.std.specs.Prelude.{nat_eq}
 use Rattle.std.proofs.lemmas.Bool.{true≢false}
 use Rattle.indexmap.proofs.CallerLemmas.{insert_entry-new}
@@ -11,7 +11,7 @@ use Rattle.crack_state.proofs.StepLaws.{IsIntact-room}
 use Rattle.crack_state.proofs.AdmitLaws.{IsIntact-admitted, live_rows-admitted}
 use Rattle.crack_store.specs.Inside.{lists_of}
 use Rattle.crack_store.proofs.AdmitLemmas.{is_covered, all_covered}
-use Rattle.crack_store.proofs.RememberLemmas.{Remembers-admitted, RemembersKeys-off, added}
+use Rattle.crack_store.proofs.RememberLemmas.{Remembers-admitted, Remembers-off, added}
 use Rattle.crack_store.proofs.store.Store.admit.Goals as goal
 use Rattle.crack_store.proofs.store.Store.admit.Goals.{After-put_reserved-handle}
 
@@ -22,24 +22,24 @@ at_ok (Err e) P ok h = absurd (true≢false (sym ok))
 pub reserve-requires : goal.reserve-requires
 reserve-requires c = omega (arith, cells-intact (lists_of c.self.inside.inside) [] c.self.invariant.intact, c.self.invariant.intact.few_cells)
 
-pub push_keyed-requires-clause-room : goal.push_keyed-requires-clause-room
-push_keyed-requires-clause-room c = omega (arith, c.in_ok-reserve.ensures.room, ap (λ (p : Pending). p.room) c.in_ok-make_places.ensures.same)
+pub push_remembered-requires-clause-room : goal.push_remembered-requires-clause-room
+push_remembered-requires-clause-room c = omega (arith, c.in_ok-reserve.ensures.room, ap (λ (p : Pending). p.room) c.in_ok-make_places.ensures.same)
 
 -- the row gets the next handle
 handle : (c : After-put_reserved-handle) → c.put_reserved-handle.result ≡ next_handle (lists_of c.self.inside.inside)
 handle c = rw (ap (λ a. a.cells) c.in_ok-reserve-2.ensures.same, ap (λ a. a.free) c.in_ok-reserve-2.ensures.same) at c.put_reserved-handle.ensures.handle
 
-pub push_keyed-requires-clause-covered : goal.push_keyed-requires-clause-covered
-push_keyed-requires-clause-covered c =
-    let next = handle (goal.at.push_keyed-requires-clause-covered c).After-put_reserved-handle in
+pub push_remembered-requires-clause-covered : goal.push_remembered-requires-clause-covered
+push_remembered-requires-clause-covered c =
+    let next = handle (goal.at.push_remembered-requires-clause-covered c).After-put_reserved-handle in
     is_covered c.args.row (lists_of c.self.inside.inside) c.put_reserved-handle.result c.cells.result c.free_cells.result c.make_places.new.self.covered next (rw (ap (λ a. a.cells) c.in_ok-reserve-2.ensures.same) at c.cells.ensures) (rw (ap (λ a. a.free) c.in_ok-reserve-2.ensures.same) at c.free_cells.ensures) c.in_ok-make_places.ensures.covered c.self.invariant.intact
 
-pub push_keyed-requires-clause-absent : goal.push_keyed-requires-clause-absent
-push_keyed-requires-clause-absent c =
-    rw (c.in_ok-make_places.ensures.same, c.in_ok-reserve.ensures.same) (added c.args.row (lists_of c.self.inside.inside) c.self.invariant.intact c.put_reserved-handle.result (handle (goal.at.push_keyed-requires-clause-absent c).After-put_reserved-handle)).off_in
+pub push_remembered-requires-clause-absent : goal.push_remembered-requires-clause-absent
+push_remembered-requires-clause-absent c =
+    rw (c.in_ok-make_places.ensures.same, c.in_ok-reserve.ensures.same) (added c.args.row (lists_of c.self.inside.inside) c.self.invariant.intact c.put_reserved-handle.result (handle (goal.at.push_remembered-requires-clause-absent c).After-put_reserved-handle)).off_in
 
 -- the store is the admitted one, but for room
-after : (c : goal.After-self-1) → SameButRoom (admitted c.args.row (lists_of c.self.inside.inside)) (lists_of (record c.self.inside.inside { arena = c.put_reserved-handle.new.self; pending_in = c.push_keyed.new.self; in_room = 0; serials = c.insert.new.self }))
+after : (c : goal.After-self-1) → SameButRoom (admitted c.args.row (lists_of c.self.inside.inside)) (lists_of (record c.self.inside.inside { arena = c.put_reserved-handle.new.self; pending_in = c.push_remembered.new.self; in_room = 0; serials = c.insert.new.self }))
 after c =
     let s = lists_of c.self.inside.inside in
     let serial = c.args.row.serial.0 in
@@ -48,7 +48,7 @@ after c =
     let entries = at_ok c.insert.result _ (c.insert.ensures.succeeds (omega (arith, c.growth.ensures, c.in_ok-reserve-3.ensures.ok))) c.insert.ensures.entries in
     let listed : c.insert.new.self.entries ≡ s.serials ++ (serial, next_handle s) ∷ [] = (rw (c.in_ok-reserve-3.ensures.entries, next) at entries) ∙ insert_entry-new nat_eq c.self.inside.inside.serials serial (next_handle s) fresh in
     record {
-      same = rw (c.put_reserved-handle.ensures.after, ap (λ a. a.cells) c.in_ok-reserve-2.ensures.same, ap (λ a. a.free) c.in_ok-reserve-2.ensures.same, c.push_keyed.ensures.after, c.in_ok-make_places.ensures.same, c.in_ok-reserve.ensures.same, listed, next) refl;
+      same = rw (c.put_reserved-handle.ensures.after, ap (λ a. a.cells) c.in_ok-reserve-2.ensures.same, ap (λ a. a.free) c.in_ok-reserve-2.ensures.same, c.push_remembered.ensures.after, c.in_ok-make_places.ensures.same, c.in_ok-reserve.ensures.same, listed, next) refl;
     }
 
 -- its cells are those with the row
@@ -65,10 +65,10 @@ invariant_of-self-2 c =
     record {
       intact = IsIntact-room (admitted row s) _ [] (after c) (IsIntact-admitted row s (rw (← c.self.view_is) at c.requires) c.self.invariant.intact);
       remembers = rw (cells_after c) (Remembers-admitted row s c.self.inside.inside.column.remembered c.self.invariant.intact c.self.invariant.remembers);
-      keys_in = rw (cells_after c) (c.push_keyed.ensures.remembered cells plus.key (c.in_ok-make_places.ensures.remembered cells (c.in_ok-reserve.ensures.remembered cells (RemembersKeys-off h.slot s.cells cells s.pending_in c.self.inside.inside.pending_in.keys plus.agree plus.off_in c.self.invariant.keys_in))));
-      keys_out = rw (cells_after c) (RemembersKeys-off h.slot s.cells cells s.pending_out c.self.inside.inside.pending_out.keys plus.agree plus.off_out c.self.invariant.keys_out);
+      keys_in = rw (cells_after c) (c.push_remembered.ensures.remembered cells (inr (c.of.ensures ∙ plus.memory)) (c.in_ok-make_places.ensures.remembered cells (c.in_ok-reserve.ensures.remembered cells (Remembers-off h.slot s.cells cells s.pending_in c.self.inside.inside.pending_in.remembered plus.agree plus.off_in c.self.invariant.keys_in))));
+      keys_out = rw (cells_after c) (Remembers-off h.slot s.cells cells s.pending_out c.self.inside.inside.pending_out.remembered plus.agree plus.off_out c.self.invariant.keys_out);
       room = omega arith;
-      covered = rw (cells_after c, c.push_keyed.ensures.after) (all_covered row s c.cells.result c.free_cells.result c.make_places.new.self.covered (rw (ap (λ a. a.cells) c.in_ok-reserve-2.ensures.same) at c.cells.ensures) (rw (ap (λ a. a.free) c.in_ok-reserve-2.ensures.same) at c.free_cells.ensures) c.in_ok-make_places.ensures.covered);
+      covered = rw (cells_after c, c.push_remembered.ensures.after) (all_covered row s c.cells.result c.free_cells.result c.make_places.new.self.covered (rw (ap (λ a. a.cells) c.in_ok-reserve-2.ensures.same) at c.cells.ensures) (rw (ap (λ a. a.free) c.in_ok-reserve-2.ensures.same) at c.free_cells.ensures) c.in_ok-make_places.ensures.covered);
     }
 
 pub returns-clause-ok : goal.returns-clause-ok

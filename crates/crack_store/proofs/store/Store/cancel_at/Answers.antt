@@ -8,7 +8,7 @@ use Rattle.crack_state.proofs.PointLaws.{reads_by, IsIntact-struck, live_rows-st
 use Rattle.crack_state.proofs.StepLaws.{IsIntact-room}
 use Rattle.crack_store.specs.Inside.{lists_of}
 use Rattle.crack_state.proofs.CellLaws.{AgreeOff-set}
-use Rattle.crack_store.proofs.RememberLemmas.{Remembers-off, RemembersKeys-off}
+use Rattle.crack_store.proofs.RememberLemmas.{Remembers-off}
 use Rattle.crack_store.proofs.PointLemmas.{pending_handle}
 use Rattle.crack_store.proofs.store.Store.cancel_at.Goals as goal
 
@@ -47,8 +47,8 @@ invariant_of-self c =
     record {
       intact = IsIntact-room (record (struck h s) { serials = entries }) (lists_of new) [] after (IsIntact-struck s lead.serial.0 h entries found pending.listed c.forget_at.ensures few c.self.invariant.intact);
       remembers = rw c.free.ensures.after (Remembers-off h.slot s.cells (struck h s).cells s.column c.self.inside.inside.column.remembered agree pending.off_column c.self.invariant.remembers);
-      keys_in = rw c.free.ensures.after (RemembersKeys-off h.slot s.cells (struck h s).cells c.strike.new.self.handles c.strike.new.self.keys agree (rw c.strike.ensures.handles pending.left) (c.strike.ensures.remembered s.cells c.self.invariant.keys_in));
-      keys_out = rw c.free.ensures.after (RemembersKeys-off h.slot s.cells (struck h s).cells s.pending_out c.self.inside.inside.pending_out.keys agree pending.kept c.self.invariant.keys_out);
+      keys_in = rw c.free.ensures.after (Remembers-off h.slot s.cells (struck h s).cells c.strike.new.self.handles c.strike.new.self.remembered agree (rw c.strike.ensures.handles pending.left) (c.strike.ensures.remembered s.cells c.self.invariant.keys_in));
+      keys_out = rw c.free.ensures.after (Remembers-off h.slot s.cells (struck h s).cells s.pending_out c.self.inside.inside.pending_out.remembered agree pending.kept c.self.invariant.keys_out);
       room = omega (arith, c.self.invariant.room, c.strike.ensures.room);
       covered = rw (c.free.ensures.after, c.strike.ensures.covered) (omega (arith, c.self.invariant.covered, length-set s.cells h.slot freed));
     }

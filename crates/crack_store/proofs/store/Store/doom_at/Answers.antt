@@ -1,5 +1,5 @@
-use Rattle.std.proofs.Common.{◌≡◌, false, [], Some, refl, ap, arith}
-use Rattle.crack_arena.specs.Rows.{key_at}
+use Rattle.std.proofs.Common.{◌≡◌, false, [], Some, refl, ap, ◌∙◌, inr, arith}
+use Rattle.crack_column.specs.Column.{memory_at}
 use Rattle.crack_pending.specs.Pending.{Pending}
 use Rattle.crack_state.specs.State.{handle_of}
 use Rattle.crack_state.specs.Points.{pending_by, MayFree, doomed_too}
@@ -8,6 +8,7 @@ use Rattle.crack_state.proofs.LayoutLaws.{cells-intact, pending_out-few}
 use Rattle.crack_state.proofs.PointLaws.{stands1, reads_by, IsIntact-doomed, live_rows-doomed}
 use Rattle.crack_state.proofs.StepLaws.{IsIntact-room}
 use Rattle.crack_store.specs.Inside.{lists_of}
+use Rattle.crack_store.proofs.RememberLemmas.{memory-read}
 use Rattle.crack_store.proofs.PointLemmas.{column_handle}
 use Rattle.crack_store.proofs.store.Store.doom_at.Goals as goal
 
@@ -27,18 +28,18 @@ row_at-row-requires c =
     let found : handle_of s.serials lead.serial.0 ≡ Some lead.handle = rw (← c.self.view_is) at c.requires.found in
     reads_by s lead.serial.0 lead.handle found c.self.invariant.intact
 
-pub push_keyed-requires-clause-room : goal.push_keyed-requires-clause-room
-push_keyed-requires-clause-room c = omega (arith, c.in_ok-reserve.ensures.room, ap (λ (p : Pending). p.room) c.in_ok-make_places.ensures.same)
+pub push_remembered-requires-clause-room : goal.push_remembered-requires-clause-room
+push_remembered-requires-clause-room c = omega (arith, c.in_ok-reserve.ensures.room, ap (λ (p : Pending). p.room) c.in_ok-make_places.ensures.same)
 
-pub push_keyed-requires-clause-covered : goal.push_keyed-requires-clause-covered
-push_keyed-requires-clause-covered c =
+pub push_remembered-requires-clause-covered : goal.push_remembered-requires-clause-covered
+push_remembered-requires-clause-covered c =
     let s = lists_of c.self.inside.inside in
     let lead = c.args.lead in
     let found : handle_of s.serials lead.serial.0 ≡ Some lead.handle = rw (← c.self.view_is) at c.requires.found in
     omega (arith, (stands1 s lead.serial.0 lead.handle found c.self.invariant.intact).within, c.in_ok-make_places.ensures.covered, c.cells.ensures)
 
-pub push_keyed-requires-clause-absent : goal.push_keyed-requires-clause-absent
-push_keyed-requires-clause-absent c =
+pub push_remembered-requires-clause-absent : goal.push_remembered-requires-clause-absent
+push_remembered-requires-clause-absent c =
     let s = lists_of c.self.inside.inside in
     let lead = c.args.lead in
     let found : handle_of s.serials lead.serial.0 ≡ Some lead.handle = rw (← c.self.view_is) at c.requires.found in
@@ -50,17 +51,17 @@ invariant_of-self-2 c =
     let lead = c.args.lead in
     let h = lead.handle in
     let entries = c.forget_at.new.serials.entries in
-    let new = record c.self.inside.inside { pending_out = c.push_keyed.new.self; serials = c.forget_at.new.serials } in
+    let new = record c.self.inside.inside { pending_out = c.push_remembered.new.self; serials = c.forget_at.new.serials } in
     let found : handle_of s.serials lead.serial.0 ≡ Some h = rw (← c.self.view_is) at c.requires.found in
     let column : pending_by s lead.serial.0 ≡ Some false = rw (← c.self.view_is) at c.requires.column in
     let few : MayFree s = rw (← c.self.view_is) at c.requires.few in
-    let after : SameButRoom (record (doomed_too h s) { serials = entries }) (lists_of new) = record { same = rw (c.push_keyed.ensures.after, c.in_ok-make_places.ensures.same, c.in_ok-reserve.ensures.same) refl } in
-    let key : c.row_at-row.result.key.0 ≡ key_at s.cells h = rw c.row_at-row.ensures refl in
+    let after : SameButRoom (record (doomed_too h s) { serials = entries }) (lists_of new) = record { same = rw (c.push_remembered.ensures.after, c.in_ok-make_places.ensures.same, c.in_ok-reserve.ensures.same) refl } in
+    let known : c.of.result ≡ memory_at s.cells h = c.of.ensures ∙ memory-read s.cells h c.row_at-row.result c.row_at-row.ensures in
     record {
       intact = IsIntact-room (record (doomed_too h s) { serials = entries }) (lists_of new) [] after (IsIntact-doomed s lead.serial.0 h entries found (column_handle s lead.serial.0 h column found) c.forget_at.ensures few c.self.invariant.intact);
       remembers = c.self.invariant.remembers;
       keys_in = c.self.invariant.keys_in;
-      keys_out = c.push_keyed.ensures.remembered s.cells key (c.in_ok-make_places.ensures.remembered s.cells (c.in_ok-reserve.ensures.remembered s.cells c.self.invariant.keys_out));
+      keys_out = c.push_remembered.ensures.remembered s.cells (inr known) (c.in_ok-make_places.ensures.remembered s.cells (c.in_ok-reserve.ensures.remembered s.cells c.self.invariant.keys_out));
       room = c.self.invariant.room;
       covered = c.self.invariant.covered;
     }
@@ -70,4 +71,4 @@ returns-clause-live c =
     let s = lists_of c.self.inside.inside in
     let lead = c.args.lead in
     let found : handle_of s.serials lead.serial.0 ≡ Some lead.handle = rw (← c.self.view_is) at c.requires.found in
-    rw (← c.self.view_is, c.push_keyed.ensures.after, c.in_ok-make_places.ensures.same, c.in_ok-reserve.ensures.same) (live_rows-doomed s lead.serial.0 lead.handle c.row_at-row.result found c.row_at-row.ensures c.self.invariant.intact)
+    rw (← c.self.view_is, c.push_remembered.ensures.after, c.in_ok-make_places.ensures.same, c.in_ok-reserve.ensures.same) (live_rows-doomed s lead.serial.0 lead.handle c.row_at-row.result found c.row_at-row.ensures c.self.invariant.intact)

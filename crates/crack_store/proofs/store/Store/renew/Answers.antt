@@ -1,18 +1,17 @@
-use Rattle.std.proofs.Common.{◌≡◌, ◌≢◌, ◌≤◌, false, [], length, Some, refl, ap, arith}
+use Rattle.std.proofs.Common.{◌≡◌, ◌≢◌, ◌≤◌, false, [], length, Some, refl, sym, ap, ◌∙◌, inr, arith}
 use Rattle.crack_row.specs.Ranges.{IsIn}
 use Rattle.crack_arena.specs.Arena.{cells_with, read}
-use Rattle.crack_arena.specs.Rows.{key_at}
+use Rattle.crack_column.specs.Column.{memory_at}
 use Rattle.crack_pending.specs.Pending.{Pending}
 use Rattle.crack_state.specs.State.{handle_of}
 use Rattle.crack_state.specs.Steps.{SameButRoom, next_handle}
 use Rattle.crack_state.specs.Points.{pending_by, Maps, IsRenewable, renewed}
 use Rattle.crack_state.proofs.LayoutLaws.{cells-intact, pending_out-few}
-use Rattle.crack_state.proofs.CellLaws.{key_at-off}
 use Rattle.crack_state.proofs.StepLaws.{IsIntact-room}
 use Rattle.crack_state.proofs.PointLaws.{stands1, reads_by, IsIntact-renewed, live_rows-renewed}
 use Rattle.crack_store.specs.Inside.{lists_of}
 use Rattle.crack_store.proofs.AdmitLemmas.{is_covered, all_covered}
-use Rattle.crack_store.proofs.RememberLemmas.{Remembers-admitted, RemembersKeys-off, Added, added}
+use Rattle.crack_store.proofs.RememberLemmas.{Remembers-admitted, Remembers-off, Added, added, memory_of, memory-read, memory_at-off}
 use Rattle.crack_store.proofs.PointLemmas.{column_handle}
 use Rattle.crack_store.proofs.store.Store.renew.Goals as goal
 
@@ -37,11 +36,11 @@ row_at-before-requires c =
 pub lead_to-requires : goal.lead_to-requires
 lead_to-requires c = rw (← c.self.view_is) at c.requires.entry
 
-pub push_keyed-requires-clause-room : goal.push_keyed-requires-clause-room
-push_keyed-requires-clause-room c = omega (arith, c.in_ok-reserve.ensures.room, ap (λ (p : Pending). p.room) c.in_ok-make_places.ensures.same)
+pub push_remembered-requires-clause-room : goal.push_remembered-requires-clause-room
+push_remembered-requires-clause-room c = omega (arith, c.in_ok-reserve.ensures.room, ap (λ (p : Pending). p.room) c.in_ok-make_places.ensures.same)
 
-pub push_keyed-requires-clause-covered : goal.push_keyed-requires-clause-covered
-push_keyed-requires-clause-covered c =
+pub push_remembered-requires-clause-covered : goal.push_remembered-requires-clause-covered
+push_remembered-requires-clause-covered c =
     let s = lists_of c.self.inside.inside in
     let cells_is : c.reserve-3.new.self.cells ≡ s.cells = ap (λ a. a.cells) c.in_ok-reserve-3.ensures.same in
     let free_is : c.reserve-3.new.self.free ≡ s.free = ap (λ a. a.free) c.in_ok-reserve-3.ensures.same in
@@ -50,25 +49,25 @@ push_keyed-requires-clause-covered c =
     let found : handle_of s.serials c.args.row.serial.0 ≡ Some c.args.lead.handle = rw (← c.self.view_is) at c.requires.found in
     omega (arith, (stands1 s c.args.row.serial.0 c.args.lead.handle found c.self.invariant.intact).within, covered)
 
-pub push_keyed-requires-clause-absent : goal.push_keyed-requires-clause-absent
-push_keyed-requires-clause-absent c =
+pub push_remembered-requires-clause-absent : goal.push_remembered-requires-clause-absent
+push_remembered-requires-clause-absent c =
     let s = lists_of c.self.inside.inside in
     let found : handle_of s.serials c.args.row.serial.0 ≡ Some c.args.lead.handle = rw (← c.self.view_is) at c.requires.found in
     rw (c.in_ok-make_places.ensures.same, c.in_ok-reserve.ensures.same) (c.self.invariant.intact.keyed.leads c.args.row.serial.0 c.args.lead.handle found).kept
 
-pub push_keyed-requires-2-clause-room : goal.push_keyed-requires-2-clause-room
-push_keyed-requires-2-clause-room c = omega (arith, c.in_ok-reserve-2.ensures.room, ap (λ (p : Pending). p.room) c.in_ok-make_places-3.ensures.same)
+pub push_remembered-requires-2-clause-room : goal.push_remembered-requires-2-clause-room
+push_remembered-requires-2-clause-room c = omega (arith, c.in_ok-reserve-2.ensures.room, ap (λ (p : Pending). p.room) c.in_ok-make_places-3.ensures.same)
 
-pub push_keyed-requires-2-clause-covered : goal.push_keyed-requires-2-clause-covered
-push_keyed-requires-2-clause-covered c =
+pub push_remembered-requires-2-clause-covered : goal.push_remembered-requires-2-clause-covered
+push_remembered-requires-2-clause-covered c =
     let s = lists_of c.self.inside.inside in
     let cells_is : c.reserve-3.new.self.cells ≡ s.cells = ap (λ a. a.cells) c.in_ok-reserve-3.ensures.same in
     let free_is : c.reserve-3.new.self.free ≡ s.free = ap (λ a. a.free) c.in_ok-reserve-3.ensures.same in
     let next : c.put_reserved-handle.result ≡ next_handle s = rw (cells_is, free_is) at c.put_reserved-handle.ensures.handle in
     is_covered c.args.row s c.put_reserved-handle.result c.cells-3.result c.free_cells.result c.make_places-3.new.self.covered next (rw cells_is at c.cells-3.ensures) (rw free_is at c.free_cells.ensures) c.in_ok-make_places-3.ensures.covered c.self.invariant.intact
 
-pub push_keyed-requires-2-clause-absent : goal.push_keyed-requires-2-clause-absent
-push_keyed-requires-2-clause-absent c =
+pub push_remembered-requires-2-clause-absent : goal.push_remembered-requires-2-clause-absent
+push_remembered-requires-2-clause-absent c =
     let s = lists_of c.self.inside.inside in
     let cells_is : c.reserve-3.new.self.cells ≡ s.cells = ap (λ a. a.cells) c.in_ok-reserve-3.ensures.same in
     let free_is : c.reserve-3.new.self.free ≡ s.free = ap (λ a. a.free) c.in_ok-reserve-3.ensures.same in
@@ -85,14 +84,14 @@ handle c =
     next
 
 -- the store is the renewed one, but for room
-after : (c : goal.After-self-1) → SameButRoom (record (renewed c.args.row c.args.lead.handle (lists_of c.self.inside.inside)) { serials = c.lead_to.new.serials.entries }) (lists_of (record c.self.inside.inside { arena = c.put_reserved-handle.new.self; pending_in = c.push_keyed-2.new.self; pending_out = c.push_keyed.new.self; in_room = 0; serials = c.lead_to.new.serials }))
+after : (c : goal.After-self-1) → SameButRoom (record (renewed c.args.row c.args.lead.handle (lists_of c.self.inside.inside)) { serials = c.lead_to.new.serials.entries }) (lists_of (record c.self.inside.inside { arena = c.put_reserved-handle.new.self; pending_in = c.push_remembered-2.new.self; pending_out = c.push_remembered.new.self; in_room = 0; serials = c.lead_to.new.serials }))
 after c =
     let s = lists_of c.self.inside.inside in
     let cells_is : c.reserve-3.new.self.cells ≡ s.cells = ap (λ a. a.cells) c.in_ok-reserve-3.ensures.same in
     let free_is : c.reserve-3.new.self.free ≡ s.free = ap (λ a. a.free) c.in_ok-reserve-3.ensures.same in
     let next : c.put_reserved-handle.result ≡ next_handle s = rw (cells_is, free_is) at c.put_reserved-handle.ensures.handle in
     record {
-      same = rw (c.put_reserved-handle.ensures.after, cells_is, free_is, c.push_keyed.ensures.after, c.in_ok-make_places.ensures.same, c.in_ok-reserve.ensures.same, c.push_keyed-2.ensures.after, c.in_ok-make_places-3.ensures.same, c.in_ok-reserve-2.ensures.same, next) refl;
+      same = rw (c.put_reserved-handle.ensures.after, cells_is, free_is, c.push_remembered.ensures.after, c.in_ok-make_places.ensures.same, c.in_ok-reserve.ensures.same, c.push_remembered-2.ensures.after, c.in_ok-make_places-3.ensures.same, c.in_ok-reserve-2.ensures.same, next) refl;
     }
 
 -- its cells are those with the row
@@ -107,7 +106,7 @@ invariant_of-self-2 c =
     let n = c.put_reserved-handle.result in
     let found : handle_of s.serials row.serial.0 ≡ Some h = rw (← c.self.view_is) at c.requires.found in
     let entries = c.lead_to.new.serials.entries in
-    let new = record c.self.inside.inside { arena = c.put_reserved-handle.new.self; pending_in = c.push_keyed-2.new.self; pending_out = c.push_keyed.new.self; in_room = 0; serials = c.lead_to.new.serials } in
+    let new = record c.self.inside.inside { arena = c.put_reserved-handle.new.self; pending_in = c.push_remembered-2.new.self; pending_out = c.push_remembered.new.self; in_room = 0; serials = c.lead_to.new.serials } in
     let column : pending_by s row.serial.0 ≡ Some false = rw (← c.self.view_is) at c.requires.column in
     let inside : IsIn s.keys row.key.0 = rw (← c.self.view_is) at c.requires.within in
     let may : IsRenewable s = rw (← c.self.view_is) at c.requires.few in
@@ -118,16 +117,16 @@ invariant_of-self-2 c =
     let kept_out = c.self.inside.inside.pending_out in
     let cells_is : c.reserve-3.new.self.cells ≡ s.cells = ap (λ a. a.cells) c.in_ok-reserve-3.ensures.same in
     let reads : read s.cells h ≡ Some c.row_at-before.result = rw cells_is at c.row_at-before.ensures in
-    let known = stands1 s row.serial.0 h found c.self.invariant.intact in
-    let apart : h.slot ≢ n.slot = λ e. absurd (omega (arith, rw e at known.once, plus.off_column, plus.off_in)) in
-    let key : c.row_at-before.result.key.0 ≡ key_at cells h = rw (key_at-off n.slot s.cells cells h plus.agree apart, reads) refl in
+    let there = stands1 s row.serial.0 h found c.self.invariant.intact in
+    let apart : h.slot ≢ n.slot = λ e. absurd (omega (arith, rw e at there.once, plus.off_column, plus.off_in)) in
+    let known : memory_of c.row_at-before.result ≡ memory_at cells h = memory-read s.cells h c.row_at-before.result reads ∙ sym (memory_at-off n.slot s.cells cells h plus.agree apart) in
     record {
       intact = IsIntact-room (record (renewed row h s) { serials = entries }) (lists_of new) [] (after c) (IsIntact-renewed s h row entries found (column_handle s row.serial.0 h column found) maps inside may c.self.invariant.intact);
       remembers = rw (cells_after c) (Remembers-admitted row s c.self.inside.inside.column.remembered c.self.invariant.intact c.self.invariant.remembers);
-      keys_in = rw (cells_after c) (c.push_keyed-2.ensures.remembered cells plus.key (c.in_ok-make_places-3.ensures.remembered cells (c.in_ok-reserve-2.ensures.remembered cells (RemembersKeys-off n.slot s.cells cells kept_in.handles kept_in.keys plus.agree plus.off_in c.self.invariant.keys_in))));
-      keys_out = rw (cells_after c) (c.push_keyed.ensures.remembered cells key (c.in_ok-make_places.ensures.remembered cells (c.in_ok-reserve.ensures.remembered cells (RemembersKeys-off n.slot s.cells cells kept_out.handles kept_out.keys plus.agree plus.off_out c.self.invariant.keys_out))));
+      keys_in = rw (cells_after c) (c.push_remembered-2.ensures.remembered cells (inr (c.of-2.ensures ∙ plus.memory)) (c.in_ok-make_places-3.ensures.remembered cells (c.in_ok-reserve-2.ensures.remembered cells (Remembers-off n.slot s.cells cells kept_in.handles kept_in.remembered plus.agree plus.off_in c.self.invariant.keys_in))));
+      keys_out = rw (cells_after c) (c.push_remembered.ensures.remembered cells (inr (c.of.ensures ∙ known)) (c.in_ok-make_places.ensures.remembered cells (c.in_ok-reserve.ensures.remembered cells (Remembers-off n.slot s.cells cells kept_out.handles kept_out.remembered plus.agree plus.off_out c.self.invariant.keys_out))));
       room = omega arith;
-      covered = rw (cells_after c, c.push_keyed-2.ensures.after) (all_covered row s c.cells-3.result c.free_cells.result c.make_places-3.new.self.covered (rw (ap (λ a. a.cells) c.in_ok-reserve-3.ensures.same) at c.cells-3.ensures) (rw (ap (λ a. a.free) c.in_ok-reserve-3.ensures.same) at c.free_cells.ensures) c.in_ok-make_places-3.ensures.covered);
+      covered = rw (cells_after c, c.push_remembered-2.ensures.after) (all_covered row s c.cells-3.result c.free_cells.result c.make_places-3.new.self.covered (rw (ap (λ a. a.cells) c.in_ok-reserve-3.ensures.same) at c.cells-3.ensures) (rw (ap (λ a. a.free) c.in_ok-reserve-3.ensures.same) at c.free_cells.ensures) c.in_ok-make_places-3.ensures.covered);
     }
 
 pub returns-clause-live : goal.returns-clause-live
@@ -138,4 +137,4 @@ returns-clause-live c =
     let found : handle_of s.serials row.serial.0 ≡ Some h = rw (← c.self.view_is) at c.requires.found in
     let column : pending_by s row.serial.0 ≡ Some false = rw (← c.self.view_is) at c.requires.column in
     let may : IsRenewable s = rw (← c.self.view_is) at c.requires.few in
-    rw (← c.self.view_is, cells_after c, c.push_keyed.ensures.after, c.in_ok-make_places.ensures.same, c.in_ok-reserve.ensures.same) (live_rows-renewed s h row found (column_handle s row.serial.0 h column found) may.few c.self.invariant.intact)
+    rw (← c.self.view_is, cells_after c, c.push_remembered.ensures.after, c.in_ok-make_places.ensures.same, c.in_ok-reserve.ensures.same) (live_rows-renewed s h row found (column_handle s row.serial.0 h column found) may.few c.self.invariant.intact)

@@ -1,14 +1,14 @@
-use Rattle.std.proofs.Common.{◌≡◌, true, get_or, Some, None, refl, sym, ◌∙◌, arith, length-set}
+use Rattle.std.proofs.Common.{◌≡◌, true, get_or, Some, None, refl, sym, ◌∙◌, inr, arith, length-set}
 use Rattle.std.proofs.lemmas.List.{get_or_default}
 use Rattle.crack_row.specs.Ranges.{IsIn}
 use Rattle.crack_arena.specs.Arena.{read, set_at, place_in, no_handle}
-use Rattle.crack_arena.specs.Rows.{key_at}
+use Rattle.crack_column.specs.Column.{memory_at}
 use Rattle.crack_state.specs.State.{handle_of}
 use Rattle.crack_state.specs.Points.{pending_by, overwritten}
 use Rattle.crack_state.proofs.PointLaws.{handle_by-is, reads_by, IsIntact-rewritten, live_rows-rewritten}
 use Rattle.crack_store.specs.Inside.{lists_of}
-use Rattle.crack_state.proofs.CellLaws.{AgreeOff-set, key_at-off}
-use Rattle.crack_store.proofs.RememberLemmas.{Remembers-off, RemembersKeys-off}
+use Rattle.crack_state.proofs.CellLaws.{AgreeOff-set}
+use Rattle.crack_store.proofs.RememberLemmas.{Remembers-off, memory-read, memory_at-off}
 use Rattle.crack_store.proofs.PointLemmas.{pending_handle, write_done, reads_not_none, read-written}
 use Rattle.crack_store.proofs.store.Store.write_over.Goals as goal
 
@@ -45,12 +45,12 @@ invariant_of-self c =
     let cells = (overwritten row h s).cells in
     let agree = AgreeOff-set s.cells h.slot (record { generation = h.generation; value = Some row }) in
     let stood : get_or s.pending_in (place_in s.pending_in h.slot) no_handle ≡ h = sym (pending.at.is ∙ get_or_default s.pending_in (place_in s.pending_in h.slot) h no_handle pending.at.within) in
-    let key : row.key.0 ≡ key_at cells (get_or s.pending_in (place_in s.pending_in h.slot) no_handle) = rw (stood, read-written s.cells h row pending.within) refl in
+    let known : c.of.result ≡ memory_at cells (get_or s.pending_in (place_in s.pending_in h.slot) no_handle) = c.of.ensures ∙ (rw stood (memory-read cells h row (read-written s.cells h row pending.within))) in
     record {
       intact = rw (written c, c.remember.ensures.after) (IsIntact-rewritten s h row found pending.listed inside c.self.invariant.intact);
       remembers = rw (written c) (Remembers-off h.slot s.cells cells s.column c.self.inside.inside.column.remembered agree pending.off_column c.self.invariant.remembers);
-      keys_in = rw (written c) (c.remember.ensures.remembered s.cells cells key (λ x ne. key_at-off h.slot s.cells cells x agree ne) c.self.invariant.keys_in);
-      keys_out = rw (written c) (RemembersKeys-off h.slot s.cells cells s.pending_out c.self.inside.inside.pending_out.keys agree pending.kept c.self.invariant.keys_out);
+      keys_in = rw (written c) (c.remember.ensures.remembered s.cells cells (inr known) (λ x ne. memory_at-off h.slot s.cells cells x agree ne) c.self.invariant.keys_in);
+      keys_out = rw (written c) (Remembers-off h.slot s.cells cells s.pending_out c.self.inside.inside.pending_out.remembered agree pending.kept c.self.invariant.keys_out);
       room = rw c.remember.ensures.after c.self.invariant.room;
       covered = rw (written c, c.remember.ensures.after) (omega (arith, c.self.invariant.covered, length-set s.cells h.slot (record { generation = h.generation; value = Some row })));
     }

@@ -1,5 +1,5 @@
 use Rattle.std.proofs.Common.{rules}
-use Rattle.crack_pending.proofs.list.PendingList.push_keyed.Goals as goal
+use Rattle.crack_pending.proofs.list.PendingList.push_remembered.Goals as goal
 
 pub returns-clause-after : goal.returns-clause-after
 returns-clause-after g c = search rules
