@@ -1,8 +1,8 @@
 """The gate: proves every crate from nothing, runs the tests, and runs each program as both compilers build it.
 
 `rt ci` has no option for leaving out the must-fail edits, so it runs on a copy of this checkout that has none, and what
-it built is moved back: `make run` and `make edits` don't prove that again. Its output is passed on as it comes. A second
-run proves the longest chain of crates beside it. The processor time of each crate, for its proof and its tests, is
+it built is moved back: `make run` and `make edits` don't prove that again. A second run proves the longest chain of
+crates beside it. Its output is passed on as it comes. The processor time of each crate, for its proof and its tests, is
 taken from the system's list of processes (/proc) four times a second; what a process used after it was last observed is
 missing.
 """
@@ -163,10 +163,11 @@ def bring_tests_back(top: pathlib.Path) -> None:
 
 @contextlib.contextmanager
 def chain_ahead(top: pathlib.Path) -> typing.Iterator[list[int]]:
-    """Proves the crates below the program in a run of its own, which keeps each as soon as it is proved. Gives its process.
+    """Proves the crates below the program in a run of its own, and yields its process, if there is one.
 
-    The gate gives a crate of the chain one processor while crates of tests are ready, and this run gives it two. The
-    gate waits for the crates that this run is proving, takes what it keeps, and proves by itself what isn't kept.
+    The gate gives a crate of the chain one processor while crates of tests are ready, and this run gives it two. It
+    keeps each crate as soon as it is proved. The gate waits for a crate that this run is proving, takes what is kept,
+    and proves the others by itself.
     """
     if lanes.processors() < LEAST_PROCESSORS:
         yield []
