@@ -3,10 +3,10 @@ ghost use Rattle.std.specs.Prelude.{◌≡◌, ℕ, ℤ, ◌<◌, ◌≤◌, ◌
 ghost use Rattle.std.specs.Map.{keys_of};
 ghost use Rattle.crack_row.specs.Rows.{sum_of};
 ghost use Rattle.crack_plain.specs.Plain.{PlainState, IsNumbered, row_in, rows_in, after};
-ghost use Rattle.crack_state.specs.Merge.{IsSettled};
+ghost use Rattle.crack_state.specs.Merge.{IsCracked, IsSettled};
 ghost use Rattle.crack_sums.specs.Sums.{AreRight, AreKnown, IsEnd, distance_in};
 ghost use Rattle.crack_part.specs.Parts.{IsFaithful};
-ghost use Rattle.crack_part.specs.KnownSums.{Knows, IsFresh, left, sum_before, with_row};
+ghost use Rattle.crack_part.specs.KnownSums.{Knows, IsFresh, SaysSettled, left, sum_before, with_row};
 
 use crack_row::{Command, KeyRange, Row, Serial};
 use crack_store::Store;
@@ -154,7 +154,11 @@ impl Source for Settled<'_> {
 
     ghost says = { λ s low high sum. SaysSettled s.store.now s.range low high sum };
 
-    fn sum(&self, range: KeyRange) -> Option<i128> {
+    fn sum(&self, range: KeyRange) -> Option<i128>
+        ensures says { IfSome result (λ sum. SaysSettled self.now.store.now self.now.range range.low range.high sum) }
+        ensures told { self.now.range.low ≤ range.low → range.high ≤ self.now.range.high →
+            IsCracked self.now.store.now range → IsSome result }
+    {
         self.store.facts();
         if range.low() < self.range.low()
             || self.range.high() < range.high()
