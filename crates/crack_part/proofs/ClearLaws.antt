@@ -17,7 +17,7 @@ use Rattle.crack_state.proofs.CrackLaws.{key_within}
 use Rattle.crack_state.proofs.LayoutLaws.{cells-intact, rows-intact}
 use Rattle.crack_part.specs.Cells.{takes_cell, lacks_cell, may_clear, is_without_cell, is_cleared_first}
 use Rattle.crack_row.specs.declared.refusal.Refusal.{Refusal}
-use Rattle.crack_part.specs.Parts.{Part, IsSound, state_of, StopsAt, CracksAndMerges, ServesCleared, Serves, SparesCleared, Spares, Clears}
+use Rattle.crack_part.specs.Parts.{Part, IsSound, state_of, StopsAt, CracksAndMerges, ServesCleared, Serves, SparesCleared, Spares, Readies}
 use Rattle.crack_part.specs.Upkeep.{is_automatic}
 use Rattle.crack_part.specs.Inside.{early_refusal_of}
 use Rattle.crack_part.proofs.KeepLemmas.{Keeps-merged, Keeps-stopped, IsIntact-stopped, Spares-same}
@@ -87,10 +87,10 @@ pub uncleared : (limits : Limits) (s : State) (change : Option Change) → lacks
 uncleared limits s change has = ap (λ (b : Bool). b && may_clear limits s) has
 
 pub Serves-uncleared : (policy : Policy) (p : Part) (command : Command) (t : State) → lacks_cell p.limits.cells p.store (change_of command) ≡ false → ServesCleared policy p.keys p.next command p.store t → Serves policy p command t
-Serves-uncleared policy p command t has served = record { cleared = p.store; clears = inl (uncleared p.limits p.store (change_of command) has, refl); served = served }
+Serves-uncleared policy p command t has served = record { ready = p.store; readies = inl (uncleared p.limits p.store (change_of command) has, refl); does = served }
 
 pub Spares-uncleared : (policy : Policy) (p : Part) (command : Command) (t : State) → lacks_cell p.limits.cells p.store (change_of command) ≡ false → SparesCleared policy p.keys (range_of command) p.store t → Spares policy p command t
-Spares-uncleared policy p command t has spared = inr (record { cleared = p.store; clears = inl (uncleared p.limits p.store (change_of command) has, refl); spared = spared })
+Spares-uncleared policy p command t has spared = inr (record { ready = p.store; readies = inl (uncleared p.limits p.store (change_of command) has, refl); does = spared })
 
 with-cell : (a b : Bool) → a ≡ false → (a && not b) ≡ false
 with-cell a b has = rw has refl
@@ -99,16 +99,16 @@ pub not-without-cell : (limits : Limits) (s : State) (change : Option Change) �
 not-without-cell limits s change has = with-cell (lacks_cell limits.cells s change) (may_clear limits s) has
 
 -- the same of a partition whose store alone was cleared
-pub served-upkept : {T E : Type 0} (p q : Part) (policy : Policy) (command : Command) (t : State) (r : Result T E) → q ≡ record p { store = q.store } → Clears p command q.store → OnOk r (ServesCleared policy q.keys q.next command q.store t) → OnOk r (Serves policy p command t)
-served-upkept p q policy command t r same clears done =
+pub served-upkept : {T E : Type 0} (p q : Part) (policy : Policy) (command : Command) (t : State) (r : Result T E) → q ≡ record p { store = q.store } → Readies (is_cleared_first p.limits p.store (change_of command)) p.store q.store → OnOk r (ServesCleared policy q.keys q.next command q.store t) → OnOk r (Serves policy p command t)
+served-upkept p q policy command t r same readies done =
     let keys : p.keys ≡ q.keys = sym (ap (λ (x : Part). x.keys) same) in
     let next : p.next ≡ q.next = sym (ap (λ (x : Part). x.next) same) in
-    on_ok_weaker r (λ served. record { cleared = q.store; clears = clears; served = rw (keys, next) served }) done
+    on_ok_weaker r (λ served. record { ready = q.store; readies = readies; does = rw (keys, next) served }) done
 
-pub spared-upkept : {T E : Type 0} (p q : Part) (policy : Policy) (command : Command) (t : State) (r : Result T E) → q ≡ record p { store = q.store } → Clears p command q.store → OnErr r (SparesCleared policy q.keys (range_of command) q.store t) → OnErr r (Spares policy p command t)
-spared-upkept p q policy command t r same clears done =
+pub spared-upkept : {T E : Type 0} (p q : Part) (policy : Policy) (command : Command) (t : State) (r : Result T E) → q ≡ record p { store = q.store } → Readies (is_cleared_first p.limits p.store (change_of command)) p.store q.store → OnErr r (SparesCleared policy q.keys (range_of command) q.store t) → OnErr r (Spares policy p command t)
+spared-upkept p q policy command t r same readies done =
     let keys : p.keys ≡ q.keys = sym (ap (λ (x : Part). x.keys) same) in
-    on_err_weaker r (λ spared. inr (record { cleared = q.store; clears = clears; spared = rw keys spared })) done
+    on_err_weaker r (λ spared. inr (record { ready = q.store; readies = readies; does = rw keys spared })) done
 
 -- keys, limits and past alone determine what refuses a command apart from the lack of a cell
 pub refused-upkept : (p q : Part) (command : Command) → q ≡ record p { store = q.store } → early_refusal_of q command ≡ early_refusal_of p command
@@ -120,7 +120,7 @@ Spares-unchanged policy p command = by_test (is_cleared_first p.limits p.store (
   where
     by_test : (b : Bool) → is_cleared_first p.limits p.store (change_of command) ≡ b → Spares policy p command p.store
     by_test true due = inl (due, inl (record { same = refl }))
-    by_test false undue = inr (record { cleared = p.store; clears = inl (undue, refl); spared = Spares-same policy p.keys (range_of command) p.store })
+    by_test false undue = inr (record { ready = p.store; readies = inl (undue, refl); does = Spares-same policy p.keys (range_of command) p.store })
 
 -- a row that waits is between the keys' ends
 filled-by : (s : State) (hs : List Handle) → All (Reads s.cells) hs → HaveKeysIn s.keys s.cells → 0 < length hs → s.keys.low < s.keys.high

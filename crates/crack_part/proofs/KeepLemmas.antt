@@ -52,20 +52,20 @@ pub Keeps-merged : (policy : Policy) (s t : State) (r : Range) → CracksAndMerg
 Keeps-merged policy s t r done = Keeps-trans s done.cracked t (Keeps-refined s done.cracked r done.refines) (Keeps-follows done.cracked t done.merges.follows)
 
 -- merging all pending rows first leaves the live rows as they were
-pub Keeps-readied : (policy : Policy) (s t : State) → Readies policy s t → Keeps s t
-Keeps-readied policy s t readies = elim readies [
+pub Keeps-readied : (due : Bool) (s t : State) → Readies due s t → Keeps s t
+Keeps-readied due s t readies = elim readies [
   | inl none ↦ rw none.1 (Keeps-refl s)
   | inr first ↦ Keeps-merged Complete s t s.keys first.1
 ]
 
-IsIntact-readied : (policy : Policy) (s t : State) → Readies policy s t → IsIntact s [] → IsIntact t []
-IsIntact-readied policy s t readies intact = elim readies [
+IsIntact-readied : (due : Bool) (s t : State) → Readies due s t → IsIntact s [] → IsIntact t []
+IsIntact-readied due s t readies intact = elim readies [
   | inl none ↦ rw none.1 intact
   | inr first ↦ first.1.merges.intact
 ]
 
 Keeps-settled : (policy : Policy) (s t : State) (r : Range) → Settles policy s t r → Keeps s t
-Keeps-settled policy s t r done = Keeps-trans s done.ready t (Keeps-readied policy s done.ready done.readies) (Keeps-merged (read_by policy) done.ready t r done.reads)
+Keeps-settled policy s t r done = Keeps-trans s done.ready t (Keeps-readied (is_merged_first policy s) s done.ready done.readies) (Keeps-merged (read_by policy) done.ready t r done.does)
 
 -- nothing is read of an empty range
 pub ReadsRange-none : (policy : Policy) (s : State) (r : Range) → r.high ≤ r.low → ReadsRange policy s s r
@@ -83,7 +83,7 @@ Keeps-reads policy s t r reads = elim (cases_lt r.low r.high) [
 
 IsIntact-reads : (policy : Policy) (s t : State) (r : Range) → ReadsRange policy s t r → IsIntact s [] → IsIntact t []
 IsIntact-reads policy s t r reads intact = elim (cases_lt r.low r.high) [
-  | inl filled ↦ (reads.settled filled).reads.merges.intact
+  | inl filled ↦ (reads.settled filled).does.merges.intact
   | inr empty ↦ rw (reads.empty empty) intact
 ]
 
@@ -111,7 +111,7 @@ IsIntact-stopped policy s t r read intact = elim read [
 Keeps-stops : (policy : Policy) (s t : State) (r : Range) → StopsRead policy s t r → Keeps s t
 Keeps-stops policy s t r read = elim read [
   | inl first ↦ Keeps-stopped Complete s t s.keys first.1
-  | inr done ↦ Keeps-trans s done.ready t (Keeps-readied policy s done.ready done.readies) (Keeps-stopped (read_by policy) done.ready t r done.stops)
+  | inr done ↦ Keeps-trans s done.ready t (Keeps-readied (is_merged_first policy s) s done.ready done.readies) (Keeps-stopped (read_by policy) done.ready t r done.does)
 ]
 
 -- a command that found no memory leaves the live rows as they were
@@ -123,7 +123,7 @@ pub IsIntact-spared : (policy : Policy) (keys : Range) (range : Option Range) (s
 IsIntact-spared policy keys None s t spared intact = IsIntact-room s t [] spared intact
 IsIntact-spared policy keys (Some range) s t spared intact = elim spared [
   | inl first ↦ IsIntact-stopped Complete s t s.keys first.1 intact
-  | inr done ↦ IsIntact-stopped (read_by policy) done.ready t (clipped range keys) done.stops (IsIntact-readied policy s done.ready done.readies intact)
+  | inr done ↦ IsIntact-stopped (read_by policy) done.ready t (clipped range keys) done.does (IsIntact-readied (is_merged_first policy s) s done.ready done.readies intact)
 ]
 
 -- those of the handles that pass a test
@@ -202,7 +202,7 @@ StopsRead-room policy s t r same = by_test (is_merged_first policy s) refl
   where
     by_test : (b : Bool) → is_merged_first policy s ≡ b → StopsRead policy s t r
     by_test true due = inl (due, inl same)
-    by_test false undue = inr (record { ready = s; readies = inl (undue, refl); stops = inl same })
+    by_test false undue = inr (record { ready = s; readies = inl (undue, refl); does = inl same })
 
 -- nothing was read
 pub Spares-same : (policy : Policy) (keys : Range) (range : Option Range) (s : State) → SparesCleared policy keys range s s
@@ -214,9 +214,9 @@ StopsRead-read : (policy : Policy) (s u t : State) (r : Range) → ReadsRange po
 StopsRead-read policy s u t r reads room = elim (cases_lt r.low r.high) [
   | inl filled ↦
       let done = reads.settled filled in
-      let read = done.reads in
+      let read = done.does in
       let stops = Stops-merged (read_by policy) read.cracked u t r read.merges read.tallies room in
-      inr (record { ready = done.ready; readies = done.readies; stops = inr (record { filled = filled; cracked = read.cracked; refines = read.refines; intact = read.intact; stops = stops }) })
+      inr (record { ready = done.ready; readies = done.readies; does = inr (record { filled = filled; cracked = read.cracked; refines = read.refines; intact = read.intact; stops = stops }) })
   | inr empty ↦ StopsRead-room policy s t r (subst (λ (x : State). SameButRoom x t) (reads.empty empty) room)
 ]
 

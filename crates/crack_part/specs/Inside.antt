@@ -16,7 +16,7 @@ use Rattle.crack_plain.specs.Plain.{IsSmall, reply_to, after}
 use Rattle.crack_state.specs.State.{State}
 use Rattle.crack_state.specs.Steps.{IsAdmissible}
 use Rattle.crack_state.specs.Points.{MayFree, IsRenewable}
-use Rattle.crack_part.specs.Parts.{Part, state_of, StopsAt, Clears, Serves, Spares, placed}
+use Rattle.crack_part.specs.Parts.{Part, state_of, StopsAt, Readies, Serves, Spares, placed}
 use Rattle.crack_part.specs.Cells.{lacks_cell, is_without_cell, is_cleared_first}
 use Rattle.crack_part.specs.Refusals.{table_of, stopped_by, first_cause, refusal_of}
 use Rattle.crack_part.specs.Upkeep.{upkept}
@@ -48,7 +48,7 @@ early_refusal_of part command = first_cause part.keys (stopped_by part.limits (t
 
 -- cells are freed if that is due, so that a command lacks none
 abbrev pub Frees : Part → Command → Part → Type 0
-Frees p command q = (lacks_cell q.limits.cells q.store (change_of command) ≡ false) × (is_without_cell p.limits p.store (change_of command) ≡ false) × Clears p command q.store
+Frees p command q = (lacks_cell q.limits.cells q.store (change_of command) ≡ false) × (is_without_cell p.limits p.store (change_of command) ≡ false) × Readies (is_cleared_first p.limits p.store (change_of command)) p.store q.store
 
 -- none is freed: either it isn't due, or there is no memory for it
 abbrev pub FreesNone : Part → Command → Refusal → Part → Type 0

@@ -96,15 +96,19 @@ pub record CracksAndMerges (policy : Policy) (s t : State) (r : Range) : Type 0 
   pub near : LeavesNear policy cracked t r
   pub tallies : Tallies policy cracked t
 
--- if all pending rows are merged first, this is done by a read of all keys under complete
-abbrev pub Readies : Policy → State → State → Type 0
-Readies policy s t = ((is_merged_first policy s ≡ false) × (t ≡ s)) ⊎ ((is_merged_first policy s ≡ true) × CracksAndMerges Complete s t s.keys)
+-- if that is due, all pending rows are merged, by a read of all keys under complete
+abbrev pub Readies : Bool → State → State → Type 0
+Readies due s t = ((due ≡ false) × (t ≡ s)) ⊎ ((due ≡ true) × CracksAndMerges Complete s t s.keys)
 
--- a store is prepared for a range, and the range is then read
-pub record Settles (policy : Policy) (s t : State) (r : Range) : Type 0 where
+-- if that is due, all pending rows are merged first, and then this is done
+pub record ReadiesAnd (due : Bool) (Does : State → State → Type 0) (s t : State) : Type 0 where
   pub ready : State
-  pub readies : Readies policy s ready
-  pub reads : CracksAndMerges (read_by policy) ready t r
+  pub readies : Readies due s ready
+  pub does : Does ready t
+
+-- a range is read, after all pending rows were merged if that is due
+abbrev pub Settles : Policy → State → State → Range → Type 0
+Settles policy s t r = ReadiesAnd (is_merged_first policy s) (λ (ready settled : State). CracksAndMerges (read_by policy) ready settled r) s t
 
 -- what a read of a range does to a store: nothing if the range is empty
 pub record ReadsRange (policy : Policy) (s t : State) (r : Range) : Type 0 where
@@ -124,15 +128,13 @@ pub record CracksAndStops (policy : Policy) (s t : State) (r : Range) : Type 0 w
 abbrev pub StopsAt : Policy → State → State → Range → Type 0
 StopsAt policy s t r = SameButRoom s t ⊎ CracksAndStops policy s t r
 
--- a store is prepared for a range, and the read of the range found no memory
-pub record ReadiesAndStops (policy : Policy) (s t : State) (r : Range) : Type 0 where
-  pub ready : State
-  pub readies : Readies policy s ready
-  pub stops : StopsAt (read_by policy) ready t r
+-- no memory was found while all pending rows were merged, which was due, or afterwards; then this was done
+abbrev pub ReadiesOr : Bool → (State → State → Type 0) → State → State → Type 0
+ReadiesOr due Stops s t = ((due ≡ true) × StopsAt Complete s t s.keys) ⊎ ReadiesAnd due Stops s t
 
 -- what a read of a range that found no memory did to a store: it stopped where all pending rows are merged first, or at the range
 abbrev pub StopsRead : Policy → State → State → Range → Type 0
-StopsRead policy s t r = ((is_merged_first policy s ≡ true) × StopsAt Complete s t s.keys) ⊎ ReadiesAndStops policy s t r
+StopsRead policy s t r = ReadiesOr (is_merged_first policy s) (λ (ready stopped : State). StopsAt (read_by policy) ready stopped r) s t
 
 -- what is done to a store before a command is replied: the range that it reads, if any, is read as far as it is within the keys
 abbrev pub Prepares : Policy → Range → Option Range → State → State → Type 0
@@ -159,22 +161,10 @@ pub record ServesCleared (policy : Policy) (keys : Range) (next : ℕ) (command 
   pub prepared : Prepares policy keys (range_of command) s ready
   pub performed : Performs next (change_of command) ready t
 
--- what is done to a partition's store before a command: if cells are freed first, this is done by a read of all keys under complete
-abbrev pub Clears : Part → Command → State → Type 0
-Clears p command t = ((is_cleared_first p.limits p.store (change_of command) ≡ false) × (t ≡ p.store)) ⊎ ((is_cleared_first p.limits p.store (change_of command) ≡ true) × CracksAndMerges Complete p.store t p.store.keys)
-
--- what an answered command does to a partition's store: cells are freed if that is due, and then it is served
-pub record Serves (policy : Policy) (p : Part) (command : Command) (t : State) : Type 0 where
-  pub cleared : State
-  pub clears : Clears p command cleared
-  pub served : ServesCleared policy p.keys p.next command cleared t
-
--- cells are freed if that is due, and the command found no memory
-pub record ClearsAndSpares (policy : Policy) (p : Part) (command : Command) (t : State) : Type 0 where
-  pub cleared : State
-  pub clears : Clears p command cleared
-  pub spared : SparesCleared policy p.keys (range_of command) cleared t
+-- what an answered command does to a partition's store: cells are freed first, if that is due, by merging all pending rows
+abbrev pub Serves : Policy → Part → Command → State → Type 0
+Serves policy p command t = ReadiesAnd (is_cleared_first p.limits p.store (change_of command)) (ServesCleared policy p.keys p.next command) p.store t
 
 -- what a command that found no memory did to a partition's store: it stopped where cells are freed first, or afterwards
 abbrev pub Spares : Policy → Part → Command → State → Type 0
-Spares policy p command t = ((is_cleared_first p.limits p.store (change_of command) ≡ true) × StopsAt Complete p.store t p.store.keys) ⊎ ClearsAndSpares policy p command t
+Spares policy p command t = ReadiesOr (is_cleared_first p.limits p.store (change_of command)) (SparesCleared policy p.keys (range_of command)) p.store t

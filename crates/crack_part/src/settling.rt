@@ -44,7 +44,7 @@ fn make_ready(
 ) -> Result<(), Refusal>
     requires ends { store.old.keys ≡ keys }
     requires filled { keys.low < keys.high }
-    ensures ready { OnOk result (Readies policy store.old store.new) }
+    ensures ready { OnOk result (Readies (is_merged_first policy store.old) store.old store.new) }
     ensures stopped { OnErr result ((is_merged_first policy store.old ≡ true) × StopsAt Policy.Complete store.old
         store.new store.old.keys) }
     ensures err { IfErr result (λ e. e ≡ Refusal.OutOfMemory) }
