@@ -36,13 +36,13 @@ none-outside s (h ∷ hs) reads within outside = absurd (nowhere (outside 0 h (o
 none-doomed : (s t : State) → CracksAndMerges Complete s t s.keys → t.pending_out ≡ []
 none-doomed s t done =
     let keys = (Keeps-merged Complete s t s.keys done).ends in
-    let intact = done.merges.intact in
-    none-outside t t.pending_out intact.owned.doomed_reads intact.within (rw keys done.merges.settled.doomed)
+    let intact = done.does.0.intact in
+    none-outside t t.pending_out intact.owned.doomed_reads intact.within (rw keys done.does.0.settled.doomed)
 
 frees : (s t : State) → IsIntact s [] → CracksAndMerges Complete s t s.keys → length t.free ≡ length s.free + length s.pending_out
 frees s t intact done =
     let keeps = Keeps-merged Complete s t s.keys done in
-    let after = done.merges.intact in
+    let after = done.does.0.intact in
     let none : length t.pending_out ≡ 0 = ap length (none-doomed s t done) in
     omega (arith, ap length keeps.live, keeps.cells, none, cells-intact s [] intact, rows-intact s [] intact, cells-intact t [] after, rows-intact t [] after)
 
@@ -132,7 +132,7 @@ filled s intact some = filled-by s s.pending_out intact.owned.doomed_reads intac
 
 -- a partition all of whose pending rows were merged, or of which some were
 pub IsSound-cleared : (p : Part) (t : State) (r : Result (Unit {0}) Refusal) → IsSound p → OnOk r (CracksAndMerges Complete p.store t p.keys) → OnErr r (StopsAt Complete p.store t p.keys) → IsSound (record p { store = t })
-IsSound-cleared p t (Ok x) sound done stopped = IsSound-kept p t sound (Keeps-merged Complete p.store t p.keys done) done.merges.intact
+IsSound-cleared p t (Ok x) sound done stopped = IsSound-kept p t sound (Keeps-merged Complete p.store t p.keys done) done.does.0.intact
 IsSound-cleared p t (Err e) sound done stopped = IsSound-kept p t sound (Keeps-stopped Complete p.store t p.keys stopped) (IsIntact-stopped Complete p.store t p.keys stopped sound.intact)
 
 -- if upkeep is automatic, a partition that is without a cell is full of the rows that there are

@@ -77,7 +77,9 @@ CracksAndMerges-idle policy s u r order low high refines cracked intact no_in no
       cracked = u;
       refines = refines;
       intact = intact;
-      merges = record { follows = complete.follows; intact = intact; settled = complete.settled; leaves = Leaves-idle policy u r no_in no_out untouched };
-      near = LeavesNear-idle (read_by policy) u r intact complete.settled no_in no_out;
-      tallies = Tallies-room (read_by policy) u u (record { same = refl });
+      does = (
+        record { follows = complete.follows; intact = intact; settled = complete.settled; leaves = Leaves-idle policy u r no_in no_out untouched },
+        LeavesNear-idle (read_by policy) u r intact complete.settled no_in no_out,
+        Tallies-room (read_by policy) u u (record { same = refl }),
+      );
     }

@@ -49,7 +49,7 @@ Keeps-refined s u r refines =
     }
 
 pub Keeps-merged : (policy : Policy) (s t : State) (r : Range) → CracksAndMerges policy s t r → Keeps s t
-Keeps-merged policy s t r done = Keeps-trans s done.cracked t (Keeps-refined s done.cracked r done.refines) (Keeps-follows done.cracked t done.merges.follows)
+Keeps-merged policy s t r done = Keeps-trans s done.cracked t (Keeps-refined s done.cracked r done.refines) (Keeps-follows done.cracked t done.does.0.follows)
 
 -- merging all pending rows first leaves the live rows as they were
 pub Keeps-readied : (due : Bool) (s t : State) → Readies due s t → Keeps s t
@@ -61,7 +61,7 @@ Keeps-readied due s t readies = elim readies [
 IsIntact-readied : (due : Bool) (s t : State) → Readies due s t → IsIntact s [] → IsIntact t []
 IsIntact-readied due s t readies intact = elim readies [
   | inl none ↦ rw none.1 intact
-  | inr first ↦ first.1.merges.intact
+  | inr first ↦ first.1.does.0.intact
 ]
 
 Keeps-settled : (policy : Policy) (s t : State) (r : Range) → Settles policy s t r → Keeps s t
@@ -83,7 +83,7 @@ Keeps-reads policy s t r reads = elim (cases_lt r.low r.high) [
 
 IsIntact-reads : (policy : Policy) (s t : State) (r : Range) → ReadsRange policy s t r → IsIntact s [] → IsIntact t []
 IsIntact-reads policy s t r reads intact = elim (cases_lt r.low r.high) [
-  | inl filled ↦ (reads.settled filled).does.merges.intact
+  | inl filled ↦ (reads.settled filled).does.does.0.intact
   | inr empty ↦ rw (reads.empty empty) intact
 ]
 
@@ -99,13 +99,13 @@ IsIntact-prepared policy keys (Some range) s t reads intact = IsIntact-reads pol
 pub Keeps-stopped : (policy : Policy) (s t : State) (r : Range) → StopsAt policy s t r → Keeps s t
 Keeps-stopped policy s t r read = elim read [
   | inl same ↦ Keeps-room s t same
-  | inr done ↦ Keeps-trans s done.cracked t (Keeps-refined s done.cracked r done.refines) (Keeps-follows done.cracked t done.stops.follows)
+  | inr cut ↦ let done = cut.1 in Keeps-trans s done.cracked t (Keeps-refined s done.cracked r done.refines) (Keeps-follows done.cracked t done.does.follows)
 ]
 
 pub IsIntact-stopped : (policy : Policy) (s t : State) (r : Range) → StopsAt policy s t r → IsIntact s [] → IsIntact t []
 IsIntact-stopped policy s t r read intact = elim read [
   | inl same ↦ IsIntact-room s t [] same intact
-  | inr done ↦ done.stops.intact
+  | inr cut ↦ cut.1.does.intact
 ]
 
 Keeps-stops : (policy : Policy) (s t : State) (r : Range) → StopsRead policy s t r → Keeps s t
@@ -215,8 +215,8 @@ StopsRead-read policy s u t r reads room = elim (cases_lt r.low r.high) [
   | inl filled ↦
       let done = reads.settled filled in
       let read = done.does in
-      let stops = Stops-merged (read_by policy) read.cracked u t r read.merges read.tallies room in
-      inr (record { ready = done.ready; readies = done.readies; does = inr (record { filled = filled; cracked = read.cracked; refines = read.refines; intact = read.intact; stops = stops }) })
+      let stops = Stops-merged (read_by policy) read.cracked u t r read.does.0 read.does.2 room in
+      inr (record { ready = done.ready; readies = done.readies; does = inr (filled, record { cracked = read.cracked; refines = read.refines; intact = read.intact; does = stops }) })
   | inr empty ↦ StopsRead-room policy s t r (subst (λ (x : State). SameButRoom x t) (reads.empty empty) room)
 ]
 

@@ -87,14 +87,16 @@ abbrev pub LeavesNear : Policy → State → State → Range → Type 0
 LeavesNear Ripple s t r = MergesNear s t r
 LeavesNear _ s t r = Unit {0}
 
--- a store is cracked at the ends of a range, if it is intact, and then merged
-pub record CracksAndMerges (policy : Policy) (s t : State) (r : Range) : Type 0 where
+-- a store is cracked at the ends of a range, which leaves it intact, and then this is done
+pub record CracksAnd (Does : State → State → Type 0) (s t : State) (r : Range) : Type 0 where
   pub cracked : State
   pub refines : Refines s cracked r
   pub intact : IsIntact cracked []
-  pub merges : Merges policy cracked t r
-  pub near : LeavesNear policy cracked t r
-  pub tallies : Tallies policy cracked t
+  pub does : Does cracked t
+
+-- a store is cracked at the ends of a range, and then merged
+abbrev pub CracksAndMerges : Policy → State → State → Range → Type 0
+CracksAndMerges policy s t r = CracksAnd (λ (cracked merged : State). Merges policy cracked merged r × LeavesNear policy cracked merged r × Tallies policy cracked merged) s t r
 
 -- if that is due, all pending rows are merged, by a read of all keys under complete
 abbrev pub Readies : Bool → State → State → Type 0
@@ -115,18 +117,10 @@ pub record ReadsRange (policy : Policy) (s t : State) (r : Range) : Type 0 where
   pub empty : r.high ≤ r.low → t ≡ s
   pub settled : r.low < r.high → Settles policy s t r
 
--- a store is cracked at the ends of a range, if it is intact, and its merge found no memory on the way
-pub record CracksAndStops (policy : Policy) (s t : State) (r : Range) : Type 0 where
-  pub filled : r.low < r.high
-  pub cracked : State
-  pub refines : Refines s cracked r
-  pub intact : IsIntact cracked []
-  pub stops : Stops policy cracked t r
-
 -- what a read of a range under one policy that found no memory did to a store: nothing, or the store is cracked at the ends of the range, no
 -- other bound is new, and the merge went as far as it came
 abbrev pub StopsAt : Policy → State → State → Range → Type 0
-StopsAt policy s t r = SameButRoom s t ⊎ CracksAndStops policy s t r
+StopsAt policy s t r = SameButRoom s t ⊎ ((r.low < r.high) × CracksAnd (λ (cracked stopped : State). Stops policy cracked stopped r) s t r)
 
 -- no memory was found while all pending rows were merged, which was due, or afterwards; then this was done
 abbrev pub ReadiesOr : Bool → (State → State → Type 0) → State → State → Type 0

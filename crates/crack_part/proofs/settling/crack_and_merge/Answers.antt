@@ -21,16 +21,17 @@ returns-in-Ok-clause-settled c = record {
   cracked = c.crack.new.self;
   refines = c.in_default.ensures.ok;
   intact = c.facts.ensures;
-  merges = rw (c.replace-cracked.ensures.value, c.in-Ok.merged-is) at c.in-Ok.ensures.merged;
-  near = rw (c.replace-cracked.ensures.value, c.in-Ok.merged-is) at c.in-Ok.ensures.near;
-  tallies = rw (c.replace-cracked.ensures.value, c.in-Ok.merged-is) at c.in-Ok.ensures.tallied;
+  does = (
+    rw (c.replace-cracked.ensures.value, c.in-Ok.merged-is) at c.in-Ok.ensures.merged,
+    rw (c.replace-cracked.ensures.value, c.in-Ok.merged-is) at c.in-Ok.ensures.near,
+    rw (c.replace-cracked.ensures.value, c.in-Ok.merged-is) at c.in-Ok.ensures.tallied,
+  );
 }
 
 pub returns-in-Err-merge-clause-stopped : goal.returns-in-Err-merge-clause-stopped
-returns-in-Err-merge-clause-stopped c = inr (record {
-  filled = c.requires.filled;
+returns-in-Err-merge-clause-stopped c = inr (c.requires.filled, record {
   cracked = c.crack.new.self;
   refines = c.in_default.ensures.ok;
   intact = c.facts.ensures;
-  stops = rw (c.replace-cracked.ensures.value, c.in-Err-merge.left-is) at c.in-Err-merge.ensures.stopped;
+  does = rw (c.replace-cracked.ensures.value, c.in-Err-merge.left-is) at c.in-Err-merge.ensures.stopped;
 })
