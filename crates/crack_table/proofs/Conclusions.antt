@@ -3,13 +3,13 @@ use Rattle.std.proofs.Common.{◌≡◌, ◌<◌, ℕ, List, [], ◌∷◌, ◌+
 use Rattle.std.specs.Prelude.{All, AllPairs, if◌then◌else◌}
 use Rattle.std.specs.List.{list_any}
 use Rattle.std.specs.Option.{option_map}
-use Rattle.std.proofs.lemmas.Bool.Decides.{nat_tests}
 use Rattle.std.proofs.lemmas.List.Elements.{All-nil, All-cons, All-head, All-tail}
 use Rattle.std.proofs.lemmas.List.Folds.{Any-from_list_any}
 use Rattle.std.proofs.lemmas.List.{get_or_append_left, get_or_at, get_or_default}
+use Rattle.std.proofs.lemmas.Option.{slice_get_within}
 use Rattle.std.proofs.lemmas.List.Quantifiers.{all_pairs_push}
 use Rattle.crack_core.specs.declared.receipt.Receipt.{Receipt}
-use Rattle.crack_table.specs.Cover.{KeptState, has_place, AllSettled, IsSettled, IsGap, first_stranger, first_late, is_late, Rises, IsFault, Covers}
+use Rattle.crack_table.specs.Cover.{KeptState, has_place, SettledBelow, IsSettled, IsGap, first_stranger, first_late, is_late, IsFault, Covers}
 use Rattle.crack_table.specs.Marks.{named_place}
 
 tail_none : (b : Bool) (r : Receipt) (o : Option Receipt) → cond (not b) (Some r) o ≡ None → (b ≡ true) × (o ≡ None)
@@ -31,31 +31,32 @@ none_at p [] k d lt none = absurd (omega arith)
 none_at p (x ∷ xs) zero d lt none = (or_parts (p x) (list_any p xs) none).0
 none_at p (x ∷ xs) (suc k) d lt none = none_at p xs k d (omega arith) (or_parts (p x) (list_any p xs) none).1
 
-not_late : (a r : Receipt) → is_late a r ≡ false → Rises a r
-not_late a r is w p = grind (arith, nat_tests)
+-- the second receipt isn't late after the first
+abbrev IsPunctual : Receipt → Receipt → Type 0
+IsPunctual earlier r = is_late earlier r ≡ false
 
 if_none : (b : Bool) (r : Receipt) (o : Option Receipt) → (if b then Some r else o) ≡ None → (b ≡ false) × (o ≡ None)
 if_none true r o is = cc
 if_none false r o is = (refl, is)
 
-pub all_rise : (done rs : List Receipt) → first_late done rs ≡ None → AllPairs Rises done → AllPairs Rises (done ++ rs)
+pub all_rise : (done rs : List Receipt) → first_late done rs ≡ None → AllPairs IsPunctual done → AllPairs IsPunctual (done ++ rs)
 all_rise done [] none rises = rw (append-nil done) rises
 all_rise done (r ∷ rs) none rises =
     let t = if_none (list_any (λ a. is_late a r) done) r (first_late (done ++ r ∷ []) rs) none in
-    let P : List Receipt → Type 0 = λ l. AllPairs Rises l in
-    subst P (append_assoc done (r ∷ []) rs) (all_rise (done ++ r ∷ []) rs t.1 (all_pairs_push Rises done r rises (λ k d lt. not_late (get_or done k d) r (none_at (λ a. is_late a r) done k d lt t.0))))
+    let P : List Receipt → Type 0 = λ l. AllPairs IsPunctual l in
+    subst P (append_assoc done (r ∷ []) rs) (all_rise (done ++ r ∷ []) rs t.1 (all_pairs_push IsPunctual done r rises (λ k d lt. none_at (λ a. is_late a r) done k d lt t.0)))
 
-pub none_rise : (rs : List Receipt) → first_late [] rs ≡ None → AllPairs Rises rs
+pub none_rise : (rs : List Receipt) → first_late [] rs ≡ None → AllPairs IsPunctual rs
 none_rise rs none = all_rise [] rs none (λ i j d lt lt2. absurd (omega arith))
 
 from_map : (o : Option Receipt) (place : ℕ × ℕ) → Some place ≡ option_map named_place o → (r : Receipt) × (o ≡ Some r) × (r.part ≡ place.0) × (r.position ≡ place.1)
 from_map None place is = cc
 from_map (Some r) place is = let e : place ≡ named_place r = cc in (r, refl, sym (ap (λ p. p.0) e), sym (ap (λ p. p.1) e))
 
-pub stranger_fault : (kept : List KeptState) (rs : List Receipt) (place : ℕ × ℕ) → AllSettled kept rs → Some place ≡ option_map named_place (first_stranger kept rs) → IsFault kept rs place.0 place.1
+pub stranger_fault : (kept : List KeptState) (rs : List Receipt) (place : ℕ × ℕ) → SettledBelow kept rs (length kept) → Some place ≡ option_map named_place (first_stranger kept rs) → IsFault kept rs place.0 place.1
 stranger_fault kept rs place met is = inr (inl (met, from_map (first_stranger kept rs) place is))
 
-pub late_fault : (kept : List KeptState) (rs : List Receipt) (place : ℕ × ℕ) → AllSettled kept rs → first_stranger kept rs ≡ None → Some place ≡ option_map named_place (first_late [] rs) → IsFault kept rs place.0 place.1
+pub late_fault : (kept : List KeptState) (rs : List Receipt) (place : ℕ × ℕ) → SettledBelow kept rs (length kept) → first_stranger kept rs ≡ None → Some place ≡ option_map named_place (first_late [] rs) → IsFault kept rs place.0 place.1
 late_fault kept rs place met none is = inr (inr (met, none, from_map (first_late [] rs) place is))
 
 found_absurd : (b : Bool) (r s : Receipt) (o : Option Receipt) → b ≡ true → cond (not b) (Some s) o ≡ Some r → o ≡ Some r
@@ -67,31 +68,25 @@ stranger_absurd kept [] r is all = cc
 stranger_absurd kept (s ∷ ss) r is all =
     stranger_absurd kept ss r (found_absurd (has_place kept s) r s (first_stranger kept ss) (All-head (λ r. has_place kept r ≡ true) s ss all) is) (All-tail (λ r. has_place kept r ≡ true) s ss all)
 
-late_positions : (a x : Receipt) → is_late a x ≡ true → Rises a x → ⊥
-late_positions a x late rises =
-    let w : a.worker ≡ x.worker = grind (arith, nat_tests) in
-    let p : a.part ≡ x.part = grind (arith, nat_tests) in
-    let lt : a.position < x.position = rises w p in
-    grind (arith, nat_tests, lt)
-
-late_here : (done : List Receipt) (x : Receipt) (rs : List Receipt) → list_any (λ a. is_late a x) done ≡ true → AllPairs Rises (done ++ x ∷ rs) → ⊥
+late_here : (done : List Receipt) (x : Receipt) (rs : List Receipt) → list_any (λ a. is_late a x) done ≡ true → AllPairs IsPunctual (done ++ x ∷ rs) → ⊥
 late_here done x rs late rises =
     let some = Any-from_list_any (λ a. is_late a x) done late in
     let k = some.0 in
-    let pair : Rises (get_or (done ++ x ∷ rs) k x) (get_or (done ++ x ∷ rs) (length done) x) = rises k (length done) x some.2 (rw length-append (omega arith)) in
+    let pair : IsPunctual (get_or (done ++ x ∷ rs) k x) (get_or (done ++ x ∷ rs) (length done) x) = rises k (length done) x some.2 (rw length-append (omega arith)) in
     let first : get_or (done ++ x ∷ rs) k x ≡ get_or done k x = get_or_append_left done (x ∷ rs) x k some.2 in
     let second : get_or (done ++ x ∷ rs) (length done) x ≡ x = get_or_at done x rs x (length done) refl in
     let default : get_or done k x ≡ some.1 = get_or_default done k x some.1 some.2 ∙ some.3 in
-    late_positions some.1 x some.4 (rw (first, second, default) at pair)
+    let punctual : is_late some.1 x ≡ false = rw (first, second, default) at pair in
+    cc (some.4, punctual)
 
 if_some : (b : Bool) (r x : Receipt) (o : Option Receipt) → (if b then Some x else o) ≡ Some r → (b ≡ true) ⊎ (o ≡ Some r)
 if_some true r x o is = inl refl
 if_some false r x o is = inr is
 
-late_absurd : (done rs : List Receipt) (r : Receipt) → first_late done rs ≡ Some r → AllPairs Rises (done ++ rs) → ⊥
+late_absurd : (done rs : List Receipt) (r : Receipt) → first_late done rs ≡ Some r → AllPairs IsPunctual (done ++ rs) → ⊥
 late_absurd done [] r is rises = cc
 late_absurd done (x ∷ rs) r is rises =
-    let P : List Receipt → Type 0 = λ l. AllPairs Rises l in
+    let P : List Receipt → Type 0 = λ l. AllPairs IsPunctual l in
     ⊎_elim
     (λ here. late_here done x rs here rises)
     (λ later. late_absurd (done ++ x ∷ []) rs r later (subst P (sym (append_assoc done (x ∷ []) rs)) rises))
@@ -104,7 +99,7 @@ gap_absurd rs p k n gap settled = ⊎_elim (λ unmet. unmet.2 (settled.met n unm
 pub fault_uncovered : (kept : List KeptState) (rs : List Receipt) (p n : ℕ) → IsFault kept rs p n → Covers kept rs → ⊥
 fault_uncovered kept rs p n fault covers =
     ⊎_elim
-    (λ first. gap_absurd rs p first.0 n first.2 (covers.settled p first.0 first.1))
+    (λ first. gap_absurd rs p first.0 n first.2 (covers.settled p first.0 (slice_get_within kept p first.0 first.1) first.1))
     (λ other. ⊎_elim
     (λ strange. stranger_absurd kept rs strange.1.0 strange.1.1 covers.placed)
     (λ late. late_absurd [] rs late.2.0 late.2.1 covers.rising)

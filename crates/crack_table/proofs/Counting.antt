@@ -10,7 +10,7 @@ use Rattle.crack_row.specs.declared.command.Entry.{Entry}
 use Rattle.crack_core.specs.declared.receipt.Receipt.{Receipt}
 use Rattle.crack_core.specs.Receipts.{entry_of}
 use Rattle.crack_plain.specs.Totals.{is_placed, is_gone, inserted, deleted}
-use Rattle.crack_table.specs.Cover.{KeptState, Place, Folded, Standing, place_at, place_in, names, has_place, IsMetBy, folded_entries, AllSettled, Covers}
+use Rattle.crack_table.specs.Cover.{KeptState, Place, Folded, Standing, place_at, place_in, names, has_place, IsMetBy, folded_entries, IsSettled, Covers}
 use Rattle.crack_table.specs.Marks.{IsSole}
 use Rattle.crack_table.proofs.Places.{part_of, places}
 
@@ -105,7 +105,7 @@ by_key_from key F rs base n all = ap (λ l. sum_by F l) (sym (filter_always (λ 
 
 -- what a cover says of the places
 record AreMet (kept : List KeptState) (rs : List Receipt) : Type 0 where
-  settled : AllSettled kept rs
+  settled : (p : ℕ) (k : KeptState) → slice_get kept p ≡ Some k → IsSettled rs p k
   placed : All (λ r. has_place kept r ≡ true) rs
 
 place_row : (kept : List KeptState) (r : Receipt) → has_place kept r ≡ true → (k : KeptState) × (slice_get kept r.part ≡ Some k) × (nat_lt r.position (k.folded + length k.tail) ≡ true)
@@ -190,7 +190,7 @@ counted f base kept rs are folded =
     (λ p k k_is. part_counted f kept rs are p k k_is ∙ ap (λ s. s + sum_by f k.tail) (folded p k k_is))
 
 met_by : (kept : List KeptState) (rs : List Receipt) → Covers kept rs → AreMet kept rs
-met_by kept rs covers = record { settled = covers.settled; placed = covers.placed }
+met_by kept rs covers = record { settled = λ p k is. covers.settled p k (slice_get_within kept p k is) is; placed = covers.placed }
 
 pub all_counted : (kept : List KeptState) (rs : List Receipt) → Covers kept rs → sum_by (λ r. 1) rs ≡ sum_by (λ k. k.folded + sum_by (λ (e : Entry). 1) k.tail) kept
 all_counted kept rs covers = counted (λ e. 1) (λ k. k.folded) kept rs (met_by kept rs covers) (folded_once kept rs (met_by kept rs covers))
@@ -198,9 +198,9 @@ all_counted kept rs covers = counted (λ e. 1) (λ k. k.folded) kept rs (met_by 
 pub placed_counted : (kept : List KeptState) (rs : List Receipt) → Covers kept rs → sum_by (λ r. cond (is_placed (entry_of r).reply) 1 0) rs ≡ sum_by (λ k. k.placed + inserted k.tail) kept
 placed_counted kept rs covers =
     counted (λ e. cond (is_placed e.reply) 1 0) (λ k. k.placed) kept rs (met_by kept rs covers)
-    (λ p k k_is. folded_sum (λ e. cond (is_placed e.reply) 1 0) rs p k.folded ∙ (covers.settled p k k_is).counted.0)
+    (λ p k k_is. folded_sum (λ e. cond (is_placed e.reply) 1 0) rs p k.folded ∙ ((met_by kept rs covers).settled p k k_is).counted.0)
 
 pub gone_counted : (kept : List KeptState) (rs : List Receipt) → Covers kept rs → sum_by (λ r. cond (is_gone (entry_of r).reply) 1 0) rs ≡ sum_by (λ k. k.gone + deleted k.tail) kept
 gone_counted kept rs covers =
     counted (λ e. cond (is_gone e.reply) 1 0) (λ k. k.gone) kept rs (met_by kept rs covers)
-    (λ p k k_is. folded_sum (λ e. cond (is_gone e.reply) 1 0) rs p k.folded ∙ (covers.settled p k k_is).counted.1)
+    (λ p k k_is. folded_sum (λ e. cond (is_gone e.reply) 1 0) rs p k.folded ∙ ((met_by kept rs covers).settled p k k_is).counted.1)

@@ -4,7 +4,6 @@ use Rattle.std.specs.Prelude.{if◌then◌else◌}
 use Rattle.std.proofs.Math.Pow.{pow-lt, pow_mono}
 use Rattle.std.specs.List.{list_any}
 use Rattle.std.proofs.lemmas.Grind.{pow_more}
-use Rattle.crack_core.specs.Receipts.{BookState}
 use Rattle.crack_table.specs.Gather.{missing_below}
 
 pub bit_fits : (n : ℕ) → n < 64 → 2 ^ n < 2 ^ 64
@@ -13,8 +12,8 @@ bit_fits n lt = pow-lt lt
 pub next_bit : (n : ℕ) → 2 ^ n * 2 ≡ 2 ^ (n + 1)
 next_bit n = rw (pow_more 2 n) refl
 
-pub missing_more : (workers : List BookState) (n missing bit add : ℕ) (has : Bool) → missing ≡ missing_below workers n → bit ≡ 2 ^ n → has ≡ list_any (λ (w : BookState). w.worker == n) workers → add ≡ (if has then 0 else bit) → missing + add ≡ missing_below workers (n + 1)
-missing_more workers n missing bit add has m_is b_is h_is a_is = rw (add-one, a_is, m_is, b_is, h_is) refl
+pub missing_more : {W : Type 0} (number_of : W → ℕ) (workers : List W) (n missing bit add : ℕ) (has : Bool) → missing ≡ missing_below number_of workers n → bit ≡ 2 ^ n → has ≡ list_any (λ worker. number_of worker == n) workers → add ≡ (if has then 0 else bit) → missing + add ≡ missing_below number_of workers (n + 1)
+missing_more number_of workers n missing bit add has m_is b_is h_is a_is = rw (add-one, a_is, m_is, b_is, h_is) refl
 
 pub next_fits : (n : ℕ) → n < 64 → 2 ^ (n + 1) ≤ 2 ^ 64
 next_fits n lt = let le : n + 1 ≤ 64 = omega arith in pow_mono le

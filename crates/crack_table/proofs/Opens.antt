@@ -11,7 +11,7 @@ use Rattle.crack_table.specs.declared.kept.Kept.{Kept}
 use Rattle.crack_table.specs.declared.kinds.KindsLeft.{KindsLeft}
 use Rattle.crack_table.specs.declared.marks.Naming.{Naming}
 use Rattle.crack_table.specs.declared.marks.Naming.TheVariants.{Unnamed, Met, Failed}
-use Rattle.crack_table.specs.Cover.{KeptState, told, IsKept, Place, place_at, names, IsMetBy, IsCounted, IsSettled, SettledBelow, AllSettled, IsLeastUnmet, IsGap}
+use Rattle.crack_table.specs.Cover.{KeptState, told, IsKept, Place, place_at, names, IsMetBy, IsCounted, IsSettled, SettledBelow, IsLeastUnmet, IsGap}
 use Rattle.crack_table.specs.Marks.{IsSole, MarkIs, MarkIsAt, Marked, IsOpenIn, is_below, RowNoted, AreNoted}
 use Rattle.crack_table.proofs.Places.{places, read_told}
 use Rattle.crack_table.proofs.Tallies.{counted_now, counted_all, counted_unfolded}
@@ -120,5 +120,5 @@ settled_more kept rs p k k_is here before q j lt j_is =
     rw (same, ← one) here)
     (below_or q p lt)
 
-pub all_settled : (kept : List KeptState) (rs : List Receipt) (bound : ℕ) → length kept ≤ bound → SettledBelow kept rs bound → AllSettled kept rs
-all_settled kept rs bound long below q k is = let w = slice_get_within kept q k is in below q k (omega (arith, w, long)) is
+pub all_settled : (kept : List KeptState) (rs : List Receipt) (bound : ℕ) → length kept ≤ bound → SettledBelow kept rs bound → SettledBelow kept rs (length kept)
+all_settled kept rs bound long below q k within is = below q k (omega (arith, within, long)) is

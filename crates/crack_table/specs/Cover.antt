@@ -1,5 +1,5 @@
 -- When receipts cover the pasts of partitions, and which place a fault names.
-use Rattle.std.specs.Prelude.{ℕ, Bool, List, [], ◌∷◌, ◌++◌, ◌≡◌, ◌+◌, ◌-◌, ◌<◌, ◌≤◌, ◌⊎◌, ◌&&◌, ◌==◌, nat_lt, nat_le, not, Option, Some, None, is_some, slice_get, filter, find, All, AllPairs, if◌then◌else◌, true}
+use Rattle.std.specs.Prelude.{ℕ, Bool, List, [], ◌∷◌, ◌++◌, ◌≡◌, ◌+◌, ◌-◌, ◌<◌, ◌≤◌, ◌⊎◌, ◌&&◌, ◌==◌, nat_lt, nat_le, not, Option, Some, None, is_some, slice_get, filter, find, All, AllPairs, if◌then◌else◌, true, false, length}
 use Rattle.std.specs.List.{list_any}
 use Rattle.std.specs.Option.{option_map, option_and_then}
 use Rattle.crack_row.specs.declared.command.Entry.{Entry}
@@ -78,24 +78,20 @@ pub record IsSettled (receipts : List Receipt) (part : ℕ) (kept : KeptState) :
 abbrev pub SettledBelow : List KeptState → List Receipt → ℕ → Type 0
 SettledBelow kept receipts bound = (part : ℕ) (k : KeptState) → part < bound → slice_get kept part ≡ Some k → IsSettled receipts part k
 
--- each partition is settled
-abbrev pub AllSettled : List KeptState → List Receipt → Type 0
-AllSettled kept receipts = (part : ℕ) (k : KeptState) → slice_get kept part ≡ Some k → IsSettled receipts part k
-
 -- whether a receipt names an existing place
 abbrev pub has_place : List KeptState → Receipt → Bool
 has_place kept r = is_some (place_in kept r.part r.position)
 
--- of two receipts of one worker in one partition the later names the later place
-abbrev pub Rises : Receipt → Receipt → Type 0
-Rises earlier later = earlier.worker ≡ later.worker → earlier.part ≡ later.part → earlier.position < later.position
+-- whether a receipt's place isn't above that of an earlier one of its worker in its partition
+abbrev pub is_late : Receipt → Receipt → Bool
+is_late earlier r = (earlier.worker == r.worker) && (earlier.part == r.part) && nat_le r.position earlier.position
 
 -- the receipts cover what is kept of the partitions: each partition is settled, no receipt names another place, and the receipts of one
 -- worker in one partition name rising places
 pub record Covers (kept : List KeptState) (receipts : List Receipt) : Type 0 where
-  pub settled : AllSettled kept receipts
+  pub settled : SettledBelow kept receipts (length kept)
   pub placed : All (λ r. has_place kept r ≡ true) receipts
-  pub rising : AllPairs Rises receipts
+  pub rising : AllPairs (λ earlier r. is_late earlier r ≡ false) receipts
 
 -- the least place of a partition that isn't met, if the checkpointed ones, if they are below it, are counted
 abbrev pub IsLeastUnmet : List Receipt → ℕ → KeptState → ℕ → Type 0
@@ -117,10 +113,6 @@ IsFirstGap kept receipts part position = (k : KeptState) × (slice_get kept part
 abbrev pub first_stranger : List KeptState → List Receipt → Option Receipt
 first_stranger kept receipts = find (λ r. not (has_place kept r)) receipts
 
--- whether a receipt's place isn't above that of an earlier one of its worker in its partition
-abbrev pub is_late : Receipt → Receipt → Bool
-is_late earlier r = (earlier.worker == r.worker) && (earlier.part == r.part) && nat_le r.position earlier.position
-
 -- the first receipt that is late, if these went before
 abbrev pub first_late : List Receipt → List Receipt → Option Receipt
 first_late done [] = None
@@ -135,8 +127,8 @@ IsPlaceOf found part position = (r : Receipt) × (found ≡ Some r) × (r.part �
 abbrev pub IsFault : List KeptState → List Receipt → ℕ → ℕ → Type 0
 IsFault kept receipts part position =
     IsFirstGap kept receipts part position
-    ⊎ (AllSettled kept receipts × IsPlaceOf (first_stranger kept receipts) part position)
-    ⊎ (AllSettled kept receipts × (first_stranger kept receipts ≡ None) × IsPlaceOf (first_late [] receipts) part position)
+    ⊎ (SettledBelow kept receipts (length kept) × IsPlaceOf (first_stranger kept receipts) part position)
+    ⊎ (SettledBelow kept receipts (length kept) × (first_stranger kept receipts ≡ None) × IsPlaceOf (first_late [] receipts) part position)
 
 -- why a cover may be refused: 8, or 16 at the place of a fault
 abbrev pub MayNotCover : List KeptState → List Receipt → Refusal → Type 0

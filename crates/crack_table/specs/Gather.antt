@@ -16,9 +16,9 @@ use Rattle.crack_table.specs.Tables.{TableState}
 use Rattle.crack_table.specs.Cover.{KeptState, kept_of, IsFault}
 
 -- one bit for each number below the count that no worker has
-abbrev pub missing_below : List BookState → ℕ → ℕ
-missing_below workers zero = 0
-missing_below workers (suc number) = missing_below workers number + (if list_any (λ (w : BookState). w.worker == number) workers then 0 else 2 ^ number)
+abbrev pub missing_below : {W : Type 0} → (W → ℕ) → List W → ℕ → ℕ
+missing_below number_of workers zero = 0
+missing_below number_of workers (suc number) = missing_below number_of workers number + (if list_any (λ worker. number_of worker == number) workers then 0 else 2 ^ number)
 
 -- the receipts of all workers, as one list
 abbrev pub receipts_of : List BookState → List Receipt
@@ -62,5 +62,5 @@ MayNotAgree splits limits workers e =
 -- why workers may not be gathered: 15 if some are missing, with their bits; if none is, they and the partitions don't agree
 abbrev pub MayNotGather : TableState → List BookState → Refusal → Type 0
 MayNotGather table workers e =
-    ((missing_below workers table.workers ≢ 0) × (e ≡ WorkersMissing (missing_below workers table.workers)))
-    ⊎ ((missing_below workers table.workers ≡ 0) × MayNotAgree table.splits table.limits workers e)
+    ((missing_below (λ (w : BookState). w.worker) workers table.workers ≢ 0) × (e ≡ WorkersMissing (missing_below (λ (w : BookState). w.worker) workers table.workers)))
+    ⊎ ((missing_below (λ (w : BookState). w.worker) workers table.workers ≡ 0) × MayNotAgree table.splits table.limits workers e)

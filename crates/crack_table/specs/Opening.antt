@@ -20,10 +20,14 @@ abbrev pub MayNotOpen : List Bound → Limits → ℕ → Refusal → Type 0
 MayNotOpen splits limits workers e =
     (table_fault splits limits workers ≡ Some e) ⊎ ((table_fault splits limits workers ≡ None) × (e ≡ OutOfMemory))
 
+-- a table with what was requested, and a lock for each partition
+abbrev pub opened_table : List Bound → Limits → ℕ → TableState
+opened_table splits limits workers = record { splits = splits; limits = limits; workers = workers; locks = length splits + 1 }
+
 -- A table opens exactly if there is no fault, except for lack of memory: with what was requested, a lock for each partition, and this many new
 -- workers.
 pub record Opens (splits : List Bound) (limits : Limits) (workers : ℕ) (result : Result (TableState × Vec BookState) Refusal) : Type 0 where
-  pub table : IfOk result (λ opened. opened.0 ≡ record { splits = splits; limits = limits; workers = workers; locks = length splits + 1 })
+  pub table : IfOk result (λ opened. opened.0 ≡ opened_table splits limits workers)
   pub count : IfOk result (λ opened. vec_len opened.1 ≡ workers)
   pub new : IfOk result (λ opened. AreNew opened.1.items)
   pub none : OnOk result (table_fault splits limits workers ≡ None)

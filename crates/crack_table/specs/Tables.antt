@@ -31,14 +31,19 @@ abbrev pub with_limit : ℕ → Refusal → Refusal
 with_limit limit (HistoryFull entries) = HistoryFull limit
 with_limit limit e = e
 
--- each refusal for its cause: there is no such partition, the gate may refuse at each turn, no memory was found, or a partition refuses the
--- command in this way, with the table's limit of a history
-abbrev pub MayRefuse : TableState → (ℕ → Type 0) → ℕ → Command → Refusal → Type 0
-MayRefuse table may_refuse part command e =
-    ((e ≡ NoSuchPartition) × (length table.splits < part))
-    ⊎ ((e ≡ GateGaveUp) × ((turn : ℕ) → turn < GATE_TURNS → may_refuse turn))
+-- why a partition that exists may refuse a worker: the gate may refuse at each turn, no memory was found, or a partition refuses the command
+-- in this way, with the table's limit of a history
+abbrev pub MayRefuse : TableState → (ℕ → Type 0) → Command → Refusal → Type 0
+MayRefuse table may_refuse command e =
+    ((e ≡ GateGaveUp) × ((turn : ℕ) → turn < GATE_TURNS → may_refuse turn))
     ⊎ (e ≡ OutOfMemory)
     ⊎ ((p : Part) × (cause : Refusal) × (refusal_of p command ≡ Some cause) × (e ≡ with_limit table.limits.history cause))
+
+-- One partition of a table is asked for something: if there is no such partition, that is the refusal, and else any refusal has one of these causes.
+pub record AnswersAt {X : Type 0} (table : TableState) (part : ℕ) (Causes : Refusal → Type 0) (result : Result X Refusal) : Type 0 where
+  pub there : OnOk result (part ≤ length table.splits)
+  pub nowhere : length table.splits < part → result ≡ Err NoSuchPartition
+  pub causes : part ≤ length table.splits → IfErr result Causes
 
 -- A worker asks one partition: it is answered, and its book has a receipt of that, or it is refused for a cause, and its book has the former ones.
 -- A gate is asked only if there is room for the receipt.
@@ -46,21 +51,12 @@ pub record AsksTable (table : TableState) (may_refuse : ℕ → Type 0) (part : 
   pub receipt : IfOk result (λ reply. (position : ℕ) × (new.receipts ≡ old.receipts ++ record { part = part; position = position; worker = old.worker; command = command; reply = reply } ∷ []))
   pub worker : new.worker ≡ old.worker
   pub small : IfOk result IsSmall
-  pub there : OnOk result (part ≤ length table.splits)
+  pub at : AnswersAt table part (MayRefuse table may_refuse command) result
   pub err : OnErr result (new.receipts ≡ old.receipts)
-  pub causes : IfErr result (MayRefuse table may_refuse part command)
   pub room : result ≡ Err GateGaveUp → 0 < new.room
-  pub nowhere : length table.splits < part → (result ≡ Err NoSuchPartition) × (new ≡ old)
+  pub nowhere : length table.splits < part → new ≡ old
 
 -- A worker looks at one partition: it is given a layout with ends of its own, or refused if there is no such partition, or for lack of memory.
 pub record LooksAt (table : TableState) (part : ℕ) (result : Result Layout Refusal) : Type 0 where
   pub equations : IfOk result (λ layout. (ends : Range) × IsLayout ends layout)
-  pub there : OnOk result (part ≤ length table.splits)
-  pub nowhere : length table.splits < part → result ≡ Err NoSuchPartition
-  pub err : part ≤ length table.splits → IfErr result (λ e. e ≡ OutOfMemory)
-
--- A worker makes a checkpoint of one partition: it is given how many entries the history had, or refused if there is no such partition, or for lack of memory.
-pub record FoldsAt (table : TableState) (part : ℕ) (result : Result ℕ Refusal) : Type 0 where
-  pub there : OnOk result (part ≤ length table.splits)
-  pub nowhere : length table.splits < part → result ≡ Err NoSuchPartition
-  pub err : part ≤ length table.splits → IfErr result (λ e. e ≡ OutOfMemory)
+  pub at : AnswersAt table part (λ e. e ≡ OutOfMemory) result

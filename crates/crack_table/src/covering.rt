@@ -6,7 +6,7 @@ ghost use Rattle.std.specs.List.{flat_map};
 ghost use Rattle.std.specs.Option.{option_map};
 ghost use Rattle.crack_core.specs.declared.receipt.Receipt.{Receipt};
 ghost use Rattle.crack_core.specs.Receipts.{entry_of};
-ghost use Rattle.crack_table.specs.Cover.{told, KeptState, IsKept, Place, place_in, IsRight, AllSettled, IsFirstGap};
+ghost use Rattle.crack_table.specs.Cover.{told, KeptState, IsKept, Place, place_in, IsRight, SettledBelow, IsFirstGap};
 ghost use Rattle.crack_table.specs.Cover.{first_stranger, Covers, IsFault, MayNotCover};
 ghost use Rattle.crack_table.specs.Marks.{named_place, in_folded, Marked, Counted, AreNoted};
 
@@ -200,7 +200,7 @@ fn first_gap(kept: &[Kept<'_>], notes: &Notes) -> Option<(u32, u64)>
     requires noted { (receipts : List Receipt) × AreNoted (map told kept.now) notes.now.marks.items
         notes.now.kinds.items receipts }
     ensures none { IfNone result ((receipts : List Receipt) → AreNoted (map told kept.now) notes.now.marks.items
-        notes.now.kinds.items receipts → AllSettled (map told kept.now) receipts) }
+        notes.now.kinds.items receipts → SettledBelow (map told kept.now) receipts (length (map told kept.now))) }
     ensures some { IfSome result (λ place. (receipts : List Receipt) → AreNoted (map told kept.now)
         notes.now.marks.items notes.now.kinds.items receipts → IsFirstGap (map told kept.now) receipts
         place.0 place.1) }

@@ -46,7 +46,7 @@ pub struct GatherRefused {
 /// are then handed back. O(entries + checkpointed places + receipts), up to a logarithm of the workers and
 /// partitions.
 pub fn gather(alloc: Global, table: Table, workers: Vec<Worker>) -> Result<Closed, GatherRefused>
-    ensures all { OnOk result (missing_below workers.items table.workers ≡ 0) }
+    ensures all { OnOk result (missing_below (λ (w : BookState). w.worker) workers.items table.workers ≡ 0) }
     ensures parts { IfOk result (λ c. AreParts table.splits table.limits c.parts.items) }
     ensures covered { IfOk result (λ c. Covers (kept_by c.parts.items) (receipts_of workers.items)) }
     ensures shares { IfOk result (λ c. AreShares (receipts_of workers.items) c.accepted c.inserted c.deleted) }
@@ -148,7 +148,7 @@ fn settle(
 /// One bit for each of this many workers that is missing.
 fn missing_workers(workers: &Vec<Worker>, count: u64) -> u64
     requires { count ≤ 64 }
-    ensures { result ≡ missing_below workers.now.items count }
+    ensures { result ≡ missing_below (λ (w : BookState). w.worker) workers.now.items count }
 {
     let mut missing = 0u64;
     let mut bit = 1u128;

@@ -1,6 +1,6 @@
 //! Workers.
 ghost use Rattle.std.specs.Prelude.{◌≡◌, [], Ok, Err, MatchResult};
-ghost use Rattle.crack_table.specs.Tables.{AsksTable, FoldsAt, LooksAt, with_limit};
+ghost use Rattle.crack_table.specs.Tables.{AnswersAt, AsksTable, LooksAt, with_limit};
 
 use crate::asking::ask_behind;
 use crate::gate::Gate;
@@ -84,7 +84,7 @@ impl Worker {
     /// cracks and merges nothing, and isn't kept. Refused with 5 if there is no such partition, and with 8 if it finds
     /// no memory; then nothing has changed. It holds this one lock, for the time that `Partition::checkpoint` takes.
     pub fn checkpoint<R: Wait>(&self, rt: &R, table: &Table, part: u32) -> Result<u64, Refusal>
-        ensures { FoldsAt table.now part result }
+        ensures { AnswersAt table.now part (λ e. e ≡ Refusal.OutOfMemory) result }
     {
         let Some(lock) = table.locks.get(part as usize) else {
             return Err(Refusal::NoSuchPartition);

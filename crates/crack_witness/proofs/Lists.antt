@@ -3,11 +3,12 @@ use Rattle.std.proofs.Common.{◌≡◌, ◌⊎◌, ℕ, zero, suc, ◌+◌, ◌
 use Rattle.std.proofs.lemmas.List.{append-nil, get_or_append_left, get_or_push, take_all}
 use Rattle.std.proofs.lemmas.Bool.Decides.{nat_tests}
 use mathlib.Core.List.{IsPrefix}
+use Rattle.std.specs.Prelude.{option_to_list}
 use Rattle.crack_row.specs.declared.command.Entry.{Entry}
 use Rattle.crack_witness.specs.declared.event.Event.{Event}
 use Rattle.crack_witness.specs.Rules.{Every, NoneOf}
 use Rattle.crack_witness.specs.Keeps.{Among, HasOwner}
-use Rattle.crack_witness.specs.Histories.{history_of, entry_in}
+use Rattle.crack_witness.specs.Histories.{history_of}
 
 pub every_append : {X : Type 0} (P : X → Type 0) (xs ys : List X) → Every P xs → Every P ys → Every P (xs ++ ys)
 every_append P [] ys a b = b
@@ -45,7 +46,7 @@ among_every P Q (x ∷ xs) a (inr b) = among_every P Q xs a.1 b
 
 pub history_append : (m : ℕ) (xs ys : List Event) → history_of m (xs ++ ys) ≡ history_of m xs ++ history_of m ys
 history_append m [] ys = refl
-history_append m (x ∷ xs) ys = rw (history_append m xs ys, append_assoc (if x.owner == m then entry_in x.entry else []) (history_of m xs) (history_of m ys)) refl
+history_append m (x ∷ xs) ys = rw (history_append m xs ys, append_assoc (if x.owner == m then option_to_list x.entry else []) (history_of m xs) (history_of m ys)) refl
 
 -- by whether the first event is the owner's
 pub none_head : (m : ℕ) (x : Event) (xs : List Event) (b : Bool) → (x.owner == m) ≡ b → (x.owner ≡ m → ⊥) → history_of m xs ≡ [] → history_of m (x ∷ xs) ≡ []
@@ -57,8 +58,8 @@ history_none m [] a = refl
 history_none m (x ∷ xs) a = none_head m x xs (x.owner == m) refl a.0 (history_none m xs a.1)
 
 -- an owner's own event comes last
-pub history_own : (xs : List Event) (e : Event) → history_of e.owner (xs ++ e ∷ []) ≡ history_of e.owner xs ++ entry_in e.entry
-history_own xs e = let same : (e.owner == e.owner) ≡ true = grind (arith, nat_tests) in rw (history_append e.owner xs (e ∷ []), same, append-nil (entry_in e.entry)) refl
+pub history_own : (xs : List Event) (e : Event) → history_of e.owner (xs ++ e ∷ []) ≡ history_of e.owner xs ++ option_to_list e.entry
+history_own xs e = let same : (e.owner == e.owner) ≡ true = grind (arith, nat_tests) in rw (history_append e.owner xs (e ∷ []), same, append-nil (option_to_list e.entry)) refl
 
 pub history_other : (m : ℕ) (xs : List Event) (e : Event) → (e.owner == m) ≡ false → history_of m (xs ++ e ∷ []) ≡ history_of m xs
 history_other m xs e other = rw (history_append m xs (e ∷ []), other) (append-nil (history_of m xs))

@@ -1,14 +1,16 @@
 -- The steps keep the rule.
 use Rattle.std.proofs.Common.{◌≡◌, ◌⊎◌, ℕ, zero, suc, ◌+◌, ◌≤◌, ◌<◌, ◌==◌, Bool, true, false, List, [], ◌∷◌, ◌++◌, length, refl, ap, sym, subst, ◌∙◌, arith, inl, inr, slice_set, None, Option, length-append}
 use Rattle.std.proofs.lemmas.List.{append-nil}
+use Rattle.std.specs.Prelude.{option_to_list}
 use mathlib.Core.List.{IsPrefix}
 use prog.Atomic.{either}
 use Rattle.logbook.specs.Pages.{Cell, cell, adds, gives, keeps, no_nib, nib, Nib, step, Moves, Goes, may_make, may_write}
 use Rattle.crack_witness.specs.declared.event.Event.{Event}
 use Rattle.crack_row.specs.declared.command.Entry.{Entry}
+use Rattle.crack_plain.specs.Plain.{AreReplies, no_rows}
 use Rattle.crack_witness.specs.Rules.{Every, NoneOf, Home, Chain, IsKept, Makes, Opens, Adds, IsAlone, Looks, opening, place, row}
 use Rattle.crack_witness.specs.Keeps.{Among, HasWord, HasOwner}
-use Rattle.crack_witness.specs.Histories.{history_of, entry_in, IsHistory, AreHistories, AreEmpty}
+use Rattle.crack_witness.specs.Histories.{history_of, AreHistories, AreEmpty}
 use Rattle.crack_witness.proofs.Lists.{among_prefix, among_every, every_weaker, every_append, every_right, every_left, among_right, among_left, prefix_trans, history_bare, history_none, history_own, history_other, history_rest}
 use Rattle.crack_witness.proofs.Cells.{length_set, home_set, set_home, home_more, chain_stays, chain_fresh, chain_adds, chain_push, alone}
 use Rattle.std.proofs.lemmas.Bool.Decides.{nat_tests}
@@ -59,7 +61,7 @@ kept_opened cs log k x word h kept =
       words = every_append (λ (e : Event). Home (grown cs k x) e.word) log (e ∷ []) g.words (grown_home cs k x word h, tt);
       owners = every_append (λ (e : Event). e.owner < length (grown cs k x)) log (e ∷ []) g.owners (omega (arith, grown_length cs k x), tt);
       chain = chain_fresh (grown cs k x) log e g.chain (every_weaker (λ (e : Event). e.owner < length cs) (λ (d : Event). d.owner ≡ length cs → ⊥) (λ d less same. omega (arith, less, same)) log kept.owners);
-      legal = λ owner. subst IsHistory (sym (history_bare owner log e (length cs == owner) refl refl)) (kept.legal owner);
+      legal = λ owner. subst (AreReplies no_rows) (sym (history_bare owner log e (length cs == owner) refl refl)) (kept.legal owner);
     }
 
 pub opens_moves : (v : List Event) (k : ℕ) (ask : Event) → HasWord k v → ask.word ≡ k
@@ -87,15 +89,15 @@ is_alone cs log owner key chain away xs d rest is own named =
     let c : Chain cs (xs ++ d ∷ rest) = subst (Chain cs) (is ∙ append_assoc xs (d ∷ []) rest) chain in
     subst (λ (o : ℕ). NoneOf o rest) own (alone cs xs d rest c (subst (λ (j : ℕ). Home cs j → ⊥) (sym named) away))
 
-pub legal_more : (log : List Event) (e : Event) (b : Bool) (owner : ℕ) → (e.owner == owner) ≡ b → IsHistory (history_of owner log) → IsHistory (history_of e.owner log ++ entry_in e.entry) → IsHistory (history_of owner (log ++ e ∷ []))
+pub legal_more : (log : List Event) (e : Event) (b : Bool) (owner : ℕ) → (e.owner == owner) ≡ b → AreReplies no_rows (history_of owner log) → AreReplies no_rows (history_of e.owner log ++ option_to_list e.entry) → AreReplies no_rows (history_of owner (log ++ e ∷ []))
 legal_more log e true owner is old new =
     let same : e.owner ≡ owner = grind (arith, nat_tests) in
-    subst (λ (o : ℕ). IsHistory (history_of o (log ++ e ∷ []))) same (subst IsHistory (sym (history_own log e)) new)
-legal_more log e false owner is old new = subst IsHistory (sym (history_other owner log e is)) old
+    subst (λ (o : ℕ). AreReplies no_rows (history_of o (log ++ e ∷ []))) same (subst (AreReplies no_rows) (sym (history_own log e)) new)
+legal_more log e false owner is old new = subst (AreReplies no_rows) (sym (history_other owner log e is)) old
 
 pub kept_added : (cs : List Cell) (xs : List Event) (d : Event) (rest : List Event) (k x : ℕ) (p : Nib) (e : Event)
     → d.owner ≡ e.owner → d.next ≡ p.key → p.key < length cs → (Home cs p.key → ⊥) → Home cs e.word
-    → IsHistory (history_of e.owner (xs ++ d ∷ []) ++ entry_in e.entry)
+    → AreReplies no_rows (history_of e.owner (xs ++ d ∷ []) ++ option_to_list e.entry)
     → IsKept cs ((xs ++ d ∷ []) ++ rest) → IsKept (given_home cs k x p) (((xs ++ d ∷ []) ++ rest) ++ e ∷ [])
 kept_added cs xs d rest k x p e own at less away h may kept =
     let log = (xs ++ d ∷ []) ++ rest in
@@ -108,12 +110,12 @@ kept_added cs xs d rest k x p e own at less away h may kept =
       words = every_append (λ (e : Event). Home ds e.word) log (e ∷ []) (every_weaker (λ (e : Event). Home cs e.word) (λ (e : Event). Home ds e.word) (λ e h. given_stays cs k x p e.word h) log kept.words) (given_stays cs k x p e.word h, tt);
       owners = every_append (λ (e : Event). e.owner < length ds) log (e ∷ []) (every_weaker (λ (e : Event). e.owner < length cs) (λ (e : Event). e.owner < length ds) (λ e h. omega (arith, h, given_length cs k x p)) log kept.owners) (let o = every_right (λ (e : Event). e.owner < length cs) xs (d ∷ []) (every_left (λ (e : Event). e.owner < length cs) (xs ++ d ∷ []) rest kept.owners) in omega (arith, o.0, own, given_length cs k x p), tt);
       chain = subst (λ (l : List Event). Chain ds (l ++ e ∷ [])) (sym flat) (chain_adds cs ds (given_stays cs k x p) xs d rest e (sym own) here none c);
-      legal = λ owner. legal_more log e (e.owner == owner) owner refl (kept.legal owner) (subst (λ (h : List Entry). IsHistory (h ++ entry_in e.entry)) (sym same) may);
+      legal = λ owner. legal_more log e (e.owner == owner) owner refl (kept.legal owner) (subst (λ (h : List Entry). AreReplies no_rows (h ++ option_to_list e.entry)) (sym same) may);
     }
 
 pub adds_moves : (v xs : List Event) (d : Event) (k : ℕ) (p : Nib) (e : Event)
     → IsPrefix (xs ++ d ∷ []) v → d.owner ≡ e.owner → d.next ≡ p.key → p.right ≡ may_write → d.word ≡ k → e.word ≡ k
-    → IsHistory (history_of e.owner (xs ++ d ∷ []) ++ entry_in e.entry)
+    → AreReplies no_rows (history_of e.owner (xs ++ d ∷ []) ++ option_to_list e.entry)
     → Moves IsKept shown moved k (v, (p, None)) (λ n. either (n == 0) 0 n) (Adds (step k 0 0 e) (v, (p, None)))
 adds_moves v xs d k p e begins own at right has stands may cs log kept pre away =
     let b = xs ++ d ∷ [] in
@@ -164,7 +166,7 @@ row_kept n = record {
   words = row_each (λ (e : Event). Home (replicate n (0, true)) e.word) n n (omega arith) (λ k l. home_replicate n k l);
   owners = row_each (λ (e : Event). e.owner < length (replicate n (0, true))) n n (omega arith) (λ k l. let h = home_replicate n 0 (omega (arith, l)) in h.0);
   chain = row_chain n n (omega arith);
-  legal = λ owner. subst IsHistory (sym (row_history owner n)) tt;
+  legal = λ owner. subst (AreReplies no_rows) (sym (row_history owner n)) tt;
 }
 
 pub row_has_last : (n k : ℕ) (b : Bool) → (k == n) ≡ b → k < suc n → (k < n → HasWord k (row n)) → HasWord k (row (suc n))

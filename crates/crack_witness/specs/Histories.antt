@@ -1,27 +1,18 @@
 -- The history of each owner in the events of a book, and what a partition keeps of it.
-use Rattle.std.specs.Prelude.{◌≡◌, ◌≢◌, ℕ, ◌==◌, ◌<◌, List, [], ◌∷◌, ◌++◌, All, Option, Some, None, filter, if◌then◌else◌}
+use Rattle.std.specs.Prelude.{◌≡◌, ◌≢◌, ℕ, ◌==◌, List, [], ◌∷◌, ◌++◌, option_to_list, filter, if◌then◌else◌}
 use Rattle.crack_row.specs.declared.command.Entry.{Entry}
 use Rattle.crack_plain.specs.Plain.{AreReplies, no_rows}
 use Rattle.crack_plain.specs.Past.{Past, no_base, base_after}
 use Rattle.crack_witness.specs.declared.event.Event.{Event}
 
--- the entry of an event, if it has one
-abbrev pub entry_in : Option Entry → List Entry
-entry_in None = []
-entry_in (Some e) = e ∷ []
-
 -- the entries of one owner, in order
 abbrev pub history_of : ℕ → List Event → List Entry
 history_of owner [] = []
-history_of owner (e ∷ es) = (if e.owner == owner then entry_in e.entry else []) ++ history_of owner es
+history_of owner (e ∷ es) = (if e.owner == owner then option_to_list e.entry else []) ++ history_of owner es
 
--- each entry has the reply of the plain rows that the entries before it leave
-abbrev pub IsHistory : List Entry → Type 0
-IsHistory es = AreReplies no_rows es
-
--- each owner's entries are a history
+-- each owner's entries are a history: each has the reply of the plain rows that the entries before it leave
 abbrev pub AreHistories : List Event → Type 0
-AreHistories log = (owner : ℕ) → IsHistory (history_of owner log)
+AreHistories log = (owner : ℕ) → AreReplies no_rows (history_of owner log)
 
 -- no owner has an entry
 abbrev pub AreEmpty : List Event → Type 0
@@ -30,10 +21,6 @@ AreEmpty log = (owner : ℕ) → history_of owner log ≡ []
 -- the entries of one worker, in order
 abbrev pub calls_by : ℕ → List Entry → List Entry
 calls_by worker es = filter (λ (e : Entry). e.worker == worker) es
-
--- each entry is of a worker whose number is below this
-abbrev pub AreOfWorkers : ℕ → List Entry → Type 0
-AreOfWorkers workers es = All (λ (e : Entry). e.worker < workers) es
 
 -- the entries of one worker in the history of a partition, as far as these events have it
 abbrev pub calls_at : (ℕ → ℕ) → ℕ → ℕ → List Event → List Entry

@@ -9,12 +9,11 @@ use Rattle.crack_row.specs.declared.refusal.Refusal.TheVariants.{NoSuchPartition
 use Rattle.crack_part.specs.Parts.{Part}
 use Rattle.crack_part.specs.Refusals.{refusal_of}
 use Rattle.crack_witness.specs.declared.event.Event.{Event}
-use Rattle.crack_witness.specs.Histories.{history_of, calls_by, calls_at}
+use Rattle.crack_witness.specs.Histories.{history_of, calls_by, calls_at, AreHistories, IsPastOf}
 
 -- a book, and the number of each owner in it
 pub record OpenedState : Type 0 where
   pub book : Book
-  pub log : List Event
   pub ids : List ℕ
 
 -- no two of them are the same
@@ -36,6 +35,12 @@ pub record WitnessedState : Type 0 where
   pub log : List Event
   pub held : Part
   pub workers : ℕ
+
+-- what a partition keeps is all of its history, each reply in that is the plain rows', and each entry is one of the workers that it counts
+pub record IsWhole (owner : ℕ → ℕ) (w : WitnessedState) : Type 0 where
+  pub legal : AreHistories w.log
+  pub kept : IsPastOf (history_of (owner w.part) w.log) w.held.past
+  pub known : All (λ (e : Entry). e.worker < w.workers) (history_of (owner w.part) w.log)
 
 -- a partition that has its number, and no entry yet
 pub record IsNewAt (owner : ℕ → ℕ) (workers part : ℕ) (held : Part) (w : WitnessedState) : Type 0 where

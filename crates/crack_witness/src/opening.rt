@@ -96,7 +96,6 @@ impl Model for Opened {
 
     ghost view = { λ o. record {
       book = o.seen.book;
-      log = o.seen.log;
       ids = map (λ (w : OwnerState). w.id) o.owners.items;
     } };
 
@@ -109,7 +108,6 @@ impl Opened {
     pub fn new(alloc: Global, count: u32) -> Result<Opened, AllocError>
         ensures count { IfOk result (λ o. length o.ids ≡ count) }
         ensures distinct { IfOk result (λ o. AreDistinct o.ids) }
-        ensures empty { IfOk result (λ o. AreEmpty o.log) }
     {
         let (seen, mut pens) = Token::open_row::<u64, Row>(&0, Start::alone(), count as usize);
         let mut latest = seen.again();

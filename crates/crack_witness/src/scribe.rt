@@ -2,7 +2,8 @@
 ghost use Rattle.std.specs.Prelude.{◌≡◌, [], ◌∷◌, ◌++◌, true};
 ghost use mathlib.Core.List.{IsPrefix};
 ghost use Rattle.logbook.specs.Pages.{may_write};
-ghost use Rattle.crack_witness.specs.Histories.{history_of, IsHistory, AreHistories, AreEmpty};
+ghost use Rattle.crack_plain.specs.Plain.{AreReplies, no_rows};
+ghost use Rattle.crack_witness.specs.Histories.{history_of, AreHistories, AreEmpty};
 ghost use Rattle.crack_witness.specs.Keeps.{HasWord, IsOwnerAt};
 
 use crate::event::{Add, Event, Head, Look, Make, Nothing, Open, Token, Update};
@@ -138,7 +139,7 @@ impl<J: Naming> Scribe<J> {
     /// Writes an entry after all that the scribe and the asking worker have seen. O(1): two steps on the partition's
     /// own word.
     pub(crate) fn write(&mut self, me: &mut Front<J>, worker: u32, command: &Command, reply: &Reply)
-        requires { IsHistory (history_of (J.owner self.old.part) self.old.log ++ record {
+        requires { AreReplies no_rows (history_of (J.owner self.old.part) self.old.log ++ record {
           worker = worker;
           command = command.now;
           reply = reply.now;

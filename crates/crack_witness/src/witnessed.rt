@@ -7,8 +7,8 @@ ghost use Rattle.crack_plain.specs.Plain.{IsSmall, reply_to};
 ghost use Rattle.crack_part.specs.Parts.{IsSound, state_of, folded_part, Serves, Spares};
 ghost use Rattle.crack_part.specs.Refusals.{refusal_of};
 ghost use Rattle.crack_part.specs.Upkeep.{upkept};
-ghost use Rattle.crack_witness.specs.Histories.{history_of, calls_by, AreHistories, AreOfWorkers, IsPastOf};
-ghost use Rattle.crack_witness.specs.Witnesses.{IsNewAt, IsInStep, MayRefuseIt};
+ghost use Rattle.crack_witness.specs.Histories.{history_of, calls_by, AreHistories, IsPastOf};
+ghost use Rattle.crack_witness.specs.Witnesses.{IsWhole, IsNewAt, IsInStep, MayRefuseIt};
 ghost use Rattle.crack_witness.specs.Keeps.{IsOwnerAt};
 
 use crate::opening::{Naming, Owner};
@@ -28,8 +28,9 @@ pub struct Witnessed<J: Naming> {
 }
 
 impl<J: Naming> Model for Witnessed<J> {
-    ghost use Rattle.std.specs.Prelude.{length};
-    ghost use Rattle.crack_witness.specs.Histories.{history_of, AreOfWorkers, IsPastOf};
+    ghost use Rattle.std.specs.Prelude.{◌<◌, length, All};
+    ghost use Rattle.crack_row.specs.declared.command.Entry.{Entry};
+    ghost use Rattle.crack_witness.specs.Histories.{history_of, IsPastOf};
     ghost use Rattle.crack_witness.specs.Witnesses.{WitnessedState};
     ghost use Rattle.crack_witness.specs.Keeps.{AreCounts};
 
@@ -44,7 +45,7 @@ impl<J: Naming> Model for Witnessed<J> {
 
     ghost invariant = { λ w. IsPastOf (history_of (J.owner w.scribe.part) w.scribe.log) w.partition.past ×
         AreCounts w.answered.items (history_of (J.owner w.scribe.part) w.scribe.log) ×
-        AreOfWorkers (length w.answered.items) (history_of (J.owner w.scribe.part) w.scribe.log) };
+        All (λ (e : Entry). e.worker < length w.answered.items) (history_of (J.owner w.scribe.part) w.scribe.log) };
 }
 
 impl<J: Naming> Witnessed<J> {
@@ -92,9 +93,7 @@ impl<J: Naming> Witnessed<J> {
     /// States the invariants of each, and does nothing: its history is legal, what the partition keeps is all of it,
     /// and each entry is one of its workers'.
     pub fn facts(&self)
-        ensures legal { AreHistories self.now.log }
-        ensures kept { IsPastOf (history_of (J.owner self.now.part) self.now.log) self.now.held.past }
-        ensures known { AreOfWorkers self.now.workers (history_of (J.owner self.now.part) self.now.log) }
+        ensures whole { IsWhole J.owner self.now }
         ensures sound { IsSound self.now.held }
     {
         let _part = self.scribe.part();

@@ -14,8 +14,8 @@ at-table owner table may_refuse part w command old e cause = elim cause [
   | inr rest ↦ elim rest [
     | inl strange ↦ rw strange.0 (inr (inl refl))
     | inr more ↦ elim more [
-      | inl short ↦ rw short (inl (inr (inr (inl refl))))
-      | inr refused ↦ inl (inr (inr (inr (w.held, e, refused, refl))))
+      | inl short ↦ rw short (inl (inr (inl refl)))
+      | inr refused ↦ inl (inr (inr (w.held, e, refused, refl)))
     ]
   ]
 ]

@@ -1,7 +1,7 @@
 -- Witnessed partitions that are the table's, and their totals.
-use Rattle.std.proofs.Common.{◌≡◌, ◌<◌, ◌≤◌, ◌+◌, add-one, ◌*◌, ◌^◌, ◌⊎◌, ℕ, List, [], ◌∷◌, Bool, length, get_or, map, Some, refl, ap, sym, ◌∙◌, arith, ⊎_elim}
-use Rattle.std.specs.Prelude.{All, sum_by, if◌then◌else◌, ◌==◌}
-use Rattle.std.specs.List.{slice_get, list_any}
+use Rattle.std.proofs.Common.{◌≡◌, ◌<◌, ◌≤◌, ◌+◌, ◌*◌, ◌^◌, ◌⊎◌, ℕ, List, [], ◌∷◌, length, get_or, map, Some, refl, ap, sym, ◌∙◌, arith, ⊎_elim}
+use Rattle.std.specs.Prelude.{All, sum_by}
+use Rattle.std.specs.List.{slice_get}
 use Rattle.std.proofs.lemmas.List.{length-map, get_or-map, get_or_default}
 use Rattle.std.proofs.lemmas.List.Elements.{All-map}
 use Rattle.std.proofs.lemmas.List.Sums.{sum_by-cons}
@@ -12,10 +12,10 @@ use Rattle.crack_plain.specs.Past.{accepted_in, inserted_in, deleted_in}
 use Rattle.crack_state.specs.State.{live_rows}
 use Rattle.crack_part.specs.Parts.{Part, IsSound}
 use Rattle.crack_core.specs.Opening.{AreParts}
-use Rattle.crack_witness.specs.Witnesses.{WitnessedState, AskerState}
+use Rattle.crack_witness.specs.Witnesses.{WitnessedState}
 use Rattle.crack_table.specs.Gather.{IsTables, AreTotals}
 use Rattle.crack_table.proofs.Totals.{held_difference, held_are, accepted-bound, inserted-bound}
-use Rattle.crack_witness_table.specs.Gather.{held_by, AreNumbered, IsTablesAt, IsFirstStrange, missing_askers}
+use Rattle.crack_witness_table.specs.Gather.{held_by, AreNumbered, IsTablesAt, IsFirstStrange}
 
 -- a sum over partitions is one over what is held
 pub held_sum : (f : Part → ℕ) (ws : List WitnessedState) → sum_by (λ (w : WitnessedState). f w.held) ws ≡ sum_by f (held_by ws)
@@ -105,7 +105,3 @@ are_totals parts answers placed left gone sound answers_are placed_are left_are 
       rows_are = left_are;
       held_is = held_are placed gone left (omega (arith, gone_is));
     }
-
--- one more bit
-pub missing_more : (askers : List AskerState) (n missing bit add : ℕ) (has : Bool) → missing ≡ missing_askers askers n → bit ≡ 2 ^ n → has ≡ list_any (λ (a : AskerState). a.worker == n) askers → add ≡ (if has then 0 else bit) → missing + add ≡ missing_askers askers (n + 1)
-missing_more askers n missing bit add has m_is b_is h_is a_is = rw (add-one, a_is, m_is, b_is, h_is) refl

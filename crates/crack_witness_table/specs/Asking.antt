@@ -8,13 +8,13 @@ use Rattle.crack_row.specs.declared.refusal.Refusal.TheVariants.{NoSuchPartition
 use Rattle.crack_plain.specs.Plain.{IsSmall}
 use Rattle.crack_witness.specs.Histories.{calls_at, AreHistories}
 use Rattle.crack_witness.specs.Witnesses.{AskerState, IsGiven, replies_at, replies_to}
-use Rattle.crack_table.specs.Tables.{TableState, MayRefuse}
+use Rattle.crack_table.specs.Tables.{TableState, AnswersAt, MayRefuse}
 
--- why a table may refuse a worker: as `MayRefuse` says; 16 with the partition and the number of its replies there, or 5 if the worker knows
--- of no such partition, both of them only to workers of other tables
+-- why a partition that exists may refuse a worker: as `MayRefuse` says; 16 with the partition and the number of its replies there, or 5 if the
+-- worker knows of no such partition, both of them only to workers of other tables
 abbrev pub MayRefuseAsker : TableState → (ℕ → Type 0) → ℕ → Command → AskerState → Refusal → Type 0
 MayRefuseAsker table may_refuse part command asker e =
-    MayRefuse table may_refuse part command e
+    MayRefuse table may_refuse command e
     ⊎ ((e ≡ StrangeReceipt part (replies_at asker part)) ⊎ ((e ≡ NoSuchPartition) × (length asker.fronts ≤ part)))
 
 -- A worker asks one partition: if it is answered, its entry ends the history of that partition, as far as the worker now sees it; all that it
@@ -26,10 +26,8 @@ pub record AsksWitnessed (owner : ℕ → ℕ) (table : TableState) (may_refuse 
   pub fronts : OnOk result (new.fronts ≡ slice_set old.fronts part new.seen)
   pub legal : OnOk result (AreHistories new.seen)
   pub small : IfOk result IsSmall
-  pub there : OnOk result (part ≤ length table.splits)
+  pub at : AnswersAt table part (MayRefuseAsker table may_refuse part command old) result
   pub seen : IsPrefix old.seen new.seen
   pub replies : OnOk result (replies_to new ≡ replies_to old + 1)
   pub worker : new.worker ≡ old.worker
   pub err : OnErr result (new ≡ old)
-  pub causes : IfErr result (MayRefuseAsker table may_refuse part command old)
-  pub nowhere : length table.splits < part → (result ≡ Err NoSuchPartition) × (new ≡ old)

@@ -1,15 +1,14 @@
 -- The totals of a table that witnesses its replies when its workers are gathered.
-use Rattle.std.specs.Prelude.{◌≡◌, ◌≢◌, ℕ, zero, suc, ◌+◌, ◌^◌, ◌<◌, ◌⊎◌, ◌==◌, List, length, map, All, Some, slice_get, if◌then◌else◌}
-use Rattle.std.specs.List.{list_any}
+use Rattle.std.specs.Prelude.{◌≡◌, ◌≢◌, ℕ, ◌+◌, ◌<◌, ◌⊎◌, List, length, map, All, Some, slice_get}
 use Rattle.crack_row.specs.declared.Bound.{Bound}
 use Rattle.crack_row.specs.declared.limit.Limits.{Limits}
 use Rattle.crack_row.specs.declared.refusal.Refusal.{Refusal}
 use Rattle.crack_row.specs.declared.refusal.Refusal.TheVariants.{OutOfMemory, StrangeReceipt, WorkersMissing}
 use Rattle.crack_part.specs.Parts.{Part}
-use Rattle.crack_witness.specs.Histories.{history_of, AreHistories, AreOfWorkers, IsPastOf}
-use Rattle.crack_witness.specs.Witnesses.{AskerState, WitnessedState, IsSettledFor, MayDiffer}
+use Rattle.crack_core.specs.Opening.{AreParts}
+use Rattle.crack_witness.specs.Witnesses.{AskerState, WitnessedState, IsWhole, IsSettledFor, MayDiffer}
 use Rattle.crack_table.specs.Tables.{TableState}
-use Rattle.crack_table.specs.Gather.{IsTables}
+use Rattle.crack_table.specs.Gather.{IsTables, missing_below}
 
 -- the partitions themselves
 abbrev pub held_by : List WitnessedState → List Part
@@ -19,21 +18,12 @@ held_by parts = map (λ (w : WitnessedState). w.held) parts
 abbrev pub AreNumbered : ℕ → List WitnessedState → Type 0
 AreNumbered workers parts = (place : ℕ) (w : WitnessedState) → slice_get parts place ≡ Some w → (w.part ≡ place) × (w.workers ≡ workers)
 
--- what a partition keeps is all of its history, each reply in that is the plain rows', and each entry is one of the workers that it counts
-pub record IsWhole (owner : ℕ → ℕ) (w : WitnessedState) : Type 0 where
-  pub legal : AreHistories w.log
-  pub kept : IsPastOf (history_of (owner w.part) w.log) w.held.past
-  pub known : AreOfWorkers w.workers (history_of (owner w.part) w.log)
-
--- what each worker has seen of each partition's history is a prefix of it, and of its entries that history has exactly those that it was
--- given replies for
-abbrev pub AreSettled : (ℕ → ℕ) → List AskerState → List WitnessedState → Type 0
-AreSettled owner askers parts = All (λ (w : WitnessedState). All (λ (a : AskerState). IsSettledFor owner a w) askers) parts
-
--- one bit for each number below the count that no worker has
-abbrev pub missing_askers : List AskerState → ℕ → ℕ
-missing_askers askers zero = 0
-missing_askers askers (suc number) = missing_askers askers number + (if list_any (λ (a : AskerState). a.worker == number) askers then 0 else 2 ^ number)
+-- these are the partitions of a table whose workers are gathered: they are the table's, each is whole, and each worker is settled there
+pub record AreGathered (owner : ℕ → ℕ) (splits : List Bound) (limits : Limits) (workers : ℕ) (askers : List AskerState) (parts : List WitnessedState) : Type 0 where
+  pub tables : AreParts splits limits (held_by parts)
+  pub numbered : AreNumbered workers parts
+  pub whole : All (λ (w : WitnessedState). IsWhole owner w) parts
+  pub settled : All (λ (w : WitnessedState). All (λ (a : AskerState). IsSettledFor owner a w) askers) parts
 
 -- a partition that has the number of its place, counts the table's workers, and has the table's keys and limits there
 pub record IsTablesAt (splits : List Bound) (limits : Limits) (workers place : ℕ) (w : WitnessedState) : Type 0 where
@@ -58,5 +48,5 @@ MayNotMatch owner splits limits workers askers e =
 -- why workers may not be gathered: 15 if some are missing, with their bits; if none is, they and the partitions don't agree
 abbrev pub MayNotGather : (ℕ → ℕ) → TableState → List AskerState → Refusal → Type 0
 MayNotGather owner table askers e =
-    ((missing_askers askers table.workers ≢ 0) × (e ≡ WorkersMissing (missing_askers askers table.workers)))
-    ⊎ ((missing_askers askers table.workers ≡ 0) × MayNotMatch owner table.splits table.limits table.workers askers e)
+    ((missing_below (λ (a : AskerState). a.worker) askers table.workers ≢ 0) × (e ≡ WorkersMissing (missing_below (λ (a : AskerState). a.worker) askers table.workers)))
+    ⊎ ((missing_below (λ (a : AskerState). a.worker) askers table.workers ≡ 0) × MayNotMatch owner table.splits table.limits table.workers askers e)

@@ -1,16 +1,13 @@
 -- When a table that witnesses its replies opens.
 use Rattle.std.specs.Prelude.{◌≡◌, ℕ, List, length, Some, slice_get}
-use Rattle.crack_row.specs.declared.Bound.{Bound}
-use Rattle.crack_row.specs.declared.limit.Limits.{Limits}
 use Rattle.crack_witness.specs.Histories.{AreEmpty}
 use Rattle.crack_witness.specs.Witnesses.{AskerState, OpenedState}
+use Rattle.crack_table.specs.Tables.{TableState}
 
--- what a table is to be opened with: its book, where one partition ends and the next begins, the limits of each partition, and how many workers
+-- a table that is to be opened, and its book
 pub record UnnamedState : Type 0 where
   pub opened : OpenedState
-  pub splits : List Bound
-  pub limits : Limits
-  pub workers : ℕ
+  pub table : TableState
 
 -- this many workers, numbered from 0 on, which have seen nothing of this many partitions
 pub record AreNewAskers (workers parts : ℕ) (askers : List AskerState) : Type 0 where

@@ -5,9 +5,9 @@ ghost use Rattle.std.specs.List.{list_any};
 ghost use Rattle.crack_part.specs.Parts.{IsSound};
 ghost use Rattle.crack_core.specs.Opening.{AreParts};
 ghost use Rattle.crack_core.specs.Routes.{AreSplits};
-ghost use Rattle.crack_witness.specs.Witnesses.{AskerState, WitnessedState};
-ghost use Rattle.crack_table.specs.Gather.{AreTotals};
-ghost use Rattle.crack_witness_table.specs.Gather.{held_by, AreNumbered, IsWhole, AreSettled, missing_askers};
+ghost use Rattle.crack_witness.specs.Witnesses.{AskerState, WitnessedState, IsWhole};
+ghost use Rattle.crack_table.specs.Gather.{missing_below, AreTotals};
+ghost use Rattle.crack_witness_table.specs.Gather.{held_by, AreNumbered, AreGathered};
 ghost use Rattle.crack_witness_table.specs.Gather.{IsTablesAt, IsFirstStrange, MayNotMatch, MayNotGather};
 
 use crate::locks::{lock, unlock};
@@ -53,11 +53,9 @@ pub fn gather<J: Naming>(
     table: WitnessedTable<J>,
     askers: Vec<Asker<J>>,
 ) -> Result<Gathered<J>, GatherRefused<J>>
-    ensures all { OnOk result (missing_askers askers.items table.workers ≡ 0) }
-    ensures parts { IfOk result (λ s. AreParts table.splits table.limits (held_by s.parts.items) ×
-        AreNumbered table.workers s.parts.items) }
-    ensures whole { IfOk result (λ s. All (λ (w : WitnessedState). IsWhole J.owner w) s.parts.items) }
-    ensures settled { IfOk result (λ s. AreSettled J.owner askers.items s.parts.items) }
+    ensures all { OnOk result (missing_below (λ (a : AskerState). a.worker) askers.items table.workers ≡ 0) }
+    ensures gathered { IfOk result (λ s. AreGathered J.owner table.splits table.limits table.workers askers.items
+        s.parts.items) }
     ensures totals { IfOk result (λ s. AreTotals (held_by s.parts.items) s.accepted s.inserted s.deleted s.held) }
 
     ensures table { IfErr result (λ e. e.table ≡ table) }
@@ -105,10 +103,8 @@ fn close<J: Naming>(
 ) -> Result<Gathered<J>, Refusal>
     requires all { vec_len locks.old ≡ length splits.now + 1 }
     requires rising { AreSplits splits.now }
-    ensures parts { IfOk result (λ s. AreParts splits.now limits (held_by s.parts.items) ×
-        AreNumbered workers s.parts.items) }
-    ensures whole { IfOk result (λ s. All (λ (w : WitnessedState). IsWhole J.owner w) s.parts.items) }
-    ensures settled { IfOk result (λ s. AreSettled J.owner askers.now.items s.parts.items) }
+    ensures gathered { IfOk result (λ s. AreGathered J.owner splits.now limits workers askers.now.items
+        s.parts.items) }
     ensures totals { IfOk result (λ s. AreTotals (held_by s.parts.items) s.accepted s.inserted s.deleted s.held) }
     ensures locked { OnErr result (vec_len locks.new ≡ vec_len locks.old) }
     ensures causes { IfErr result (MayNotMatch J.owner splits.now limits workers askers.now.items) }
@@ -141,10 +137,8 @@ fn match_all<J: Naming>(
     requires count { length parts.old.items ≡ length splits.now + 1 }
     requires rising { AreSplits splits.now }
     ensures same { parts.new.items ≡ parts.old.items }
-    ensures parts { OnOk result (AreParts splits.now limits (held_by parts.old.items) ×
-        AreNumbered workers parts.old.items) }
-    ensures whole { OnOk result (All (λ (w : WitnessedState). IsWhole J.owner w) parts.old.items) }
-    ensures settled { OnOk result (AreSettled J.owner askers.now.items parts.old.items) }
+    ensures gathered { OnOk result (AreGathered J.owner splits.now limits workers askers.now.items
+        parts.old.items) }
     ensures totals { IfOk result (λ s. AreTotals (held_by parts.old.items) s.accepted s.inserted s.deleted s.held) }
     ensures causes { IfErr result (MayNotMatch J.owner splits.now limits workers askers.now.items) }
 {
@@ -209,7 +203,7 @@ fn is_tables_at<J: Naming>(
 /// One bit for each of this many workers that is missing.
 fn missing_askers<J: Naming>(askers: &Vec<Asker<J>>, count: u64) -> u64
     requires { count ≤ 64 }
-    ensures { result ≡ missing_askers askers.now.items count }
+    ensures { result ≡ missing_below (λ (a : AskerState). a.worker) askers.now.items count }
 {
     let mut missing = 0u64;
     let mut bit = 1u128;

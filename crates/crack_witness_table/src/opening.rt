@@ -2,7 +2,7 @@
 ghost use Rattle.std.specs.Prelude.{◌≡◌, ◌+◌, ◌≤◌, length, IfOk, IfErr, OnOk, None};
 ghost use Rattle.crack_witness.specs.Histories.{AreEmpty};
 ghost use Rattle.crack_witness.specs.Witnesses.{AreNames, AreApart, AreDistinct};
-ghost use Rattle.crack_table.specs.Opening.{table_fault, MayNotOpen};
+ghost use Rattle.crack_table.specs.Opening.{table_fault, opened_table, MayNotOpen};
 ghost use Rattle.crack_witness_table.specs.Opening.{AreNewAskers};
 
 use crate::locks::lock;
@@ -26,11 +26,12 @@ pub struct UnnamedTable {
 
 impl Model for UnnamedTable {
     ghost use Rattle.crack_witness_table.specs.Keeps.{IsUnnamed};
+    ghost use Rattle.crack_table.specs.Opening.{opened_table};
     ghost use Rattle.crack_witness_table.specs.Opening.{UnnamedState};
 
     ghost Value = { UnnamedState };
 
-    ghost view = { λ t. record { opened = t.opened; splits = t.splits.items; limits = t.limits; workers = t.workers } };
+    ghost view = { λ t. record { opened = t.opened; table = opened_table t.splits.items t.limits t.workers } };
 
     ghost invariant = { λ t. IsUnnamed t.opened.ids t.splits.items t.limits t.workers };
 }
@@ -44,8 +45,7 @@ impl UnnamedTable {
         limits: Limits,
         workers: u64,
     ) -> Result<UnnamedTable, Refusal>
-        ensures splits { IfOk result (λ t. t.splits ≡ splits.now) }
-        ensures limits { IfOk result (λ t. (t.limits ≡ limits) × (t.workers ≡ workers)) }
+        ensures table { IfOk result (λ t. t.table ≡ opened_table splits.now limits workers) }
         ensures owners { IfOk result (λ t. length t.opened.ids ≡ length splits.now + 1) }
         ensures distinct { IfOk result (λ t. AreDistinct t.opened.ids) }
         ensures none { OnOk result (table_fault splits.now limits workers ≡ None) }
@@ -71,14 +71,9 @@ impl UnnamedTable {
         alloc: Global,
     ) -> Result<(WitnessedTable<J>, Vec<Asker<J>>), Refusal>
         requires names { AreNames J.book J.owner self.opened }
-        ensures table { IfOk result (λ r. r.0 ≡ record {
-          splits = self.splits;
-          limits = self.limits;
-          workers = self.workers;
-          locks = length self.splits + 1;
-        }) }
-        ensures askers { IfOk result (λ r. AreNewAskers self.workers (length self.splits + 1) r.1.items) }
-        ensures apart { OnOk result (AreApart J.owner (length self.splits + 1)) }
+        ensures table { IfOk result (λ r. r.0 ≡ self.table) }
+        ensures askers { IfOk result (λ r. AreNewAskers self.table.workers self.table.locks r.1.items) }
+        ensures apart { OnOk result (AreApart J.owner self.table.locks) }
         ensures err { IfErr result (λ e. e ≡ Refusal.OutOfMemory) }
     {
         let UnnamedTable {

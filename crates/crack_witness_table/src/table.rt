@@ -2,7 +2,7 @@
 ghost use Rattle.std.specs.Prelude.{◌≡◌, ◌+◌, ◌≤◌, length};
 ghost use Rattle.crack_row.specs.Limits.{AreLimits};
 ghost use Rattle.crack_core.specs.Routes.{AreSplits};
-ghost use Rattle.crack_table.specs.Tables.{FoldsAt, LooksAt};
+ghost use Rattle.crack_table.specs.Tables.{AnswersAt, LooksAt};
 ghost use Rattle.crack_witness.specs.Witnesses.{AreApart};
 ghost use Rattle.crack_witness_table.specs.Asking.{AsksWitnessed};
 
@@ -111,7 +111,7 @@ impl<J: Naming> WitnessedTable<J> {
     /// partition, and with 8 if it finds no memory; nothing has changed then. It holds this one lock, for the time
     /// that `Partition::checkpoint` takes.
     pub fn checkpoint<R: Wait>(&self, rt: &R, part: u32) -> Result<u64, Refusal>
-        ensures { FoldsAt self.now part result }
+        ensures { AnswersAt self.now part (λ e. e ≡ Refusal.OutOfMemory) result }
     {
         let Some(lock) = self.locks.get(part as usize) else {
             return Err(Refusal::NoSuchPartition);

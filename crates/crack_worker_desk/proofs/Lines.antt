@@ -7,9 +7,8 @@ use Rattle.crack_session.specs.Calls.{Call, Asked, Checkpointed, Looked, Calls, 
 use Rattle.crack_table.specs.Tables.{TableState}
 use Rattle.crack_witness.specs.Witnesses.{AskerState, WitnessedState}
 use Rattle.crack_witness_table.specs.Audit.{AuditedState}
-use Rattle.crack_worker_desk.specs.Histories.{IsGathered, AreOfHistories}
-use Rattle.crack_worker_desk.specs.Leads.{witnessed_leads, audited_leads}
-use Rattle.crack_worker_desk.proofs.Holding.{IsStep, Lead, Lead-all}
+use Rattle.crack_worker_desk.specs.Histories.{IsGathered, AreOfHistories, AreLinesOfHistories}
+use Rattle.crack_worker_desk.proofs.Holding.{witnessed_leads, audited_leads, IsStep, Lead, Lead-all, AreWritten-follows, AreWrittenThen-follows}
 use Rattle.crack_worker_desk.proofs.Standing.{stands}
 
 -- what a call leads to with a book, it leads to without one
@@ -19,7 +18,7 @@ without_book owner table may_refuse old (Checkpointed part outcome) new led = (l
 without_book owner table may_refuse old (Looked part outcome) new led = (led.0, ap (λ (a : AuditedState). a.asker) led.1)
 
 module _ {D G : Type 0} (owner : ℕ → ℕ) (may_refuse : G → ℕ → ℕ → Type 0) (leads : D → Call → D → Type 0) (table : D → TableState) (gate : D → G) (worker : D → AskerState) (step : IsStep (λ t g. witnessed_leads owner t (may_refuse g)) leads table gate worker) where
-  pub of_histories : (parts : List WitnessedState) (later : List Call) (policy : Policy) (old new last : D) → Calls leads new later last → IsGathered owner (table last) parts (worker last) → (readings : List Reading) (answers : List Answer)
+  of_histories : (parts : List WitnessedState) (later : List Call) (policy : Policy) (old new last : D) → Calls leads new later last → IsGathered owner (table last) parts (worker last) → (readings : List Reading) (answers : List Answer)
       → AreAnswersOf leads (table old).splits policy old new readings answers → AreOfHistories owner parts (worker old).worker (table old).splits policy readings answers
   of_histories parts later policy old new last goes gathered readings answers are =
       let here = Lead-all (λ t g. witnessed_leads owner t (may_refuse g)) leads table gate worker step are.0 old new are.1 in
@@ -31,3 +30,10 @@ module _ {D G : Type 0} (owner : ℕ → ℕ) (may_refuse : G → ℕ → ℕ �
         stands owner (table old) (may_refuse (gate old)) parts (worker last) (subst (λ (t : TableState). IsGathered owner t parts (worker last)) (then.0 ∙ here.0) gathered) are.0 later (worker old) (worker new) here.2 after,
         are.2,
       )
+
+  -- and so are the lines that it wrote
+  pub lines : (last : D) → AreLinesOfHistories leads table worker owner last
+  lines last = record {
+    written = λ old new later parts policy readings out short whole goes gathered. AreWritten-follows _ _ (of_histories parts later policy old new last goes gathered) readings out short whole;
+    written_in_part = λ old new later parts policy bytes out fault whole goes gathered. AreWrittenThen-follows _ _ (of_histories parts later policy old new last goes gathered) bytes out fault whole;
+  }

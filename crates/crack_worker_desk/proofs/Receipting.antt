@@ -7,7 +7,8 @@ use Rattle.crack_core.specs.declared.receipt.Receipt.{Receipt}
 use Rattle.crack_session.specs.Calls.{Call, Asked, Checkpointed, Looked, Calls}
 use Rattle.crack_table.specs.Tables.{TableState}
 use Rattle.crack_witness_table.specs.Audit.{AuditedState}
-use Rattle.crack_worker_desk.specs.Leads.{worker_leads, audited_leads, answered, receipted}
+use Rattle.crack_worker_desk.specs.Leads.{answered, receipted}
+use Rattle.crack_worker_desk.proofs.Holding.{worker_leads, audited_leads}
 
 pub answers-receipted : (table : TableState) (may_refuse : ℕ → ℕ → Type 0) (calls : List Call) (old new : BookState) → Calls (worker_leads table may_refuse) old calls new → map receipted new.receipts ≡ map receipted old.receipts ++ answered calls
 answers-receipted table may_refuse [] old new were = ap (λ (b : BookState). map receipted b.receipts) were ∙ sym (append-nil (map receipted old.receipts))

@@ -14,12 +14,13 @@ use Rattle.crack_row.specs.declared.command.Reply.{Reply}
 use Rattle.crack_session.specs.Calls.{Call, Asked, Checkpointed, Looked, Calls}
 use Rattle.crack_table.specs.Tables.{TableState}
 use Rattle.crack_witness.specs.declared.event.Event.{Event}
-use Rattle.crack_witness.specs.Histories.{history_of, IsHistory, calls_by, calls_at}
+use Rattle.crack_plain.specs.Plain.{AreReplies, no_rows}
+use Rattle.crack_witness.specs.Histories.{history_of, calls_by, calls_at}
 use Rattle.crack_witness.specs.Witnesses.{AskerState, WitnessedState, IsSettledFor}
 use Rattle.crack_witness.proofs.Lists.{history_append, prefix_trans}
 use Rattle.crack_witness_table.specs.Asking.{AsksWitnessed}
-use Rattle.crack_worker_desk.specs.Leads.{witnessed_leads}
 use Rattle.crack_worker_desk.specs.Histories.{histories, entries_at, StandIn, IsGathered}
+use Rattle.crack_worker_desk.proofs.Holding.{witnessed_leads}
 
 -- an answer of a partition is the next entry for it, and none for another
 entries_own : (worker p part : ℕ) (c : Command) (r : Reply) (policy : Policy) (calls : List Call) → (p == part) ≡ true → entries_at worker part (Asked p c policy (Ok r) ∷ calls) ≡ record { worker = worker; command = c; reply = r } ∷ entries_at worker part calls
@@ -67,7 +68,7 @@ module _ (owner : ℕ → ℕ) (table : TableState) (may : ℕ → ℕ → Type 
   answers-there part worker [] old new were some = absurd (omega (arith, some))
   answers-there part worker (Asked p command policy (Err e) ∷ calls) old new were some = answers-there part worker calls were.0 new were.2 some
   answers-there part worker (Asked p command policy (Ok reply) ∷ calls) old new were some = either (p == part)
-      (λ is. let here = were.1.there in grind (arith, nat_tests))
+      (λ is. let here = were.1.at.there in grind (arith, nat_tests))
       (λ is. answers-there part worker calls were.0 new were.2 (subst (λ (l : List Entry). 0 < length l) (entries_other worker p part command reply policy calls is) some))
   answers-there part worker (Checkpointed p outcome ∷ calls) old new were some = answers-there part worker calls were.0 new were.2 some
   answers-there part worker (Looked p outcome ∷ calls) old new were some = answers-there part worker calls were.0 new were.2 some
@@ -148,18 +149,18 @@ module _ (owner : ℕ → ℕ) (table : TableState) (may : ℕ → ℕ → Type 
     -- a partition of the table, and its history, as they were gathered
     found : (part : ℕ) → part ≤ length table.splits → (w : WitnessedState) × (w.part ≡ part) × (slice_index_or (histories owner parts) part [] ≡ history_of (owner w.part) w.log) × IsSettledFor owner last w
     found part there =
-        let count = gathered.tables.0.count in
+        let count = gathered.2.tables.count in
         let less : part < length parts = omega (arith, there, count, length-map parts (λ (w : WitnessedState). w.held)) in
         let w = get_or parts part (first_of parts part less) in
         let is : slice_get parts part ≡ Some w = slice_get_read parts (length parts) part w refl less (get_or_default parts part (first_of parts part less) w less) in (
           w,
-          (gathered.tables.1 part w is).0,
+          (gathered.2.numbered part w is).0,
           get_or-map (λ (v : WitnessedState). history_of (owner v.part) v.log) parts part (first_of parts part less) [] less,
-          All-contains (λ (a : AskerState). IsSettledFor owner a w) gathered.askers last (gathered.settled part (first_of parts part less) less) gathered.one,
+          All-contains (λ (a : AskerState). IsSettledFor owner a w) gathered.0 last (gathered.2.settled part (first_of parts part less) less) gathered.1,
         )
 
-    legal : All IsHistory (histories owner parts)
-    legal = All-map IsHistory (λ (v : WitnessedState). history_of (owner v.part) v.log) parts (λ k d less. (gathered.whole k d less).legal (owner (get_or parts k d).part))
+    legal : All (AreReplies no_rows) (histories owner parts)
+    legal = All-map (AreReplies no_rows) (λ (v : WitnessedState). history_of (owner v.part) v.log) parts (λ k d less. (gathered.2.whole k d less).legal (owner (get_or parts k d).part))
 
     stand-some : (calls later : List Call) (old new : AskerState) → Led old calls new → Led new later last → (part : ℕ) → 0 < length (entries_at old.worker part calls)
         → calls_by old.worker (slice_index_or (histories owner parts) part []) ≡ at_front part old ++ entries_at old.worker part calls ++ entries_at old.worker part later

@@ -1,5 +1,5 @@
 -- What a session over a desk of a witnessed table wrote, once its worker is gathered.
-use Rattle.std.specs.Prelude.{◌≡◌, ℕ, ◌==◌, List, [], ◌∷◌, ◌++◌, map, All, Contains, slice_index_or}
+use Rattle.std.specs.Prelude.{◌≡◌, ℕ, ◌==◌, List, [], ◌∷◌, ◌++◌, map, All, Contains, Option, slice_index_or}
 use Rattle.std.specs.List.{filter}
 use Rattle.crack_row.specs.declared.Bound.{Bound}
 use Rattle.crack_row.specs.declared.command.Command.{Command}
@@ -7,22 +7,20 @@ use Rattle.crack_row.specs.declared.command.Entry.{Entry}
 use Rattle.crack_row.specs.declared.command.Policy.{Policy}
 use Rattle.crack_row.specs.declared.command.Reply.{Reply}
 use Rattle.crack_commands.specs.Grammar.{Reading}
-use Rattle.crack_core.specs.Opening.{AreParts}
 use Rattle.crack_session.specs.declared.answer.Answer.{Answer}
-use Rattle.crack_session.specs.Calls.{Call, AreMadeOf}
+use Rattle.crack_session.specs.declared.session.Fault.{Fault}
+use Rattle.crack_session.specs.Calls.{Call, Calls, AreMadeOf, AreAnswersOf}
+use Rattle.crack_session.specs.Written.{AreWritten, AreWrittenThen}
 use Rattle.crack_table.specs.Tables.{TableState}
-use Rattle.crack_witness.specs.Histories.{history_of, IsHistory, calls_by}
+use Rattle.crack_plain.specs.Plain.{AreReplies, no_rows}
+use Rattle.crack_witness.specs.Histories.{history_of, calls_by}
 use Rattle.crack_witness.specs.Witnesses.{AskerState, WitnessedState}
-use Rattle.crack_witness_table.specs.Gather.{held_by, AreNumbered, IsWhole, AreSettled}
+use Rattle.crack_witness_table.specs.Gather.{AreGathered}
 use Rattle.crack_worker_desk.specs.Leads.{answered}
 
--- this worker was gathered with the other workers of its table, as `gather` says, and these are the partitions
-pub record IsGathered (owner : ℕ → ℕ) (table : TableState) (parts : List WitnessedState) (asker : AskerState) : Type 0 where
-  pub askers : List AskerState
-  pub one : Contains askers asker
-  pub tables : AreParts table.splits table.limits (held_by parts) × AreNumbered table.workers parts
-  pub whole : All (λ (w : WitnessedState). IsWhole owner w) parts
-  pub settled : AreSettled owner askers parts
+-- this worker was gathered with the other workers of its table, and these are the partitions
+abbrev pub IsGathered : (ℕ → ℕ) → TableState → List WitnessedState → AskerState → Type 0
+IsGathered owner table parts asker = (askers : List AskerState) × Contains askers asker × AreGathered owner table.splits table.limits table.workers askers parts
 
 -- the one history of each partition
 abbrev pub histories : (ℕ → ℕ) → List WitnessedState → List (List Entry)
@@ -35,9 +33,21 @@ entries_at worker part calls = map (λ (a : ℕ × Command × Reply). record { w
 -- Each reply in the histories is the plain rows', and the answers to a worker's calls are there: in its partition's, each once and in
 -- order, with no other entry of this worker between them.
 pub record StandIn (owner : ℕ → ℕ) (parts : List WitnessedState) (worker : ℕ) (calls : List Call) : Type 0 where
-  pub legal : All IsHistory (histories owner parts)
+  pub legal : All (AreReplies no_rows) (histories owner parts)
   pub stand : (part : ℕ) → (before : List Entry) × (after : List Entry) × (calls_by worker (slice_index_or (histories owner parts) part []) ≡ before ++ entries_at worker part calls ++ after)
 
 -- the answers to these statements are made of such calls: of each partition that a statement meets, what it answered is a reply in its history
 abbrev pub AreOfHistories : (ℕ → ℕ) → List WitnessedState → ℕ → List Bound → Policy → List Reading → List Answer → Type 0
 AreOfHistories owner parts worker splits policy readings answers = (calls : List Call) × StandIn owner parts worker calls × AreMadeOf splits policy readings answers calls
+
+-- What sessions over a desk wrote whose worker is gathered later: the texts of answers that are made of replies in the histories. The desk is `old`
+-- before a session, `new` after it, and `last` when its worker is gathered.
+pub record AreLinesOfHistories {D : Type 0} (leads : D → Call → D → Type 0) (table : D → TableState) (asker : D → AskerState) (owner : ℕ → ℕ) (last : D) : Type 0 where
+  pub written : (old new : D) (later : List Call) (parts : List WitnessedState) (policy : Policy) (readings : List Reading) (out : List ℕ) (short : Option ℕ) (whole : Option (List ℕ))
+      → Calls leads new later last → IsGathered owner (table last) parts (asker last)
+      → AreWritten (AreAnswersOf leads (table old).splits policy old new) readings out short whole
+      → AreWritten (AreOfHistories owner parts (asker old).worker (table old).splits policy) readings out short whole
+  pub written_in_part : (old new : D) (later : List Call) (parts : List WitnessedState) (policy : Policy) (bytes out : List ℕ) (fault : Fault) (whole : Option (List ℕ))
+      → Calls leads new later last → IsGathered owner (table last) parts (asker last)
+      → AreWrittenThen (AreAnswersOf leads (table old).splits policy old new) bytes out fault whole
+      → AreWrittenThen (AreOfHistories owner parts (asker old).worker (table old).splits policy) bytes out fault whole

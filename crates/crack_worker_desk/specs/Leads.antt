@@ -1,34 +1,18 @@
 -- What calls of a worker's desk lead to.
-use Rattle.std.specs.Prelude.{◌≡◌, ℕ, List, [], ◌∷◌, Ok}
+use Rattle.std.specs.Prelude.{◌≡◌, ℕ, List, [], ◌∷◌, Result, Ok}
 use Rattle.crack_row.specs.declared.command.Command.{Command}
 use Rattle.crack_row.specs.declared.command.Reply.{Reply}
+use Rattle.crack_row.specs.declared.refusal.Refusal.{Refusal}
+use Rattle.crack_row.specs.declared.refusal.Refusal.TheVariants.{OutOfMemory}
 use Rattle.crack_core.specs.declared.receipt.Receipt.{Receipt}
-use Rattle.crack_core.specs.Receipts.{BookState}
 use Rattle.crack_session.specs.Calls.{Call, Asked, Checkpointed, Looked}
-use Rattle.crack_table.specs.Tables.{TableState, AsksTable, FoldsAt, LooksAt}
-use Rattle.crack_witness.specs.Witnesses.{AskerState}
-use Rattle.crack_witness_table.specs.Asking.{AsksWitnessed}
-use Rattle.crack_witness_table.specs.Audit.{AuditedState, AsksAudited}
+use Rattle.crack_table.specs.Tables.{TableState, AnswersAt, LooksAt}
 
--- what a call does to the worker's book: an answer is one more receipt, and nothing else changes its receipts
-abbrev pub worker_leads : TableState → (ℕ → ℕ → Type 0) → BookState → Call → BookState → Type 0
-worker_leads table may_refuse old (Asked part command policy outcome) new = AsksTable table (may_refuse part) part command outcome old new
-worker_leads table may_refuse old (Checkpointed part outcome) new = FoldsAt table part outcome × (new ≡ old)
-worker_leads table may_refuse old (Looked part outcome) new = LooksAt table part outcome × (new ≡ old)
-
--- what a call does to a worker that keeps no receipts: an answer is at the end of its partition's one history, as the worker then sees it, and
--- nothing else changes what it has seen
-abbrev pub witnessed_leads : (ℕ → ℕ) → TableState → (ℕ → ℕ → Type 0) → AskerState → Call → AskerState → Type 0
-witnessed_leads owner table may_refuse old (Asked part command policy outcome) new = AsksWitnessed owner table (may_refuse part) part command outcome old new
-witnessed_leads owner table may_refuse old (Checkpointed part outcome) new = FoldsAt table part outcome × (new ≡ old)
-witnessed_leads owner table may_refuse old (Looked part outcome) new = LooksAt table part outcome × (new ≡ old)
-
--- what a call does to a worker that keeps receipts of a table that witnesses its replies: an answer is in its partition's one history and is one
--- more receipt, and nothing else changes what the worker has seen or its receipts
-abbrev pub audited_leads : (ℕ → ℕ) → TableState → (ℕ → ℕ → Type 0) → AuditedState → Call → AuditedState → Type 0
-audited_leads owner table may_refuse old (Asked part command policy outcome) new = AsksAudited owner table (may_refuse part) part command outcome old new
-audited_leads owner table may_refuse old (Checkpointed part outcome) new = FoldsAt table part outcome × (new ≡ old)
-audited_leads owner table may_refuse old (Looked part outcome) new = LooksAt table part outcome × (new ≡ old)
+-- what a call does to a worker that asks a table's partitions like this: nothing but a command changes the worker
+abbrev pub table_leads : {W : Type 0} → TableState → (ℕ → Command → Result Reply Refusal → W → W → Type 0) → W → Call → W → Type 0
+table_leads table Asks old (Asked part command policy outcome) new = Asks part command outcome old new
+table_leads table Asks old (Checkpointed part outcome) new = AnswersAt table part (λ e. e ≡ OutOfMemory) outcome × (new ≡ old)
+table_leads table Asks old (Looked part outcome) new = LooksAt table part outcome × (new ≡ old)
 
 -- the commands that calls answered: the partition of each, the command and its reply
 abbrev pub answered : List Call → List (ℕ × Command × Reply)

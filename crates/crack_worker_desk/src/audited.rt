@@ -1,6 +1,6 @@
 //! A worker of a table that witnesses its replies, with receipts, as a desk.
 ghost use Rattle.std.specs.Prelude.{◌≡◌, ◌+◌, length, is_ok, if◌then◌else◌};
-ghost use Rattle.crack_table.specs.Tables.{FoldsAt, LooksAt};
+ghost use Rattle.crack_table.specs.Tables.{AnswersAt, LooksAt};
 ghost use Rattle.crack_witness_table.specs.Audit.{AsksAudited};
 
 use crack_row::{Bound, Command, Layout, Policy, Refusal, Reply};
@@ -52,7 +52,8 @@ impl<'a, R: Wait, G: Gate, J: Naming> AuditedDesk<'a, R, G, J> {
 impl<'a, R: Wait, G: Gate, J: Naming> Desk for AuditedDesk<'a, R, G, J> {
     ghost use Rattle.std.specs.Prelude.{◌≡◌, None, length};
     ghost use Rattle.crack_core.specs.Steps.{bounds_of};
-    ghost use Rattle.crack_worker_desk.specs.Leads.{audited_leads};
+    ghost use Rattle.crack_witness_table.specs.Audit.{AsksAudited};
+    ghost use Rattle.crack_worker_desk.specs.Leads.{table_leads};
 
     ghost tables = { λ d. None };
 
@@ -62,8 +63,8 @@ impl<'a, R: Wait, G: Gate, J: Naming> Desk for AuditedDesk<'a, R, G, J> {
 
     ghost receipts = { λ d. length d.worker.book.receipts };
 
-    ghost leads = { λ d call e. (e.table.now ≡ d.table.now) × (e.gate.now ≡ d.gate.now) × audited_leads J.owner
-        d.table.now (G.may_refuse d.gate.now) d.worker call e.worker };
+    ghost leads = { λ d call e. (e.table.now ≡ d.table.now) × (e.gate.now ≡ d.gate.now) × table_leads d.table.now
+        (λ part. AsksAudited J.owner d.table.now (G.may_refuse d.gate.now part) part) d.worker call e.worker };
 
     fn ask(&mut self, part: u32, command: Command, policy: Policy) -> Result<Reply, Refusal>
         // The worker asks its table: the reply is at the end of the partition's one history, as the worker now sees it,
@@ -80,7 +81,7 @@ impl<'a, R: Wait, G: Gate, J: Naming> Desk for AuditedDesk<'a, R, G, J> {
 
     fn checkpoint(&mut self, part: u32) -> Result<u64, Refusal>
         // A checkpoint of a partition of the table is made, for all workers, and its history stays whole.
-        ensures folds { FoldsAt self.old.table.now part result }
+        ensures folds { AnswersAt self.old.table.now part (λ e. e ≡ Refusal.OutOfMemory) result }
         ensures worker { self.new.worker ≡ self.old.worker }
         ensures table { (self.new.table.now ≡ self.old.table.now) × (self.new.gate.now ≡ self.old.gate.now) }
     {

@@ -1,6 +1,6 @@
 //! A worker of a table as a desk.
 ghost use Rattle.std.specs.Prelude.{◌≡◌, ◌+◌, length, is_ok, if◌then◌else◌};
-ghost use Rattle.crack_table.specs.Tables.{AsksTable, FoldsAt, LooksAt};
+ghost use Rattle.crack_table.specs.Tables.{AnswersAt, AsksTable, LooksAt};
 
 use crack_row::{Bound, Command, Layout, Policy, Refusal, Reply};
 use crack_session::Desk;
@@ -43,7 +43,8 @@ impl<'a, R: Wait, G: Gate> WorkerDesk<'a, R, G> {
 impl<'a, R: Wait, G: Gate> Desk for WorkerDesk<'a, R, G> {
     ghost use Rattle.std.specs.Prelude.{◌≡◌, None, length};
     ghost use Rattle.crack_core.specs.Steps.{bounds_of};
-    ghost use Rattle.crack_worker_desk.specs.Leads.{worker_leads};
+    ghost use Rattle.crack_table.specs.Tables.{AsksTable};
+    ghost use Rattle.crack_worker_desk.specs.Leads.{table_leads};
 
     ghost tables = { λ d. None };
 
@@ -53,8 +54,8 @@ impl<'a, R: Wait, G: Gate> Desk for WorkerDesk<'a, R, G> {
 
     ghost receipts = { λ d. length d.worker.receipts };
 
-    ghost leads = { λ d call e. (e.table.now ≡ d.table.now) × (e.gate.now ≡ d.gate.now) × worker_leads d.table.now
-        (G.may_refuse d.gate.now) d.worker call e.worker };
+    ghost leads = { λ d call e. (e.table.now ≡ d.table.now) × (e.gate.now ≡ d.gate.now) × table_leads d.table.now
+        (λ part. AsksTable d.table.now (G.may_refuse d.gate.now part) part) d.worker call e.worker };
 
     fn ask(&mut self, part: u32, command: Command, policy: Policy) -> Result<Reply, Refusal>
         // The worker asks its table; nothing is known of a reply except that it is small.
@@ -70,7 +71,7 @@ impl<'a, R: Wait, G: Gate> Desk for WorkerDesk<'a, R, G> {
 
     fn checkpoint(&mut self, part: u32) -> Result<u64, Refusal>
         // The worker makes a checkpoint of a partition of its table, for all workers; nothing is known of its entries.
-        ensures folds { FoldsAt self.old.table.now part result }
+        ensures folds { AnswersAt self.old.table.now part (λ e. e ≡ Refusal.OutOfMemory) result }
         ensures worker { self.new.worker ≡ self.old.worker }
         ensures table { (self.new.table.now ≡ self.old.table.now) × (self.new.gate.now ≡ self.old.gate.now) }
     {

@@ -2,9 +2,9 @@
 ghost use Rattle.std.specs.Prelude.{◌≡◌, List, ◌++◌, map};
 ghost use Rattle.crack_core.specs.Receipts.{BookState};
 ghost use Rattle.crack_session.specs.Calls.{Call, Calls};
-ghost use Rattle.crack_table.specs.Tables.{TableState};
-ghost use Rattle.crack_witness_table.specs.Audit.{AuditedState};
-ghost use Rattle.crack_worker_desk.specs.Leads.{worker_leads, audited_leads, answered, receipted};
+ghost use Rattle.crack_table.specs.Tables.{TableState, AsksTable};
+ghost use Rattle.crack_witness_table.specs.Audit.{AuditedState, AsksAudited};
+ghost use Rattle.crack_worker_desk.specs.Leads.{table_leads, answered, receipted};
 
 use crack_table::Gate;
 use crack_witness::Naming;
@@ -13,8 +13,8 @@ use crack_witness::Naming;
 /// commands that were answered, each with its partition and its reply, in their order. Does nothing.
 pub fn answers_are_receipts<G: Gate>(gate: &G)
     ensures { (table : TableState) (calls : List Call) (old new : BookState) →
-        Calls (worker_leads table (G.may_refuse gate.now)) old calls new → map receipted new.receipts ≡
-        map receipted old.receipts ++ answered calls }
+        Calls (table_leads table (λ part. AsksTable table (G.may_refuse gate.now part) part)) old calls new →
+        map receipted new.receipts ≡ map receipted old.receipts ++ answered calls }
 {
     let _gate = gate;
 }
@@ -22,8 +22,8 @@ pub fn answers_are_receipts<G: Gate>(gate: &G)
 /// States the same of a worker with receipts of a table that witnesses its replies. Does nothing.
 pub fn audited_answers_are_receipts<J: Naming, G: Gate>(gate: &G)
     ensures { (table : TableState) (calls : List Call) (old new : AuditedState) →
-        Calls (audited_leads J.owner table (G.may_refuse gate.now)) old calls new → map receipted new.book.receipts ≡
-        map receipted old.book.receipts ++ answered calls }
+        Calls (table_leads table (λ part. AsksAudited J.owner table (G.may_refuse gate.now part) part)) old calls new →
+        map receipted new.book.receipts ≡ map receipted old.book.receipts ++ answered calls }
 {
     let _gate = gate;
 }

@@ -1,6 +1,6 @@
 //! A worker of a table that witnesses its replies, as a desk.
 ghost use Rattle.std.specs.Prelude.{◌≡◌, ◌+◌, is_ok, if◌then◌else◌};
-ghost use Rattle.crack_table.specs.Tables.{FoldsAt, LooksAt};
+ghost use Rattle.crack_table.specs.Tables.{AnswersAt, LooksAt};
 ghost use Rattle.crack_witness.specs.Witnesses.{replies_to};
 ghost use Rattle.crack_witness_table.specs.Asking.{AsksWitnessed};
 
@@ -55,7 +55,8 @@ impl<'a, R: Wait, G: Gate, J: Naming> Desk for WitnessedDesk<'a, R, G, J> {
     ghost use Rattle.std.specs.Prelude.{◌≡◌, None};
     ghost use Rattle.crack_core.specs.Steps.{bounds_of};
     ghost use Rattle.crack_witness.specs.Witnesses.{replies_to};
-    ghost use Rattle.crack_worker_desk.specs.Leads.{witnessed_leads};
+    ghost use Rattle.crack_witness_table.specs.Asking.{AsksWitnessed};
+    ghost use Rattle.crack_worker_desk.specs.Leads.{table_leads};
 
     ghost tables = { λ d. None };
 
@@ -65,8 +66,8 @@ impl<'a, R: Wait, G: Gate, J: Naming> Desk for WitnessedDesk<'a, R, G, J> {
 
     ghost receipts = { λ d. replies_to d.asker };
 
-    ghost leads = { λ d call e. (e.table.now ≡ d.table.now) × (e.gate.now ≡ d.gate.now) × witnessed_leads J.owner
-        d.table.now (G.may_refuse d.gate.now) d.asker call e.asker };
+    ghost leads = { λ d call e. (e.table.now ≡ d.table.now) × (e.gate.now ≡ d.gate.now) × table_leads d.table.now
+        (λ part. AsksWitnessed J.owner d.table.now (G.may_refuse d.gate.now part) part) d.asker call e.asker };
 
     fn ask(&mut self, part: u32, command: Command, policy: Policy) -> Result<Reply, Refusal>
         // The worker asks its table: the reply is at the end of the partition's one history, as the worker now sees
@@ -83,7 +84,7 @@ impl<'a, R: Wait, G: Gate, J: Naming> Desk for WitnessedDesk<'a, R, G, J> {
 
     fn checkpoint(&mut self, part: u32) -> Result<u64, Refusal>
         // A checkpoint of a partition of the table is made, for all workers, and its history stays whole.
-        ensures folds { FoldsAt self.old.table.now part result }
+        ensures folds { AnswersAt self.old.table.now part (λ e. e ≡ Refusal.OutOfMemory) result }
         ensures asker { self.new.asker ≡ self.old.asker }
         ensures table { (self.new.table.now ≡ self.old.table.now) × (self.new.gate.now ≡ self.old.gate.now) }
     {

@@ -26,4 +26,5 @@ returns-in_ok-settle-in-Some-clause-common c =
 
 pub returns-in_err-settle-in-Some-clause-spared : goal.returns-in_err-settle-in-Some-clause-spared
 returns-in_err-settle-in-Some-clause-spared c =
-    rw (c.in-Some.is, ← c.clip-common.ensures.value) (on_err c.from_residual.result c.in_err-settle-in-Some.ensures.stopped)
+    let stopped = rw c.clip-common.ensures.value at c.in_err-settle-in-Some.ensures.stopped in
+    rw c.in-Some.is (on_err c.from_residual.result stopped)

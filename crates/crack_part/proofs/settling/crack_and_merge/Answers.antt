@@ -29,9 +29,12 @@ returns-in-Ok-clause-settled c = record {
 }
 
 pub returns-in-Err-merge-clause-stopped : goal.returns-in-Err-merge-clause-stopped
-returns-in-Err-merge-clause-stopped c = inr (c.requires.filled, record {
-  cracked = c.crack.new.self;
-  refines = c.in_default.ensures.ok;
-  intact = c.facts.ensures;
-  does = rw (c.replace-cracked.ensures.value, c.in-Err-merge.left-is) at c.in-Err-merge.ensures.stopped;
-})
+returns-in-Err-merge-clause-stopped c = inr (
+  c.requires.filled,
+  record {
+    cracked = c.crack.new.self;
+    refines = c.in_default.ensures.ok;
+    intact = c.facts.ensures;
+    does = rw (c.replace-cracked.ensures.value, c.in-Err-merge.left-is) at c.in-Err-merge.ensures.stopped;
+  },
+)

@@ -6,8 +6,7 @@ use Rattle.crack_session.specs.Calls.{Call, AreAnswersOf}
 use Rattle.crack_session.specs.Readings.{statements}
 use Rattle.crack_session.specs.Written.{AreWritten}
 use Rattle.crack_table.specs.Tables.{TableState}
-use Rattle.crack_worker_desk.specs.Leads.{worker_leads}
-use Rattle.crack_worker_desk.proofs.Holding.{IsStep, Lead-all, AreWritten-follows}
+use Rattle.crack_worker_desk.proofs.Holding.{worker_leads, IsStep, Lead-all, AreWritten-follows}
 use Rattle.crack_server.proofs.batch.serve_share.Goals as goal
 use Rattle.crack_server.proofs.batch.serve_share.Goals.{in-Ok, in-Err+in-WriteFault, in-Err+in_default}
 

@@ -1,4 +1,5 @@
 use Rattle.std.proofs.Common.{arith, ◌*◌, ap, ◌∙◌}
+use Rattle.crack_core.specs.Receipts.{BookState}
 use Rattle.crack_table.proofs.Missing.{bit_fits, next_bit, missing_more, next_fits}
 use Rattle.crack_table.proofs.gathering.missing_workers.Goals as goal
 
@@ -21,7 +22,7 @@ overflow_add-missing c =
 pub numbers-preserved : goal.numbers-preserved
 numbers-preserved c =
     let n = next_bit c.numbers.number in record {
-      missing = missing_more c.args.workers.now.items c.numbers.number c.numbers.missing c.numbers.bit c.bit_unless-missing.result c.has_worker.result c.numbers.invariant.missing c.numbers.invariant.bit c.has_worker.ensures c.bit_unless-missing.ensures.is;
+      missing = missing_more (λ (w : BookState). w.worker) c.args.workers.now.items c.numbers.number c.numbers.missing c.numbers.bit c.bit_unless-missing.result c.has_worker.result c.numbers.invariant.missing c.numbers.invariant.bit c.has_worker.ensures c.bit_unless-missing.ensures.is;
       bit = ap (λ x. x * 2) c.numbers.invariant.bit ∙ n;
       small = omega (arith, n, c.numbers.invariant.bit, c.numbers.invariant.small, c.bit_unless-missing.ensures.small);
     }

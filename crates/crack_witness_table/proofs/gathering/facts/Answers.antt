@@ -1,9 +1,8 @@
 use Rattle.std.proofs.Common.{◌≡◌, arith, get_or}
 use Rattle.std.proofs.lemmas.List.Elements.{All-more}
 use Rattle.crack_part.specs.Parts.{IsSound}
-use Rattle.crack_witness.specs.Witnesses.{WitnessedState}
+use Rattle.crack_witness.specs.Witnesses.{WitnessedState, IsWhole}
 use Rattle.crack_witness.proofs.Lists.{all_of}
-use Rattle.crack_witness_table.specs.Gather.{IsWhole}
 use Rattle.crack_witness_table.proofs.gathering.facts.Goals as goal
 
 pub parts-preserved : goal.parts-preserved
@@ -11,7 +10,7 @@ parts-preserved g c =
     let value = c.deref-part-items.ensures.value in
     let parts = c.args.parts.now.items in
     let at = rw value at c.part-item.is in record {
-      whole = All-more (λ (w : WitnessedState). IsWhole g.J.Naming.owner w) parts c.parts.part-index c.part-item.result (rw value at c.parts-test.true) c.parts.invariant.whole (rw (← at) (record { legal = c.facts.ensures.legal; kept = c.facts.ensures.kept; known = c.facts.ensures.known }));
+      whole = All-more (λ (w : WitnessedState). IsWhole g.J.Naming.owner w) parts c.parts.part-index c.part-item.result (rw value at c.parts-test.true) c.parts.invariant.whole (rw (← at) c.facts.ensures.whole);
       sound = All-more (λ (w : WitnessedState). IsSound w.held) parts c.parts.part-index c.part-item.result (rw value at c.parts-test.true) c.parts.invariant.sound (rw (← at) c.facts.ensures.sound);
     }
 

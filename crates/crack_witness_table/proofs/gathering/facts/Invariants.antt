@@ -1,8 +1,7 @@
 use Rattle.std.proofs.Common.{take}
 use Rattle.std.specs.Prelude.{All}
 use Rattle.crack_part.specs.Parts.{IsSound}
-use Rattle.crack_witness.specs.Witnesses.{WitnessedState}
-use Rattle.crack_witness_table.specs.Gather.{IsWhole}
+use Rattle.crack_witness.specs.Witnesses.{WitnessedState, IsWhole}
 use Rattle.crack_witness_table.proofs.gathering.facts.Given as goal
 
 abbrev pub invariant-parts : goal.invariant-parts

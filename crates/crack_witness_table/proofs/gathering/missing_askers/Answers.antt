@@ -1,6 +1,6 @@
 use Rattle.std.proofs.Common.{arith, ◌*◌, ap, ◌∙◌}
-use Rattle.crack_table.proofs.Missing.{bit_fits, next_bit, next_fits}
-use Rattle.crack_witness_table.proofs.Partitions.{missing_more}
+use Rattle.crack_witness.specs.Witnesses.{AskerState}
+use Rattle.crack_table.proofs.Missing.{bit_fits, next_bit, missing_more, next_fits}
 use Rattle.crack_witness_table.proofs.gathering.missing_askers.Goals as goal
 
 pub overflow_cast-bit : goal.overflow_cast-bit
@@ -22,7 +22,7 @@ overflow_add-missing g c =
 pub numbers-preserved : goal.numbers-preserved
 numbers-preserved g c =
     let n = next_bit c.numbers.number in record {
-      missing = missing_more c.args.askers.now.items c.numbers.number c.numbers.missing c.numbers.bit c.bit_unless-missing.result c.has_asker.result c.numbers.invariant.missing c.numbers.invariant.bit c.has_asker.ensures c.bit_unless-missing.ensures.is;
+      missing = missing_more (λ (a : AskerState). a.worker) c.args.askers.now.items c.numbers.number c.numbers.missing c.numbers.bit c.bit_unless-missing.result c.has_asker.result c.numbers.invariant.missing c.numbers.invariant.bit c.has_asker.ensures c.bit_unless-missing.ensures.is;
       bit = ap (λ x. x * 2) c.numbers.invariant.bit ∙ n;
       small = omega (arith, n, c.numbers.invariant.bit, c.numbers.invariant.small, c.bit_unless-missing.ensures.small);
     }

@@ -1,10 +1,11 @@
 use Rattle.std.proofs.Common.{◌≡◌, ◌<◌, ◌^◌}
-use Rattle.crack_witness_table.specs.Gather.{missing_askers}
+use Rattle.crack_table.specs.Gather.{missing_below}
+use Rattle.crack_witness.specs.Witnesses.{AskerState}
 use Rattle.crack_witness_table.proofs.gathering.missing_askers.Given as goal
 
 abbrev pub invariant-numbers : goal.invariant-numbers
 invariant-numbers g l = record {
-  missing : l.missing ≡ missing_askers l.askers.items l.number;
+  missing : l.missing ≡ missing_below (λ (a : AskerState). a.worker) l.askers.items l.number;
   bit : l.bit ≡ 2 ^ l.number;
   small : l.missing < 2 ^ l.number;
 }

@@ -2,7 +2,7 @@ use Rattle.std.proofs.Common.{◌≡◌, ◌+◌, sym, subst, ap, ◌∙◌, ari
 use Rattle.std.proofs.lemmas.List.Elements.{All-push}
 use mathlib.Core.List.{IsPrefix}
 use Rattle.crack_witness.specs.declared.event.Event.{Event}
-use Rattle.crack_witness.specs.Histories.{AreEmpty, IsHistory}
+use Rattle.crack_witness.specs.Histories.{AreEmpty}
 use Rattle.crack_witness.specs.Rules.{row, OwnerState}
 use Rattle.crack_witness.specs.Keeps.{IsNew, HasOwner}
 use Rattle.crack_witness.specs.Witnesses.{AreDistinct}
@@ -36,6 +36,3 @@ pub invariant_of-result : goal.invariant_of-result
 invariant_of-result c =
     let empty : AreEmpty c.open_row-seen.result.0.log = subst AreEmpty (sym c.open_row-seen.ensures.1) (λ owner. row_history owner c.args.count) in
     (empty, c.owners.invariant.new, c.owners.invariant.distinct, omega (arith, c.owners.invariant.count, c.owners.auto.number-end, c.ranges.count.fits))
-
-pub returns-clause-empty : goal.returns-clause-empty
-returns-clause-empty c = subst AreEmpty (sym c.open_row-seen.ensures.1) (λ owner. row_history owner c.args.count)

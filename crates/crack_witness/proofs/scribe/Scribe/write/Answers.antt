@@ -2,7 +2,8 @@ use Rattle.std.proofs.Common.{sym, ◌∙◌, ap, subst, ◌≡◌, refl, List, 
 use mathlib.Core.List.{IsPrefix}
 use Rattle.crack_row.specs.declared.command.Entry.{Entry}
 use Rattle.crack_witness.specs.declared.event.Event.{Event}
-use Rattle.crack_witness.specs.Histories.{history_of, IsHistory}
+use Rattle.crack_plain.specs.Plain.{AreReplies, no_rows}
+use Rattle.crack_witness.specs.Histories.{history_of}
 use Rattle.crack_witness.specs.Rules.{ScribeState, Adds, IsAlone}
 use Rattle.crack_witness.specs.Keeps.{HasWord, IsScribe}
 use Rattle.logbook.specs.Pages.{step}
@@ -24,7 +25,7 @@ compare_exchange-requires g c =
     let token = ap (λ s. s.log) c.again-token.ensures in
     let offer = c.plain-offer.ensures in
     let begins : IsPrefix (i.before ++ i.last ∷ []) c.learn.new.self.log = subst (λ (l : List Event). IsPrefix l c.learn.new.self.log) (token ∙ i.log_is) learn.2 in
-    let may : IsHistory (history_of (g.J.Naming.owner c.self.inside.part) (i.before ++ i.last ∷ []) ++ record { worker = c.args.worker; command = c.args.command.now; reply = c.args.reply.now } ∷ []) = subst (λ (l : List Event). IsHistory (history_of (g.J.Naming.owner c.self.inside.part) l ++ record { worker = c.args.worker; command = c.args.command.now; reply = c.args.reply.now } ∷ [])) i.log_is (subst (λ (s : ScribeState). IsHistory (history_of (g.J.Naming.owner s.part) s.log ++ record { worker = c.args.worker; command = c.args.command.now; reply = c.args.reply.now } ∷ [])) (sym c.self.view_is) c.requires) in (
+    let may : AreReplies no_rows (history_of (g.J.Naming.owner c.self.inside.part) (i.before ++ i.last ∷ []) ++ record { worker = c.args.worker; command = c.args.command.now; reply = c.args.reply.now } ∷ []) = subst (λ (l : List Event). AreReplies no_rows (history_of (g.J.Naming.owner c.self.inside.part) l ++ record { worker = c.args.worker; command = c.args.command.now; reply = c.args.reply.now } ∷ [])) i.log_is (subst (λ (s : ScribeState). AreReplies no_rows (history_of (g.J.Naming.owner s.part) s.log ++ record { worker = c.args.worker; command = c.args.command.now; reply = c.args.reply.now } ∷ [])) (sym c.self.view_is) c.requires) in (
       ap (λ w. w.tracked) i.word_is,
       learn.0 ∙ (ap (λ s. s.book) c.again-token.ensures ∙ (i.seen_is ∙ book)),
       i.pen_is ∙ book,

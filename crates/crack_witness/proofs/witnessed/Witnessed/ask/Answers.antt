@@ -1,4 +1,5 @@
 use Rattle.std.proofs.Common.{rules, None, Err, inr, ◌≡◌, ◌<◌, ◌+◌, ◌∙◌, ap, sym, subst, ℕ, List, [], ◌∷◌, ◌++◌, length, arith, slice_set, slice_index_or}
+use Rattle.std.specs.Prelude.{All}
 use Rattle.std.proofs.lemmas.List.{length-set}
 use Rattle.std.proofs.lemmas.List.Elements.{All-push}
 use Rattle.crack_row.specs.declared.command.Entry.{Entry}
@@ -11,7 +12,7 @@ use Rattle.crack_part.proofs.RefusalLaws.{if_refused}
 use Rattle.crack_row.specs.declared.refusal.Refusal.{Refusal}
 use Rattle.crack_witness.specs.Witnesses.{MayRefuseIt}
 use Rattle.crack_witness.proofs.Keeping.{refused-for, replied-for}
-use Rattle.crack_witness.specs.Histories.{history_of, calls_by, AreOfWorkers, IsPastOf}
+use Rattle.crack_witness.specs.Histories.{history_of, calls_by, IsPastOf}
 use Rattle.crack_witness.specs.Witnesses.{WitnessedState}
 use Rattle.crack_witness.specs.Keeps.{AreCounts}
 use Rattle.crack_witness.proofs.Keeping.{state_after-whole, IsPastOf-push, IsPastOf-upkept, calls-le-accepted}
@@ -50,8 +51,9 @@ invariant_of-self-2 g c =
     let new : history_of (own c.write.new.self.part) c.write.new.self.log ≡ h ++ e ∷ [] = ap (λ (p : ℕ). history_of (own p) c.write.new.self.log) c.write.ensures.part ∙ c.write.ensures.history in
     let past : IsPastOf (h ++ e ∷ []) c.apply.new.self.past = subst (IsPastOf (h ++ e ∷ [])) (sym c.in_ok-reply.ensures.kept) (IsPastOf-push h (upkept c.self.inside.partition.limits c.self.inside.partition.past) e (IsPastOf-upkept h c.self.inside.partition.limits c.self.inside.partition.past c.self.invariant.0)) in
     let all = All-push (λ (x : Entry). x.worker < length c.self.inside.answered.items) h e c.self.invariant.2 less in
-    let own_all : AreOfWorkers (length (slice_set c.self.inside.answered.items c.args.worker (c.args.count + 1))) (h ++ e ∷ []) = subst (λ (n : ℕ). AreOfWorkers n (h ++ e ∷ [])) (sym (length-set c.self.inside.answered.items c.args.worker (c.args.count + 1))) all in
-    (subst (λ (l : List Entry). IsPastOf l c.apply.new.self.past) (sym new) past, subst (AreCounts (slice_set c.self.inside.answered.items c.args.worker (c.args.count + 1))) (sym new) counts, subst (AreOfWorkers (length (slice_set c.self.inside.answered.items c.args.worker (c.args.count + 1)))) (sym new) own_all)
+    let are_below : ℕ → List Entry → Type 0 = λ n es. All (λ (x : Entry). x.worker < n) es in
+    let own_all : are_below (length (slice_set c.self.inside.answered.items c.args.worker (c.args.count + 1))) (h ++ e ∷ []) = subst (λ (n : ℕ). are_below n (h ++ e ∷ [])) (sym (length-set c.self.inside.answered.items c.args.worker (c.args.count + 1))) all in
+    (subst (λ (l : List Entry). IsPastOf l c.apply.new.self.past) (sym new) past, subst (AreCounts (slice_set c.self.inside.answered.items c.args.worker (c.args.count + 1))) (sym new) counts, subst (are_below (length (slice_set c.self.inside.answered.items c.args.worker (c.args.count + 1)))) (sym new) own_all)
 
 pub returns-clause-few : goal.returns-clause-few
 returns-clause-few g c =

@@ -25,13 +25,11 @@ returns-in_err-reply g c =
         fronts = tt;
         legal = tt;
         small = tt;
-        there = tt;
+        at = record { there = tt; nowhere = λ past. absurd (omega (arith, there, past)); causes = λ _. rw limited at causes };
         seen = told.seen.0;
         replies = tt;
         worker = told.worker;
         err = same.0;
-        causes = rw limited at causes;
-        nowhere = λ past. absurd (omega (arith, there, past));
       };
       receipt = tt;
       err = c.reserve.ensures.same.1;
@@ -49,7 +47,7 @@ returns g c =
     let w = c.ask_behind.new.witnessed in
     let e : Entry = record { worker = c.self.inside.asker.worker; command = c.args.command; reply = c.in_ok-reply.reply } in
     let known : c.deref-3.result.now ≡ w = search rules in
-    let kept = rw known at c.facts.ensures.kept in
+    let kept = rw known at c.facts.ensures.whole.kept in
     let whole = rw is at told.whole in
     let place : length (history_of (own c.args.part) c.ask_behind.new.asker.seen) ≡ accepted_in c.deref_mut.result.now.held.past + 1 = placed own c.args.part c.ask_behind.new.asker.seen w c.deref_mut.result.now.held.limits c.deref_mut.result.now.held.past e (told.opened.2 ∙ whole.0) whole.1 kept (rw is at told.kept) in
     let position : c.accepted-position.result ≡ accepted_in c.deref_mut.result.now.held.past = search rules in
@@ -62,13 +60,11 @@ returns g c =
         fronts = rw is at told.fronts;
         legal = rw is at told.legal;
         small = rw is at told.small;
-        there = there;
+        at = record { there = there; nowhere = λ past. absurd (omega (arith, there, past)); causes = λ _. tt };
         seen = told.seen.0;
         replies = rw is at told.count;
         worker = told.worker;
         err = tt;
-        causes = tt;
-        nowhere = λ past. absurd (omega (arith, there, past));
       };
       receipt = (c.accepted-position.result, place ∙ ap (λ (n : ℕ). n + 1) (sym position), rw (copied, numbered, c.reserve.ensures.same.1) at c.keep.ensures.receipt);
       err = tt;

@@ -29,8 +29,7 @@ returns-clause-table g c =
     let parts : length c.in_ok-parts.parts.items ≡ length c.self.inside.splits.items + 1 = rw c.deref.ensures.value at c.in_ok-parts.ensures.parts.count in
     let locks : vec_len c.lock.new.locks ≡ length c.self.inside.splits.items + 1 = omega (arith, all, parts, c.lock.ensures) in
     let with : ℕ → TableState = λ n. record { splits = c.self.inside.splits.items; limits = c.self.inside.limits; workers = c.self.inside.workers; locks = n } in
-    let to : UnnamedState → TableState = λ t. record { splits = t.splits; limits = t.limits; workers = t.workers; locks = length t.splits + 1 } in
-    subst (λ (t : UnnamedState). with (vec_len c.lock.new.locks) ≡ to t) c.self.view_is (ap with locks)
+    subst (λ (t : UnnamedState). with (vec_len c.lock.new.locks) ≡ t.table) c.self.view_is (ap with locks)
 
 pub returns-clause-askers : goal.returns-clause-askers
 returns-clause-askers g c =
@@ -38,4 +37,9 @@ returns-clause-askers g c =
     let parts : length c.in_ok-parts.parts.items ≡ length c.self.inside.splits.items + 1 = rw c.deref.ensures.value at c.in_ok-parts.ensures.parts.count in
     let asked : c.len-2.result ≡ length c.self.inside.splits.items + 1 = omega (arith, all, parts, c.len-2.ensures) in
     let new : AreNewAskers c.self.inside.workers (length c.self.inside.splits.items + 1) c.in_ok-askers.askers.items = subst (λ (n : ℕ). AreNewAskers c.self.inside.workers n c.in_ok-askers.askers.items) asked c.in_ok-askers.ensures in
-    subst (λ (t : UnnamedState). AreNewAskers t.workers (length t.splits + 1) c.in_ok-askers.askers.items) c.self.view_is new
+    subst (λ (t : UnnamedState). AreNewAskers t.table.workers t.table.locks c.in_ok-askers.askers.items) c.self.view_is new
+
+pub returns-clause-apart : goal.returns-clause-apart
+returns-clause-apart g c =
+    let parts : length c.in_ok-parts.parts.items ≡ length c.self.inside.splits.items + 1 = rw c.deref.ensures.value at c.in_ok-parts.ensures.parts.count in
+    subst (λ (t : UnnamedState). AreApart g.J.Naming.owner t.table.locks) c.self.view_is (subst (AreApart g.J.Naming.owner) parts c.in_ok-front.ensures.apart)

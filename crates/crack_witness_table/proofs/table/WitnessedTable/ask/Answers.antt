@@ -21,11 +21,9 @@ returns-in_err-reply g c =
       fronts = tt;
       legal = tt;
       small = tt;
-      there = tt;
+      at = record { there = tt; nowhere = λ past. absurd (omega (arith, there, past)); causes = λ _. rw limited at causes };
       seen = told.seen.0;
       replies = tt;
       worker = told.worker;
       err = same.0;
-      causes = rw limited at causes;
-      nowhere = λ past. absurd (omega (arith, there, past));
     })
