@@ -1,5 +1,7 @@
 -- What calls from C mean.
 use Rattle.std.specs.Prelude.{◌≡◌, ◌⊎◌, ◌<◌, ◌≤◌, ℕ, ◌==◌, Bool, true, false, All, List, [], ◌∷◌, map, length, Option, None, Some, IsSome, MatchOption, Result, MatchResult, slice_get, slice_index_or, if◌then◌else◌}
+use Rattle.std.specs.List.{AllByRecursion}
+use Rattle.std.specs.Option.{option_map_or}
 use Rattle.crack_row.specs.Refusals.{code_of}
 use Rattle.crack_row.specs.declared.TheConstants.{GREATEST_KEY}
 use Rattle.crack_row.specs.declared.Bound.{Bound}
@@ -33,27 +35,14 @@ policy_at n = if n == 0 then Some Complete else (if n == 1 then Some Gradual els
 abbrev pub totals_in : Layout → Totals
 totals_in layout = record { rows = layout.rows; column = layout.column; pending_out = layout.pending_out; pending_in = layout.pending_in; cells = layout.cells; free = layout.free; pieces = length layout.pieces }
 
--- what is read past the end of a list of pieces
-abbrev pub no_piece : PieceSize
-no_piece = record { low = record { 0 = 0 }; high = record { 0 = 0 }; size = 0 }
-
--- a piece's least key and size
-abbrev pub StandsAt : PieceSize → ℕ → ℕ → Type 0
-StandsAt piece low size = (piece.low.0 ≤ GREATEST_KEY → low ≡ piece.low.0) × (size ≡ piece.size)
-
--- pieces are in two lists, as far as there is room: the least key of each, and how many rows it has
+-- pieces are in two lists, as far as there is room: the least key of each, unless that is above all keys, and how many rows it has
 abbrev pub PiecesIn : List PieceSize → List ℕ → List ℕ → Type 0
-PiecesIn pieces lows sizes = (k : ℕ) → k < length pieces → k < length lows → StandsAt (slice_index_or pieces k no_piece) (slice_index_or lows k 0) (slice_index_or sizes k 0)
+PiecesIn pieces lows sizes = (k : ℕ) (piece : PieceSize) → slice_get pieces k ≡ Some piece → k < length lows →
+    (piece.low.0 ≤ GREATEST_KEY → slice_index_or lows k 0 ≡ piece.low.0) × (slice_index_or sizes k 0 ≡ piece.size)
 
 -- what a call returns: 0, or the number of the refusal
 abbrev pub status_of : Option Refusal → ℕ
-status_of None = 0
-status_of (Some e) = code_of e
-
--- lists have the length of another
-abbrev pub AreEqual : ℕ → List ℕ → Type 0
-AreEqual count [] = Unit {0}
-AreEqual count (n ∷ others) = (n ≡ count) × AreEqual count others
+status_of refusal = option_map_or code_of refusal 0
 
 -- the number of a row
 abbrev pub row_number : ℕ → ℕ → RowNo
@@ -76,34 +65,34 @@ abbrev pub Declines : Handle → Handle → ℕ → Type 0 → ℕ → Type 0
 Declines old new status unwritten why = (status ≡ why) × (new ≡ old) × unwritten
 
 -- a call on a table: it isn't made if the handle holds none
-abbrev pub OnTable : Handle → Handle → ℕ → Type 0 → (Type 0 → Type 0) → Type 0
-OnTable old new status unwritten made = (old.is_open ≡ false → Declines old new status unwritten CLOSED) × (old.is_open ≡ true → made unwritten)
+abbrev pub OnTable : Handle → Handle → ℕ → Type 0 → (Handle → Handle → ℕ → Type 0 → Type 0) → Type 0
+OnTable old new status unwritten Made = (old.is_open ≡ false → Declines old new status unwritten CLOSED) × (old.is_open ≡ true → Made old new status unwritten)
 
--- a call with lists, on a table: it isn't made if these have different lengths
-abbrev pub OnLists : ℕ → List ℕ → Handle → Handle → ℕ → Type 0 → (Type 0 → Type 0) → Type 0
-OnLists count lengths old new status unwritten made =
-    OnTable old new status unwritten (λ unwritten. ((AreEqual count lengths → ⊥) → Declines old new status unwritten LENGTHS_DIFFER) × (AreEqual count lengths → made unwritten))
+-- a call with lists: it isn't made if one of these lengths isn't the count
+abbrev pub OnLists : ℕ → List ℕ → (Handle → Handle → ℕ → Type 0 → Type 0) → Handle → Handle → ℕ → Type 0 → Type 0
+OnLists count lengths Made old new status unwritten =
+    ((AllByRecursion (λ n. n ≡ count) lengths → ⊥) → Declines old new status unwritten LENGTHS_DIFFER) × (AllByRecursion (λ n. n ≡ count) lengths → Made old new status unwritten)
 
 -- a call by the policy with a number: it isn't made if there is none
-abbrev pub ByPolicy : ℕ → Handle → Handle → ℕ → (Type 0 → Type 0) → Type 0 → Type 0
-ByPolicy number old new status made unwritten = (policy_at number ≡ None → Declines old new status unwritten NO_SUCH_POLICY) × (IsSome (policy_at number) → made unwritten)
+abbrev pub ByPolicy : ℕ → (Handle → Handle → ℕ → Type 0 → Type 0) → Handle → Handle → ℕ → Type 0 → Type 0
+ByPolicy number Made old new status unwritten = (policy_at number ≡ None → Declines old new status unwritten NO_SUCH_POLICY) × (IsSome (policy_at number) → Made old new status unwritten)
 
--- the outcome of a call on a table, which stays open, follows from its rows: its status is 0, and this is written; or it is the number of a
--- refusal, and nothing is
-abbrev pub ComesOut : {X : Type 0} → (Result X Refusal → List PlainView → List PlainView → Type 0) → Handle → Handle → ℕ → (X → Type 0) → Type 0 → Type 0
-ComesOut {X} asked old new status written unwritten = StaysOpen old new × ((outcome : Result X Refusal) × asked outcome (rows_of old.core) (rows_of new.core) × MatchResult outcome (λ x. (status ≡ 0) × written x) (λ e. (status ≡ code_of e) × unwritten))
+-- the outcome of a call on a table, which stays open, follows from its limits, splits and rows: its status is 0, and this is written; or it is
+-- the number of a refusal, and nothing is
+abbrev pub ComesOut : {X : Type 0} → (Limits → List Bound → Result X Refusal → List PlainView → List PlainView → Type 0) → (X → Type 0) → Handle → Handle → ℕ → Type 0 → Type 0
+ComesOut {X} Asks Writes old new status unwritten = StaysOpen old new × ((outcome : Result X Refusal) × Asks old.core.limits old.core.splits outcome (rows_of old.core) (rows_of new.core) × MatchResult outcome (λ x. (status ≡ 0) × Writes x) (λ e. (status ≡ code_of e) × unwritten))
 
 -- the result of a list of this many calls on a table: its status is 0, or the number of the refusal at which it stopped, and this many were done
-abbrev pub GoesOn : Call → ℕ → Handle → Handle → ℕ → ℕ → Type 0
-GoesOn call count old new status done = StaysOpen old new × ((progress : Progress) × (status ≡ status_of progress.refusal) × (done ≡ progress.done) × Went call count (rows_of old.core) progress (rows_of new.core))
+abbrev pub GoesOn : (Limits → List Bound → Call) → ℕ → ℕ → Handle → Handle → ℕ → Type 0 → Type 0
+GoesOn call count done old new status unwritten = StaysOpen old new × ((progress : Progress) × (status ≡ status_of progress.refusal) × (done ≡ progress.done) × Went (call old.core.limits old.core.splits) count (rows_of old.core) progress (rows_of new.core))
 
 -- a partition's layout is written, or why there is none, and the table is as it was
-abbrev pub Shows : Handle → Handle → ℕ → ℕ → Totals → List ℕ → List ℕ → Type 0 → Type 0
-Shows old new part status totals lows sizes unwritten = (new.is_open ≡ true) × (new.core ≡ old.core) × ((outcome : Result Layout Refusal) × IsLayoutOutcome (keys_of_part old.core.splits part) (slice_get (tables_of old.core.parts) part) outcome × MatchResult outcome (λ layout. (status ≡ 0) × (totals ≡ totals_in layout) × PiecesIn layout.pieces lows sizes) (λ e. (status ≡ code_of e) × unwritten))
+abbrev pub Shows : ℕ → Totals → List ℕ → List ℕ → Handle → Handle → ℕ → Type 0 → Type 0
+Shows part totals lows sizes old new status unwritten = (new.is_open ≡ true) × (new.core ≡ old.core) × ((outcome : Result Layout Refusal) × IsLayoutOutcome (keys_of_part old.core.splits part) (slice_get (tables_of old.core.parts) part) outcome × MatchResult outcome (λ layout. (status ≡ 0) × (totals ≡ totals_in layout) × PiecesIn layout.pieces lows sizes) (λ e. (status ≡ code_of e) × unwritten))
 
 -- a checkpoint of a partition is made, and how many entries its history had is written
-abbrev pub FoldsOne : Handle → Handle → ℕ → ℕ → ℕ → Type 0 → Type 0
-FoldsOne old new part status folded unwritten = StaysOpen old new × ((outcome : Result ℕ Refusal) × IsFoldOutcome (slice_get (tables_of old.core.parts) part) outcome × (tables_of new.core.parts ≡ tables_folded (tables_of old.core.parts) part outcome) × MatchResult outcome (λ count. (status ≡ 0) × (folded ≡ count)) (λ e. (status ≡ code_of e) × unwritten))
+abbrev pub FoldsOne : ℕ → ℕ → Handle → Handle → ℕ → Type 0 → Type 0
+FoldsOne part folded old new status unwritten = StaysOpen old new × ((outcome : Result ℕ Refusal) × IsFoldOutcome (slice_get (tables_of old.core.parts) part) outcome × (tables_of new.core.parts ≡ tables_folded (tables_of old.core.parts) part outcome) × MatchResult outcome (λ count. (status ≡ 0) × (folded ≡ count)) (λ e. (status ≡ code_of e) × unwritten))
 
 -- a handle holds a table that was just opened
 abbrev pub IsFresh : Handle → List ℕ → Limits → Type 0

@@ -78,8 +78,8 @@ pub extern "C" fn crackd_insert(
     serial: &mut u64,
 ) -> u32
     ensures inserts { OnTable handle.old handle.new result ((part.new ≡ part.old) × (serial.new ≡ serial.old)) (ComesOut
-        (Inserts handle.old.core.limits handle.old.core.splits (record { 0 = key }) (record { 0 = payload })) handle.old
-        handle.new result (λ row. (part.new ≡ row.part) × (serial.new ≡ row.serial.0))) }
+        (λ limits splits. Inserts limits splits (record { 0 = key }) (record { 0 = payload })) (λ row. (part.new ≡
+        row.part) × (serial.new ≡ row.serial.0))) }
 {
     if !handle.is_open() {
         return CLOSED;
@@ -107,10 +107,10 @@ pub extern "C" fn crackd_delete(
     key: &mut u64,
     payload: &mut i64,
 ) -> u32
-    ensures deletes { OnTable handle.old handle.new result ((gone.new ≡ gone.old) × (key.new ≡ key.old) ×
-        (payload.new ≡ payload.old)) (ComesOut (Deletes handle.old.core.limits handle.old.core.splits (row_number part
-        serial)) handle.old handle.new result (λ went. MatchOption went ((gone.new ≡ 0) × (key.new ≡ key.old) ×
-        (payload.new ≡ payload.old)) (λ row. (gone.new ≡ 1) × (key.new ≡ row.key.0) × (payload.new ≡ row.payload.0)))) }
+    ensures deletes { OnTable handle.old handle.new result ((gone.new ≡ gone.old) × (key.new ≡ key.old) × (payload.new ≡
+        payload.old)) (ComesOut (λ limits splits. Deletes limits splits (row_number part serial)) (λ went. MatchOption
+        went ((gone.new ≡ 0) × (key.new ≡ key.old) × (payload.new ≡ payload.old)) (λ row. (gone.new ≡ 1) × (key.new ≡
+        row.key.0) × (payload.new ≡ row.payload.0)))) }
 {
     if !handle.is_open() {
         return CLOSED;
@@ -144,9 +144,9 @@ pub extern "C" fn crackd_update(
     payload: i64,
     found: &mut u8,
 ) -> u32
-    ensures updates { OnTable handle.old handle.new result (found.new ≡ found.old) (ComesOut (Updates
-        handle.old.core.limits handle.old.core.splits (row_number part serial) (record { 0 = key })
-        (record { 0 = payload })) handle.old handle.new result (λ is. found.new ≡ flag is)) }
+    ensures updates { OnTable handle.old handle.new result (found.new ≡ found.old) (ComesOut (λ limits splits. Updates
+        limits splits (row_number part serial) (record { 0 = key }) (record { 0 = payload })) (λ is. found.new ≡ flag
+        is)) }
 {
     if !handle.is_open() {
         return CLOSED;
@@ -176,9 +176,8 @@ pub extern "C" fn crackd_count(
     last: u64,
     count: &mut u64,
 ) -> u32
-    ensures counts { OnTable handle.old handle.new result (count.new ≡ count.old) (ByPolicy policy handle.old handle.new
-        result (ComesOut (OverKeys (Counts handle.old.core.limits handle.old.core.splits) first last) handle.old
-        handle.new result (λ rows. count.new ≡ rows))) }
+    ensures counts { OnTable handle.old handle.new result (count.new ≡ count.old) (ByPolicy policy (ComesOut (λ limits
+        splits. OverKeys (Counts limits splits) first last) (λ rows. count.new ≡ rows))) }
 {
     if !handle.is_open() {
         return CLOSED;
@@ -207,8 +206,7 @@ pub extern "C" fn crackd_sum(
     high: &mut i64,
 ) -> u32
     ensures sums { OnTable handle.old handle.new result ((low.new ≡ low.old) × (high.new ≡ high.old)) (ByPolicy policy
-        handle.old handle.new result (ComesOut (OverKeys (Sums handle.old.core.limits handle.old.core.splits) first
-        last) handle.old handle.new result (λ sum. joined low.new high.new ≡ sum))) }
+        (ComesOut (λ limits splits. OverKeys (Sums limits splits) first last) (λ sum. joined low.new high.new ≡ sum))) }
 {
     if !handle.is_open() {
         return CLOSED;
@@ -241,11 +239,11 @@ pub extern "C" fn crackd_select(
     payloads: &mut [i64],
     found: &mut u64,
 ) -> u32
-    ensures selects { OnLists (length parts.old) (length serials.old ∷ length keys.old ∷ length payloads.old ∷ [])
-        handle.old handle.new result ((parts.new ≡ parts.old) × (serials.new ≡ serials.old) × (keys.new ≡ keys.old) ×
-        (payloads.new ≡ payloads.old) × (found.new ≡ found.old)) (ByPolicy policy handle.old handle.new result (ComesOut
-        (OverKeys (Selects handle.old.core.limits handle.old.core.splits parts.new serials.new keys.new payloads.new)
-        first last) handle.old handle.new result (λ rows. found.new ≡ rows))) }
+    ensures selects { OnTable handle.old handle.new result ((parts.new ≡ parts.old) × (serials.new ≡ serials.old) ×
+        (keys.new ≡ keys.old) × (payloads.new ≡ payloads.old) × (found.new ≡ found.old)) (OnLists (length parts.old)
+        (length serials.old ∷ length keys.old ∷ length payloads.old ∷ []) (ByPolicy policy (ComesOut (λ limits splits.
+        OverKeys (Selects limits splits parts.new serials.new keys.new payloads.new) first last) (λ rows. found.new ≡
+        rows)))) }
 {
     if !handle.is_open() {
         return CLOSED;
@@ -279,9 +277,8 @@ pub extern "C" fn crackd_layout(
     lows: &mut [u64],
     sizes: &mut [u64],
 ) -> u32
-    ensures shows { OnLists (length lows.old) (length sizes.old ∷ []) handle.old handle.new result
-        ((totals.new ≡ totals.old) × (lows.new ≡ lows.old) × (sizes.new ≡ sizes.old)) (Shows handle.old handle.new part
-        result totals.new lows.new sizes.new) }
+    ensures shows { OnTable handle.old handle.new result ((totals.new ≡ totals.old) × (lows.new ≡ lows.old) × (sizes.new
+        ≡ sizes.old)) (OnLists (length lows.old) (length sizes.old ∷ []) (Shows part totals.new lows.new sizes.new)) }
 {
     if !handle.is_open() {
         return CLOSED;
@@ -302,8 +299,7 @@ pub extern "C" fn crackd_layout(
 /// Makes a checkpoint of a partition, and writes how many entries its history had.
 #[unsafe(no_mangle)]
 pub extern "C" fn crackd_checkpoint(handle: &mut Handle, part: u32, folded: &mut u64) -> u32
-    ensures folds { OnTable handle.old handle.new result (folded.new ≡ folded.old) (FoldsOne handle.old handle.new part
-        result folded.new) }
+    ensures folds { OnTable handle.old handle.new result (folded.new ≡ folded.old) (FoldsOne part folded.new) }
 {
     if !handle.is_open() {
         return CLOSED;
@@ -320,9 +316,8 @@ pub extern "C" fn crackd_checkpoint(handle: &mut Handle, part: u32, folded: &mut
 /// Writes how many commands the partitions have answered since they were opened.
 #[unsafe(no_mangle)]
 pub extern "C" fn crackd_accepted(handle: &mut Handle, accepted: &mut u64) -> u32
-    ensures accepted { OnTable handle.old handle.new result (accepted.new ≡ accepted.old) (λ unwritten.
-        (handle.new.is_open ≡ true) × (handle.new.core ≡ handle.old.core) × (result ≡ 0) × (accepted.new ≡ accepted_by
-        handle.old.core.parts)) }
+    ensures accepted { OnTable handle.old handle.new result (accepted.new ≡ accepted.old) (λ old new status unwritten.
+        (new.is_open ≡ true) × (new.core ≡ old.core) × (status ≡ 0) × (accepted.new ≡ accepted_by old.core.parts)) }
 {
     if !handle.is_open() {
         return CLOSED;
@@ -341,10 +336,10 @@ pub extern "C" fn crackd_insert_many(
     serials: &mut [u64],
     done: &mut u64,
 ) -> u32
-    ensures inserts { OnLists (length keys.now) (length payloads.now ∷ length parts.old ∷ length serials.old ∷ [])
-        handle.old handle.new result ((parts.new ≡ parts.old) × (serials.new ≡ serials.old) × (done.new ≡ done.old))
-        (λ unwritten. GoesOn (InsertsAt handle.old.core.limits handle.old.core.splits keys.now payloads.now parts.new
-        serials.new) (length keys.now) handle.old handle.new result done.new) }
+    ensures inserts { OnTable handle.old handle.new result ((parts.new ≡ parts.old) × (serials.new ≡ serials.old) ×
+        (done.new ≡ done.old)) (OnLists (length keys.now) (length payloads.now ∷ length parts.old ∷ length serials.old ∷
+        []) (GoesOn (λ limits splits. InsertsAt limits splits keys.now payloads.now parts.new serials.new) (length
+        keys.now) done.new)) }
 {
     if !handle.is_open() {
         return CLOSED;
@@ -366,10 +361,9 @@ pub extern "C" fn crackd_delete_many(
     gone: &mut [u8],
     done: &mut u64,
 ) -> u32
-    ensures deletes { OnLists (length parts.now) (length serials.now ∷ length gone.old ∷ []) handle.old handle.new
-        result ((gone.new ≡ gone.old) × (done.new ≡ done.old)) (λ unwritten. GoesOn (DeletesAt handle.old.core.limits
-        handle.old.core.splits parts.now serials.now gone.new) (length parts.now) handle.old handle.new
-        result done.new) }
+    ensures deletes { OnTable handle.old handle.new result ((gone.new ≡ gone.old) × (done.new ≡ done.old)) (OnLists
+        (length parts.now) (length serials.now ∷ length gone.old ∷ []) (GoesOn (λ limits splits. DeletesAt limits splits
+        parts.now serials.now gone.new) (length parts.now) done.new)) }
 {
     if !handle.is_open() {
         return CLOSED;
@@ -393,10 +387,10 @@ pub extern "C" fn crackd_update_many(
     found: &mut [u8],
     done: &mut u64,
 ) -> u32
-    ensures updates { OnLists (length parts.now) (length serials.now ∷ length keys.now ∷ length payloads.now ∷ length
-        found.old ∷ []) handle.old handle.new result ((found.new ≡ found.old) × (done.new ≡ done.old)) (λ unwritten.
-        GoesOn (UpdatesAt handle.old.core.limits handle.old.core.splits parts.now serials.now keys.now payloads.now
-        found.new) (length parts.now) handle.old handle.new result done.new) }
+    ensures updates { OnTable handle.old handle.new result ((found.new ≡ found.old) × (done.new ≡ done.old)) (OnLists
+        (length parts.now) (length serials.now ∷ length keys.now ∷ length payloads.now ∷ length found.old ∷ []) (GoesOn
+        (λ limits splits. UpdatesAt limits splits parts.now serials.now keys.now payloads.now found.new) (length
+        parts.now) done.new)) }
 {
     if !handle.is_open() {
         return CLOSED;
@@ -424,10 +418,9 @@ pub extern "C" fn crackd_count_many(
     counts: &mut [u64],
     done: &mut u64,
 ) -> u32
-    ensures counts { OnLists (length firsts.now) (length lasts.now ∷ length counts.old ∷ []) handle.old handle.new
-        result ((counts.new ≡ counts.old) × (done.new ≡ done.old)) (ByPolicy policy handle.old handle.new result
-        (λ unwritten. GoesOn (CountsAt handle.old.core.limits handle.old.core.splits firsts.now lasts.now counts.new)
-        (length firsts.now) handle.old handle.new result done.new)) }
+    ensures counts { OnTable handle.old handle.new result ((counts.new ≡ counts.old) × (done.new ≡ done.old)) (OnLists
+        (length firsts.now) (length lasts.now ∷ length counts.old ∷ []) (ByPolicy policy (GoesOn (λ limits splits.
+        CountsAt limits splits firsts.now lasts.now counts.new) (length firsts.now) done.new))) }
 {
     if !handle.is_open() {
         return CLOSED;
@@ -455,10 +448,10 @@ pub extern "C" fn crackd_sum_many(
     highs: &mut [i64],
     done: &mut u64,
 ) -> u32
-    ensures sums { OnLists (length firsts.now) (length lasts.now ∷ length lows.old ∷ length highs.old ∷ []) handle.old
-        handle.new result ((lows.new ≡ lows.old) × (highs.new ≡ highs.old) × (done.new ≡ done.old)) (ByPolicy policy
-        handle.old handle.new result (λ unwritten. GoesOn (SumsAt handle.old.core.limits handle.old.core.splits
-        firsts.now lasts.now lows.new highs.new) (length firsts.now) handle.old handle.new result done.new)) }
+    ensures sums { OnTable handle.old handle.new result ((lows.new ≡ lows.old) × (highs.new ≡ highs.old) × (done.new ≡
+        done.old)) (OnLists (length firsts.now) (length lasts.now ∷ length lows.old ∷ length highs.old ∷ []) (ByPolicy
+        policy (GoesOn (λ limits splits. SumsAt limits splits firsts.now lasts.now lows.new highs.new) (length
+        firsts.now) done.new))) }
 {
     if !handle.is_open() {
         return CLOSED;
