@@ -1,9 +1,8 @@
 #!/usr/bin/env python3
 """Writes docs/DEFINITIONS.md from the comments in specs/, or checks whether it is up to date: defined.py [--check]
 
-It has each definition of specs/ with the comment above it, crate by crate and file by file; one without a comment
-shares that of the previous definition. Modules that only private clauses cite are left out, as nobody has to read them
-to know what is promised.
+It has each definition of specs/ with the comment above it, crate by crate and file by file. Modules that only private
+clauses cite are left out, as nobody has to read them to know what is promised.
 """
 
 import itertools
@@ -56,15 +55,10 @@ def purpose(path):
 
 def table_of(path, items):
     """The table of a file's definitions."""
-    rows = []
-    for it in items:
-        text = said(it)
-        if text or not rows:
-            rows.append(([], text))
-        rows[-1][0].append(f"`{it.name.rpartition('.')[2]}`")
+    rows = [(it.name.rpartition(".")[2], sentence(said(it))) for it in items]
     link = f"[{path.parent.parent.name}/specs/{path.name}](../{path.relative_to(crates.TOP).as_posix()})"
     lines = [f"**{link}** {purpose(path)}".rstrip(), "", "| Name | What it is |", "|---|---|"]
-    return "\n".join([*lines, *(f"| {', '.join(names)} | {sentence(text)} |" for names, text in rows)])
+    return "\n".join([*lines, *(f"| `{name}` | {text} |" for name, text in rows)])
 
 
 def page():
@@ -80,11 +74,10 @@ def page():
 
 
 def uncommented():
-    """The definitions on the page that come first in a file without a comment, so that there is none to share."""
+    """The definitions on the page without a comment of their own."""
     folders = [it.folder for it in crates.listed().values() if it.name not in reading.LEFT_OUT]
     every = [it for folder in folders for it in definitions.definitions_of(folder) if not is_private(it.path)]
-    first = {it.path: it for it in reversed(every)}
-    return [it.name for it in first.values() if not said(it)]
+    return [it.name for it in every if not said(it)]
 
 
 def main(words):

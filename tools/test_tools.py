@@ -458,9 +458,7 @@ class Documents(unittest.TestCase):
 
     def test_definitions_are_the_comments_of_specs(self):
         self.assertEqual(defined.main(["--check"]), 0, "python3 tools/defined.py writes docs/DEFINITIONS.md anew")
-        self.assertLessEqual(
-            set(defined.uncommented()), {"crack_arena.Links.content_value", "crackd_c.Handles.CoreState"}
-        )
+        self.assertEqual(defined.uncommented(), [])
 
     def test_tests_that_proofs_name_are_where_their_links_lead(self):
         self.assertEqual(tested.main(["--check"]), 0, "python3 tools/tested.py has them lead there")

@@ -1,4 +1,4 @@
--- How the free stored stay linked.
+-- The links of the free cells.
 use Rattle.std.proofs.Common.{◌≡◌, ◌≢◌, ℕ, zero, suc, ◌+◌, ◌-◌, ◌<◌, ◌≤◌, ◌^◌, Bool, true, false, List, [], ◌∷◌, ◌++◌, length, get_or, set, cond, ltb, eqb, Option, Some, None, is_some, count_by, refl, sym, ap, ◌∙◌, inl, inr, arith, length-set, add-one}
 use Rattle.std.specs.Prelude.{is_none}
 use Rattle.std.proofs.lemmas.List.{get_or_read, get_or-set_same, get_or-set_other, get_or_past, get_or_push, get_or_append_left, length_push, length-map, get_or-map, map-set}
@@ -60,7 +60,7 @@ module _ {T : Type 0} where
   IsLinked-empty stored zero freed sound = refl
   IsLinked-empty stored (suc n) freed sound = absurd (let e = sound.chained in cc)
 
-  -- the head is a vacant slot, and the rest of the list does not come back to it
+  -- the head is a vacant slot, and the rest of the list doesn't have it again
   pub record Head (stored : List (Stored T)) (k n : ℕ) : Type 0 where
     pub slot : IsVacantAt stored k
     pub apart : times k (chain stored (link_at stored k) n) ≡ 0

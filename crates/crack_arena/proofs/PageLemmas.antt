@@ -7,7 +7,7 @@ use Rattle.std.proofs.lemmas.Bool.{cases_lt}
 use Rattle.crack_arena.specs.Pages.{joined}
 use Rattle.crack_arena.specs.Keeps.{IsPaged}
 
--- the page and the place of a number, a page further on
+-- the page and the place of a number that is one page further on
 record Further (n : ℕ) : Type 0 where
   pub page : n / 256 ≡ suc ((n - 256) / 256)
   pub place : n % 256 ≡ (n - 256) % 256
@@ -15,7 +15,7 @@ record Further (n : ℕ) : Type 0 where
 further : (n : ℕ) → 256 ≤ n → Further n
 further n far = record { page = omega arith; place = omega arith }
 
--- those of a number in the first page
+-- the page and the place of a number in the first page
 record First (n : ℕ) : Type 0 where
   pub page : n / 256 ≡ 0
   pub place : n % 256 ≡ n
@@ -23,7 +23,7 @@ record First (n : ℕ) : Type 0 where
 first : (n : ℕ) → n < 256 → First n
 first n near = record { page = omega arith; place = omega arith }
 
--- what holds if the result is Ok, and if it is an error
+-- what holds of an Ok result, and what of an error
 pub on_ok : {X E P : Type 0} (r : Result X E) → (is_ok r ≡ true → P) → OnOk r P
 on_ok (Ok x) holds = holds refl
 on_ok (Err e) holds = tt
@@ -74,7 +74,7 @@ module _ {C : Type 0} where
         rw (at.page, at.place) (ap (λ (cells : List C). p ++ cells) (set-joined ps (len - 256) (n - 256) e c paged.1 (omega (arith, within))) ∙ sym (set-append_right p (joined ps) 256 n c full far))
   ]
 
-  -- a page is given other cells, as many
+  -- the cells of a page are replaced by as many others
   pub IsPaged-set : (pages : List (List C)) (len k : ℕ) (e page : List C) → length page ≡ length (get_or pages k e) → IsPaged pages len → IsPaged (set pages k page) len
   IsPaged-set [] len k e page same paged = paged
   IsPaged-set (p ∷ ps) len zero e page same paged = (omega (arith, same, paged.0), paged.1)
@@ -145,7 +145,7 @@ module _ {C : Type 0} where
   read_joined pages len n page x paged within found read =
       read ∙ ap (λ (p : List C). get_or p (n % 256) x) found ∙ sym (get_or-joined pages len n page x paged within)
 
-  -- a page that was read, and written
+  -- a page that was read and written
   pub joined_written : (pages : List (List C)) (len n : ℕ) (page : List C) (c : C) → IsPaged pages len → n < len → page ≡ get_or pages (n / 256) page → joined (set pages (n / 256) (set page (n % 256) c)) ≡ set (joined pages) n c
   joined_written pages len n page c paged within found =
       ap (λ (p : List C). joined (set pages (n / 256) (set p (n % 256) c))) found ∙ set-joined pages len n page c paged within

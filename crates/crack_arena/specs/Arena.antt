@@ -13,6 +13,7 @@ pub record Handle : Type 0 where
 abbrev pub same_handle : Handle → Handle → Bool
 same_handle h k = (h.slot == k.slot) && (h.generation == k.generation)
 
+-- the encoding of handles as values of the logic
 abbrev pub handle_code : Coded Handle
 handle_code =
     code_by (ℕ × ℕ) (coded× coded_ℕ coded_ℕ) (λ h. (h.slot, h.generation)) (λ p. record { slot = p.0; generation = p.1 }) (λ _. refl)
@@ -28,10 +29,12 @@ pub record Arena (T : Type 0) : Type 0 where
   pub free : List ℕ
   pub room : ℕ
 
+-- the encoding of cells
 abbrev pub cell_code : {T : Type 0} → Coded T → Coded (Cell T)
 cell_code {T} code =
     code_by (ℕ × Option T) (coded× coded_ℕ (coded_option code)) (λ c. (c.generation, c.value)) (λ p. record { generation = p.0; value = p.1 }) (λ _. refl)
 
+-- the encoding of arenas
 abbrev pub arena_code : {T : Type 0} → Coded T → Coded (Arena T)
 arena_code {T} code =
     code_by
@@ -41,6 +44,7 @@ arena_code {T} code =
     (λ p. record { cells = p.0; free = p.1.0; room = p.1.1 })
     (λ _. refl)
 
+-- a cell without a value, never freed
 abbrev pub empty_cell : {T : Type 0} → Cell T
 empty_cell = record { generation = 0; value = None }
 
@@ -61,7 +65,7 @@ pub record IsSpent {T : Type 0} (cells : List (Cell T)) (h : Handle) : Type 0 wh
 abbrev pub KeepsSpent : {T : Type 0} → List (Cell T) → List (Cell T) → Type 0
 KeepsSpent old new = (h : Handle) → IsSpent old h → IsSpent new h
 
--- how often the number is in the list
+-- how many times the number is in the list
 unfoldable pub times : ℕ → List ℕ → ℕ
 times n xs = sum_by (λ x. cond (x == n) 1 0) xs
 
@@ -73,7 +77,7 @@ slots handles = map (λ (h : Handle). h.slot) handles
 abbrev pub place_in : List Handle → ℕ → ℕ
 place_in handles slot = position_or_len (λ (h : Handle). h.slot == slot) handles
 
--- what is read if there is no handle
+-- the default where there is no handle
 abbrev pub no_handle : Handle
 no_handle = record { slot = 0; generation = 0 }
 

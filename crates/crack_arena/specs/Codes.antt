@@ -1,5 +1,5 @@
 -- What private clauses alone cite.
--- How a list of cells is written as a value of the logic.
+-- The encoding of a list of cells as a value of the logic.
 use Rattle.std.specs.Prelude.{ℕ, List, refl}
 use Rattle.std.specs.Coded.{Coded, code_by, coded×, coded_ℕ, coded_list}
 use Rattle.crack_arena.specs.Listed.{Listed}

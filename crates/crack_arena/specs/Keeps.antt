@@ -1,5 +1,5 @@
 -- What private clauses alone cite.
--- What an arena keeps of its links and its pages.
+-- The invariants of an arena's links and pages.
 use Rattle.std.specs.Prelude.{◌≡◌, ℕ, ◌<◌, List, [], ◌∷◌, length, Option, Some, None, slice_index_or, sum_by, cond, nat_lt, Bool, true, false, count_by, ◌^◌, ◌-◌, min}
 use Rattle.crack_arena.specs.declared.cells.Cell.{Cell as Stored}
 use Rattle.crack_arena.specs.declared.cells.Content.{Content}

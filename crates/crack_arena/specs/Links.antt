@@ -6,10 +6,12 @@ use Rattle.crack_arena.specs.declared.cells.Content.TheVariants.{Free, Full}
 use Rattle.crack_arena.specs.Arena.{Cell}
 
 module _ {T : Type 0} where
+  -- the value of a cell's content, if it has one
   abbrev pub content_value : Content T → Option T
   content_value (Free _) = None
   content_value (Full value) = Some value
 
+  -- the link of a free cell's content: the number of the free cell that is used next
   abbrev pub content_link : Content T → Option ℕ
   content_link (Free next) = next
   content_link (Full _) = None
@@ -18,9 +20,11 @@ module _ {T : Type 0} where
   abbrev pub cell_of : Stored T → Cell T
   cell_of s = record { generation = s.generation; value = content_value s.content }
 
+  -- the cells as contracts see them
   abbrev pub cells_of : List (Stored T) → List (Cell T)
   cells_of stored = map cell_of stored
 
+  -- a cell without a value and without a link
   abbrev pub empty_stored : Stored T
   empty_stored = record { generation = 0; content = Free None }
 

@@ -13,7 +13,7 @@ use crack_row::Refusal;
 use std::alloc::Global;
 use std::marker::Model;
 
-/// A value that wasn't put, for lack of memory.
+/// A value that wasn't stored, for lack of memory.
 #[derive(Drop, Debug)]
 pub struct PutRefused<T> {
     pub value: T,

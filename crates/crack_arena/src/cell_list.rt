@@ -10,7 +10,7 @@ use crate::page::{CELLS, Page};
 use std::alloc::{AllocError, Global};
 use std::marker::Model;
 
-/// A full list of pages grows by this many times its length, so that what it copies as it grows stays small.
+/// A full list of pages grows by this factor, so that growth copies little.
 const GROWTH: usize = 3;
 
 /// Cells by number, from 0, and for how many more there is room. Number n is cell n mod 256 of page n / 256.

@@ -8,7 +8,7 @@ use std::alloc::AllocError;
 use std::fmt;
 use std::marker::{Model, PhantomData};
 
-/// Names one cell at one generation. It doesn't know which arena made it.
+/// Names one cell at one generation, but not the arena that made it.
 pub struct Handle<T> {
     slot: u32,
     generation: u64,

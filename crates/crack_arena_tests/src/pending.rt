@@ -164,7 +164,7 @@ fn take<Kind>(
     handle
 }
 
-/// Strikes the handle, if it is in the list, and its key from the list of keys.
+/// Removes the handle, if it is in the list, and its key from the list of keys.
 fn strike<Kind>(
     rt: &impl Abort,
     arena: &Arena<Row>,
@@ -193,7 +193,7 @@ fn remove_key(keys: &mut Vec<KeyNumber>, key: KeyNumber) {
     }
 }
 
-/// Four rows: found by their keys, taken and put back, struck.
+/// Four rows: found by their keys, taken and put back, removed.
 fn go_and_come<Kind>(
     rt: &impl Abort,
     alloc: Global,
@@ -253,7 +253,7 @@ fn rows_go_and_come(rt: HostRuntime) -> Result<(), Fail> {
     goes_and_comes(&rt, rt.alloc(), PendingOut::new(rt.alloc()))
 }
 
-/// One row is struck, another taken now and then, and what was struck comes again.
+/// One row is removed by its handle, another taken now and then, and the removed row comes again.
 fn step(
     rt: &impl Abort,
     arena: &Arena<Row>,
@@ -327,7 +327,8 @@ fn push_and_strike_all(
     strike_all(rt, arena, pending, &handles, &mut keys)
 }
 
-/// Two hundred rows are struck, in no particular order; rows are taken and come again between, and holes are closed up.
+/// Two hundred rows are removed by their handles, in no particular order; rows are taken and come again in between, and
+/// holes are closed up.
 #[test]
 fn rows_are_struck_in_any_order(rt: HostRuntime) -> Result<(), Fail> {
     let mut arena = Arena::new(rt.alloc());
@@ -422,7 +423,7 @@ fn assert_taken(
     assert_eq!(rt; first_from(keys, low, high, 0), None);
 }
 
-/// Takes the rows of some ranges, each at once, after a few rows went one by one.
+/// Takes the rows of some ranges, each at once, after a few rows were taken one by one.
 fn take_ranges_at_once(
     rt: &impl Abort,
     alloc: Global,
@@ -500,7 +501,7 @@ fn push_and_take_ranges_at_once(
     take_ranges_at_once(rt, alloc, arena, pending, &mut keys)
 }
 
-/// Of two hundred rows those of a range are taken at once, in the order of their arrival; the others stand as they did.
+/// Of two hundred rows those of a range are taken at once, in the order of their arrival; the others are unchanged.
 #[test]
 fn rows_of_ranges_are_taken_at_once(rt: HostRuntime) -> Result<(), Fail> {
     let mut arena = Arena::new(rt.alloc());

@@ -9,7 +9,7 @@ use std::io;
 use std::io::Write;
 use std::test::Fail;
 
-/// A writer that accepts none of its bytes.
+/// A writer that accepts no bytes.
 #[derive(Drop)]
 struct Full;
 
@@ -71,7 +71,7 @@ fn listed_rows_are_copied(rt: HostRuntime) -> Result<(), Fail> {
     Ok(())
 }
 
-/// What a history takes for each answered command, beside the rows of a select.
+/// The size of an entry of a history, without the rows of a select.
 #[test]
 fn an_entry_takes_at_most_96_bytes(rt: HostRuntime) -> Result<(), Fail> {
     assert!(rt; size_of::<Entry>() <= 96);

@@ -15,16 +15,16 @@ pub const VERSION: &str = "0.1.0";
 /// The option that explains errors, wherever it is in a command line.
 const WORDS: &str = "--words";
 
-/// What a command line asks for.
+/// The request of a command line.
 #[derive(Drop)]
 pub enum Request {
     /// The help or the version that was asked for, to be printed.
     Help(String),
     /// Serve standard input to standard output, over a table of its own.
     Script(Opening),
-    /// Let workers serve the lines of standard input.
+    /// Have workers serve the lines of standard input.
     Batch(Staffed),
-    /// Let workers serve sessions over TCP.
+    /// Have workers serve sessions over TCP.
     Serve(Service),
     /// Load CSV from standard input, and export it to standard output.
     Csv(Opening),
@@ -60,7 +60,7 @@ pub struct Service {
     pub idle: Option<u32>,
     /// Whether only refusals are written to standard error.
     pub is_quiet: bool,
-    /// Whether its workers keep a receipt of each reply, which are compared with the histories at the end.
+    /// Whether its workers keep receipts of their replies, which are compared with the histories at the end.
     pub is_audited: bool,
 }
 

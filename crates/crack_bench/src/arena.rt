@@ -57,7 +57,7 @@ fn free(filled: &mut Filled, at: usize) -> Option<Row>
     filled.arena.free(filled.handles.swap_remove(at))
 }
 
-/// One step: a put, a get or a free, a third each, but for a put if there is no handle.
+/// One step: a put, a get or a free, a third each; a put if there is no handle.
 fn step(filled: &mut Filled, number: u64, numbers: &mut Numbers) -> Result<Option<Row>, Refusal> {
     let which = numbers.below(3);
     let len = filled.handles.len();
@@ -78,7 +78,7 @@ fn step(filled: &mut Filled, number: u64, numbers: &mut Numbers) -> Result<Optio
     }
 }
 
-/// As many steps at random handles. A checksum of the rows that they met.
+/// As many steps at random handles. Returns a checksum of the rows that they read.
 pub fn steps(filled: &mut Filled, count: u64, numbers: &mut Numbers) -> Result<u64, Refusal> {
     let mut sum = 0;
     for number in 0..count {
@@ -111,7 +111,8 @@ pub fn put_rows(arena: &mut Arena<Row>, rows: u32) -> Result<(), Refusal> {
     Ok(())
 }
 
-/// As many gets of random cells of the first so many, none of which was freed. A checksum of their rows.
+/// As many gets of random cells among the first ones, this many, none of which was freed. Returns a checksum of their
+/// rows.
 pub fn gets(arena: &Arena<Row>, cells: u32, count: u64, numbers: &mut Numbers) -> u64
     requires { 0 < cells }
 {

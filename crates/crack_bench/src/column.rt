@@ -16,7 +16,7 @@ pub const FIRST: u32 = 1073741824;
 /// How many later cracks there are, over rows that are remembered.
 const LATER_CRACKS: u32 = 16;
 
-/// How far their bounds lie apart.
+/// The distance between their bounds.
 const LATER_STEP: u32 = 134217728;
 
 /// Puts the handles into random order.
@@ -28,7 +28,7 @@ pub fn shuffle(filled: &mut Filled, numbers: &mut Numbers) {
     }
 }
 
-/// A column of the handles, in their order, as far as one has room for them. It knows no row.
+/// A column of the handles, in their order, as far as it has room for them. No row is known.
 pub fn column_of(
     alloc: Global,
     handles: &[Handle<Row>],
@@ -45,7 +45,7 @@ pub fn column_of(
     Ok(column)
 }
 
-/// Cracks the whole column at the bound with this number. The place between.
+/// Cracks the whole column at the bound with this number. Returns the place of the bound.
 pub fn crack(column: &mut CrackerColumn, number: u32, arena: &Arena<Row>) -> usize
     requires { Remembers arena.now.cells column.old.handles column.old.remembered }
     ensures { Remembers arena.now.cells column.new.handles column.new.remembered }
@@ -54,7 +54,7 @@ pub fn crack(column: &mut CrackerColumn, number: u32, arena: &Arena<Row>) -> usi
     column.crack_two(0, len, bound_at(number), arena)
 }
 
-/// Cracks the whole column at bounds that rise. A checksum of the places between.
+/// Cracks the whole column at bounds that rise. Returns a checksum of their places.
 pub fn crack_on(column: &mut CrackerColumn, arena: &Arena<Row>) -> u64
     requires { Remembers arena.now.cells column.old.handles column.old.remembered }
 {

@@ -9,8 +9,8 @@ use std::time::Instant;
 /// How many commands of one kind are measured before a checkpoint, and after it.
 const NEXT: u32 = 1000;
 
-/// A checkpoint of inserts, of which some are pending, and one where as many deletes and inserts put rows into freed
-/// cells, with nothing pending.
+/// A checkpoint of inserts, of which some are pending, and one after as many deletes and inserts, which put rows into
+/// freed cells, with nothing pending.
 pub fn measure(
     rt: &HostRuntime,
     table: &mut Measured,

@@ -13,7 +13,7 @@ fn key_at(number: u32) -> Key {
     Key::from_number(KeyNumber::from(number))
 }
 
-/// The bound with this number; the least between two keys, where the number is 0.
+/// The bound with this number; the least between two keys if the number is 0.
 pub fn bound_at(number: u32) -> InnerBound {
     match key_at(number).bound().inner() {
         Some(bound) => bound,
@@ -52,7 +52,7 @@ pub fn fill(index: &mut CrackerIndex, bounds: u32) -> Result<(), Refusal>
     Ok(())
 }
 
-/// Looks each of this many bounds up. A checksum of their places.
+/// Looks each of this many bounds up. Returns a checksum of their places.
 pub fn look_up(index: &CrackerIndex, bounds: u32) -> u64 {
     let mut numbers = Numbers::new(SEED);
     let mut sum = 0;
@@ -64,7 +64,7 @@ pub fn look_up(index: &CrackerIndex, bounds: u32) -> u64 {
     sum
 }
 
-/// Looks for the next bound after each of this many keys. A checksum of their places.
+/// Looks for the next bound after each of this many keys. Returns a checksum of their places.
 pub fn look_above(index: &CrackerIndex, keys: u32) -> u64 {
     let mut numbers = Numbers::new(SEED + 1);
     let mut sum = 0;
@@ -76,7 +76,7 @@ pub fn look_above(index: &CrackerIndex, keys: u32) -> u64 {
     sum
 }
 
-/// Goes along to the end of a walk, and adds up the places that it is given.
+/// A visitor that lets a walk go on to its end, and adds up the places that it is given.
 #[derive(Clone, Copy)]
 pub struct Told {
     pub sum: u64,
@@ -96,7 +96,7 @@ impl Visitor for Told {
     }
 }
 
-/// Walks up over all bounds. The sum of their places.
+/// Walks up over all bounds. Returns the sum of their places.
 #[inline(never)]
 pub fn walk_up(index: &mut CrackerIndex) -> u64
     requires { All (λ m. m.position < usize.MAX) index.old.marks }
@@ -109,7 +109,7 @@ pub fn walk_up(index: &mut CrackerIndex) -> u64
     }
 }
 
-/// Walks down over all bounds. The sum of the places before them.
+/// Walks down over all bounds. Returns the sum of the places before them.
 #[inline(never)]
 pub fn walk_down(index: &mut CrackerIndex) -> u64 {
     let mut told = Told { sum: 0 };

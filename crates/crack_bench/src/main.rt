@@ -5,9 +5,9 @@
 //! `crack_bench merge POLICY ROWS PIECES PENDING`, `crack_bench pulls POLICY ROWS PIECES DELETES`, `crack_bench fold
 //! POLICY ROWS CHANGES`, or `crack_bench all STEPS ROWS RANGES`.
 //!
-//! What a run computes goes to standard output: it depends on the words alone. Times go to standard error, in
-//! nanoseconds, a line `NAME NUMBER` each, and for `cold`, `updates`, `merge` and `pulls` what the merges did,
-//! likewise.
+//! The results of a run go to standard output: they depend only on the words. Times go to standard error, in
+//! nanoseconds, a line `NAME NUMBER` each, and for `cold`, `updates`, `merge` and `pulls` the counts of the merges,
+//! too.
 #![tactic(auto)]
 
 ghost use Rattle.std.specs.Prelude.{◌<◌, All};
@@ -180,7 +180,7 @@ fn measure_walks(rt: &HostRuntime, index: &mut CrackerIndex) -> anyhow::Result<(
     Ok(())
 }
 
-/// What is measured of a partition.
+/// The measurements of a partition.
 #[derive(Clone, Copy)]
 enum Work {
     /// With every row pending.
@@ -192,7 +192,7 @@ enum Work {
     Loaded(Loaded),
 }
 
-/// What is measured once everything was counted.
+/// The measurements once everything was counted.
 #[derive(Clone, Copy)]
 enum Loaded {
     Counts { ranges: u64 },
@@ -277,7 +277,7 @@ fn measure_loaded(
     }
 }
 
-/// The sums of random ranges with every row pending, and what their merges did.
+/// The sums of random ranges with every row pending, and the counts of their merges.
 fn measure_cold(
     rt: &HostRuntime,
     table: &mut Measured,
@@ -293,7 +293,7 @@ fn measure_cold(
     report_tally(rt, table)
 }
 
-/// Writes what the merges did.
+/// Writes the counts of the merges.
 fn report_tally(rt: &HostRuntime, table: &Measured) -> anyhow::Result<()> {
     let did = table.partition.tally();
     eprintln!(rt; "put_in {}", did.put_in)?;
@@ -427,7 +427,7 @@ fn run_all(rt: &HostRuntime, steps: u64, rows: u32, ranges: u64) -> anyhow::Resu
     run_partition(rt, Policy::Gradual, rows, fold)
 }
 
-/// What the name of a partition's work and the numbers after it ask for.
+/// The measurement that a name and the numbers after it ask for.
 fn work_of(name: &str, numbers: &[&str]) -> anyhow::Result<Work> {
     match (name, numbers) {
         ("cold", [ranges]) => Ok(Work::Cold {
@@ -471,7 +471,7 @@ fn loaded_of(name: &str, numbers: &[&str]) -> anyhow::Result<Loaded> {
     }
 }
 
-/// Measures what the words ask for.
+/// Runs the measurement that the words ask for.
 fn run(rt: &HostRuntime, words: &[&str]) -> anyhow::Result<()> {
     match words {
         [_, "arena", steps, rows] => run_arena(rt, steps.parse()?, rows.parse()?),

@@ -9,10 +9,10 @@ use crack_row::{
 };
 use std::alloc::{AllocError, Global};
 
-/// Where the random keys end, which have 32 bits.
+/// The end of the random keys, which have 32 bits.
 const KEYS_END: BoundNumber = 4294967296;
 
-/// How wide a random range is: a hundredth of these keys.
+/// The width of a random range: a hundredth of these keys.
 const WIDTH: BoundNumber = 42949672;
 
 /// A partition that merges by one policy.
@@ -23,7 +23,7 @@ pub struct Measured {
 }
 
 impl Measured {
-    /// Asks the partition, and gives the number that it replies; 0 if it replies none.
+    /// Asks the partition, and returns the number in its reply, or 0 if there is none.
     fn ask(&mut self, command: Command) -> Result<u64, Refusal> {
         let (reply, _) = self.partition.apply(0, command, self.policy)?;
         Ok(match reply {
@@ -70,7 +70,7 @@ impl Measured {
         self.ask(Command::Count(KeyRange::all()))
     }
 
-    /// As many counts of random ranges. A checksum of what they replied.
+    /// As many counts of random ranges. Returns a checksum of the replies.
     pub fn counts(&mut self, ranges: u64, numbers: &mut Numbers) -> Result<u64, Refusal> {
         let mut sum = 0;
         'ranges: for _ in 0..ranges {
@@ -79,7 +79,7 @@ impl Measured {
         Ok(sum)
     }
 
-    /// As many counts of one range in the upper half. A checksum of what they replied.
+    /// As many counts of one range in the upper half. Returns a checksum of the replies.
     pub fn upper_counts(&mut self, counts: u32) -> Result<u64, Refusal> {
         let mut sum = 0;
         'counts: for _ in 0..counts {
@@ -89,7 +89,7 @@ impl Measured {
         Ok(sum)
     }
 
-    /// As many sums of random ranges. A checksum of what they replied, over that of earlier ones.
+    /// As many sums of random ranges. Returns a checksum of the replies, continued from that of earlier ones.
     pub fn sums(&mut self, told: u64, ranges: u64, numbers: &mut Numbers) -> Result<u64, Refusal> {
         let mut sum = told;
         'ranges: for _ in 0..ranges {
@@ -98,7 +98,7 @@ impl Measured {
         Ok(sum)
     }
 
-    /// The sums of as many random ranges in the upper half. A checksum of what they replied.
+    /// The sums of as many random ranges in the upper half. Returns a checksum of the replies.
     pub fn upper_sums(&mut self, ranges: u64, numbers: &mut Numbers) -> Result<u64, Refusal> {
         let mut sum = 0;
         'ranges: for _ in 0..ranges {
@@ -107,7 +107,7 @@ impl Measured {
         Ok(sum)
     }
 
-    /// A batch of as many deletes and inserts, of rows that are there.
+    /// A batch of as many deletes of existing rows and as many inserts.
     fn batch(
         &mut self,
         size: u64,
@@ -150,7 +150,7 @@ impl Measured {
         Ok(())
     }
 
-    /// Batches of as many updates, each with the sum of a random range after it. A checksum of these.
+    /// Batches of as many updates, each with the sum of a random range after it. Returns a checksum of the sums.
     pub fn updates(
         &mut self,
         batches: u64,

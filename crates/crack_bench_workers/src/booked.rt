@@ -31,7 +31,7 @@ impl<'a, R: Wait> Works for Booked<'a, R> {
     }
 }
 
-/// Opens a table, and does what the run says.
+/// Opens a table, and carries out the run.
 pub fn run<R: Host>(rt: &R, run: Run) -> anyhow::Result<()> {
     let splits = splits(rt.alloc(), run.plan.parts())?;
     let (table, workers) = Table::open(
@@ -55,7 +55,7 @@ pub fn run<R: Host>(rt: &R, run: Run) -> anyhow::Result<()> {
     }
 }
 
-/// The workers of a table, once they did what the run says.
+/// The workers of a table after the run.
 fn work<R: Host + Sync>(
     rt: &R,
     table: &Table,
@@ -92,7 +92,7 @@ fn workers_of<R: Wait>(alloc: Global, pool: Pool<Booked<R>>) -> Result<Vec<Worke
     Ok(workers)
 }
 
-/// Gathers workers, and writes what they come to.
+/// Gathers workers, and writes their totals.
 fn end<R: Host>(rt: &R, table: Table, workers: Vec<Worker>) -> anyhow::Result<()> {
     let start = Instant::now(rt)?;
     let totals = totals_of(rt.alloc(), table, workers)?;

@@ -1,11 +1,11 @@
-//! Measures workers on threads, what a worker's asking costs besides its partition, and the gathering:
+//! Measures workers on threads, the cost of a worker's call besides its partition, and the gathering:
 //! `crack_bench_workers own|shared WORKERS ROWS STEPS`, `crack_bench_workers ask|bare ROWS STEPS`,
 //! `crack_bench_workers gathered|folded|loaded WORKERS ROWS`, or `crack_bench_workers all WORKERS ROWS STEPS`.
 //! ROWS are those of each partition, of which there are two for each worker; a step has four statements.
 //! The workers keep receipts; with `witnessed` before the other words, but for `bare` and `all`, they are those of a
 //! table that witnesses its replies.
 //!
-//! What a run computes goes to standard output: it depends on the words alone. Times go to standard error, in
+//! The results of a run go to standard output: they depend only on the words. Times go to standard error, in
 //! nanoseconds, a line `NAME NUMBER` each.
 #![tactic(auto)]
 
@@ -21,7 +21,7 @@ use mix::{Mix, Parts, count_all};
 use pool::{Bare, PARTS_EACH, Plan, Sharing};
 use std::env;
 
-/// What the workers' table is.
+/// The kinds of tables.
 #[derive(Clone, Copy)]
 enum Kind {
     Booked,
@@ -71,7 +71,7 @@ fn alone(rows: u32, steps: u32) -> Run {
     }
 }
 
-/// All that is measured of one kind of table.
+/// All measurements of one kind of table.
 fn run_each<R: Host>(
     rt: &R,
     kind: Kind,
@@ -121,7 +121,7 @@ fn run_all<R: Host>(rt: &R, workers: u32, rows: u32, steps: u32) -> anyhow::Resu
     run_bare(rt, rows, steps)
 }
 
-/// Measures what the words ask for.
+/// Runs the measurement that the words ask for.
 fn run<R: Host>(rt: &R, words: &[&str]) -> anyhow::Result<()> {
     match words {
         [_, "bare", rows, steps] => run_bare(rt, rows.parse()?, steps.parse()?),
@@ -169,7 +169,7 @@ fn sharing_of(name: &str) -> Sharing {
     }
 }
 
-/// What is done with the workers of a run, and at its end.
+/// The work of the workers of a run, and the work at its end.
 fn work_of(name: &str, rest: &[&str]) -> anyhow::Result<(Work, End)> {
     match (name, rest) {
         ("own" | "shared", [steps]) => {

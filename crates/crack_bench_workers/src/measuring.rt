@@ -1,4 +1,4 @@
-//! What is measured of a pool, and how long it takes.
+//! The measurements of a pool, and their times.
 
 use crate::pool::{Plan, Pool, Sharing, Works};
 use std::alloc::Global;
@@ -7,12 +7,12 @@ use std::sync::Wait;
 use std::thread::Threads;
 use std::time::Instant;
 
-/// What a run is handed: to start threads and wait for them, and to print what it computed and how long that took.
+/// The handles that a run is given: to start threads and wait for them, and to print its results and its times.
 pub trait Host: Alloc<A = Global> + Print + Eprint + Clock + Threads + Wait + Sync {}
 
 impl<R: Alloc<A = Global> + Print + Eprint + Clock + Threads + Wait + Sync> Host for R {}
 
-/// What is done with the workers of a table, once their rows are there.
+/// The work of the workers of a table, once their rows are there.
 #[derive(Clone, Copy)]
 pub enum Work {
     /// Everything is counted, and then each worker makes steps on a thread of its own.
@@ -24,7 +24,7 @@ pub enum Work {
     Nothing,
 }
 
-/// What is done at the end.
+/// The work at the end.
 #[derive(Clone, Copy, PartialEq, Eq)]
 pub enum End {
     Gather,
@@ -47,7 +47,7 @@ pub fn report<R: Host>(rt: &R, name: &str, since: Instant) -> anyhow::Result<()>
     Ok(())
 }
 
-/// Loads the rows of a pool, and has its workers do what the run says.
+/// Loads the rows of a pool, and has its workers carry out the run.
 pub fn measure<R: Host, A: Works + Send + Drop>(
     rt: &R,
     pool: &mut Pool<A>,
@@ -64,7 +64,7 @@ pub fn measure<R: Host, A: Works + Send + Drop>(
     }
 }
 
-/// What the sums of workers that share partitions come to depends on who comes first, so it isn't written.
+/// The sums of workers that share partitions depend on which comes first, so they aren't written.
 fn measure_threads<R: Host, A: Works + Send + Drop>(
     rt: &R,
     pool: &mut Pool<A>,
@@ -97,7 +97,7 @@ fn measure_in_turn<R: Host, A: Works + Drop>(
     Ok(())
 }
 
-/// Writes what workers came to that were gathered, and how long that took.
+/// Writes the totals of gathered workers, and how long the gathering took.
 pub fn print_totals<R: Host>(rt: &R, start: Instant, totals: [u64; 4]) -> anyhow::Result<()> {
     report(rt, "gather", start)?;
     let [accepted, inserted, deleted, held] = totals;

@@ -1,17 +1,18 @@
-//! What each worker asks: half sums of a hundredth of a partition's keys, a quarter deletes, and a quarter inserts.
+//! The commands of each worker: half sums of a hundredth of a partition's keys, a quarter deletes, and a quarter
+//! inserts.
 
 use crack_row::{
     BoundNumber, Command, Key, KeyNumber, KeyRange, Payload, PayloadNumber, Refusal, Reply, Serial,
 };
 use std::alloc::Global;
 
-/// How wide a partition's keys are.
+/// The width of a partition's keys.
 pub const PART_WIDTH: u32 = 67108864;
 
-/// How wide the range of a sum is.
+/// The width of the range of a sum.
 const RANGE_WIDTH: u32 = PART_WIDTH / 100;
 
-/// What answers a command to one of its partitions.
+/// A table or a pool of partitions, which answers commands.
 pub trait Asks {
     fn ask(&mut self, part: u32, command: Command) -> Result<Reply, Refusal>;
 }
@@ -30,7 +31,7 @@ struct Placed {
     serial: Serial,
 }
 
-/// What one worker asks next, and the rows that it placed.
+/// The next commands of one worker, and the rows that it placed.
 #[derive(Drop)]
 pub struct Mix {
     parts: Parts,
@@ -85,7 +86,7 @@ impl Mix {
         Ok(number_of(&reply))
     }
 
-    /// Deletes one of the rows. Its place; none if there is no row.
+    /// Deletes one of the rows. Returns its place; none if there is no row.
     fn delete<A: Asks>(&mut self, asked: &mut A) -> Result<Option<usize>, Refusal> {
         let number = self.next() as usize;
         if self.rows.is_empty() {
@@ -115,7 +116,7 @@ impl Mix {
         Ok(())
     }
 
-    /// A sum, a delete, a sum and an insert. The sum of both sums.
+    /// A sum, a delete, a sum and an insert. Returns the sum of both sums.
     fn step<A: Asks>(&mut self, asked: &mut A) -> Result<u64, Refusal> {
         let first = self.sum(asked)?;
         let at = self.delete(asked)?;
@@ -124,7 +125,7 @@ impl Mix {
         Ok(first.wrapping_add(second))
     }
 
-    /// As many steps of four statements each. The sum of all sums.
+    /// As many steps of four statements each. Returns the sum of all sums.
     pub fn steps<A: Asks>(&mut self, asked: &mut A, count: u32) -> Result<u64, Refusal> {
         let mut total = 0u64;
         'steps: for _ in 0..count {

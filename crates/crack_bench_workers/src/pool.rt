@@ -1,4 +1,4 @@
-//! Workers of a table with what they ask, and partitions that are asked without either.
+//! Workers of a table with their commands, and partitions that are asked without either.
 
 use crate::mix::{Asks, Mix, PART_WIDTH, Parts, count_all, lowest_key};
 use crack_part::Partition;
@@ -11,7 +11,7 @@ use std::{mem, thread};
 /// How many partitions there are for each worker.
 pub const PARTS_EACH: u32 = 2;
 
-/// How far apart the numbers lie at which the workers' mixes begin.
+/// The distance between the numbers at which the workers' mixes begin.
 const APART: u32 = 50000000;
 
 /// The policy of each command.
@@ -61,12 +61,12 @@ pub trait Works: Asks {
     fn fold(&mut self, part: u32) -> Result<(), Refusal>;
 }
 
-/// A worker at its table, and what it asks.
+/// A worker at its table, and its commands.
 #[derive(Drop)]
 pub struct Hand<A> {
     pub worker: A,
     mix: Mix,
-    /// What its steps returned.
+    /// The sum that its steps returned.
     told: Result<u64, Refusal>,
 }
 
@@ -79,7 +79,7 @@ impl<A: Asks> Hand<A> {
         self.told = self.mix.steps(&mut self.worker, steps);
     }
 
-    /// The same hand, which lay where its own thread alone writes while it worked.
+    /// The same worker; during its work it was where only its own thread writes.
     fn worked(mut self, steps: u32) -> Hand<A> {
         self.work(steps);
         self
@@ -102,7 +102,7 @@ impl<A: Works + Drop> Pool<A> {
         }
     }
 
-    /// Takes in the worker with this number.
+    /// Adds the worker with this number.
     pub fn add(&mut self, alloc: Global, number: u32, worker: A) -> Result<(), AllocError> {
         let mix = self.plan.mix(alloc, number);
         let told = Ok(0);
@@ -155,7 +155,7 @@ impl<A: Works + Drop> Pool<A> {
 }
 
 impl<A: Works + Send + Drop> Pool<A> {
-    /// As many steps of each worker, on threads of their own. No worker is left if it finds no memory.
+    /// As many steps of each worker, on threads of their own. Without memory no worker is left.
     pub fn work<R: Threads + Wait + Sync>(
         &mut self,
         rt: &R,

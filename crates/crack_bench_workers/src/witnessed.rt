@@ -35,7 +35,7 @@ impl<'a, R: Wait, J: Naming> Works for Witnessing<'a, R, J> {
     }
 }
 
-/// Opens a table, and does what the run says.
+/// Opens a table, and carries out the run.
 pub fn run<R: Host>(rt: &R, run: Run) -> anyhow::Result<()> {
     let splits = splits(rt.alloc(), run.plan.parts())?;
     let limits = Limits::of_history(GREATEST_LIMIT);
@@ -68,7 +68,7 @@ fn run_named<J: Naming + Send + Sync, R: Host>(
     }
 }
 
-/// The workers of a table, once they did what the run says.
+/// The workers of a table after the run.
 fn work<J: Naming + Send + Sync, R: Host + Sync>(
     rt: &R,
     table: &WitnessedTable<J>,
@@ -108,8 +108,7 @@ fn askers_of<J: Naming, R: Wait>(
     Ok(askers)
 }
 
-/// Gathers workers, and writes what they come to. What is measured by itself is the gathering before its partitions are
-/// dropped.
+/// Gathers workers, and writes their totals. The gathering is measured before its partitions are dropped.
 fn end<J: Naming, R: Host>(
     rt: &R,
     table: WitnessedTable<J>,

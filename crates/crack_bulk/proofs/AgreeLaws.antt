@@ -1,4 +1,4 @@
--- Two keys, and two tests of what ends a carry, that agree on all rows of pieces and events leave the same.
+-- Two key functions, and two tests of what ends a carry, that agree on all rows of pieces and events have the same result.
 use Rattle.std.proofs.Common.{◌≡◌, ℕ, Bool, true, ltb, List, [], ◌∷◌, refl, ap, ◌∙◌, inl, inr}
 use Rattle.std.specs.List.{All}
 use Rattle.std.proofs.lemmas.Bool.{cases_Bool}
@@ -9,12 +9,12 @@ use Rattle.crack_bulk.specs.Queues.{Event, comes, turns, stopped, is_below, any_
 use Rattle.crack_bulk.proofs.OneByOne.{reached, outcome, one_at_a_time, outcomes}
 
 module _ {X : Type 0} where
-  -- of each row of the pieces this holds
+  -- each row of the pieces has the property
   abbrev pub Each : (X → Type 0) → Pieces X → Type 0
   Each P (last rows) = All P rows
   Each P (below rows bound pieces) = All P rows × Each P pieces
 
-  -- of a row that comes in this holds
+  -- a row that comes in has the property
   abbrev pub OfComing : (X → Type 0) → Event X → Type 0
   OfComing P (comes x) = P x
   OfComing P (turns moved) = Unit {0}
@@ -113,7 +113,7 @@ module _ {X : Type 0} (key key' : X → ℕ) (stops stops' : X → Bool) where
       let rest = outcomes-agree es (reached key stops e pieces) (All-tail (OfComing Agrees) e es all) (Each-reached key stops Agrees e pieces first each) in
       rw (rest, reached-agree e pieces first each, outcome-agree e pieces first each) refl
 
--- of the row in hand where a carry has ended this holds
+-- the row in hand at the end of a carry has the property
 abbrev pub OfEnd : {X : Type 0} → (X → Type 0) → Event X → Type 0
 OfEnd P (comes x) = Unit {0}
 OfEnd P (turns moved) = Unit {0}
@@ -135,7 +135,7 @@ module _ {X : Type 0} (key : X → ℕ) (stops : X → Bool) where
   ]
   next-ends own (stopped moved y) rows one = one
 
-  -- a carry that has ended with a row in hand has ended with one that ends it
+  -- a carry that has ended with a row in hand has ended with a row that ends carries
   pub outcome-ends : (e : Event X) (pieces : Pieces X) → OfEnd Stops e → OfEnd Stops (outcome key stops e pieces)
   outcome-ends e (last rows) one = next-ends (any_row key stops) e rows one
   outcome-ends e (below rows bound pieces) one =

@@ -1,4 +1,4 @@
--- All carries of a range in bulk are one carry after the other: what each of them leads on, all of them do.
+-- All carries of a range in bulk are one carry after the other: a relation that each of them extends holds after all of them.
 use Rattle.std.proofs.Common.{◌≡◌, ◌⊎◌, ℕ, ◌+◌, ◌-◌, ◌<◌, ◌≤◌, Bool, true, false, not, List, [], ◌∷◌, ◌++◌, map, length, get_or, Option, Some, None, refl, sym, ap, ◌∙◌, inl, inr, arith}
 use Rattle.std.specs.List.{All, remove, filter}
 use Rattle.std.proofs.lemmas.Bool.{cases_lt, cases_Bool, false≢true}
@@ -31,7 +31,7 @@ All-left P xs ys all = λ k d h. rw (get_or_append_left xs ys d k h) at (all k d
 pub All-right : {X : Type 0} (P : X → Type 0) (xs ys : List X) → All P (xs ++ ys) → All P ys
 All-right P xs ys all = λ k d h. rw (get_or-append-add xs ys k d) at (all (length xs + k) d (omega (arith, h, length-append xs ys)))
 
--- two tests that agree on all of these keep the same
+-- two tests that agree on all of these select the same
 filter-agree : {X : Type 0} (p q : X → Bool) (xs : List X) → All (λ x. p x ≡ q x) xs → filter p xs ≡ filter q xs
 filter-agree p q [] all = refl
 filter-agree p q (x ∷ xs) all = rw (All-head (λ y. p y ≡ q y) x xs all, filter-agree p q xs (All-tail (λ y. p y ≡ q y) x xs all)) refl
@@ -93,7 +93,7 @@ IsUnder ceiling r = (key : ℕ) → IsIn r key → is_over ceiling key ≡ false
 over_outside : (ceiling : Option ℕ) (r : Range) (key : ℕ) → IsUnder ceiling r → is_over ceiling key ≡ true → ¬ IsIn r key
 over_outside ceiling r key under over = λ inside. false≢true (sym (under key inside) ∙ over)
 
--- what a carry evicts isn't of the range
+-- the row that a carry evicts isn't of the range
 evicted_outside : (ceiling : Option ℕ) (r : Range) (t : State) (e : Event Handle) → IsUnder ceiling r → OfEnd (λ y. ends_with ceiling t y ≡ true) e → All (IsOutside r (key_at t.cells)) (evicted_of t e)
 evicted_outside ceiling r t (comes x) high end = All-nil (IsOutside r (key_at t.cells))
 evicted_outside ceiling r t (turns moved) high end = All-nil (IsOutside r (key_at t.cells))
@@ -104,12 +104,13 @@ evicted_outside ceiling r t (stopped moved y) high end = elim (cases_Bool (is_do
       rw lasting (All-cons (IsOutside r (key_at t.cells)) y [] (over_outside ceiling r (key_at t.cells y) high over) (All-nil (IsOutside r (key_at t.cells))))
 ]
 
--- keys that are the same leave the same of a filter by them
+-- equal keys give equal filters
 pub keys_same : (r : Range) (cells cells' : List (Cell Row)) (hs : List Handle) → All (λ h. key_at cells' h ≡ key_at cells h) hs → (inside_of cells' r hs ≡ inside_of cells r hs) × (outside_of cells' r hs ≡ outside_of cells r hs)
 keys_same r cells cells' hs same =
     (filter-agree (λ h. is_in r (key_at cells' h)) (λ h. is_in r (key_at cells h)) hs (λ k d h. ap (is_in r) (same k d h)), filter-agree (λ h. not (is_in r (key_at cells' h))) (λ h. not (is_in r (key_at cells h))) hs (λ k d h. ap (λ n. not (is_in r n)) (same k d h)))
 
--- what one carry of a pending insertion leads on, from the place where the search went on: the search finds it, room is made, and it is carried
+-- a relation that the carry of one pending insertion extends, from the place where the search went on: the search finds it, room is made, and it is
+-- carried
 abbrev pub LeadsOn : Option ℕ → Range → (ℕ → State → Type 0) → Type 0
 LeadsOn ceiling r On = (from place : ℕ) (t u v : State) → On from t → IsIntact t [] → Finds r (keys_at t.cells t.pending_in) from (Some place) → SameButRoom t u → Leads ceiling (lifted place u) v → On place v
 
@@ -192,7 +193,7 @@ module _ (ceiling : Option ℕ) (r : Range) (high : IsUnder ceiling r) (On : ℕ
         rw not_in (rw (assoc (outside_of t.cells r todo ++ back)) at all)
   ]
 
--- if a filter keeps none, none passes
+-- if a filter keeps nothing, no element passes
 none_passes : {X : Type 0} (p : X → Bool) (xs : List X) → filter p xs ≡ [] → All (λ x. p x ≡ false) xs
 none_passes p [] empty = All-nil (λ x. p x ≡ false)
 none_passes p (x ∷ xs) empty = elim (cases_Bool (p x)) [
@@ -200,7 +201,7 @@ none_passes p (x ∷ xs) empty = elim (cases_Bool (p x)) [
   | inr fails ↦ All-cons (λ y. p y ≡ false) x xs fails (none_passes p xs (rw fails at empty))
 ]
 
--- what each carry leads on, all carries in bulk do, if there is one
+-- a relation that each carry extends holds after all carries in bulk, if there is one
 pub in_bulk-through : (ceiling : Option ℕ) (r : Range) (On : ℕ → State → Type 0) (s u : State) (first : ℕ) → IsUnder ceiling r → LeadsOn ceiling r On → On 0 s → IsIntact s [] → Finds r (keys_at s.cells s.pending_in) 0 (Some first) → SameButRoom (carried_in_bulk ceiling r s) u → IsThrough r On u
 in_bulk-through ceiling r On s u first high onward begins intact found room =
     let key = key_at s.cells in

@@ -1,4 +1,4 @@
--- All pulls of a range in bulk are one pull after the other: what each of them leads on, all of them do.
+-- All pulls of a range in bulk are one pull after the other: a relation that each of them extends holds after all of them.
 use Rattle.std.proofs.Common.{◌≡◌, ℕ, suc, ◌+◌, ◌<◌, ◌≤◌, Bool, true, false, ltb, min, List, [], ◌∷◌, ◌++◌, length, get_or, Some, None, refl, sym, ap, ◌∙◌, inl, inr, arith}
 use Rattle.std.specs.List.{All, remove}
 use Rattle.std.proofs.Math.Nat.{min-eq_left}
@@ -46,7 +46,7 @@ module _ (key : Handle → ℕ) where
   drawn-none low (last rows) = refl
   drawn-none low (below rows bound pieces) = omega (arith, drawn-none bound.0 pieces)
 
--- keys that agree on the doomed rows leave the same
+-- keys that agree on the doomed rows have the same result
 module _ (key key' : Handle → ℕ) where
   abbrev pub Same : Handle → Type 0
   Same h = key h ≡ key' h
@@ -96,8 +96,8 @@ pulled_from-none s intact =
     let room : s.column_room + 0 ≡ s.column_room = omega arith in
     rw (pulled-none key 0 (pieces_of s), drawn-none key 0 (pieces_of s), ← cuts.column, ← cuts.marks, none, room) refl
 
--- what one pull of a pending deletion leads on, from the place where the search went on: the search finds it, the column's last row is lifted,
--- and it is pulled
+-- a relation that the pull of one pending deletion extends, from the place where the search went on: the search finds it, the column's last row is
+-- lifted, and it is pulled
 abbrev pub DrawsOn : Range → (ℕ → State → Type 0) → Type 0
 DrawsOn r On = (from place : ℕ) (t v : State) → On from t → IsIntact t [] → Finds r (keys_at t.cells t.pending_out) from (Some place) → Draws (get_or t.pending_out place no_handle) (lifted_last t) v → On place v
 
@@ -169,7 +169,7 @@ module _ (r : Range) (On : ℕ → State → Type 0) (onward : DrawsOn r On) whe
         rw not_in (rw (assoc (outside_of t.cells r todo)) at all)
   ]
 
-  -- what each pull leads on, all pulls in bulk do
+  -- a relation that each pull extends holds after all pulls in bulk
   pub pulled_in_bulk-through : (s : State) → On 0 s → IsIntact s [] → ArePulled r On (outside_of s.cells r s.pending_out) (pulled_in_bulk r s)
   pulled_in_bulk-through s begins intact =
       pulls_on s.pending_out s 0 [] intact refl (omega arith) (λ k d f l. absurd (omega (arith, f, l))) begins

@@ -1,4 +1,4 @@
--- Beyond a ceiling each row ends a carry: so many as carries come so far are gone, the first of them, and bounds at their places are where the next one is.
+-- Beyond a ceiling each row ends a carry: the first rows, as many as carries reach them, are evicted, and bounds at their places move to the next row.
 use Rattle.std.proofs.Common.{◌≡◌, ℕ, ◌+◌, ◌-◌, ◌<◌, ◌≤◌, Bool, true, max, suc, zero, List, [], ◌∷◌, ◌++◌, map, drop, length, refl, sym, ap, ◌∙◌, inl, inr, arith}
 use Rattle.std.specs.List.{All}
 use Rattle.std.proofs.lemmas.Bool.{cases_lt}
@@ -14,7 +14,7 @@ use Rattle.crack_bulk.proofs.TurnLaws.{arriving}
 abbrev pub at_least : ℕ → Mark → Mark
 at_least place m = record m { position = max m.position place }
 
--- no row comes in: all have come in below
+-- no row comes in: all stay below
 abbrev pub NoneComes : {X : Type 0} → Event X → Type 0
 NoneComes (comes x) = ⊥
 NoneComes (turns moved) = Unit {0}
@@ -42,7 +42,7 @@ module _ {X : Type 0} (key : X → ℕ) (stops : X → Bool) where
   abbrev Ends : X → Type 0
   Ends x = stops x ≡ true
 
-  -- what carries leave of a piece beyond the ceiling, and how many go on
+  -- a piece beyond the ceiling after carries, and how many carries go on
   record Taken (own : X → Bool) (es : List (Event X)) (rows : List X) : Type 0 where
     left_is : left key stops own es rows ≡ drop (arriving es) rows
     on_are : arriving (passed key stops own es rows) ≡ arriving es - length rows

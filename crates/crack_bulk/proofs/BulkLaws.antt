@@ -1,4 +1,4 @@
--- Event after event and piece by piece leave the same: what becomes of a piece depends only on which events reach it, and in which order.
+-- Event by event and piece by piece have the same result: a piece depends only on which events reach it, and in which order.
 use Rattle.std.proofs.Common.{◌≡◌, ℕ, Bool, List, [], ◌∷◌, refl, ap, ◌∙◌}
 use Rattle.crack_row.specs.declared.InnerBound.{InnerBound}
 use Rattle.crack_bulk.specs.Pieces.{Pieces, last, below}
@@ -6,7 +6,7 @@ use Rattle.crack_bulk.specs.Queues.{Event, stopped, is_below, any_row, after, ne
 use Rattle.crack_bulk.proofs.OneByOne.{reached, outcome, one_at_a_time, outcomes}
 
 module _ {X : Type 0} (key : X → ℕ) (stops : X → Bool) where
-  -- what has ended below leaves the pieces above as they are
+  -- events that have ended below leave the pieces above as they are
   pub reached-stopped : (n : ℕ) (y : X) (pieces : Pieces X) → reached key stops (stopped n y) pieces ≡ pieces
   reached-stopped n y (last rows) = refl
   reached-stopped n y (below rows bound pieces) = ap (below rows bound) (reached-stopped n y pieces)

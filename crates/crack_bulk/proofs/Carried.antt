@@ -1,4 +1,4 @@
--- A carry step by step, and what all carries of a range leave where none of them ends with a row in hand.
+-- A carry step by step, and the result of all carries of a range if none of them ends with a row in hand.
 use Rattle.std.specs.Prelude.{◌≡◌, ℕ, ◌<◌, map, length, Option}
 use Rattle.crack_row.specs.Ranges.{Range}
 use Rattle.crack_arena.specs.Rows.{key_at}
@@ -20,8 +20,8 @@ pub data Leads (ceiling : Option ℕ) : Carried → State → Type 0 where
   -- else, it takes the place of the row where its piece ends, and the carry goes on with that row in hand
   goes_on : (c : Carried) (t : State) → ¬ IsDoomed c → IsBelow ceiling (hand_key c) → piece_end c.store (hand_key c) < length c.store.column → Leads ceiling (pushed_on c) t → Leads ceiling c t
 
--- what they leave where no carry ends with a row in hand, but where its own piece ends at the column's end: the rows are sifted through the pieces, and
--- each bound moves up by as many as rows below it came in
+-- their result if each carry ends where its own piece ends at the column's end: the rows are sifted through the pieces, and each bound moves up by the
+-- number of rows below it that come in
 abbrev pub carried_by_sifting : Range → State → State
 carried_by_sifting r s =
     let key = key_at s.cells in

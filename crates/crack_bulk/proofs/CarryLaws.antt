@@ -1,4 +1,4 @@
--- What a carry leaves of a store whose column is in pieces.
+-- A store whose column is in pieces, after a carry.
 use Rattle.std.proofs.Common.{◌≡◌, ℕ, ◌+◌, ◌-◌, ◌<◌, ◌≤◌, Bool, true, false, cond, min, suc, List, [], ◌∷◌, ◌++◌, map, length, Option, Some, None, refl, sym, ap, ◌∙◌, inl, inr, arith}
 use Rattle.std.specs.List.{All}
 use Rattle.std.proofs.Math.Nat.{min-eq_left, min-eq_right}
@@ -21,7 +21,7 @@ use Rattle.crack_bulk.proofs.Carried.{Leads, buries, evicts, ends, goes_on}
 use Rattle.crack_bulk.proofs.BulkLaws.{reached-stopped, outcome-stopped}
 use Rattle.crack_bulk.proofs.PieceLaws.{mark_at, next_mark-skips, raised-here, raised-lower, raised-behind_first}
 
--- what is left where a carry has ended so, with this column and these marks
+-- the store after a carry has ended in this way, with this column and these marks
 abbrev pub landed : State → List Handle → List Mark → Event Handle → State
 landed s column marks (comes x) = record s { column = column; marks = marks }
 landed s column marks (turns moved) =
@@ -155,7 +155,7 @@ module _ (s : State) (ceiling : Option ℕ) where
             rw (lasts, size) (pushes_here prefix place ms rest b h y zs n (landed s (prefix ++ h ∷ ((ys ++ y ∷ []) ++ column_of (reached key stops (turns (suc n)) pieces))) (on ++ mark_at c ((place + suc (length ys)) + 1) ∷ marks_of ((place + suc (length ys)) + 1) (reached key stops (turns (suc n)) pieces)) (outcome key stops (turns (suc n)) pieces)) at (next rest) goes stay on_it)
       ]
 
-  -- a row of which no piece before a place is the own one comes in
+  -- a row comes in whose own piece isn't before a place
   comes-leads : (pieces : Pieces Handle) (prefix : List Handle) (place : ℕ) (ms : List Mark) (h : Handle) (low : ℕ) → length prefix ≡ place → All (λ m. m.bound.0 ≤ key h) ms → AreDivided key low pieces → stops h ≡ false → Leads ceiling (carried_with s (prefix ++ column_of pieces) (ms ++ marks_of place pieces) 0 h) (landed s (prefix ++ column_of (reached key stops (comes h) pieces)) (ms ++ marks_of place (reached key stops (comes h) pieces)) (outcome key stops (comes h) pieces))
   comes-leads (last rows) prefix place ms h low at before divided goes =
       let none : next_mark (key h) (ms ++ []) ≡ None = next_mark-skips (key h) ms [] before in
@@ -184,7 +184,7 @@ module _ (s : State) (ceiling : Option ℕ) where
             rw (le-ltb (key h) c.0 beyond) (rw (append_assoc prefix rows (column_of pieces), append_assoc prefix rows (column_of Q), append_assoc ms one (marks_of place' pieces), append_assoc ms one (marks_of place' Q)) at above)
       ]
 
--- a row that is carried into the pieces of a column leaves the pieces that it reaches, and ends as its event has
+-- a row that is carried into the pieces of a column has the effect of its event on the pieces that it reaches, and ends in the same way
 pub Leads-reached : (ceiling : Option ℕ) (c : Carried) (pieces : Pieces Handle) (low : ℕ) → c.store.column ≡ column_of pieces → c.store.marks ≡ marks_of 0 pieces → c.store.tally.moved ≤ greatest → AreDivided (key_at c.store.cells) low pieces → ends_with ceiling c.store c.hand ≡ false → Leads ceiling c (landed c.store (column_of (reached (key_at c.store.cells) (ends_with ceiling c.store) (comes c.hand) pieces)) (marks_of 0 (reached (key_at c.store.cells) (ends_with ceiling c.store) (comes c.hand) pieces)) (outcome (key_at c.store.cells) (ends_with ceiling c.store) (comes c.hand) pieces))
 Leads-reached ceiling c pieces low column marks counted divided goes =
     let s = c.store in

@@ -1,4 +1,4 @@
--- Under a ceiling whose bound stands: the pieces below it are as where there is none, the rows beyond it make way in their order, and are evicted.
+-- Under a ceiling whose bound is in the index: the pieces below it are as without a ceiling, and the rows beyond it are evicted in their order.
 use Rattle.std.proofs.Common.{◌≡◌, ℕ, zero, suc, ◌+◌, ◌-◌, ◌<◌, ◌≤◌, Bool, true, false, min, max, List, [], ◌∷◌, ◌++◌, map, length, take, drop, get_or, Some, refl, sym, ap, ◌∙◌, inl, inr, arith}
 use Rattle.std.specs.List.{All, sum_by}
 use Rattle.std.proofs.Math.Nat.{min-eq_left}
@@ -152,7 +152,7 @@ module _ {X : Type 0} (key : X → ℕ) (stops : X → Bool) where
       let on : List (Event X) = passed key stops own es (after key stops own e rows) in
       All-cons (OfComing P) (next key stops own e rows) on (OfComing-next key stops P own e rows (All-head (OfComing P) e es all)) (All-passed P own es (after key stops own e rows) (All-tail (OfComing P) e es all))
 
-  -- where all that come in are of pieces below a bound, what goes on from these reaches the others
+  -- if all rows that come in are of pieces below a bound, the rows that go on from these pieces reach the others
   in_bulk-joined : (es : List (Event X)) (pieces : Pieces X) (bound : InnerBound) (others : Pieces X) → All (IsUnder bound) es → (in_bulk key stops es (joined pieces bound others) ≡ joined (in_bulk key stops es pieces) bound (in_bulk key stops (bulk_outcomes key stops es pieces) others)) × (bulk_outcomes key stops es (joined pieces bound others) ≡ bulk_outcomes key stops (bulk_outcomes key stops es pieces) others)
   in_bulk-joined es (last rows) bound others all =
       let same = last-below bound es rows all in
@@ -184,7 +184,7 @@ module _ {X : Type 0} (key : X → ℕ) (stops : X → Bool) where
   abbrev Ends : X → Type 0
   Ends x = stops x ≡ true
 
-  -- how a carry ends that comes to these rows, with each of which one ends: with the first in hand, if there is one
+  -- how a carry ends that reaches these rows, each of which ends one: with the first in hand, if there is one
   abbrev fallen : Event X → List X → Event X
   fallen (comes x) hs = comes x
   fallen (turns moved) [] = turns moved
@@ -210,7 +210,7 @@ module _ {X : Type 0} (key : X → ℕ) (stops : X → Bool) where
         others = rw ends (ap (λ q. ys ++ column_of q) (reached-stopped key stops (suc moved) y pieces));
       }
 
--- how carries end that come to these rows one after the other
+-- how carries end that reach these rows one after the other
 abbrev pub all_fallen : {X : Type 0} → List (Event X) → List X → List (Event X)
 all_fallen [] hs = []
 all_fallen (comes x ∷ es) hs = comes x ∷ all_fallen es hs
@@ -232,11 +232,11 @@ module _ {X : Type 0} (key : X → ℕ) (stops : X → Bool) where
       by_first (y ∷ ys) = refl
   outcomes-fallen (stopped moved y ∷ es) pieces all each = absurd (All-head IsTurn (stopped moved y) es all)
 
--- so many rows more were evicted
+-- this many more rows were evicted
 abbrev pub evicted_by : ℕ → MergeReport → MergeReport
 evicted_by count tally = record tally { evicted = min (tally.evicted + count) greatest }
 
--- these rows were evicted, one after the other, and so many made way
+-- these rows were evicted, one after the other, and this many were moved
 abbrev pub evicted_all : List Handle → ℕ → State → State
 evicted_all hs made s = record s {
   pending_in = s.pending_in ++ hs;
@@ -248,7 +248,7 @@ evicted-nil made s counted =
     let none : min (s.tally.evicted + 0) greatest ≡ s.tally.evicted = min-eq_left (omega (arith, counted)) ∙ omega arith in
     rw (append-nil s.pending_in, none) refl
 
--- one after the other they are evicted, as many as carries come
+-- they are evicted one after the other, one for each carry
 ended_by-fallen : (es : List (Event Handle)) (hs : List Handle) (s : State) → All IsTurn es → All (λ h. is_doomed s h ≡ false) (take (length es) hs) → s.tally.moved ≤ greatest → s.tally.evicted ≤ greatest → ended_by (all_fallen es hs) s ≡ evicted_all (take (length es) hs) (sum_by moved_of es + length (take (length es) hs)) s
 ended_by-fallen [] hs s all lasting moved evicted =
     let none : min (s.tally.moved + 0) greatest ≡ s.tally.moved = min-eq_left (omega (arith, moved)) ∙ omega arith in
@@ -322,8 +322,8 @@ parted s low m high intact is =
       to = All-tail (λ n. n.position ≤ length s.column) m high inside;
     }
 
--- what all carries of a range leave under a ceiling, whose mark stands between those below it and those above it, where none of the rows that are
--- met is doomed: the rows are sifted through the pieces below the ceiling, and as many rows beyond it make way for them as there are
+-- the result of all carries of a range under a ceiling, whose mark is between those below it and those above it, if none of the rows that they meet
+-- is doomed: the rows are sifted through the pieces below the ceiling, and as many rows beyond it are evicted
 abbrev pub carried_under : Range → State → List Mark → Mark → List Mark → State
 carried_under r s low m high =
     let key = key_at s.cells in
@@ -378,7 +378,7 @@ module _ (r : Range) (s : State) (low : List Mark) (m : Mark) (high : List Mark)
   ends : Each (λ h. stops h ≡ true) upper
   ends = each-weaker key (λ h. m.bound.0 ≤ key h) (λ h. stops h ≡ true) (λ h up. over-ends s m.bound.0 h up) upper (each-above key m.bound.0 m.bound.0 upper (omega arith) parts.upper)
 
-  -- what is left of the pieces below the ceiling
+  -- the pieces below the ceiling
   record AreLower : Type 0 where
     pieces_are : in_bulk key stops (arrivals r s) lower ≡ sifted key 0 rows lower
     total : sum_by moved_of outs ≡ all_made_way key 0 rows lower
@@ -413,7 +413,7 @@ module _ (r : Range) (s : State) (low : List Mark) (m : Mark) (high : List Mark)
         marks = (rw first at (marks_of-sifted key stops 0 0 rows lower parts.lower)) ∙ ap (map (risen key rows)) low_is;
       }
 
-  -- and of all
+  -- and all pieces
   record AreAll : Type 0 where
     column : column_of (in_bulk key stops (arrivals r s) (pieces_of s)) ≡ column_of (sifted key 0 rows lower) ++ drop (length rows) beyond
     marks : marks_of 0 (in_bulk key stops (arrivals r s) (pieces_of s)) ≡ map (risen key rows) low ++ map (at_least (m.position + length rows)) (m ∷ high)

@@ -80,7 +80,7 @@ module _ (count : ℕ) (s : State) (intact : IsIntact s []) (clear : (k : ℕ) �
         absurd (gone (place - from) (record { within = omega (arith, long, behind, near, before); is = sym there }))
   ]
 
-  -- what is known of the marks that are left: by a key at or above a bound they find what all marks do
+  -- what is known of the remaining marks: for a key at or above a bound, a look-up in them finds the same as in all marks
   record AreLeft (low place : ℕ) (ms : List Mark) : Type 0 where
     starts : (k : ℕ) → low ≤ k → start_of (last_mark k s.marks) ≡ start_or place (last_mark k ms)
     ends : (k : ℕ) → low ≤ k → end_of (length s.column) (next_mark k s.marks) ≡ end_of (length s.column) (next_mark k ms)

@@ -1,4 +1,4 @@
--- How many rows make way, counted event by event and pass by pass.
+-- How many rows move, counted event by event and pass by pass.
 use Rattle.std.proofs.Common.{◌≡◌, ℕ, ◌+◌, ◌<◌, ◌≤◌, Bool, true, false, cond, suc, List, [], ◌∷◌, ◌++◌, length, refl, sym, ap, ◌∙◌, inl, inr, arith}
 use Rattle.std.specs.List.{All, sum_by}
 use Rattle.std.proofs.lemmas.Bool.{cases_lt, cases_Bool, lt-ltb, le-ltb}
@@ -82,7 +82,7 @@ module _ {X : Type 0} (key : X → ℕ) (stops : X → Bool) where
     | inl under ↦ counting low x xs rows lower under own fronts (λ ys l o f. counted_over-placed low xs ys l (All-tail Goes x xs coming) o f)
   ]
 
-  -- what the carries have counted when they leave a piece
+  -- the count of the carries when they leave a piece
   pub total-passed : (low : ℕ) (own : X → Bool) → ((x : X) → key x < low → own x ≡ true) → (xs : List X) (es : List (Event X)) (rows : List X) → AreOn key stops low xs es → sum_by moved_of (passed key stops own es rows) ≡ sum_by moved_of es + made_way_to key stops low (reaching key stops own xs es) rows
   total-passed low own lower [] [] rows are = omega arith
   total-passed low own lower [] (e ∷ es) rows are = absurd are

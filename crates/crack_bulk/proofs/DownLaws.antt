@@ -1,4 +1,4 @@
--- Passes from the highest piece down leave what all carries do, where each row with which a carry ends has given its place to the row that came in.
+-- Passes from the highest piece down have the result of all carries, if each row with which a carry ends was replaced by the row that came in.
 use Rattle.std.proofs.Common.{◌≡◌, ℕ, ◌<◌, ◌≤◌, Bool, true, false, List, [], ◌∷◌, ◌++◌, map, refl, sym, ap, ◌∙◌, inl, inr, arith}
 use Rattle.std.specs.List.{All}
 use Rattle.std.proofs.lemmas.Bool.{cases_Bool, lt-ltb, le-ltb, ltb-true, ltb-false}
@@ -14,7 +14,7 @@ module _ {X : Type 0} (key : X → ℕ) (stops : X → Bool) where
   abbrev Goes : X → Type 0
   Goes x = stops x ≡ false
 
-  -- the event is that of a row which came in, where it reaches a piece that begins at this bound
+  -- the event of a row that came in, when it reaches a piece that begins at this bound
   abbrev IsOn : ℕ → X → Event X → Type 0
   IsOn low x (comes y) = (y ≡ x) × (low ≤ key x)
   IsOn low x (turns moved) = key x < low
@@ -26,7 +26,7 @@ module _ {X : Type 0} (key : X → ℕ) (stops : X → Bool) where
   AreOn low (x ∷ xs) [] = ⊥
   AreOn low (x ∷ xs) (e ∷ es) = IsOn low x e × AreOn low xs es
 
-  -- and where it has left a piece, whose own rows and those of lower ones pass this test
+  -- and when it has left a piece, whose own rows and those of lower ones pass this test
   abbrev IsOut : (X → Bool) → X → Event X → Type 0
   IsOut own x (comes y) = (y ≡ x) × (own x ≡ false)
   IsOut own x (turns moved) = own x ≡ true
@@ -60,7 +60,7 @@ module _ {X : Type 0} (key : X → ℕ) (stops : X → Bool) where
   turners-going low own (x ∷ xs) (turns moved ∷ es) are = rw (lt-ltb (key x) low are.0) (ap (λ zs. x ∷ zs) (turners-going low own xs es are.1))
   turners-going low own (x ∷ xs) (stopped moved y ∷ es) are = turners-going low own xs es are.1
 
-  -- no row that reaches a piece ends a carry, where none that comes in does
+  -- no row that reaches a piece ends a carry if none that comes in does
   All-reaching : (own : X → Bool) (xs : List X) (es : List (Event X)) → All Goes xs → All Goes (reaching key stops own xs es)
   All-reaching own [] es all = All-nil Goes
   All-reaching own (x ∷ xs) [] all = All-nil Goes
@@ -73,7 +73,7 @@ module _ {X : Type 0} (key : X → ℕ) (stops : X → Bool) where
   All-reaching own (x ∷ xs) (turns moved ∷ es) all = All-cons Goes x (reaching key stops own xs es) (All-head Goes x xs all) (All-reaching own xs es (All-tail Goes x xs all))
   All-reaching own (x ∷ xs) (stopped moved y ∷ es) all = All-reaching own xs es (All-tail Goes x xs all)
 
-  -- what the events leave of a piece, and which carries go on
+  -- a piece after the events, and which carries go on
   record Met (low : ℕ) (own : X → Bool) (xs : List X) (es : List (Event X)) (rows : List X) : Type 0 where
     left_is : left key stops own es rows ≡ met_by key stops low (reaching key stops own xs es) rows
     on_are : going key stops xs (passed key stops own es rows) ≡ survivors key stops low (reaching key stops own xs es) rows
@@ -157,6 +157,6 @@ module _ {X : Type 0} (key : X → ℕ) (stops : X → Bool) where
   going-coming [] = refl
   going-coming (x ∷ xs) = going-coming xs
 
-  -- the rows that come in, those whose carries end with a row in hand at its place, the others after the last piece: the passes leave what the carries do
+  -- the rows that come in, each at the place of the row with which its carry ends, or after the last piece: the passes have the result of the carries
   pub down-in_bulk : (xs : List X) (pieces : Pieces X) → AreDivided key 0 pieces → All Goes xs → sifted_down key stops 0 (placed_all key stops 0 xs (map comes xs) pieces) (going key stops xs (bulk_outcomes key stops (map comes xs) pieces)) ≡ ([], in_bulk key stops (map comes xs) pieces)
   down-in_bulk xs pieces divided coming = rw (← (going-coming xs)) (sifted_down-placed 0 xs (map comes xs) pieces divided (AreOn-coming xs) coming)

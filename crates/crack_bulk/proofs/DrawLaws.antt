@@ -1,4 +1,4 @@
--- What the pull of a doomed row leaves of a column and its marks, step by step from the highest mark down.
+-- A column and its marks after the pull of a doomed row, step by step from the highest mark down.
 use Rattle.std.proofs.Common.{◌≡◌, ◌≢◌, ℕ, zero, suc, ◌+◌, ◌-◌, ◌<◌, ◌≤◌, min, List, [], ◌∷◌, ◌++◌, map, length, take, drop, get_or, set, Some, None, refl, sym, ap, subst, ◌∙◌, inl, inr, arith}
 use Rattle.std.specs.List.{All}
 use Rattle.std.proofs.Math.Nat.{min-eq_left, min-eq_right}
@@ -28,7 +28,7 @@ more-min n k = elim (cases_lt (n + k) greatest) [
       min-eq_right (omega (arith, full)) ∙ sym (min-eq_right (omega (arith, l)))
 ]
 
--- the row is at a place, and no other of its cell is anywhere
+-- the row is at a place, and no other handle of its cell is in the column
 pub record IsOnlyAt (d : Handle) (hs : List Handle) (i : ℕ) : Type 0 where
   pub within : i < length hs
   pub is : get_or hs i no_handle ≡ d
@@ -38,7 +38,7 @@ pub place-only : (d : Handle) (hs : List Handle) (i : ℕ) → IsOnlyAt d hs i �
 place-only d hs i at =
     position_or_len_is (λ h. same_handle h d) hs i no_handle (omega (arith, at.within)) (λ k less. rw (ne_eqb (get_or hs k no_handle).slot d.slot (λ same. let e : k ≡ i = at.only k (omega (arith, less, at.within)) same in absurd (omega (arith, e, less)))) refl) (λ within. rw (at.is, eq-eqb d.slot d.slot refl, eq-eqb d.generation d.generation refl) refl)
 
--- what is left where the last takes the place of a row
+-- the list once the last takes the place of a row
 without-last : (d : Handle) (rows : List Handle) (z : Handle) (i : ℕ) → IsOnlyAt d (rows ++ z ∷ []) i → without d (rows ++ z ∷ []) ≡ take (length rows) (set (rows ++ z ∷ []) i z)
 without-last d rows z i at =
     let short : length (rows ++ z ∷ []) - 1 ≡ length rows = omega (arith, length_push rows z) in
@@ -80,7 +80,7 @@ IsOnlyAt-take d all i p before few at =
       only = λ k within same. at.only k (omega (arith, within, long, few)) (rw (get_or-take p all k no_handle (omega (arith, within, long))) at same);
     }
 
--- what is left of a part from a place on
+-- the part of the list from a place on
 without-part : (d : Handle) (rows : List Handle) (z : Handle) (i p : ℕ) → p ≤ length rows → p ≤ i → IsOnlyAt d (rows ++ z ∷ []) i → (without d (rows ++ z ∷ []) ≡ take p (rows ++ z ∷ []) ++ without d (drop p (rows ++ z ∷ []))) × (one_unless_last d (rows ++ z ∷ []) ≡ one_unless_last d (drop p (rows ++ z ∷ [])))
 without-part d rows z i p few from at =
     let front : take p (rows ++ z ∷ []) ≡ take p rows = take-append-le p rows (z ∷ []) few in
@@ -211,7 +211,7 @@ module _ (s : State) (d : Handle) where
         subst (λ (x : Carried). Draws d c (buried x)) same (reaches c is)
   ]
 
-  -- a step of it has come so far, and leads there
+  -- the pull so far, and its next step
   abbrev pub Leads : List Handle → List Mark → ℕ → Handle → List Handle → List Mark → ℕ → Type 0
   Leads column marks n z column' marks' n' = Draws d (drawn_with s column marks n z) (buried (drawn_with s column' marks' n' d))
 
@@ -227,7 +227,7 @@ module _ (s : State) (d : Handle) where
   abbrev lower : Mark → Mark
   lower m = record m { position = m.position - 1 }
 
-  -- what the pull leaves, wherever it comes to the highest of these marks
+  -- the result of the pull, wherever it meets the highest of these marks
   abbrev pub Down : List Mark → Type 0
   Down ms = (rows suf : List Handle) (upper : List Mark) (z : Handle) (n i : ℕ) → AreBetween key ms upper (rows ++ z ∷ []) → IsOnlyAt d (rows ++ z ∷ []) i → Leads (rows ++ suf) (map (lowered_at (length rows + 1)) (upward ms) ++ upper) n z (pulled_down key d ms (rows ++ z ∷ []) ++ suf) (map (fallen (key d)) (upward ms) ++ upper) (n + drawn_down key d ms (rows ++ z ∷ []))
 
@@ -309,7 +309,7 @@ module _ (s : State) (d : Handle) where
         let count : n + one_unless_last d all ≡ n + drawn_down key d (m ∷ ms) all = ap (λ k. n + k) (rw (le-ltb (key d) m.bound.0 low) part.1) in
         leads-same c (without d all ++ suf) (pulled_down key d (m ∷ ms) all ++ suf) M (map (fallen (key d)) (upward (m ∷ ms)) ++ upper) (n + one_unless_last d all) (n + drawn_down key d (m ∷ ms) all) column marks count done
 
-    -- it is of a lower one: the hand goes before the piece, and the row that was there comes into hand
+    -- it is of a lower one: the hand is put before the piece, and the row that was there is in hand
     draws-on : Down ms → i < m.position → Done M
     draws-on lower_down before =
         let c = drawn_with s (rows ++ suf) M n z in

@@ -1,4 +1,4 @@
--- A pull step by step, and what it leaves of a column and its marks from the highest mark down.
+-- A pull step by step, and a column and its marks after it, from the highest mark down.
 use Rattle.std.specs.Prelude.{◌≡◌, ◌≢◌, ℕ, ◌+◌, ◌-◌, ◌<◌, ◌≤◌, cond, nat_lt, List, [], ◌∷◌, ◌++◌, take, drop}
 use Rattle.crack_arena.specs.Arena.{Handle, StandsAt}
 use Rattle.crack_index.specs.declared.mark.Mark.{Mark}
@@ -39,13 +39,13 @@ upward [] = []
 upward (m ∷ ms) = upward ms ++ m ∷ []
 
 module _ (key : Handle → ℕ) (d : Handle) where
-  -- of the marks the highest comes first: what the pull of a doomed row leaves of these rows
+  -- with the highest mark first: these rows after the pull of a doomed row
   abbrev pub pulled_down : List Mark → List Handle → List Handle
   pulled_down [] rows = without d rows
   pulled_down (m ∷ ms) rows =
       cond (nat_lt (key d) m.bound.0) (pulled_down ms (take m.position rows) ++ turned_back (drop m.position rows)) (take m.position rows ++ without d (drop m.position rows))
 
-  -- and how many of them it pulls
+  -- and how many of them it moves
   abbrev pub drawn_down : List Mark → List Handle → ℕ
   drawn_down [] rows = one_unless_last d rows
   drawn_down (m ∷ ms) rows =

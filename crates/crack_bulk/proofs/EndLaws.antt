@@ -1,4 +1,4 @@
--- Carries that end with doomed rows, one after the other, leave what is left where those are buried once all carries have ended.
+-- Carries that end with doomed rows, one after the other, have the same result as burying these rows once all carries have ended.
 use Rattle.std.proofs.Common.{◌≡◌, ◌≢◌, ℕ, ◌+◌, ◌<◌, ◌≤◌, true, min, List, [], ◌∷◌, length, get_or, set, None, refl, sym, ap, ◌∙◌, arith}
 use Rattle.std.specs.List.{All, remove, sum_by}
 use Rattle.std.proofs.Math.Nat.{min-eq_left}
@@ -29,7 +29,7 @@ hands_of (comes x ∷ es) = hands_of es
 hands_of (turns moved ∷ es) = hands_of es
 hands_of (stopped moved y ∷ es) = y ∷ hands_of es
 
--- no event is that of a row which has yet to come to its own piece
+-- no event is that of a row that hasn't reached its own piece yet
 abbrev pub HasCome : {X : Type 0} → Event X → Type 0
 HasCome (comes x) = ⊥
 HasCome (turns moved) = Unit {0}

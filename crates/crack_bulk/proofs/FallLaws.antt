@@ -41,7 +41,7 @@ AreBuried [] cells out = Unit {0}
 AreBuried (h ∷ hs) cells out =
     Reads cells h × (freed_of cells < 18446744073709551615) × (0 < times h.slot (slots out)) × AreBuried hs (set cells h.slot (record { generation = h.generation + 1; value = None })) (remove out (place_in out h.slot))
 
--- what the pulls of these rows change of bounds and of the column's length
+-- the bounds and the column's length after the pulls of these rows
 pub record AreCounted (hs : List Handle) (s t : State) : Type 0 where
   pub marks : t.marks ≡ map (fallen_by (key_at s.cells) hs) s.marks
   pub few : All (λ m. count_under (key_at s.cells) m.bound.0 hs ≤ m.position) s.marks

@@ -1,4 +1,4 @@
--- What the pull of a pending deletion by a filler leaves of an intact store.
+-- An intact store after the pull of a pending deletion by a filler.
 use Rattle.std.proofs.Common.{◌≡◌, ℕ, suc, ◌+◌, ◌-◌, ◌<◌, ◌≤◌, min, List, [], ◌∷◌, ◌++◌, map, length, take, drop, reverse, get_or, refl, sym, ap, subst, ◌∙◌, inl, inr, arith}
 use Rattle.std.specs.List.{All, remove}
 use Rattle.std.proofs.Math.Nat.{min-eq_left}
@@ -25,7 +25,7 @@ use Rattle.crack_bulk.proofs.PullLaws.{IsOnlyAt-doomed, upward-reverse}
 use Rattle.crack_bulk.proofs.PulledLaws.{pulled_down-is, marks_of-pulled}
 use Rattle.crack_bulk.proofs.StepsDown.{AreFrom}
 
--- of an intact store's marks one is where fillers come in
+-- the mark of an intact store before which fillers come in
 module _ (s : State) (low : List Mark) (edge : Mark) (high : List Mark) (marks_are : s.marks ≡ low ++ edge ∷ high) (intact : IsIntact s []) where
   abbrev key : Handle → ℕ
   key = key_at s.cells
@@ -219,7 +219,7 @@ module _ (s : State) (low : List Mark) (edge : Mark) (high : List Mark) (marks_a
               let read : get_or (column_of P0) i no_handle ≡ d = ap (λ hs. get_or hs i no_handle) cut ∙ get_or-take edge.position s.column i no_handle inside ∙ at.is in
               marks_of-pulled key d 0 0 i P0 (omega arith) shorter (ap key read) divided-under ∙ ap (map (fallen (key d))) marks-under
 
-          -- the filler is lifted, and the pull of the pending deletion leaves this
+          -- the filler is lifted, and this is the store after the pull of the pending deletion
           pub Draws-filled : Draws d (lifted next s) (filled_from low edge high (d ∷ []) (f ∷ []) (remove s.pending_in next) s)
           Draws-filled =
               let b : State = (lifted next s).store in

@@ -1,4 +1,4 @@
--- Pulls by fillers in bulk are one pull after the other: what each of them leads on, all of them do.
+-- Pulls by fillers in bulk are one pull after the other: a relation that each of them extends holds after all of them.
 use Rattle.std.proofs.Common.{◌≡◌, ℕ, zero, suc, ◌+◌, ◌-◌, ◌<◌, ◌≤◌, true, false, min, List, [], ◌∷◌, ◌++◌, map, length, take, drop, reverse, get_or, Some, None, refl, sym, ap, subst, ◌∙◌, inl, inr, arith}
 use Rattle.std.specs.List.{All, remove}
 use Rattle.std.proofs.Math.Nat.{min-eq_left}
@@ -161,8 +161,8 @@ filled-none s low edge high marks_are intact =
     let same : edge.position - 0 ≡ edge.position = omega arith in
     rw (pulled-none key 0 P, drawn-none key 0 P) (rw (column_of-cut 0 low (take edge.position s.column), marks-under s low edge high marks_are intact, none, came, same) (rw (take-append-drop edge.position s.column, ← marks_are) refl))
 
--- what one pull of a pending deletion by a filler leads on, from the places where the searches went on: they find the two, the filler is lifted,
--- and the doomed row is pulled
+-- a relation that the pull of one pending deletion by a filler extends, from the places where the searches went on: they find the two, the filler is
+-- lifted, and the doomed row is pulled
 abbrev pub FillsOn : Range → Range → (ℕ → ℕ → State → Type 0) → Type 0
 FillsOn r fillers On = (from place seen next : ℕ) (t v : State) → On from seen t → IsIntact t [] → Finds r (keys_at t.cells t.pending_out) from (Some place) → Finds fillers (keys_at t.cells t.pending_in) seen (Some next) → Draws (get_or t.pending_out place no_handle) (lifted next t) v → On place next v
 
@@ -175,7 +175,7 @@ module _ (r fillers : Range) where
   abbrev pub doomed_first : ℕ → State → List Handle
   doomed_first n s = take n (inside_of s.cells r s.pending_out)
 
-  -- what they leave
+  -- the store after them
   pub record AreFilled (On : ℕ → ℕ → State → Type 0) (n : ℕ) (low : List Mark) (edge : Mark) (ds : List Handle) (s t : State) : Type 0 where
     pub from : ℕ
     pub seen : ℕ

@@ -1,4 +1,4 @@
--- What pulls leave of the pieces below the highest mark, if all doomed rows are below it, and of the piece above it.
+-- The pieces below the highest mark after pulls, if all doomed rows are below it, and the piece above it.
 use Rattle.std.proofs.Common.{◌≡◌, ℕ, zero, ◌+◌, ◌-◌, ◌<◌, ◌≤◌, List, [], ◌∷◌, ◌++◌, length, take, drop, refl, sym, ap, ◌∙◌, arith}
 use Rattle.std.specs.List.{All}
 use Rattle.std.proofs.lemmas.Bool.{lt-ltb}
@@ -13,7 +13,7 @@ use Rattle.crack_bulk.specs.Pulled.{any_doomed, ends_above, pulled, all_drawn, i
 use Rattle.crack_bulk.proofs.StepsDown.{AreFrom, AreFrom-tail, last_behind}
 
 module _ (key : Handle → ℕ) (ds : List Handle) where
-  -- doomed rows below the bound of a piece are all of it or of lower ones
+  -- doomed rows below the bound of a piece are all of this piece or of lower ones
   all-below : (low : ℕ) (bound : InnerBound) (gs rows : List Handle) → All (λ d. key d < bound.0) gs → (drained key itself low (ends_above key itself bound) gs rows ≡ drained key itself low (any_doomed key itself) gs rows) × (drawn key itself low (ends_above key itself bound) gs rows ≡ drawn key itself low (any_doomed key itself) gs rows)
   all-below low bound [] rows under = (refl, refl)
   all-below low bound (g ∷ gs) rows under =

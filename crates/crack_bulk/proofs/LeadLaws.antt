@@ -1,4 +1,4 @@
--- What a carry keeps: the store intact, and of each row that still is its key and whether it ends a carry.
+-- What a carry preserves: the store is intact, and each remaining row has the same key and ends a carry if it did before.
 use Rattle.std.proofs.Common.{◌≡◌, ℕ, ◌+◌, ◌-◌, ◌<◌, ◌≤◌, false, ltb, List, [], ◌∷◌, length, get_or, Option, None, refl, sym, ap, inl, inr, arith}
 use Rattle.std.specs.List.{All}
 use Rattle.std.proofs.lemmas.Bool.{cases_Bool, le-ltb}
@@ -56,7 +56,7 @@ StaysAs-Leads ceiling c t intact (evicts d lasting over) = (λ k e h. (refl, ref
 StaysAs-Leads ceiling c t intact (ends d lasting below at_end) = (λ k e h. (refl, refl), λ k e h. (refl, refl))
 StaysAs-Leads ceiling c t intact (goes_on d u lasting below before rest) = StaysAs-Leads ceiling (pushed_on d) u (IsIntact-pushed_on d before intact) rest
 
--- room that is made before a carry, such that what it leaves has this room
+-- room is made before a carry, so that the store after it has this room
 rooms_before : (s : State) (column : List Handle) (marks : List Mark) (e : Event Handle) (a b : ℕ) → (x : ℕ) × (y : ℕ) × (landed (record s { column_room = x; in_room = y }) column marks e ≡ record (ended_so e s) { column = column; marks = marks; column_room = a; in_room = b })
 rooms_before s column marks (comes x) a b = (a, b, refl)
 rooms_before s column marks (turns moved) a b =
@@ -79,7 +79,7 @@ pending-lasts s place within intact =
     let few : times h.slot (slots s.pending_out) ≤ times h.slot (slots s.column) = rw append-nil at (intact.owned.doomed_once h.slot) in
     le-ltb 0 (times h.slot (slots s.pending_out)) (omega (arith, listed, all, most, few))
 
--- what the carry of the pending insertion at a place leaves, room aside
+-- the store after the carry of the pending insertion at a place, except its room
 abbrev pub carried_at : Option ℕ → ℕ → State → State
 carried_at ceiling place s =
     let c = lifted place s in

@@ -1,4 +1,4 @@
--- One carry and then many in bulk leave what all of them in bulk do.
+-- One carry and then many in bulk have the same result as all of them in bulk.
 use Rattle.std.proofs.Common.{◌≡◌, ℕ, ◌+◌, cond, min, suc, List, [], ◌∷◌, ◌++◌, length, Option, refl, sym, ap, ◌∙◌, inl, inr, arith}
 use Rattle.std.specs.List.{All}
 use Rattle.std.proofs.Math.Nat.{min-eq_left, min-eq_right}
@@ -28,7 +28,7 @@ evicted_of s (comes x) = []
 evicted_of s (turns moved) = []
 evicted_of s (stopped moved y) = cond (is_doomed s y) [] (y ∷ [])
 
--- a store whose pieces these events reach, one after the other, where these pending insertions are left
+-- a store whose pieces these events reach, one after the other, with these pending insertions remaining
 abbrev pub bulk_from : Option ℕ → List (Event Handle) → List Handle → State → State
 bulk_from ceiling es left s =
     let key = key_at s.cells in
@@ -65,7 +65,7 @@ pub ended_by-room : (es : List (Event Handle)) (s : State) (a b : ℕ) → ended
 ended_by-room [] s a b = refl
 ended_by-room (e ∷ es) s a b = ap (ended_by es) (ended_so-room e s a b) ∙ ended_by-room es (ended_so e s) a b
 
--- what a carry leaves pending
+-- what is pending after a carry
 pub pending-carried : (ceiling : Option ℕ) (place : ℕ) (s : State) → (carried_at ceiling place s).pending_in ≡ (lifted place s).store.pending_in ++ evicted_of s (outcome (key_at s.cells) (ends_with ceiling s) (comes (lifted place s).hand) (pieces_of s))
 pending-carried ceiling place s = of_ended (outcome (key_at s.cells) (ends_with ceiling s) (comes (lifted place s).hand) (pieces_of s))
   where
@@ -77,7 +77,7 @@ pending-carried ceiling place s = of_ended (outcome (key_at s.cells) (ends_with 
       | inr lasting ↦ rw lasting refl
     ]
 
--- an outcome comes to the same before the others and after them
+-- an outcome has the same effect before the others and after them
 ended_so-exchange : (e : Event Handle) (place : ℕ) (s : State) (column column' : List Handle) (marks marks' : List Mark) (left : List Handle) (k a b : ℕ) → (let v = record (ended_so e (lifted place s).store) { column = column; marks = marks; column_room = a; in_room = b } in record v { column = column'; marks = marks'; pending_in = left ++ evicted_of s e; tally = put_in_by k v.tally }) ≡ with_room a b (ended_so e (record s { column = column'; marks = marks'; pending_in = left; tally = put_in_by (suc k) s.tally }))
 ended_so-exchange (comes x) place s column column' marks marks' left k a b = rw (append-nil left, more_and s.tally.put_in k) refl
 ended_so-exchange (turns moved) place s column column' marks marks' left k a b = rw (append-nil left, more_and s.tally.put_in k) refl
@@ -93,7 +93,7 @@ module _ (ceiling : Option ℕ) (place : ℕ) (s : State) (a b : ℕ) where
   abbrev first : Event Handle
   first = comes (lifted place s).hand
 
-  -- what carries leave after the first one
+  -- the store after the carries that follow the first one
   pub bulk_from-first : (es : List (Event Handle)) (left : List Handle) → All (StaysAs s v) v.column → All (OfComing (StaysAs s v)) es → bulk_from ceiling es (left ++ evicted_of s (outcome (key_at s.cells) (ends_with ceiling s) first (pieces_of s))) v ≡ with_room a b (bulk_from ceiling (first ∷ es) left s)
   bulk_from-first es left column coming =
       let key = key_at s.cells in
@@ -117,7 +117,7 @@ module _ (ceiling : Option ℕ) (place : ℕ) (s : State) (a b : ℕ) where
       of_coming (turns moved) agree one = tt
       of_coming (stopped moved y) agree one = tt
 
--- if none comes in, all is as it was
+-- if no row comes in, nothing changes
 pub bulk_from-none : (ceiling : Option ℕ) (s : State) → IsIntact s [] → bulk_from ceiling [] s.pending_in s ≡ s
 bulk_from-none ceiling s intact =
     let cut = IsCut-intact s [] intact in

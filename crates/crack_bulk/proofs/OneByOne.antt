@@ -1,10 +1,10 @@
--- What one event after the other leaves of the pieces of a column, each going through all the pieces that it reaches.
+-- The pieces of a column after events one after the other, each of which goes through all the pieces that it reaches.
 use Rattle.std.specs.Prelude.{ℕ, Bool, List, [], ◌∷◌}
 use Rattle.crack_bulk.specs.Pieces.{Pieces, last, below}
 use Rattle.crack_bulk.specs.Queues.{Event, is_below, any_row, after, next}
 
 module _ {X : Type 0} (key : X → ℕ) (stops : X → Bool) where
-  -- what one event leaves of the pieces that it reaches, one after the other
+  -- the pieces that one event reaches, after it
   abbrev pub reached : Event X → Pieces X → Pieces X
   reached e (last rows) = last (after key stops (any_row key stops) e rows)
   reached e (below rows bound pieces) =
@@ -15,7 +15,7 @@ module _ {X : Type 0} (key : X → ℕ) (stops : X → Bool) where
   outcome e (last rows) = next key stops (any_row key stops) e rows
   outcome e (below rows bound pieces) = outcome (next key stops (is_below key stops bound) e rows) pieces
 
-  -- what one event after the other leaves
+  -- the pieces after events one after the other
   abbrev pub one_at_a_time : List (Event X) → Pieces X → Pieces X
   one_at_a_time [] pieces = pieces
   one_at_a_time (e ∷ es) pieces = one_at_a_time es (reached e pieces)

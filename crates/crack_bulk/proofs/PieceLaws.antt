@@ -1,4 +1,4 @@
--- What the marks of pieces are to a key in hand, and how bounds at one place move up together.
+-- Where the marks of pieces are relative to a key in hand, and how bounds at one place move up together.
 use Rattle.std.proofs.Common.{◌≡◌, ℕ, ◌+◌, ◌<◌, ◌≤◌, false, List, [], ◌∷◌, ◌++◌, map, length, leb, eqb, refl, arith, suc}
 use Rattle.std.specs.List.{All}
 use Rattle.std.proofs.lemmas.Bool.{le-ltb, le-leb, lt-leb, eq-eqb, ne_eqb, and_right}
@@ -38,7 +38,7 @@ module _ {X : Type 0} where
       let other : eqb (at + length rows) place ≡ false = ne_eqb (at + length rows) place (λ e. absurd (omega (arith, e, behind))) in
       rw (and_right (leb low bound.0) (eqb (at + length rows) place) other, raised-behind low place (at + length rows) pieces (omega (arith, behind))) refl
 
-  -- those of a piece that isn't empty and begins at the place, and of the pieces above it, too
+  -- and so do the marks of a piece that isn't empty and begins at the place, and of the pieces above it
   pub raised-behind_first : (low place : ℕ) (y : X) (ys : List X) (bound : InnerBound) (pieces : Pieces X) → map (raised low place) (marks_of place (below (y ∷ ys) bound pieces)) ≡ marks_of place (below (y ∷ ys) bound pieces)
   raised-behind_first low place y ys bound pieces =
       let other : eqb (place + suc (length ys)) place ≡ false = ne_eqb (place + suc (length ys)) place (λ e. absurd (omega (arith, e))) in

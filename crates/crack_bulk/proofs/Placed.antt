@@ -1,4 +1,4 @@
--- Where carries end with a row in hand: the row that came in takes the place of the one with which its carry ends, and then all are sifted.
+-- Carries that end with a row in hand: the row that came in takes the place of the one with which its carry ends, and then all are sifted.
 use Rattle.std.specs.Prelude.{ℕ, suc, ◌+◌, length, Bool, cond, nat_lt, filter, List, [], ◌∷◌, ◌++◌}
 use Rattle.crack_bulk.specs.Pieces.{Pieces, last, below}
 use Rattle.crack_bulk.specs.Queues.{Event, comes, turns, stopped, is_below, any_row, passed}
@@ -17,7 +17,7 @@ module _ {X : Type 0} (key : X → ℕ) (stops : X → Bool) where
   abbrev pub turners : ℕ → List X → List X
   turners low xs = filter (λ x. nat_lt (key x) low) xs
 
-  -- what rows that reach a piece leave of it, one after the other
+  -- a piece after rows that reach it, one after the other
   abbrev pub met_by : ℕ → List X → List X → List X
   met_by low [] rows = rows
   met_by low (x ∷ xs) [] = cond (nat_lt (key x) low) (met_by low xs []) (met_by low xs (x ∷ []))
@@ -46,8 +46,8 @@ module _ {X : Type 0} (key : X → ℕ) (stops : X → Bool) where
   behind_front low [] = []
   behind_front low (y ∷ ys) = cond (nat_lt (key y) low) (behind_front low ys) (y ∷ ys)
 
-  -- a pass over what follows a piece: each row of a lower piece changes places with the first of the piece, after the rows of lower pieces at
-  -- the front; how these are then, and the piece
+  -- a pass over what follows a piece: each row of a lower piece is exchanged with the first of the piece, after the rows of lower pieces at the
+  -- front; the rows at the front afterwards, and the piece
   abbrev pub pass_over : ℕ → List X → List X → List X → List X × List X
   pass_over low [] lower rows = (lower ++ front low rows, behind_front low rows)
   pass_over low (x ∷ xs) lower rows =
@@ -61,7 +61,7 @@ module _ {X : Type 0} (key : X → ℕ) (stops : X → Bool) where
   going (x ∷ xs) (turns moved ∷ es) = x ∷ going xs es
   going (x ∷ xs) (stopped moved y ∷ es) = going xs es
 
-  -- the pieces, where each row with which a carry ends has given its place to the row that came in
+  -- the pieces, once each row with which a carry ends is replaced by the row that came in
   abbrev pub placed_all : ℕ → List X → List (Event X) → Pieces X → Pieces X
   placed_all low xs es (last rows) = last (placed (turners low (reaching (any_row key stops) xs es)) rows)
   placed_all low xs es (below rows bound pieces) =
@@ -78,14 +78,14 @@ module _ {X : Type 0} (key : X → ℕ) (stops : X → Bool) where
       let here = pass_over low above.0 [] rows in
       (here.0, below here.1 bound above.1)
 
-  -- how many rows of a piece make way for rows that reach it
+  -- how many rows of a piece move for rows that reach it
   abbrev pub made_way_to : ℕ → List X → List X → ℕ
   made_way_to low [] rows = 0
   made_way_to low (x ∷ xs) [] = cond (nat_lt (key x) low) (made_way_to low xs []) (made_way_to low xs (x ∷ []))
   made_way_to low (x ∷ xs) (y ∷ ys) =
       cond (nat_lt (key x) low) (cond (stops y) (suc (made_way_to low xs ys)) (suc (made_way_to low xs (ys ++ y ∷ [])))) (made_way_to low xs ((y ∷ ys) ++ x ∷ []))
 
-  -- how many are passed by or change places in a pass
+  -- how many rows are passed or exchanged in a pass
   abbrev pub counted_over : ℕ → List X → List X → ℕ
   counted_over low [] rows = length (front low rows)
   counted_over low (x ∷ xs) rows =

@@ -1,4 +1,4 @@
--- One pass over what follows a piece leaves what the rows that reach it do, one after the other.
+-- One pass over what follows a piece has the result of the rows that reach it, one after the other.
 use Rattle.std.proofs.Common.{◌≡◌, ℕ, ◌<◌, ◌≤◌, Bool, false, cond, List, [], ◌∷◌, ◌++◌, refl, sym, ap, ◌∙◌, inl, inr}
 use Rattle.std.specs.List.{All}
 use Rattle.std.proofs.lemmas.Bool.{cases_lt, cases_Bool, lt-ltb, le-ltb}
@@ -94,7 +94,7 @@ module _ {X : Type 0} (key : X → ℕ) (stops : X → Bool) where
             rw (survive, turners-turn low x xs under, leave, place, ← (joined before lower ts x)) (pass-turn low x sv before (lower ++ y ∷ standing) under ∙ rw (split.0, split.1) (rw (first.0, first.1, append-nil lower) right))
       ]
 
-  -- what a pass leaves, where this many rows of lower pieces are before the piece, and more of them at its front
+  -- the result of a pass, if this many rows of lower pieces are before the piece, and more of them at its front
   pub pass_over-placed : (low : ℕ) (xs rows before lower : List X) → All Goes xs → All (λ y. low ≤ key y) rows → All (λ x. key x < low) lower → pass_over key stops low (survivors key stops low xs rows) before (lower ++ placed key stops (turners key stops low xs) rows) ≡ ((before ++ lower) ++ turners key stops low xs, met_by key stops low xs rows)
   pass_over-placed low [] [] before lower coming own fronts =
       let split = front-lower low lower [] fronts in

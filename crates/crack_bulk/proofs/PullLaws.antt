@@ -1,4 +1,4 @@
--- What the pull of a pending deletion leaves of an intact store.
+-- An intact store after the pull of a pending deletion.
 use Rattle.std.proofs.Common.{◌≡◌, ℕ, zero, suc, ◌+◌, ◌-◌, ◌<◌, ◌≤◌, min, List, [], ◌∷◌, ◌++◌, map, length, take, reverse, get_or, refl, sym, ap, subst, ◌∙◌, inl, inr, arith}
 use Rattle.std.proofs.Math.Nat.{min-eq_left}
 use Rattle.std.proofs.lemmas.Bool.{cases_lt}
@@ -24,7 +24,7 @@ use Rattle.crack_bulk.proofs.DrawLaws.{IsOnlyAt, AreBetween, leads-same, draws-d
 use Rattle.crack_bulk.proofs.PulledLaws.{pulled_down-is, marks_of-pulled}
 use Rattle.crack_bulk.proofs.StepsDown.{AreFrom}
 
--- what it keeps
+-- what the pull preserves
 
 -- a row comes into hand by an exchange
 exchanged-hand : (c : Carried) (place : ℕ) (h : Handle) → StandsAt c.store.column place h → (exchanged place c).hand ≡ h
@@ -109,7 +109,7 @@ AreBetween-intact s intact =
       over = λ k e h. absurd (omega (arith, h));
     }
 
--- the column's last row is lifted, and the pull of a pending deletion leaves this
+-- the column's last row is lifted, and this is the store after the pull of a pending deletion
 pub Draws-at : (place : ℕ) (s : State) → place < length s.pending_out → IsIntact s [] → Draws (get_or s.pending_out place no_handle) (lifted_last s) (pulled_from (get_or s.pending_out place no_handle ∷ []) s)
 Draws-at place s within intact =
     let d = get_or s.pending_out place no_handle in

@@ -1,4 +1,4 @@
--- If no carry ends with a row in hand, sifting leaves what the carries do.
+-- If no carry ends with a row in hand, sifting has the result of the carries.
 use Rattle.std.proofs.Common.{◌≡◌, ℕ, ◌+◌, ◌<◌, ◌≤◌, Bool, true, false, cond, ltb, zero, suc, List, [], ◌∷◌, ◌++◌, take, map, length, refl, sym, ap, ◌∙◌, inl, inr, arith}
 use Rattle.std.specs.List.{All, filter, sum_by}
 use Rattle.std.proofs.lemmas.Bool.{cases_lt, cases_Bool, lt-ltb, le-ltb, ltb-true, ltb-false, true≢false}
@@ -18,7 +18,7 @@ All-take_push P zero xs x all one = All-nil P
 All-take_push P (suc n) [] x all one = All-take P (suc n) (x ∷ []) (All-cons P x [] one (All-nil P))
 All-take_push P (suc n) (y ∷ ys) x all one = All-cons P y (take n (ys ++ x ∷ [])) (All-head P y (take n ys) all) (All-take_push P n ys x (All-tail P y (take n ys) all) one)
 
--- how many rows made way before an event
+-- how many rows moved before an event
 abbrev pub moved_of : {X : Type 0} → Event X → ℕ
 moved_of (comes x) = 0
 moved_of (turns moved) = moved
@@ -34,7 +34,7 @@ module _ {X : Type 0} (key : X → ℕ) (stops : X → Bool) where
   abbrev Goes : X → Type 0
   Goes x = stops x ≡ false
 
-  -- the event is that of a row which comes in, where it reaches a piece that begins at this bound
+  -- the event of a row that comes in, when it reaches a piece that begins at this bound
   abbrev IsOf : ℕ → X → Event X → Type 0
   IsOf low x (comes y) = (y ≡ x) × (low ≤ key x)
   IsOf low x (turns moved) = key x < low
@@ -47,7 +47,7 @@ module _ {X : Type 0} (key : X → ℕ) (stops : X → Bool) where
   AreOf low (x ∷ xs) [] = ⊥
   AreOf low (x ∷ xs) (e ∷ es) = IsOf low x e × AreOf low xs es
 
-  -- the event is that of a row which comes in, where it has left a piece, whose own rows and those of lower ones pass this test
+  -- the event of a row that comes in, when it has left a piece, whose own rows and those of lower ones pass this test
   abbrev IsNext : (X → Bool) → X → Event X → Type 0
   IsNext own x (comes y) = (y ≡ x) × (own x ≡ false)
   IsNext own x (turns moved) = own x ≡ true
@@ -62,7 +62,7 @@ module _ {X : Type 0} (key : X → ℕ) (stops : X → Bool) where
   total : List (Event X) → ℕ
   total es = sum_by moved_of es
 
-  -- what the events leave of a piece, how many of its rows make way, and what goes on
+  -- a piece after the events, how many of its rows move, and which events go on
   record Through (low : ℕ) (own : X → Bool) (xs : List X) (es : List (Event X)) (rows : List X) : Type 0 where
     left_is : left key stops own es rows ≡ queued key low (filter own xs) rows
     total_is : sum_by moved_of (passed key stops own es rows) ≡ sum_by moved_of es + made_way key low (filter own xs) rows
@@ -153,7 +153,7 @@ module _ {X : Type 0} (key : X → ℕ) (stops : X → Bool) where
   any_kept [] = refl
   any_kept (x ∷ xs) = ap (λ ys. x ∷ ys) (any_kept xs)
 
-  -- what the events of rows that come in leave of all pieces, how many rows make way, and how they end
+  -- all pieces after the events of rows that come in, how many rows move, and how the events end
   pub record AreSifted (low : ℕ) (xs : List X) (es : List (Event X)) (pieces : Pieces X) : Type 0 where
     pub pieces_are : in_bulk key stops es pieces ≡ sifted key low xs pieces
     pub total_is : sum_by moved_of (bulk_outcomes key stops es pieces) ≡ sum_by moved_of es + all_made_way key low xs pieces
@@ -186,7 +186,7 @@ module _ {X : Type 0} (key : X → ℕ) (stops : X → Bool) where
   none-moved [] = refl
   none-moved (x ∷ xs) = omega (arith, none-moved xs, sum_by-cons moved_of (comes x) (map comes xs))
 
-  -- each row of a piece makes place for one, and those of the piece itself come to it
+  -- each row of a piece is replaced by one, and the rows of the piece itself are added to it
   length-turned : (rows : List X) → length (turned_once rows) ≡ length rows
   length-turned [] = refl
   length-turned (y ∷ ys) = omega (arith, length_push ys y)

@@ -1,4 +1,4 @@
--- If no carry ends with a row in hand, sifting leaves of a store what all carries of a range do.
+-- If no carry ends with a row in hand, sifting has the same effect on a store as all carries of a range.
 use Rattle.std.proofs.Common.{◌≡◌, ℕ, ◌+◌, ◌≤◌, false, min, List, [], ◌∷◌, map, length, Option, refl, sym, ap, ◌∙◌, inl, inr, arith}
 use Rattle.std.specs.List.{All, sum_by}
 use Rattle.std.proofs.Math.Nat.{min-eq_left, min-eq_right}
@@ -31,7 +31,7 @@ min_and n j k = elim (cases_lt (n + j) greatest) [
       min-eq_right (omega (arith, full)) ∙ sym (min-eq_right (omega (arith, l)))
 ]
 
--- if none ends with a row in hand, rows made way, and that is all
+-- if none ends with a row in hand, rows moved, and nothing else changed
 ended_by-turns : (es : List (Event Handle)) (s : State) → All IsTurn es → s.tally.moved ≤ greatest → ended_by es s ≡ record s { tally = moved_by (sum_by moved_of es) s.tally }
 ended_by-turns [] s all counted =
     let none : min (s.tally.moved + 0) greatest ≡ s.tally.moved = min-eq_left (omega (arith, counted)) ∙ omega arith in

@@ -1,4 +1,4 @@
--- What rows that come in leave of pieces, piece by piece from the highest down.
+-- The pieces after rows come in, piece by piece from the highest down.
 use Rattle.std.proofs.Common.{◌≡◌, ℕ, zero, suc, ◌+◌, ◌-◌, ◌<◌, ◌≤◌, cond, ltb, List, [], ◌∷◌, ◌++◌, length, take, drop, reverse, get_or, refl, sym, ap, ◌∙◌, inl, inr, arith}
 use Rattle.std.specs.List.{All, AllPairs}
 use Rattle.std.proofs.lemmas.Bool.{cases_lt, lt-ltb, le-ltb}
@@ -10,12 +10,12 @@ use Rattle.crack_bulk.specs.Pieces.{column_of, cut}
 use Rattle.crack_bulk.proofs.Sifts.{sifted, all_made_way}
 
 module _ {X : Type 0} (key : X → ℕ) where
-  -- of the marks the highest comes first: what rows that come in leave of the pieces of these rows
+  -- with the highest mark first: the pieces of these rows after rows come in
   abbrev pub sifted_from : List Mark → List X → List X → List X
   sifted_from [] rows xs = queued key 0 xs rows
   sifted_from (m ∷ ms) rows xs = sifted_from ms (take m.position rows) (below_bound key m.bound.0 xs) ++ queued key m.bound.0 xs (drop m.position rows)
 
-  -- and how many make way
+  -- and how many move
   abbrev pub made_way_from : List Mark → List X → List X → ℕ
   made_way_from [] rows xs = made_way key 0 xs rows
   made_way_from (m ∷ ms) rows xs = made_way key m.bound.0 xs (drop m.position rows) + made_way_from ms (take m.position rows) (below_bound key m.bound.0 xs)

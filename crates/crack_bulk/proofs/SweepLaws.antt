@@ -1,4 +1,4 @@
--- Rows that came in and turn the pieces from the lowest up, from after the column's last row, leave what all carries do.
+-- Rows that came in after the column's last row and turn the pieces from the lowest up have the result of all carries.
 use Rattle.std.proofs.Common.{◌≤◌, ◌≡◌, ◌⊎◌, ℕ, suc, ◌+◌, Bool, true, false, not, ◌&&◌, cond, List, [], ◌∷◌, ◌++◌, map, length, refl, sym, ap, ◌∙◌, inl, inr, arith}
 use Rattle.std.specs.List.{All, filter, sum_by}
 use Rattle.std.specs.Prelude.{count_by}
@@ -21,7 +21,7 @@ module _ {X : Type 0} (key : X → ℕ) (stops : X → Bool) where
   abbrev Goes : X → Type 0
   Goes x = stops x ≡ false
 
-  -- how far a carry has come, by the row that stands after the column's last for it: `under` says which rows turn the next piece
+  -- how far a carry has come, by the row that represents it after the column's last: `under` says which rows turn the next piece
   abbrev Is : (X → Bool) → Event X → X → Type 0
   Is under (comes x) t = (t ≡ x) × (under x ≡ false) × (stops x ≡ false)
   Is under (turns moved) t = goes_on stops under t ≡ true
@@ -84,7 +84,7 @@ module _ {X : Type 0} (key : X → ℕ) (stops : X → Bool) where
   Are-push own (f ∷ fs) [] e t are one = absurd are
   Are-push own (f ∷ fs) (u ∷ us) e t are one = (are.0, Are-push own fs us e t are.1 one)
 
-  -- another that goes on stands in the place of one that does
+  -- another row that goes on is at the place of one that does
   Are-put : (own : X → Bool) (es : List (Event X)) (before after : List X) (q t : X) → goes_on stops own q ≡ true → goes_on stops own t ≡ true → Are own es (before ++ q ∷ after) → Are own es (before ++ t ∷ after)
   Are-put own [] [] after q t was is are = absurd are
   Are-put own [] (u ∷ us) after q t was is are = absurd are
@@ -95,7 +95,7 @@ module _ {X : Type 0} (key : X → ℕ) (stops : X → Bool) where
       absurd (true≢false (sym are.0.1 ∙ ap stops (sym are.0.0) ∙ goes-lasts own q was))
   Are-put own (e ∷ es) (u ∷ us) after q t was is are = (are.0, Are-put own es us after q t was is are.1)
 
-  -- where the queue is turned once, from the places that were gone by
+  -- the queue turned once, from the places that were passed
   record Turned (own : X → Bool) (t : X) (done queue : List X) (pre : List (Event X)) (moved : ℕ) : Type 0 where
     done_is : filter (goes_on stops own) (round stops own t done queue).done ≡ filter (goes_on stops own) done ++ t ∷ []
     queue_is : filter (goes_on stops own) (round stops own t done queue).queue ≡ after_turn key stops (filter (goes_on stops own) queue)
@@ -142,13 +142,13 @@ module _ {X : Type 0} (key : X → ℕ) (stops : X → Bool) where
             }
       ]
 
-  -- what is left of a piece, and how far the carries have come
+  -- a piece afterwards, and how far the carries have come
   record Leaves (under own : X → Bool) (es : List (Event X)) (ts front rows done queue : List X) (pre : List (Event X)) : Type 0 where
     flat : (front ++ filter (goes_on stops own) done) ++ (filter (goes_on stops under) ts ++ left key stops own es (rows ++ filter (goes_on stops own) queue)) ≡ (swept stops under own ts front rows done queue).piece ++ filter (goes_on stops own) (swept stops under own ts front rows done queue).tail
     are : Are own (pre ++ passed key stops own es (rows ++ filter (goes_on stops own) queue)) (swept stops under own ts front rows done queue).tail
     made : sum_by moved_of (passed key stops own es (rows ++ filter (goes_on stops own) queue)) ≡ sum_by moved_of es + (swept stops under own ts front rows done queue).made
 
-  -- no place is done with as long as a row of the piece is left
+  -- no place is finished as long as a row of the piece is left
   abbrev Begins : List X → List X → Type 0
   Begins rows done = (rows ≡ []) ⊎ (done ≡ [])
 
@@ -168,7 +168,7 @@ module _ {X : Type 0} (key : X → ℕ) (stops : X → Bool) where
   by-step under own t ts front [] done queue off = rw off refl
   by-step under own t ts front (y ∷ ys) done queue off = rw off refl
 
-  -- a row that doesn't turn the piece is gone by
+  -- a row that doesn't turn the piece is passed
   aside : (under own : X → Bool) (e f : Event X) (es : List (Event X)) (t : X) (ts front rows done queue : List X) (pre : List (Event X)) → goes_on stops under t ≡ false → left key stops own (e ∷ es) (rows ++ filter (goes_on stops own) queue) ≡ left key stops own es (rows ++ filter (goes_on stops own) (queue ++ t ∷ [])) → passed key stops own (e ∷ es) (rows ++ filter (goes_on stops own) queue) ≡ f ∷ passed key stops own es (rows ++ filter (goes_on stops own) (queue ++ t ∷ [])) → moved_of f ≡ moved_of e → Leaves under own es ts front rows done (queue ++ t ∷ []) (pre ++ f ∷ []) → Leaves under own (e ∷ es) (t ∷ ts) front rows done queue pre
   aside under own e f es t ts front rows done queue pre off lefts ons same rest =
       let step = by-step under own t ts front rows done queue off in
@@ -278,7 +278,7 @@ module _ {X : Type 0} (key : X → ℕ) (stops : X → Bool) where
       let off : goes_on stops own t ≡ false = goes-ended own t (ap stops are.0.0 ∙ are.0.1) in
       count-arriving own es ts are.1 ∙ sym (sum_by-cons (λ z. cond {A = ℕ} (goes_on stops own z) 1 0) t ts ∙ rw off (omega arith))
 
-  -- what is left of all pieces, and of the rows that came in
+  -- all pieces afterwards, and the rows that came in
   pub record AreSwept (low : ℕ) (es : List (Event X)) (ts : List X) (pieces : Pieces X) : Type 0 where
     pub flat : filter (goes_on stops (is_lower key stops low)) ts ++ column_of (in_bulk key stops es pieces) ≡ (swept_up key stops low ts pieces).piece ++ filter (goes_on stops (any_row key stops)) (swept_up key stops low ts pieces).tail
     pub are : Are (any_row key stops) (bulk_outcomes key stops es pieces) (swept_up key stops low ts pieces).tail
@@ -326,7 +326,7 @@ module _ {X : Type 0} (key : X → ℕ) (stops : X → Bool) where
       let off : goes_on stops (is_lower key stops 0) x ≡ false = goes-past (is_lower key stops 0) x (le-ltb (key x) 0 (omega arith)) in
       rw off (none-lower xs)
 
-  -- at the end each carry has come to its piece, and where it has ended with a row in hand, that one stands for it
+  -- at the end each carry has reached its piece, and if it has ended with a row in hand, that row represents it
   all_come : (es : List (Event X)) (ts : List X) → Are (any_row key stops) es ts → All HasCome es × (hands_of es ≡ filter stops ts)
   all_come [] [] are = (All-nil HasCome, refl)
   all_come [] (t ∷ ts) are = absurd are
@@ -349,7 +349,7 @@ module _ {X : Type 0} (key : X → ℕ) (stops : X → Bool) where
   none-arrive [] = refl
   none-arrive (x ∷ xs) = none-arrive xs
 
-  -- what rows that come in leave of all pieces, and how their carries end
+  -- all pieces after rows come in, and how their carries end
   pub record AllSwept (xs : List X) (pieces : Pieces X) : Type 0 where
     pub column_is : column_of (in_bulk key stops (map comes xs) pieces) ≡ (swept_up key stops 0 xs pieces).piece ++ filter (goes_on stops (any_row key stops)) (swept_up key stops 0 xs pieces).tail
     pub marks_are : marks_of 0 (in_bulk key stops (map comes xs) pieces) ≡ swept_marks key stops 0 0 xs pieces
@@ -371,7 +371,7 @@ module _ {X : Type 0} (key : X → ℕ) (stops : X → Bool) where
         hands = end.1;
       }
 
-  -- where none turns the piece, all is as it was
+  -- if none turns the piece, nothing changes
   swept-off : (under own : X → Bool) (ts front rows done queue : List X) → count_by (goes_on stops under) ts ≡ 0 → swept stops under own ts front rows done queue ≡ record { piece = front ++ rows; tail = done ++ (queue ++ ts); made = 0 }
   swept-off under own [] front rows done queue none = rw (append-nil queue) refl
   swept-off under own (t ∷ ts) front rows done queue none =
@@ -388,7 +388,7 @@ module _ {X : Type 0} (key : X → ℕ) (stops : X → Bool) where
   pub swept_by-off : (low : ℕ) (own : X → Bool) (ts rows : List X) → count_by (goes_on stops (is_lower key stops low)) ts ≡ 0 → swept_by key stops low own ts rows ≡ record { piece = rows; tail = ts; made = 0 }
   swept_by-off low own ts rows none = swept-off (is_lower key stops low) own ts [] rows [] [] none
 
-  -- no row is lost, and none comes twice
+  -- no row is lost, and none occurs twice
   module _ (weight : X → ℕ) where
     abbrev sum : List X → ℕ
     sum xs = sum_by weight xs
@@ -423,7 +423,7 @@ module _ {X : Type 0} (key : X → ℕ) (stops : X → Bool) where
         let above : Swept X = swept_up key stops bound.0 here.tail pieces in
         omega (arith, weigh (is_lower key stops low) (is_lower key stops bound.0) ts [] rows [] [], weigh_up bound.0 here.tail pieces, sum_by-append weight here.piece above.piece, sum_by-append weight rows (column_of pieces))
 
-  -- so many stand in the piece and after it as before
+  -- as many rows are in the piece and after it as before
   length-swept : (under own : X → Bool) (ts front rows done queue : List X) → (length (swept stops under own ts front rows done queue).piece ≡ length front + length rows) × (length (swept stops under own ts front rows done queue).tail ≡ length done + length queue + length ts)
   length-swept under own [] front rows done queue = (length-append front rows, omega (arith, length-append done queue))
   length-swept under own (t ∷ ts) front [] done queue = elim (cases_Bool (goes_on stops under t)) [
@@ -462,7 +462,7 @@ module _ {X : Type 0} (key : X → ℕ) (stops : X → Bool) where
       let here : Swept X = swept_by key stops low (is_lower key stops bound.0) ts rows in
       length-swept_up bound.0 here.tail pieces ∙ (length-swept_by low (is_lower key stops bound.0) ts rows).1
 
-  -- of those that turn a piece as many go on as it has rows fewer
+  -- of the rows that turn a piece as many go on as it has fewer rows
   module _ (under own : X → Bool) (sub : (x : X) → under x ≡ true → own x ≡ true) where
     abbrev going : X → ℕ
     going x = cond {A = ℕ} (goes_on stops own x) 1 0
@@ -503,7 +503,7 @@ module _ {X : Type 0} (key : X → ℕ) (stops : X → Bool) where
       let all = few-turn (is_lower key stops low) (is_lower key stops bound.0) (λ x under. lt-ltb (key x) bound.0 (omega (arith, ltb-true (key x) low under, order))) ts [] rows [] [] in
       omega (arith, all)
 
-  -- and what holds of each row still does
+  -- and a property of each row still holds
   module _ (P : X → Type 0) where
     All-round : (own : X → Bool) (t : X) (done queue : List X) → P t → All P done → All P queue → All P (round stops own t done queue).done × All P (round stops own t done queue).queue
     All-round own t done [] one all rest = (All-push P done t all one, All-nil P)

@@ -1,4 +1,5 @@
--- All carries of a range are what rows leave that turn the pieces from after the column's last row, and then the burial of those with which they end.
+-- All carries of a range have the result of rows that turn the pieces from after the column's last row, and then of burying those with which they
+-- end.
 use Rattle.std.proofs.Common.{◌≡◌, ℕ, ◌==◌, ◌+◌, ◌≤◌, Bool, true, false, cond, List, [], ◌∷◌, ◌++◌, length, get_or, None, refl, sym, ap, ◌∙◌, inl, inr, arith}
 use Rattle.std.specs.List.{All, filter, sum_by}
 use Rattle.std.proofs.lemmas.Bool.{cases_Bool, ltb-true, true≢false}
@@ -34,11 +35,11 @@ module _ (r : Range) (s : State) (intact : IsIntact s []) where
   abbrev pub rows_in : List Handle
   rows_in = inside_of s.cells r s.pending_in
 
-  -- what they leave
+  -- the pieces after them
   abbrev pub sweep : Swept Handle
   sweep = swept_up key stops 0 rows_in (pieces_of s)
 
-  -- the store then, before the rows are buried with which carries end
+  -- the store before the rows with which carries end are buried
   abbrev pub unburied : State
   unburied = record s {
     column = sweep.piece ++ filter (goes_on stops (any_row key stops)) sweep.tail;

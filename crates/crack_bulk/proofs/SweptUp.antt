@@ -1,4 +1,4 @@
--- Rows that came in, and stand after the column's last row, go by all pieces.
+-- Rows that came in after the column's last row pass all pieces.
 use Rattle.std.specs.Prelude.{ℕ, ◌+◌, Bool, count_by, List, [], ◌∷◌, ◌++◌, length}
 use Rattle.crack_index.specs.declared.mark.Mark.{Mark}
 use Rattle.crack_bulk.specs.Pieces.{Pieces, last, below}
@@ -14,7 +14,7 @@ module _ {X : Type 0} (key : X → ℕ) (stops : X → Bool) where
       let above = swept_up bound.0 here.tail pieces in
       record { piece = here.piece ++ above.piece; tail = above.tail; made = here.made + above.made }
 
-  -- the marks of the bounds then, where the first piece begins at this place: each rises by as many as go on from the piece below it
+  -- the marks of the bounds afterwards, if the first piece begins at this place: each rises by as many as go on from the piece below it
   abbrev pub swept_marks : ℕ → ℕ → List X → Pieces X → List Mark
   swept_marks place low ts (last rows) = []
   swept_marks place low ts (below rows bound pieces) =

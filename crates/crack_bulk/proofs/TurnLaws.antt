@@ -40,7 +40,7 @@ module _ {X : Type 0} where
       let one : suc g + h ≡ suc (g + h) = omega arith in
       rw one (turned_by-sum g h (turned_once rows))
 
-  -- again and again: all is as it was
+  -- any number of whole rounds: nothing changes
   pub turned_by-rounds : (rounds : ℕ) (rows : List X) → turned_by (rounds * length rows) rows ≡ rows
   turned_by-rounds zero rows =
       let none : 0 * length rows ≡ 0 = omega arith in
@@ -49,7 +49,7 @@ module _ {X : Type 0} where
       let one : suc rounds * length rows ≡ length rows + rounds * length rows = omega arith in
       rw one (turned_by-sum (length rows) (rounds * length rows) rows ∙ ap (turned_by (rounds * length rows)) (turned_by-all rows) ∙ turned_by-rounds rounds rows)
 
-  -- any number of times: only what is left of whole rounds counts
+  -- any number of times: only the remainder after whole rounds counts
   pub turned_by-rotates : (rounds g : ℕ) (rows : List X) → g ≤ length rows → turned_by (rounds * length rows + g) rows ≡ drop g rows ++ take g rows
   turned_by-rotates rounds g rows few =
       turned_by-sum (rounds * length rows) g rows ∙ ap (turned_by g) (turned_by-rounds rounds rows) ∙ turned_by-few g rows few

@@ -1,4 +1,4 @@
--- What all carries of a range leave of a store whose column is in pieces.
+-- A store whose column is in pieces, after all carries of a range.
 use Rattle.std.specs.Prelude.{ℕ, ◌+◌, Bool, false, cond, nat_lt, nat_le, ◌||◌, min, map, filter, List, [], ◌∷◌, length, Option, Some, None}
 use Rattle.crack_row.specs.Ranges.{Range, is_in}
 use Rattle.crack_row.specs.declared.Row.{Row}
@@ -29,7 +29,7 @@ is_doomed s h = nat_lt 0 (times h.slot (slots s.pending_out))
 abbrev pub ends_with : Option ℕ → State → Handle → Bool
 ends_with ceiling s h = is_doomed s h || is_over ceiling (key_at s.cells h)
 
--- this many rows more made way
+-- this many more rows moved
 abbrev pub moved_by : ℕ → MergeReport → MergeReport
 moved_by count tally = record tally { moved = min (tally.moved + count) greatest }
 
@@ -45,8 +45,8 @@ carried_with s column marks moved hand =
       hand = hand;
     }
 
--- what an outcome leaves of a store, except its column, its marks and its room: rows made way, and the hand that ended the carry is buried if
--- it is doomed, else it is evicted
+-- a store after an outcome, except its column, its marks and its room: rows moved, and the hand that ended the carry is buried if it is doomed, else
+-- it is evicted
 abbrev pub ended_so : Event Handle → State → State
 ended_so (comes x) s = s
 ended_so (turns moved) s = record s { tally = moved_by moved s.tally }
@@ -54,7 +54,7 @@ ended_so (stopped moved hand) s =
     let c = carried_with s s.column s.marks moved hand in
     record (cond (is_doomed s hand) (buried c) (returned c)) { in_room = s.in_room }
 
--- what one outcome after the other leaves
+-- a store after outcomes, one after the other
 abbrev pub ended_by : List (Event Handle) → State → State
 ended_by [] s = s
 ended_by (e ∷ es) s = ended_by es (ended_so e s)
@@ -71,8 +71,8 @@ put_in_by count tally = record tally { put_in = min (tally.put_in + count) great
 abbrev pub arrivals : Range → State → List (Event Handle)
 arrivals r s = map comes (inside_of s.cells r s.pending_in)
 
--- what all carries of a range leave, room aside: each piece has what the rows that reach it leave of it, each bound is where its piece ends,
--- and the carries have ended one after the other as their outcomes say
+-- a store after all carries of a range, except its room: each piece is as the rows that reach it leave it, each bound is where its piece ends, and
+-- the carries have ended one after the other with these outcomes
 abbrev pub carried_in_bulk : Option ℕ → Range → State → State
 carried_in_bulk ceiling r s =
     let key = key_at s.cells in

@@ -1,5 +1,5 @@
--- What pulls of a range leave of a store whose column is in pieces, if each is by a filler: a pending insertion with a key between a bound and the
--- next one above it.
+-- A store whose column is in pieces, after pulls of a range that are each by a filler: a pending insertion with a key between a bound and the next
+-- one above it.
 use Rattle.std.specs.Prelude.{◌≡◌, ℕ, zero, suc, ◌+◌, ◌-◌, ◌≤◌, cond, min, List, [], ◌∷◌, ◌++◌, length, take, drop, reverse}
 use Rattle.std.specs.List.{All}
 use Rattle.crack_row.specs.Ranges.{Range, is_in}
@@ -22,9 +22,9 @@ lacking cells r (suc n) (h ∷ hs) = cond (is_in r (key_at cells h)) (lacking ce
 abbrev pub pieces_under : State → List Mark → Mark → Pieces Handle
 pieces_under s low edge = cut 0 low (take edge.position s.column)
 
--- what the pulls of these doomed rows leave, each by one of these fillers; of the marks `low` are below the one where the fillers come in, and `high`
--- above it, and `left` are the other pending insertions: each piece below has what the pulls that reach it leave of it, the fillers come before the rows
--- from the mark on, the last one first, and the doomed rows are buried in order of arrival
+-- a store after the pulls of these doomed rows, each by one of these fillers; the marks `low` are below the one where the fillers come in, `high` are
+-- above it, and `left` are the other pending insertions: each piece below is as the pulls that reach it leave it, the fillers come before the rows from
+-- the mark on, the last one first, and the doomed rows are buried in order of arrival
 abbrev pub filled_from : List Mark → Mark → List Mark → List Handle → List Handle → List Handle → State → State
 filled_from low edge high ds fs left s =
     let pieces = pulled (key_at s.cells) itself 0 ds (pieces_under s low edge) in

@@ -1,4 +1,4 @@
--- What all pulls of a range leave of a store whose column is in pieces, if no filler comes in.
+-- A store whose column is in pieces, after all pulls of a range without fillers.
 use Rattle.std.specs.Prelude.{ℕ, ◌+◌, Bool, true, nat_lt, min, List, [], ◌∷◌, length}
 use Rattle.crack_row.specs.Ranges.{Range}
 use Rattle.crack_row.specs.declared.InnerBound.{InnerBound}
@@ -21,7 +21,7 @@ module _ {D : Type 0} (key : D → ℕ) (handle : D → Handle) where
   abbrev pub ends_above : InnerBound → D → Bool
   ends_above bound d = nat_lt (key d) bound.0
 
-  -- piece by piece: what the pulls of all doomed rows of a piece and of the pieces below leave of it
+  -- piece by piece: each piece after the pulls of all doomed rows of it and of the pieces below
   abbrev pub pulled : ℕ → List D → Pieces Handle → Pieces Handle
   pulled low ds (last rows) = last (drained key handle low any_doomed ds rows)
   pulled low ds (below rows bound pieces) = below (drained key handle low (ends_above bound) ds rows) bound (pulled bound.0 ds pieces)
@@ -44,7 +44,7 @@ abbrev pub buried_all : List Handle → State → State
 buried_all [] s = s
 buried_all (h ∷ hs) s = buried_all hs (buried (record { store = s; hand = h }))
 
--- what the pulls of these doomed rows leave
+-- a store after the pulls of these doomed rows
 abbrev pub pulled_from : List Handle → State → State
 pulled_from hs s =
     let pieces = pulled (key_at s.cells) itself 0 hs (pieces_of s) in
@@ -55,7 +55,7 @@ pulled_from hs s =
       column_room = s.column_room + length hs;
     })
 
--- what all pulls of a range leave: each piece has what the pulls that reach it leave of it, each bound is where its piece ends, and the
--- doomed rows are buried in order of arrival
+-- a store after all pulls of a range: each piece is as the pulls that reach it leave it, each bound is where its piece ends, and the doomed rows are
+-- buried in order of arrival
 abbrev pub pulled_in_bulk : Range → State → State
 pulled_in_bulk r s = pulled_from (inside_of s.cells r s.pending_out) s

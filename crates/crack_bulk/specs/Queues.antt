@@ -7,9 +7,9 @@ use Rattle.crack_bulk.specs.Pieces.{Pieces, last, below}
 pub data Event (X : Type 0) : Type 0 where
   -- the incoming row is in hand, and its own piece is this one or one above
   comes : X → Event X
-  -- the row in hand is of a lower piece; this many rows made way before
+  -- the row in hand is of a lower piece; this many rows moved before
   turns : ℕ → Event X
-  -- the carry has ended below, with this row in hand, after this many rows made way
+  -- the carry has ended below, with this row in hand, after this many rows moved
   stopped : ℕ → X → Event X
 
 -- `key` of each row, and whether a carry ends with it in hand: it is doomed, or at or above a ceiling
@@ -22,7 +22,7 @@ module _ {X : Type 0} (key : X → ℕ) (stops : X → Bool) where
   abbrev pub any_row : X → Bool
   any_row x = true
 
-  -- what a turn leaves: the first row, which makes way, goes after the last, unless a carry ends with it in hand
+  -- the piece after a turn: its first row moves after its last, unless a carry ends with it in hand
   abbrev pub after_turn : List X → List X
   after_turn [] = []
   after_turn (y ∷ ys) = cond (stops y) ys (ys ++ y ∷ [])
@@ -32,7 +32,7 @@ module _ {X : Type 0} (key : X → ℕ) (stops : X → Bool) where
   onward moved [] = turns moved
   onward moved (y ∷ ys) = cond (stops y) (stopped (suc moved) y) (turns (suc moved))
 
-  -- what an event leaves of a piece
+  -- a piece after an event
   abbrev pub after : (X → Bool) → Event X → List X → List X
   after own (comes x) rows = cond (own x) (rows ++ x ∷ []) rows
   after own (turns moved) rows = after_turn rows
@@ -44,7 +44,7 @@ module _ {X : Type 0} (key : X → ℕ) (stops : X → Bool) where
   next own (turns moved) rows = onward moved rows
   next own (stopped moved y) rows = stopped moved y
 
-  -- what is left of one piece by all events that reach it
+  -- a piece after all events that reach it
   abbrev pub left : (X → Bool) → List (Event X) → List X → List X
   left own [] rows = rows
   left own (e ∷ es) rows = left own es (after own e rows)
@@ -54,12 +54,12 @@ module _ {X : Type 0} (key : X → ℕ) (stops : X → Bool) where
   passed own [] rows = []
   passed own (e ∷ es) rows = next own e rows ∷ passed own es (after own e rows)
 
-  -- piece by piece: what is left of each by all events that reach it
+  -- piece by piece: each piece after all events that reach it
   abbrev pub in_bulk : List (Event X) → Pieces X → Pieces X
   in_bulk es (last rows) = last (left any_row es rows)
   in_bulk es (below rows bound pieces) = below (left (is_below bound) es rows) bound (in_bulk (passed (is_below bound) es rows) pieces)
 
-  -- and how the events have ended that leave the last piece
+  -- and how the events that leave the last piece have ended
   abbrev pub bulk_outcomes : List (Event X) → Pieces X → List (Event X)
   bulk_outcomes es (last rows) = passed any_row es rows
   bulk_outcomes es (below rows bound pieces) = bulk_outcomes (passed (is_below bound) es rows) pieces

@@ -1,21 +1,21 @@
 -- What private clauses alone cite.
--- How rows that came in, and stand after the column's last, turn the pieces from the lowest up: each that turns a piece changes places with the row
--- that it turns, and so goes on as that one.
+-- How rows that came in after the column's last row turn the pieces from the lowest up: each that turns a piece is exchanged with the row that it
+-- turns, which then represents it.
 use Rattle.std.specs.Prelude.{ℕ, ◌+◌, Bool, true, not, ◌&&◌, cond, nat_lt, count_by, List, [], ◌∷◌, ◌++◌, length}
 use Rattle.crack_index.specs.declared.mark.Mark.{Mark}
 use Rattle.crack_bulk.specs.Pieces.{Pieces, last, below}
 
--- what stands in the piece, and after the column's last row, and how many rows made way
+-- the rows of the piece, those after the column's last row, and how many rows moved
 pub record Swept (X : Type 0) : Type 0 where
   pub piece : List X
   pub tail : List X
   pub made : ℕ
 
--- so many more made way
+-- this many more rows moved
 abbrev pub with_more : {X : Type 0} → ℕ → Swept X → Swept X
 with_more count s = record s { made = count + s.made }
 
--- the places after the column's last, of those that were gone by: those that turn no more, then the others; and how many rows made way
+-- of the places after the column's last, those that were passed: those that turn no more, then the others; and how many rows moved
 pub record Round (X : Type 0) : Type 0 where
   pub done : List X
   pub queue : List X
@@ -27,14 +27,14 @@ module _ {X : Type 0} (stops : X → Bool) where
   abbrev pub goes_on : (X → Bool) → X → Bool
   goes_on own t = own t && not (stops t)
 
-  -- where none of the piece's first rows is left, a row takes the place of the first that has gone on from it, which goes on again at the place of
+  -- once none of the piece's first rows is left, a row takes the place of the first that has gone on from it, which goes on again at the place of
   -- that row
   abbrev pub round : (X → Bool) → X → List X → List X → Round X
   round own t done [] = record { done = done ++ t ∷ []; queue = []; made = 0 }
   round own t done (q ∷ qs) =
       cond (goes_on own q) (record { done = done ++ t ∷ []; queue = qs ++ q ∷ []; made = 1 }) (round own t (done ++ q ∷ []) qs)
 
-  -- rows go by a piece, one after the other: `under` says which of them turn it, and `own` which are of it or of a lower one
+  -- rows pass a piece, one after the other: `under` says which of them turn it, and `own` which are of it or of a lower one
   abbrev pub swept : (X → Bool) → (X → Bool) → List X → List X → List X → List X → List X → Swept X
   swept under own [] front rows done queue = record { piece = front ++ rows; tail = done ++ queue; made = 0 }
   swept under own (t ∷ ts) front [] done queue =
@@ -53,6 +53,6 @@ module _ {X : Type 0} (key : X → ℕ) (stops : X → Bool) where
   abbrev pub any_lower : X → Bool
   any_lower x = true
 
-  -- they go by a piece that begins at this bound
+  -- they pass a piece that begins at this bound
   abbrev pub swept_by : ℕ → (X → Bool) → List X → List X → Swept X
   swept_by low own ts rows = swept stops (is_lower low) own ts [] rows [] []

@@ -1,4 +1,4 @@
--- Laws of a crack: what is where after it, and how it divides.
+-- Laws of a crack: the places of the handles after it, and how it divides them.
 use Rattle.std.proofs.Common.{◌≡◌, ℕ, ◌+◌, ◌-◌, ◌<◌, ◌≤◌, ◌⊎◌, List, ◌++◌, length, map, get_or, take, drop, refl, sym, ap, ◌∙◌, inl, inr, arith, length-append}
 use Rattle.std.specs.List.{All, between}
 use Rattle.std.specs.List.Sorted.{IsPermutation}
@@ -56,11 +56,11 @@ module _ (cells : List (Cell Row)) (bound from to : ℕ) (handles : List Handle)
   length_piece : (c : Cracks cells bound from to handles remembered handles' remembered' place) → length c.piece ≡ to - from
   length_piece c = length_permutation (between from to handles) c.piece c.kept ∙ length-between handles from to c.within
 
-  -- the handles, place by place
+  -- the handles, by place
   placed : (c : Cracks cells bound from to handles remembered handles' remembered' place) → Replaced from to handles c.piece handles'
   placed c = replaced from to handles c.piece handles' (order c) c.within (length_piece c) c.handles_are
 
-  -- no handle more or less
+  -- the same number of handles
   pub length-Cracks : Cracks cells bound from to handles remembered handles' remembered' place → length handles' ≡ length handles
   length-Cracks c = (placed c).len
 
@@ -78,7 +78,7 @@ module _ (cells : List (Cell Row)) (bound from to : ℕ) (handles : List Handle)
       let inside : a + k < b = omega (arith, new_len) in
       rw (get_or-between handles' a b k no_handle inside, get_or-between handles a b k no_handle inside) (Cracks-outside c (a + k) no_handle (elim apart [ inl l ↦ inl (omega arith) | inr g ↦ inr (omega arith) ])))
 
-  -- the stretch now
+  -- the stretch after the crack
   piece_now : (c : Cracks cells bound from to handles remembered handles' remembered' place) → between from to handles' ≡ c.piece
   piece_now c =
       let long = length-Cracks c in
@@ -88,11 +88,11 @@ module _ (cells : List (Cell Row)) (bound from to : ℕ) (handles : List Handle)
       let back : from + k - from ≡ k = omega arith in
       rw (get_or-between handles' from to k no_handle inside, (placed c).inside (from + k) no_handle (omega arith) inside, back) refl)
 
-  -- in the stretch are the same handles
+  -- the stretch has the same handles
   pub Cracks-own : Cracks cells bound from to handles remembered handles' remembered' place → IsPermutation (between from to handles) (between from to handles')
   Cracks-own c = rw (piece_now c) c.kept
 
-  -- and so in each stretch that holds it
+  -- and so has each stretch that contains it
   pub Cracks-around : Cracks cells bound from to handles remembered handles' remembered' place → (a b : ℕ) → a ≤ from → to ≤ b → b ≤ length handles → IsPermutation (between a b handles) (between a b handles')
   Cracks-around c a b first last within =
       let long = length-Cracks c in
@@ -100,7 +100,7 @@ module _ (cells : List (Cell Row)) (bound from to : ℕ) (handles : List Handle)
       let new : between a b handles' ≡ between a from handles' ++ (between from to handles' ++ between to b handles') = between_parts handles' a from b first (omega (arith, order c)) (omega (arith, long)) ∙ ap (λ ys. between a from handles' ++ ys) (between_parts handles' from to b (order c) last (omega (arith, long))) in
       rw (old, new, Cracks-apart c a from (omega (arith, order c, c.within)) (inl (omega arith)), Cracks-apart c to b within (inr (omega arith))) (IsPermutation-append_right (between a from handles) (between from to handles ++ between to b handles) (between from to handles' ++ between to b handles) (IsPermutation-append_left (between to b handles) (between from to handles) (between from to handles') (Cracks-own c)))
 
-  -- and in the whole column
+  -- and the whole column
   pub Cracks-whole : Cracks cells bound from to handles remembered handles' remembered' place → IsPermutation handles handles'
   Cracks-whole c =
       let around = Cracks-around c 0 (length handles) (omega arith) c.within (omega arith) in
@@ -165,7 +165,7 @@ module _ (cells : List (Cell Row)) (bound from to : ℕ) (handles : List Handle)
             ]);
       }
 
-  -- all rows of the stretch are remembered, and none is forgotten
+  -- all rows of the stretch are remembered, and all others that were remembered still are
   pub Cracks-remembers : Cracks cells bound from to handles remembered handles' remembered' place → Remembers cells handles remembered → Remembers cells handles' remembered'
   Cracks-remembers c r =
       let now = placed c in

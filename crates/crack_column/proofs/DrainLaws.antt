@@ -1,4 +1,4 @@
--- What the pulls of doomed rows leave of a piece, one after the other.
+-- A piece after the pulls of doomed rows, one after the other.
 use Rattle.std.proofs.Common.{nat_lt, nat_eq, ◌≡◌, ℕ, zero, suc, ◌+◌, ◌-◌, ◌<◌, ◌≤◌, true, cond, List, [], ◌∷◌, ◌++◌, length, get_or, set, take, drop, Option, refl, sym, ap, ◌∙◌, inl, inr, arith, length-set}
 use Rattle.std.specs.List.{between}
 use Rattle.std.proofs.lemmas.Bool.{cases_Bool, cases_lt, lt-ltb, le-ltb, and_parts, eqb-true, eq-eqb}
@@ -16,7 +16,7 @@ use Rattle.crack_column.specs.Inside.{DrainsOnce}
 
 -- one place turned back
 
--- a row that is put where a stretch ends isn't of it
+-- a row that is put after a stretch isn't in it
 between-set : (hs : List Handle) (start size : ℕ) (h : Handle) → take size (drop start (set hs (start + size) h)) ≡ take size (drop start hs)
 between-set hs start size h = ap (take size) (drop-set-add start hs size h) ∙ take-set-le size (drop start hs) size h (omega arith)
 
@@ -121,7 +121,7 @@ module _ (hs : List Handle) (start end : ℕ) (h : Handle) (order : start < end)
     pub taken-one : one_unless_last h (between start end hs) ≡ 1
     taken-one = ap (one_unless_last h) (between-last hs start end order within) ∙ rw (first, lt-ltb (i + 1) (length (front ++ z ∷ [])) (omega (arith, found.here.within, length_push front z))) refl
 
-  -- it is the last, or is nowhere
+  -- it is the last, or isn't there
   module _ (absent : IsAbsent front h) where
     behind : length front ≤ place_of h (front ++ z ∷ [])
     behind = elim (cases_lt (place_of h (front ++ z ∷ [])) (length front)) [

@@ -90,7 +90,7 @@ pub total-tags_of : (ls : List Label) (ps : List Payload) → length ps ≡ leng
 total-tags_of ls ps beside =
     ap (λ (qs : List Payload). total_by amount qs) (sym (payloads-tags_of ls ps beside)) ∙ total_by-map amount (λ (t : Tag). t.payload) (tags_of ls ps)
 
--- labels and payloads come in as tags do
+-- labels and payloads are put in as tags are
 pub shifted-tags_of : (ls : List Label) (ps : List Payload) (gap low : ℕ) (l : Label) (p : Payload) → length ps ≡ length ls → tags_of (set (set ls gap (get_or ls low no_label)) low l) (set (set ps gap (get_or ps low no_tag.payload)) low p) ≡ shifted (tags_of ls ps) gap low (tag_of l p)
 shifted-tags_of ls ps gap low l p beside =
     rw (set-tags_of (set ls gap (get_or ls low no_label)) (set ps gap (get_or ps low no_tag.payload)) low l p, set-tags_of ls ps gap (get_or ls low no_label) (get_or ps low no_tag.payload), get_or-tags_of ls ps low beside) refl
@@ -109,7 +109,7 @@ turned-tags_of ls ps gap upper place l p beside =
     rw (set-tags_of ls1 ps1 upper (get_or ls1 place no_label) (get_or ps1 place no_tag.payload), get_or-tags_of ls1 ps1 place beside1) refl in
     set-tags_of (set ls1 upper (get_or ls1 place no_label)) (set ps1 upper (get_or ps1 place no_tag.payload)) place l p ∙ ap (λ (ts : List Tag). set ts place (tag_of l p)) (second ∙ ap (λ (ts : List Tag). set ts upper (get_or ts place no_tag)) filled)
 
--- a vector, after a call had a part of it
+-- a vector, after a call borrowed a part of it
 pub part_put : {X : Type 0} (from to n : ℕ) (xs new : List X) → from ≤ to → to ≤ length xs → n ≡ length xs → length new ≡ to - from → take n ((take from xs ++ (new ++ post_of from (to - from) xs)) ++ drop (length (take from xs ++ (new ++ post_of from (to - from) xs))) xs) ≡ take from xs ++ new ++ drop to xs
 part_put from to n xs new order within whole long =
     let on : from + (to - from) ≡ to = omega arith in

@@ -1,4 +1,4 @@
--- How the tags of a stretch are read, divided and summed up, one after the other.
+-- How the tags of a stretch are read, divided and added up, one after the other.
 use Rattle.std.proofs.Common.{ℤ, ◌≡◌, ◌≢◌, ℕ, Option, None, Some, true, ◌+◌, ◌<◌, ◌≤◌, List, [], ◌∷◌, length, map, get_or, set, ◌⊎◌, refl, sym, ap, ◌∙◌, length-set, inl, inr, arith}
 use Rattle.std.specs.List.{All}
 use Rattle.std.proofs.Math.Seq.{map-set_same}
@@ -44,7 +44,7 @@ IsPartway-start bound ts first is = record {
   split = IsSplit-start bound ts;
 }
 
--- on which side of the bound a tag is, and where the tags at or above it begin once it is there
+-- the side of the bound on which a tag is, and where the tags at or above the bound begin once the tag is there
 abbrev pub Falls : ℕ → Tag → ℕ → ℕ → Type 0
 Falls bound t low low2 = ((t.key < bound) × (low2 ≡ low + 1)) ⊎ ((bound ≤ t.key) × (low2 ≡ low))
 
@@ -74,7 +74,7 @@ IsSplit-shifted bound ts t low gap low2 inside falls split =
       }
     ]
 
--- a tag that fills the gap itself, or comes in elsewhere and leaves the gap to the one that was there: the tags are the same
+-- a tag fills the gap, or takes another place, whose tag fills the gap: the tags are the same
 pub shifted-permutes : (ts : List Tag) (t : Tag) (low gap : ℕ) → low ≤ gap → gap < length ts → IsPermutation (set ts gap t) (shifted ts gap low t)
 shifted-permutes ts t low gap order inside =
     let filled : List Tag = set ts gap t in
@@ -88,7 +88,7 @@ shifted-permutes ts t low gap order inside =
           IsPermutation-swap filled (shifted ts gap low t) gap low (omega arith) (omega arith) (same ∙ swap_is filled gap low no_tag (omega arith) (omega arith))
     ]
 
--- the tag after the gap comes in, and the gap is where it was
+-- the tag after the gap is put in, and the gap is where it was
 pub IsPartway-step : (bound : ℕ) (ts ts1 : List Tag) (first next : Tag) (low gap low2 : ℕ) → gap + 1 < length ts1 → get_or ts1 (gap + 1) no_tag ≡ next → Falls bound next low low2 → IsPartway bound ts ts1 first low gap → IsPartway bound ts (shifted ts1 gap low next) first low2 (gap + 1)
 IsPartway-step bound ts ts1 first next low gap low2 inside is falls so_far =
     let whole : List Tag = set ts1 gap first in
@@ -110,7 +110,7 @@ IsPartway-step bound ts ts1 first next low gap low2 inside is falls so_far =
       split = IsSplit-shifted bound ts1 next low gap low2 (omega arith) falls so_far.split;
     }
 
--- once the gap is the last place, the first tag comes in
+-- once the gap is the last place, the first tag fills it
 pub permuted_all : (bound : ℕ) (ts ts' : List Tag) (first : Tag) (low gap : ℕ) → gap < length ts' → IsPartway bound ts ts' first low gap → IsPermutation ts (shifted ts' gap low first)
 permuted_all bound ts ts' first low gap inside so_far = IsPermutation-trans ts (set ts' gap first) (shifted ts' gap low first) so_far.kept (shifted-permutes ts' first low gap so_far.split.within inside)
 
@@ -194,18 +194,18 @@ IsLearned-known cells gs ts ts1 n i known so_far =
 pub learned_all : (cells : List (Cell Row)) (gs : List ℕ) (ts ts' : List Tag) (n i : ℕ) → length ts' ≤ i → IsLearned cells gs ts ts' n i → All (Read cells gs) ts'
 learned_all cells gs ts ts' n i past so_far = λ k d l. rw (get_or_default ts' k d no_tag l) (so_far.read k (omega arith) l)
 
--- if each row is known, each tag that knows its row bears it
+-- if each row is known, each tag has its row's key and payload
 pub all_read : (cells : List (Cell Row)) (gs : List ℕ) (ts : List Tag) → times unknown (map remembered_key ts) ≡ 0 → All (Knows cells gs) ts → All (Read cells gs) ts
 all_read cells gs ts none known = λ k d h. elim (known k d h) [
   | inl u ↦ absurd (omega (arith, none, times_map_at unknown remembered_key ts k d h u))
   | inr r ↦ r
 ]
 
--- what a tag bears adds to a sum
+-- what the payload in a tag adds to a sum
 abbrev pub amount_borne : Tag → ℤ
 amount_borne t = amount t.payload
 
--- what the tags bear comes to what their rows do
+-- the sum of the payloads in the tags is that of their rows
 pub sum_all : (cells : List (Cell Row)) (gs : List ℕ) (ts : List Tag) → All (Read cells gs) ts → total_by amount_borne ts ≡ total_by (λ t. amount_at cells (tag_handle gs t)) ts
 sum_all cells gs ts all = total_by-agree amount_borne (λ t. amount_at cells (tag_handle gs t)) ts (λ k d l. borne (read cells (tag_handle gs (get_or ts k d))) (get_or ts k d) (ap (λ (m : Memory). m.payload) (all k d l)))
   where

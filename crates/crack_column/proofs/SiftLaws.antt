@@ -1,4 +1,4 @@
--- Rows that are sifted through a piece stay the same rows, and what is sifted of tags is sifted of their handles.
+-- Rows that are sifted through a piece stay the same rows, and sifting tags sifts their handles.
 use Rattle.std.proofs.Common.{◌≡◌, ℕ, ◌+◌, ◌-◌, ◌<◌, ◌≤◌, cond, ltb, zero, suc, List, [], ◌∷◌, ◌++◌, length, map, get_or, take, drop, refl, sym, ap, ◌∙◌, inl, inr, arith}
 use borrow.Rule.Slice.PartMut.{post_of}
 use Rattle.std.specs.List.{All, between}
@@ -207,7 +207,7 @@ module _ (gs : List ℕ) (bound start from to : ℕ) (ts ts' : List Tag) (below 
             ]);
       }
 
-  -- over cells whose rows those that come in read
+  -- with cells whose rows the incoming handles read
   module _ (cells : List (Cell Row)) (read : between from to (remembered_in ts len) ≡ map (memory_at cells) (between from to (handles_in gs ts len))) where
     all_read : All (Read cells gs) came
     all_read = reads came (sym (stretch_of memory_of nothing ts len from to are.within end) ∙ read ∙ ap (map (memory_at cells)) (stretch_of (tag_handle gs) no_handle ts len from to are.within end))
@@ -242,7 +242,7 @@ module _ (gs : List ℕ) (bound start from to : ℕ) (ts ts' : List Tag) (below 
     pub moved-sifted : moved ≡ made_way (key_at cells) bound (between from to (handles_in gs ts len)) (between start from (handles_in gs ts len))
     moved-sifted = sifts.moved_is ∙ map-made_way (tag_handle gs) remembered_key (key_at cells) bound came stood same_keys ∙ rw (came_is, stood_is) refl
 
-    -- what is first of them now
+    -- the first of them now
     first_of : {X : Type 0} (f : Tag → X) (d : X) → between start (start + below) (map f (take len ts')) ≡ map f (below_bound remembered_key bound came)
     first_of {X = X} f d =
         let there = over_tags gs start to ts ts' 0 len are (omega arith) end reordered f d in

@@ -36,7 +36,7 @@ IsSifting-start bound tags from within = record {
 at_gap : (lower rows : List Tag) (x : Tag) (rest : List Tag) (gap : ℕ) → gap ≡ length lower + length rows → get_or (lower ++ (rows ++ x ∷ rest)) gap no_tag ≡ x
 at_gap lower rows x rest gap is = ap (λ ts. get_or ts gap no_tag) (sym (append_assoc lower rows (x ∷ rest))) ∙ get_or_at (lower ++ rows) x rest no_tag gap (omega (arith, is, length-append lower rows))
 
--- a tag below the bound comes in
+-- a tag below the bound is put in
 shifted-in : (lower rows : List Tag) (x : Tag) (rest : List Tag) (gap low : ℕ) → low ≡ length lower → gap ≡ length lower + length rows → shifted (lower ++ (rows ++ x ∷ rest)) gap low x ≡ (lower ++ x ∷ []) ++ (turned_once rows ++ rest)
 shifted-in lower [] x rest gap low low_is gap_is =
     let same : gap ≡ low = omega (arith, low_is, gap_is) in

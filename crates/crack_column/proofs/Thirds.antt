@@ -12,7 +12,7 @@ use Rattle.crack_column.specs.Keeps.{remembered_key}
 use Rattle.crack_column.specs.Inside.{no_tag, shifted, turned}
 use Rattle.crack_column.proofs.Passes.{shifted-permutes, IsSplit, IsSplit-start, IsPartway-start, Falls}
 
--- what is where after it
+-- the places of the tags after it
 record Turned (ts after : List Tag) (gap upper place : ℕ) (t : Tag) : Type 0 where
   pub long : length after ≡ length ts
   pub at_place : get_or after place no_tag ≡ t
@@ -72,7 +72,7 @@ split_above bound ts after p gap upper t at key high inside split = record {
   ];
 }
 
--- a tag that fills the gap itself, or comes in elsewhere: the tags are the same
+-- a tag fills the gap, or takes another place, whose tag fills the gap: the tags are the same
 turned-permutes : (ts : List Tag) (gap upper place : ℕ) (t : Tag) → place ≤ upper → upper ≤ gap → gap < length ts → IsPermutation (set ts gap t) (turned ts gap upper place t)
 turned-permutes ts gap upper place t low high inside =
     let filled : List Tag = set ts gap (get_or ts upper no_tag) in
@@ -110,7 +110,7 @@ pub record Belongs (low high : ℕ) (t : Tag) (middle upper place middle2 upper2
   pub which : ((t.key < low) × (place ≡ middle) × (middle2 ≡ middle + 1)) ⊎ ((low ≤ t.key) × (place ≡ upper) × (middle2 ≡ middle))
   pub falls : Falls high t upper upper2
 
--- what the code finds of a tag's key
+-- what the code computes from a tag's key
 pub Belongs-is : (low high : ℕ) (t : Tag) (middle upper : ℕ) → Belongs low high t middle upper (cond (ltb t.key low) middle upper) (middle + bool_byte (ltb t.key low)) (upper + bool_byte (ltb t.key high))
 Belongs-is low high t middle upper = record {
   which = elim (cases_lt t.key low) [
@@ -157,7 +157,7 @@ Divided-turned low high ts t middle upper gap place middle2 upper2 bounds inside
 pub Belongs-within : (low high : ℕ) (t : Tag) (middle upper place middle2 upper2 : ℕ) → middle ≤ upper → Belongs low high t middle upper place middle2 upper2 → place ≤ upper
 Belongs-within low high t middle upper place middle2 upper2 order belongs = elim belongs.which [ inl l ↦ omega (arith, l.1) | inr g ↦ omega (arith, g.1) ]
 
--- the tag after the gap comes in, and the gap is where it was
+-- the tag after the gap is put in, and the gap is where it was
 pub IsThirdway-step : (low high : ℕ) (ts ts1 : List Tag) (first next : Tag) (middle upper gap place middle2 upper2 : ℕ) → low ≤ high → gap + 1 < length ts1 → get_or ts1 (gap + 1) no_tag ≡ next → Belongs low high next middle upper place middle2 upper2 → IsThirdway low high ts ts1 first middle upper gap → IsThirdway low high ts (turned ts1 gap upper place next) first middle2 upper2 (gap + 1)
 IsThirdway-step low high ts ts1 first next middle upper gap place middle2 upper2 bounds inside is belongs so_far =
     let before : place ≤ upper = Belongs-within low high next middle upper place middle2 upper2 so_far.order belongs in
@@ -189,7 +189,7 @@ IsThirdway-step low high ts ts1 first next middle upper gap place middle2 upper2
       higher = divided.higher;
     }
 
--- once the gap is the last place, the first tag comes in: the tags are the same, and their keys are divided by both bounds
+-- once the gap is the last place, the first tag is put in: the tags are the same, and their keys are divided by both bounds
 pub record IsThirds (low high : ℕ) (tags after : List Tag) (middle upper : ℕ) : Type 0 where
   pub kept : IsPermutation tags after
   pub order : middle ≤ upper

@@ -21,7 +21,7 @@ use Rattle.crack_column.specs.Tickets.{memory_of, tag_handle, handles_in, rememb
 use Rattle.crack_column.specs.Keeps.{ticket_of, remembered_key, unread_in, AreDrawn}
 use Rattle.crack_column.specs.Inside.{no_tag, tag_for, Knows, Kept, Turns, forgotten}
 
--- two tags don't bear one ticket
+-- no two tags have the same ticket
 apart : (ts : List Tag) (i j : ℕ) → i < length ts → j < length ts → j ≢ i → times (get_or ts i no_tag).ticket (map ticket_of ts) ≤ 1 → (get_or ts j no_tag).ticket ≢ (get_or ts i no_tag).ticket
 apart ts i j here there ne most same =
     let n = (get_or ts i no_tag).ticket in
@@ -41,7 +41,7 @@ apart ts i j here there ne most same =
       ]
     ]
 
--- a ticket above all others is drawn by no tag
+-- no tag has a ticket above all others
 times_none : (ts : List Tag) (n : ℕ) → All (λ t. t.ticket < n) ts → times n (map ticket_of ts) ≡ 0
 times_none [] n all = times-nil n
 times_none (t ∷ ts) n all =
@@ -62,7 +62,7 @@ pub memory_in : (ts : List Tag) (len k : ℕ) (d : Memory) → len ≤ length ts
 memory_in ts len k d within inside =
     rw (get_or-map memory_of (take len ts) k no_tag d (omega (arith, length-take-le len ts within)), get_or-take len ts k no_tag inside) refl
 
--- no more tags don't know their rows than there are
+-- at most all tags don't know their rows
 pub unread-le : (ts : List Tag) (len : ℕ) → len ≤ length ts → unread_in (take len ts) ≤ len
 unread-le ts len within = omega (arith, times-le-length unknown (map remembered_key (take len ts)), length-map (take len ts) remembered_key, length-take-le len ts within)
 
@@ -175,7 +175,7 @@ module _ (gs : List ℕ) (ts : List Tag) (place : ℕ) (h : Handle) (m : Memory)
       let old : get_or ks place 0 ≡ known.key = get_or-map remembered_key (take len ts) place no_tag 0 (omega (arith, length-take-le len ts are.within)) ∙ ap remembered_key (get_or-take len ts place no_tag first) ∙ ap (λ (x : Memory). x.key) (sym kept.known_is) in
       rw (new, ← old) (times-set unknown ks place m.key 0 (omega arith))
 
-  -- the places before, where the row was put after them
+  -- the places before, if the row was put after them
   pub tags-before : len ≤ place → take len ts' ≡ take len ts
   tags-before behind = ap (λ (xs : List Tag). take len xs) kept.tags_are ∙ take-set-le len ts place (tag_for (get_or ts place no_tag).ticket h m) behind
 
@@ -200,7 +200,7 @@ module _ (gs : List ℕ) (ts : List Tag) (place : ℕ) (h : Handle) (m : Memory)
       let inside : from + k < length ts' = omega (arith, length-aside gs' ts' from) in
       rw (aside_at gs' ts' from k no_aside inside, aside_at gs ts from k no_aside (omega (arith, length-Kept))) (other_aside (from + k) (λ e. absurd (omega (arith, e))) (omega (arith, length-Kept))))
 
-  -- and where it was put first of these
+  -- and if it was put before all of these
   pub aside-kept : place ≡ len → aside_in gs' ts' len ≡ (record { handle = h; memory = m }) ∷ drop 1 (aside_in gs ts len)
   aside-kept is =
       let by_handle : Handle → Aside = λ x. record { handle = x; memory = memory_of (get_or ts' place no_tag) } in
@@ -481,7 +481,7 @@ Knows-Remembers cells gs ts len from to within end remembers = λ k d l.
     let know : Knows cells gs (get_or ts (from + k) no_tag) = rw (memory_in ts len (from + k) nothing within (omega arith), handle_in gs ts len (from + k) no_handle within (omega arith)) at (remembers.right (from + k) no_handle (omega (arith, length-in gs ts len within))) in
     rw (get_or-between ts from to k d inside, get_or_default ts (from + k) d no_tag (omega arith)) know
 
--- the tags of a stretch bear tickets that were drawn
+-- the tags of a stretch have tickets that were drawn
 pub drawn-between : (gs : List ℕ) (ts : List Tag) (from to : ℕ) → to ≤ length ts → All (λ t. t.ticket < length gs) ts → All (λ t. t.ticket < length gs) (between from to ts)
 drawn-between gs ts from to within all = λ k d l.
     let inside : from + k < to = omega (arith, length-between ts from to within) in

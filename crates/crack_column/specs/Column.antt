@@ -12,7 +12,7 @@ pub record Memory : Type 0 where
   pub key : ℕ
   pub payload : Payload
 
--- the row isn't known
+-- what is remembered of a row that isn't known
 abbrev pub nothing : Memory
 nothing = record { key = unknown; payload = no_payload }
 
@@ -37,6 +37,7 @@ pub record Column : Type 0 where
   pub room : ℕ
   pub aside : List Aside
 
+-- the default where no handle is aside
 abbrev pub no_aside : Aside
 no_aside = record { handle = no_handle; memory = record { key = 0; payload = no_payload } }
 
@@ -44,7 +45,7 @@ no_aside = record { handle = no_handle; memory = record { key = 0; payload = no_
 abbrev pub first_aside : Column → Aside
 first_aside c = slice_index_or c.aside 0 no_aside
 
--- what is at a place
+-- the handle at a place, and what is remembered about its row
 abbrev pub standing_at : ℕ → Column → Aside
 standing_at place c = record { handle = slice_index_or c.handles place no_handle; memory = slice_index_or c.remembered place nothing }
 
@@ -60,7 +61,7 @@ exchanged_aside place c = record c {
   aside = standing_at place c ∷ drop 1 c.aside;
 }
 
--- the handle aside becomes the last
+-- the handle aside is appended
 abbrev pub appended_aside : Column → Column
 appended_aside c = record {
   handles = c.handles ++ (first_aside c).handle ∷ [];
@@ -69,7 +70,7 @@ appended_aside c = record {
   aside = drop 1 c.aside;
 }
 
--- the last is set aside
+-- the last handle is set aside
 abbrev pub popped_aside : Column → Column
 popped_aside c = record {
   handles = take (length c.handles - 1) c.handles;
@@ -78,7 +79,7 @@ popped_aside c = record {
   aside = standing_at (length c.handles - 1) c ∷ c.aside;
 }
 
--- what stands at two places changes places
+-- the handles at two places are exchanged
 abbrev pub swapped : {X : Type 0} → X → ℕ → ℕ → List X → List X
 swapped d one other xs = slice_set (slice_set xs one (slice_index_or xs other d)) other (slice_index_or xs one d)
 
@@ -87,11 +88,11 @@ pub record Remembers (cells : List (Cell Row)) (handles : List Handle) (remember
   pub beside : length remembered ≡ length handles
   pub right : (k : ℕ) (d : Handle) → k < length handles → Agrees cells (slice_index_or handles k d) (slice_index_or remembered k nothing)
 
--- over whatever cells the first column remembers its rows rightly, the second does as well
+-- with any cells, if the first column remembers its rows correctly, so does the second
 abbrev pub StillRemembers : Column → Column → Type 0
 StillRemembers old new = (cells : List (Cell Row)) → Remembers cells old.handles old.remembered → Remembers cells new.handles new.remembered
 
--- and if this is also right of the handle's row
+-- and if this is also right about the handle's row
 abbrev pub StillRemembersWith : Handle → Memory → Column → Column → Type 0
 StillRemembersWith h m old new = (cells : List (Cell Row)) → Remembers cells old.handles old.remembered → Agrees cells h m → Remembers cells new.handles new.remembered
 

@@ -1,4 +1,4 @@
--- What pulls leave of a piece: each doomed row of a lower piece rotates it backwards, and each of its own is taken out.
+-- A piece after pulls: each doomed row of a lower piece rotates it backwards, and each doomed row of its own is removed.
 use Rattle.std.specs.Prelude.{◌≡◌, ℕ, ◌+◌, ◌-◌, Bool, true, cond, nat_lt, Option, Some, None, List, [], ◌∷◌, ◌++◌, length, take, drop, slice_index_or, slice_set}
 use Rattle.std.specs.List.{between, position_or_len}
 use Rattle.crack_arena.specs.Arena.{Handle, no_handle, same_handle}
@@ -15,7 +15,7 @@ turned_back rows = drop (length rows - 1) rows ++ take (length rows - 1) rows
 abbrev pub place_of : Handle → List Handle → ℕ
 place_of handle rows = position_or_len (λ h. same_handle h handle) rows
 
--- this row is taken out, and the last takes its place
+-- this row is removed, and the last takes its place
 abbrev pub without : Handle → List Handle → List Handle
 without handle rows = take (length rows - 1) (slice_set rows (place_of handle rows) (slice_index_or rows (length rows - 1) no_handle))
 
@@ -25,11 +25,11 @@ one_unless_last handle rows = cond (nat_lt (place_of handle rows + 1) (length ro
 
 -- `key` and handle of each doomed row
 module _ {D : Type 0} (key : D → ℕ) (handle : D → Handle) where
-  -- what the pull of a doomed row leaves of a piece that begins at this bound, and of which such doomed rows are that aren't of a lower one
+  -- a piece that begins at this bound after the pull of a doomed row; `own` says which doomed rows that aren't of a lower piece are of this one
   abbrev pub drained_once : ℕ → (D → Bool) → D → List Handle → List Handle
   drained_once low own d rows = cond (nat_lt (key d) low) (turned_back rows) (cond (own d) (without (handle d) rows) rows)
 
-  -- what the pulls of doomed rows leave of it, one after the other
+  -- the piece after the pulls of doomed rows, one after the other
   abbrev pub drained : ℕ → (D → Bool) → List D → List Handle → List Handle
   drained low own [] rows = rows
   drained low own (d ∷ ds) rows = drained low own ds (drained_once low own d rows)
@@ -38,6 +38,7 @@ module _ {D : Type 0} (key : D → ℕ) (handle : D → Handle) where
   abbrev pub drawn_once : ℕ → (D → Bool) → D → List Handle → ℕ
   drawn_once low own d rows = cond (nat_lt (key d) low) (one_if_some rows) (cond (own d) (one_unless_last (handle d) rows) 0)
 
+  -- how many rows the pulls of doomed rows pull, one after the other
   abbrev pub drawn : ℕ → (D → Bool) → List D → List Handle → ℕ
   drawn low own [] rows = 0
   drawn low own (d ∷ ds) rows = drawn_once low own d rows + drawn low own ds (drained_once low own d rows)
@@ -52,19 +53,20 @@ abbrev pub count_below : ℕ → List Doomed → ℕ
 count_below bound [] = 0
 count_below bound (d ∷ ds) = cond (nat_lt d.key bound) 1 0 + count_below bound ds
 
--- its key, and its handle
+-- the key of a doomed row
 abbrev pub doomed_key : Doomed → ℕ
 doomed_key d = d.key
 
+-- the handle of a doomed row
 abbrev pub doomed_handle : Doomed → Handle
 doomed_handle d = d.handle
 
--- what is left by the pulls of doomed rows of a piece whose keys lie between these bounds
+-- a piece whose keys lie between these bounds, after the pulls of doomed rows
 abbrev pub left_by : ℕ → Option InnerBound → List Doomed → List Handle → List Handle
 left_by low high ds rows = drained doomed_key doomed_handle low (λ d. is_under high d.key) ds rows
 
--- doomed rows were pulled out of the piece from `from` up to `to`: what they left of it is from `start` up to the place `end`, this many of its
--- rows were pulled, and what is before `start` and from `to` on is as it was
+-- doomed rows were pulled out of the piece from `from` up to `to`: the rest of it is from `start` up to `end`, this many of its rows were pulled, and
+-- the rows before `start` and from `to` on are as they were
 pub record Drains (low : ℕ) (high : Option InnerBound) (ds : List Doomed) (start from to : ℕ) (old new : Column) (end pulled : ℕ) : Type 0 where
   pub front : take start new.handles ≡ take start old.handles
   pub piece : between start end new.handles ≡ left_by low high ds (between from to old.handles)

@@ -19,7 +19,7 @@ use Rattle.crack_row.specs.declared.InnerBound.{InnerBound}
 abbrev pub Knows : List (Cell Row) → List ℕ → Tag → Type 0
 Knows cells generations t = Agrees cells (tag_handle generations t) (memory_of t)
 
--- the tag bears key and payload of its handle's row
+-- the tag has the key and the payload of its handle's row
 abbrev pub Read : List (Cell Row) → List ℕ → Tag → Type 0
 Read cells generations t = memory_of t ≡ memory_at cells (tag_handle generations t)
 
@@ -34,18 +34,18 @@ forgotten t = record t { key = unknown; payload = no_payload }
 abbrev pub no_tag : Tag
 no_tag = record { key = 0; ticket = 0; payload = no_payload; slot = 0 }
 
--- a tag comes in at the place `low`, and the one that was there fills the gap
+-- a tag is put at the place `low`, and the one that was there fills the gap
 abbrev pub shifted : List Tag → ℕ → ℕ → Tag → List Tag
 shifted ts gap low t = slice_set (slice_set ts gap (slice_index_or ts low no_tag)) low t
 
--- the tag at `upper` fills the gap, the one at `place` its place, and a tag comes in there
+-- the tag at `upper` fills the gap, the one at `place` takes the place of that one, and the new tag takes `place`
 abbrev pub turned : List Tag → ℕ → ℕ → ℕ → Tag → List Tag
 turned ts gap upper place t =
     let filled = slice_set ts gap (slice_index_or ts upper no_tag) in
     slice_set (slice_set filled upper (slice_index_or filled place no_tag)) place t
 
--- the handle is kept at the place now, under the ticket there, with what is remembered about its row; the one that was kept there
--- comes out, with what was remembered
+-- the handle is stored at the place, under the ticket there, with what is remembered about its row; the one that was stored there is returned, with
+-- what was remembered
 pub record Kept (generations : List ℕ) (tags : List Tag) (place : ℕ) (handle : Handle) (memory : Memory) (generations' : List ℕ) (tags' : List Tag) (out : Handle) (known : Memory) : Type 0 where
   pub generations_are : generations' ≡ slice_set generations (slice_index_or tags place no_tag).ticket handle.generation
   pub tags_are : tags' ≡ slice_set tags place (tag_for (slice_index_or tags place no_tag).ticket handle memory)
@@ -72,13 +72,13 @@ label_of t = record { key = t.key; ticket = t.ticket; slot = t.slot }
 abbrev pub label_handle : List ℕ → Label → Handle
 label_handle generations l = record { slot = l.slot; generation = slice_index generations l.ticket }
 
--- the tags from `from` up to `to` were sifted through those from `start` up to `from`: this many are below the bound, and this many made way
+-- the tags from `from` up to `to` were sifted through those from `start` up to `from`: this many are below the bound, and this many moved
 pub record SiftsTags (bound start from to : ℕ) (tags tags' : List Tag) (below moved : ℕ) : Type 0 where
   pub are : tags' ≡ take start tags ++ (below_bound remembered_key bound (between from to tags) ++ queued remembered_key bound (between from to tags) (between start from tags)) ++ drop to tags
   pub below_is : below ≡ length (below_bound remembered_key bound (between from to tags))
   pub moved_is : moved ≡ made_way remembered_key bound (between from to tags) (between start from tags)
 
--- the pull of one doomed row left this of the piece from `start` up to `end`, and pulled this many of its rows
+-- the piece from `start` up to `end` after the pull of one doomed row, which pulled this many of its rows
 pub record DrainsOnce (low : ℕ) (high : Option InnerBound) (d : Doomed) (start end : ℕ) (handles handles' : List Handle) (start' end' pulled : ℕ) : Type 0 where
   pub piece : between start' end' handles' ≡ drained_once doomed_key doomed_handle low (λ e. is_under high e.key) d (between start end handles)
   pub turned : start' + cond (nat_lt d.key low) 1 0 ≡ start

@@ -1,5 +1,5 @@
 -- What private clauses alone cite.
--- What a column keeps about its tickets.
+-- The invariant of a column about its tickets.
 use Rattle.std.specs.Prelude.{◌≡◌, ℕ, ◌+◌, ◌<◌, ◌≤◌, ◌^◌, List, length, map, take, All, [], ◌∷◌}
 use Rattle.crack_arena.specs.Arena.{times}
 use Rattle.crack_arena.specs.Rows.{unknown}
@@ -17,7 +17,7 @@ remembered_key t = t.key
 abbrev pub unread_in : List Tag → ℕ
 unread_in tags = times unknown (map remembered_key tags)
 
--- each ticket is drawn by one tag; those after the column's end keep theirs for a later row
+-- each ticket belongs to one tag; the tags after the column's end keep theirs for later rows
 pub record AreDrawn (generations : List ℕ) (tags : List Tag) (len : ℕ) : Type 0 where
   pub beside : length tags ≡ length generations
   pub within : len ≤ length tags
@@ -30,7 +30,7 @@ pub record IsKept (generations : List ℕ) (tags : List Tag) (len unread : ℕ) 
   pub are : AreDrawn generations tags len
   pub counted : unread_in (take len tags) ≡ unread
 
--- then each ticket is drawn by one tag, and this many tags of the column and the hand don't know their rows
+-- then each ticket belongs to one tag, and this many tags of the column and the hand don't know their rows
 pub record IsHeld (generations : List ℕ) (tags : List Tag) (len unread : ℕ) (hand : Tag) : Type 0 where
   pub are : AreDrawn generations (tags_with tags len hand) len
   pub some : len < length tags

@@ -1,4 +1,4 @@
--- What rows after a piece leave of it, if they are sifted through it one after the other.
+-- A piece after rows that come after it were sifted through it one after the other.
 use Rattle.std.specs.Prelude.{◌≡◌, ℕ, ◌+◌, cond, nat_lt, filter, List, [], ◌∷◌, ◌++◌, length, map, take, drop}
 use Rattle.std.specs.List.{between}
 use Rattle.crack_arena.specs.Arena.{Cell}
@@ -11,7 +11,7 @@ abbrev pub turned_once : {X : Type 0} → List X → List X
 turned_once [] = []
 turned_once (y ∷ ys) = ys ++ y ∷ []
 
--- 1 if there is one that makes way
+-- 1 if there is a row that moves
 abbrev pub one_if_some : {X : Type 0} → List X → ℕ
 one_if_some [] = 0
 one_if_some (y ∷ ys) = 1
@@ -21,23 +21,23 @@ module _ {X : Type 0} (key : X → ℕ) where
   abbrev pub below_bound : ℕ → List X → List X
   below_bound bound xs = filter (λ x. nat_lt (key x) bound) xs
 
-  -- what incoming rows leave of a piece that begins at this bound: one below the bound takes the place of the first, which goes after the
-  -- last; another goes after the last
+  -- a piece that begins at this bound after incoming rows: each below the bound takes the place of the first, which moves after the last; each other
+  -- moves after the last
   abbrev pub queued : ℕ → List X → List X → List X
   queued bound [] rows = rows
   queued bound (x ∷ xs) rows = queued bound xs (cond (nat_lt (key x) bound) (turned_once rows) (rows ++ x ∷ []))
 
-  -- how many rows of the piece make way
+  -- how many rows of the piece move
   abbrev pub made_way : ℕ → List X → List X → ℕ
   made_way bound [] rows = 0
   made_way bound (x ∷ xs) rows = cond (nat_lt (key x) bound) (one_if_some rows + made_way bound xs (turned_once rows)) (made_way bound xs (rows ++ x ∷ []))
 
--- what is remembered from `from` up to `to` is what the rows there read
+-- what is remembered from `from` up to `to` is what the handles there read
 abbrev pub AreRead : List (Cell Row) → ℕ → ℕ → Column → Type 0
 AreRead cells from to c = between from to c.remembered ≡ map (memory_at cells) (between from to c.handles)
 
 -- the rows from `from` up to `to` were sifted through those from `start` up to `from`: this many are below the bound, which are first, and are
--- remembered; after them is what they left, this many of which made way; all else is as it was
+-- remembered; after them is the piece, of which this many rows moved; all else is as it was
 pub record Sifts (cells : List (Cell Row)) (bound start from to : ℕ) (old new : Column) (below moved : ℕ) : Type 0 where
   pub handles_are : new.handles ≡ take start old.handles ++ (below_bound (key_at cells) bound (between from to old.handles) ++ queued (key_at cells) bound (between from to old.handles) (between start from old.handles)) ++ drop to old.handles
   pub below_is : below ≡ length (below_bound (key_at cells) bound (between from to old.handles))

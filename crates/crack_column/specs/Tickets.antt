@@ -1,4 +1,4 @@
--- How a column keeps its handles: the slot of each in the tag at its place, its generation under the ticket that the tag bears.
+-- How a column stores its handles: the slot of each in the tag at its place, its generation under the ticket of the tag.
 use Rattle.std.specs.Prelude.{ℕ, ◌+◌, ◌-◌, ◌^◌, List, map, take, drop, slice_index, min}
 use Rattle.crack_arena.specs.Arena.{Handle}
 use Rattle.crack_column.specs.declared.tag.Tag.{Tag}
@@ -20,11 +20,11 @@ handles_in generations tags len = map (tag_handle generations) (take len tags)
 abbrev pub remembered_in : List Tag → ℕ → List Memory
 remembered_in tags len = map memory_of (take len tags)
 
--- what is aside under a tag
+-- the handle aside with this tag, and what is remembered about its row
 abbrev pub aside_of : List ℕ → Tag → Aside
 aside_of generations t = record { handle = tag_handle generations t; memory = memory_of t }
 
--- what follows the column with this many places
+-- what follows a column with this many places
 abbrev pub aside_in : List ℕ → List Tag → ℕ → List Aside
 aside_in generations tags len = map (aside_of generations) (drop len tags)
 

@@ -24,8 +24,8 @@ use std::mem;
 
 /// Handles in cracked order. A crack exchanges tags, one at each place: a tag has its row's key and payload, the
 /// handle's slot, and the ticket under which the handle's generation is kept, which no crack moves. The payloads are
-/// stored separately, where a sum of known rows reads only them. A ticket has 32 bits, so there are at most
-/// `MOST_PLACES` places. The arena is asked for a row at most once; only one with the greatest key is asked for again.
+/// stored separately, so that a sum of known rows reads only them. A ticket has 32 bits, so there are at most
+/// `MOST_PLACES` places. A row is read from the arena at most once, unless it has the greatest key.
 #[derive(Drop)]
 pub struct CrackerColumn {
     /// By ticket.
@@ -111,7 +111,7 @@ impl CrackerColumn {
         self.tags.label(place).slot
     }
 
-    /// The first place where the handle is; none if it is nowhere. O(n).
+    /// The first place of the handle; none if it isn't there. O(n).
     pub fn place_of(&self, handle: Handle<Row>) -> Option<usize>
         ensures { MatchOption result (IsAbsent self.now.handles handle) (IsFirstAt self.now.handles handle) }
     {
@@ -119,8 +119,7 @@ impl CrackerColumn {
             .find_between(0, self.len, &self.generations, handle)
     }
 
-    /// The first place in `from..to` where the handle is; none if it is at none of
-    /// them. O(to - from).
+    /// The first place of the handle in `from..to`; none if it isn't there. O(to - from).
     pub fn place_between(&self, from: usize, to: usize, handle: Handle<Row>) -> Option<usize>
         requires order { from ≤ to }
         requires within { to ≤ length self.now.handles }
@@ -135,7 +134,7 @@ impl CrackerColumn {
     }
 
     /// The sum of the payloads of the rows at the places `from..to`. O(to - from), takes no memory.
-    /// The arena is asked for a row only if the row isn't known.
+    /// The arena is read only for rows that aren't known.
     pub fn sum_between(&self, from: usize, to: usize, arena: &Arena<Row>) -> i128
         requires order { from ≤ to }
         requires within { to ≤ length self.now.handles }
@@ -354,7 +353,7 @@ impl CrackerColumn {
         self.tags.get(self.len).remembered()
     }
 
-    /// The key of the row at the place. O(1); its cell is read only where the row isn't known.
+    /// The key of the row at the place. O(1); its cell is read only if the row isn't known.
     #[inline]
     pub fn key_at(&self, place: usize, arena: &Arena<Row>) -> Key
         requires within { place < length self.now.handles }
@@ -434,10 +433,9 @@ impl CrackerColumn {
     }
 
     /// Sifts the rows at the places `from..to`, one after the other, through the piece before them, which begins at the
-    /// place `start`: one below the bound changes places with the first of the piece, and the others stay after its
-    /// last. Then those below the bound are first. Returns how many they are, and how many rows of the piece made way.
-    /// The rows that are sifted are known. In place, without memory. O(to - from); reads no other row, and the arena
-    /// not at all.
+    /// place `start`: one below the bound is exchanged with the first of the piece, and the others stay after its last.
+    /// Then those below the bound are first. Returns how many they are, and how many rows of the piece moved. The rows
+    /// that are sifted are known. In place, without memory. O(to - from); reads no other row, and not the arena.
     pub fn sift(
         &mut self,
         start: usize,

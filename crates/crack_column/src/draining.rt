@@ -18,11 +18,11 @@ pub struct Doomed {
 
 impl CrackerColumn {
     /// Pulls doomed rows out of the piece at the places `from..to`, one after the other, as far as their pulls reach
-    /// it: one below its bound `low` puts its last row before its first, into the gap of this many places that the rows
-    /// taken out of the pieces below have left; one of its own makes place for its last row. It begins where the gap
-    /// began then, and where it ends the rows taken out follow. Returns where it ends, and how many of its rows were
-    /// pulled. In place, without memory. O(doomed rows), and O(to - from) for each of its own; reads no row, and the
-    /// arena not at all.
+    /// it. A doomed row below its bound `low` moves its last row before its first, into the gap of this many places
+    /// that the pieces below have left; a doomed row of its own is replaced by its last row. Afterwards the piece
+    /// begins where the gap began, and the rows pulled out of it follow its end. Returns where it ends, and how many of
+    /// its rows were pulled. In place, without memory. O(doomed rows), and O(to - from) for each of its own; reads
+    /// neither rows nor the arena.
     pub fn drain(
         &mut self,
         gap: usize,
@@ -55,8 +55,8 @@ impl CrackerColumn {
         (end, pulled)
     }
 
-    /// One pull of them, for a piece that begins at the place `start` and ends before `end`, with a gap from `first` up
-    /// to it. Returns where it begins and ends then, and how many of its rows were pulled.
+    /// One of these pulls, for a piece at the places `start..end`, with a gap from `first` up to it. Returns where the
+    /// piece begins and ends afterwards, and how many of its rows were pulled.
     fn drain_once(
         &mut self,
         first: usize,

@@ -8,8 +8,8 @@ use crate::tag::Tag;
 use crate::tags::Tags;
 use std::marker::Model;
 
-/// A column whose row aside is in hand, for a walk on which it takes place after place: an exchange reads and writes
-/// only the place. Contracts see the column.
+/// A column whose row aside is in hand, for a walk on which it is exchanged at place after place: an exchange reads and
+/// writes only the place. Contracts see the column.
 #[derive(Drop)]
 pub struct HeldColumn {
     generations: Vec<u64>,

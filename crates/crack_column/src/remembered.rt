@@ -8,7 +8,7 @@ use crack_arena::{Arena, Handle, key_of};
 use crack_row::{Bound, GREATEST_KEY, Key, KeyNumber, Payload, Row};
 use std::marker::Model;
 
-/// Stands for a key that isn't remembered.
+/// The value for a key that isn't remembered.
 pub(crate) const UNKNOWN: KeyNumber = GREATEST_KEY;
 
 /// The key and the payload of a row, or that the row isn't known.
@@ -49,7 +49,7 @@ impl Remembered {
         }
     }
 
-    /// The key of the handle's row; the arena is asked for it only if the row isn't known. O(1).
+    /// The key of the handle's row; it is read from the arena only if the row isn't known. O(1).
     pub fn key_of(&self, handle: Handle<Row>, arena: &Arena<Row>) -> Key
         requires { Agrees arena.now.cells handle self.now }
         ensures { result.0 ≡ key_at arena.now.cells handle }
@@ -79,7 +79,7 @@ impl Remembered {
         }
     }
 
-    /// What is to be remembered about the handle's row; the arena is asked for it only if the row isn't known. O(1).
+    /// What is to be remembered about the handle's row; it is read from the arena only if the row isn't known. O(1).
     pub fn or_read(self, arena: &Arena<Row>, handle: Handle<Row>) -> Remembered
         requires { Agrees arena.now.cells handle self }
         ensures { result ≡ memory_at arena.now.cells handle }

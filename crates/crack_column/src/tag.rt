@@ -1,4 +1,4 @@
-//! The tags of a cracker column, one at each place: what a crack and a sum read, and what a crack exchanges. A tag is
+//! The tags of a cracker column, one at each place: cracks and sums read them, and cracks exchange them. A tag is
 //! stored as its label and its payload, in two lists, so that a sum of known rows reads only payloads.
 ghost use Rattle.std.specs.Prelude.{◌≡◌, ◌+◌, ◌<◌, ◌≤◌, ◌^◌, All, [], ◌∷◌, MatchOption, length, map, take, drop, ◌++◌};
 ghost use Rattle.std.specs.Prelude.{cond, pos, neg_ℤ, ◌≤ℤ◌, ◌*◌};
@@ -96,7 +96,7 @@ impl Tag {
         self.remembered().unread()
     }
 
-    /// The key of the row. The arena is asked for it if the row isn't known.
+    /// The key of the row. It is read from the arena if the row isn't known.
     pub(crate) fn key(&self, generations: &[u64], arena: &Arena<Row>) -> Key
         requires drawn { self.now.ticket < length generations.now }
         requires known { Knows arena.now.cells generations.now self.now }
@@ -108,7 +108,7 @@ impl Tag {
         Key::from_number(self.key)
     }
 
-    /// What the row adds to a sum. The arena is asked for it if the row isn't known.
+    /// What the row adds to a sum. It is read from the arena if the row isn't known.
     fn amount(&self, generations: &[u64], arena: &Arena<Row>) -> i128
         requires drawn { self.now.ticket < length generations.now }
         requires known { Knows arena.now.cells generations.now self.now }
@@ -238,9 +238,9 @@ fn divide(labels: &mut [Label], payloads: &mut [Payload], bound: KeyNumber) -> u
     low + (first.key < bound) as usize
 }
 
-/// Sifts the tags from the place `from` on through those before it: each below the bound changes places with the first
-/// that isn't, as long as one is left. Returns how many are below the bound, which are then first, and how many made
-/// way. O(tags from there on).
+/// Sifts the tags from the place `from` on through those before it: each below the bound is exchanged with the first
+/// that isn't, as long as one is left. Returns how many are below the bound, which are then first, and how many moved.
+/// O(tags from there on).
 pub(crate) fn sift(
     labels: &mut [Label],
     payloads: &mut [Payload],
@@ -356,7 +356,8 @@ fn turn(
     payloads[place] = payload;
 }
 
-/// Where a key goes that is below the low bound or not: to the front of the middle keys, or to that of the upper ones.
+/// Where a key goes: to the front of the middle keys if it is below the high bound, else to the front of the upper
+/// ones.
 fn place_of(is_low: bool, middle: usize, upper: usize) -> usize
     ensures { result ≡ cond is_low middle upper }
 {

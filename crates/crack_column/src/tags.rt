@@ -180,7 +180,7 @@ impl Tags {
     }
 
     /// Sifts the tags at the places `from..to` through those before them from the place `start` on.
-    /// Returns how many are below the bound, and how many made way.
+    /// Returns how many are below the bound, and how many moved.
     pub(crate) fn sift_between(
         &mut self,
         start: usize,

@@ -47,7 +47,7 @@ fn bound_of(rt: &impl Abort, number: KeyNumber) -> InnerBound
         .expect(rt, "a bound between two keys")
 }
 
-/// Cracks a stretch of the column. Returns where its bound then is.
+/// Cracks a stretch of the column. Returns the place of the bound.
 fn crack(
     rt: &impl Abort,
     arena: &Arena<Row>,
@@ -216,7 +216,7 @@ fn fill_five(
     Ok(())
 }
 
-/// Cracks a stretch of the column in three. Returns where both bounds then are.
+/// Cracks a stretch of the column in three. Returns the places of both bounds.
 fn crack_in_three(
     rt: &impl Abort,
     arena: &Arena<Row>,
@@ -360,7 +360,7 @@ fn slot_at(rt: &impl Abort, column: &CrackerColumn, place: usize) -> u32 {
     column.slot_at(place)
 }
 
-/// Where a handle is in the second of two places.
+/// The place of a handle that is at the second of two places.
 fn place_in_second(rt: &impl Abort, column: &CrackerColumn, handle: Handle<Row>) -> Option<usize> {
     let len = column.len();
     assert!(rt; len == 2);
@@ -398,7 +398,7 @@ fn sums_are_of_remembered_payloads(rt: HostRuntime) -> Result<(), Fail> {
     told
 }
 
-/// Sets a third row aside of two, and lets it change places with the first, which is then appended and taken out again.
+/// Sets a third row of three aside, and exchanges it with the first, which is then appended and taken out again.
 fn go_aside(rt: &impl Abort, arena: &mut Arena<Row>, column: &mut CrackerColumn) -> Result<(), Fail>
     requires remembered { (cells : List (Cell RowValue)) → Remembers cells column.old.handles column.old.remembered }
 {
@@ -434,7 +434,7 @@ fn a_row_aside_changes_places(rt: HostRuntime) -> Result<(), Fail> {
     told
 }
 
-/// Takes a third row of three in hand, lets it change places with both others, and drops it.
+/// Takes the third row of three in hand, exchanges it with both others, and drops it.
 fn go_in_hand(
     rt: &impl Abort,
     arena: &mut Arena<Row>,

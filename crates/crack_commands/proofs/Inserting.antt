@@ -14,7 +14,7 @@ use Rattle.crack_commands.specs.declared.statement.Statement.TheVariants.{Insert
 use Rattle.crack_commands.proofs.Numbers.{digits_printed, number_of_digits}
 use Rattle.crack_commands.proofs.Splitting.{is_word_some, words_end, words_front, said}
 
--- what is above a space is none, and no control character
+-- a byte above a space is no space, and no control character
 printed_no_space : (xs : List ℕ) → list_all (ltb 32) xs ≡ true → (has_space xs ≡ false) × (list_all (leb 32) xs ≡ true)
 printed_no_space [] h = (refl, refl)
 printed_no_space (b ∷ bs) h =

@@ -113,7 +113,7 @@ whole_by : (word : List ℕ) (is_negative : Bool) → has_sign word ≡ is_negat
 whole_by word true sign = rw sign refl
 whole_by word false sign = rw sign refl
 
--- a word that is a number but for its sign
+-- a word that is a number except for its sign
 whole_is : (word : List ℕ) (is_negative : Bool) (n : ℕ) → has_sign word ≡ is_negative → number_of (cond is_negative (drop 1 word) word) ≡ Some n → whole_number_of word ≡ Some (signed is_negative n)
 whole_is word is_negative n sign is = whole_by word is_negative sign ∙ ap (option_map (signed is_negative)) is
 

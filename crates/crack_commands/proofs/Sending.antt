@@ -23,7 +23,7 @@ take_on m n xs =
     let back : drop m (take (m + n) xs) ≡ take n (drop m xs) = drop-take m n xs in
     sym whole ∙ ap (λ z. z ++ drop m (take (m + n) xs)) front ∙ ap (λ z. take m xs ++ z) back
 
--- what holds holds in each case
+-- a property that holds in each case holds
 pub on_err : {T E : Type 0} (r : Result T E) {P : Type 0} → P → IfErr r (λ _. P)
 on_err (Ok x) p = tt
 on_err (Err e) p = p

@@ -66,7 +66,7 @@ nothing_left (x ∷ xs) n within empty front space =
     let first : 0 < length (x ∷ xs) = omega arith in
     absurd (front (subst (λ (m : ℕ). get_or (x ∷ xs) m 0 ≡ 32) none (space (omega (arith, none, first)))))
 
--- what was split off is the first word
+-- the part that was split off is the first word
 pub first_word : (bytes xs : List ℕ) (n : ℕ) → words xs ≡ words bytes → (get_or xs 0 0 ≡ 32 → ⊥) → n ≤ length xs → has_space (take n xs) ≡ false → (n < length xs → get_or xs n 0 ≡ 32) → IsFirstWord bytes (take n xs) (drop n xs)
 first_word bytes xs n same front within none space = record {
   some = λ some. ⊎_elim
@@ -110,7 +110,7 @@ pub others_are : (bytes word rest : List ℕ) → IsFirstWord bytes word rest �
 others_are bytes [] rest first = rw ((first.none refl).0, (first.none refl).1) refl
 others_are bytes (b ∷ bs) rest first = rw (first.some refl) refl
 
--- what words say
+-- the meaning of words
 pub said : (line name : List ℕ) (rest : List (List ℕ)) → words line ≡ name ∷ rest → statement_of line ≡ named name rest
 unfolding statement_of
 said line name rest are = rw are refl

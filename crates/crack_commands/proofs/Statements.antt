@@ -1,4 +1,4 @@
--- What statements over ranges say.
+-- The meaning of statements over ranges.
 use Rattle.std.proofs.Common.{◌≡◌, ℕ, Bool, true, false, cond, Option, Some, None, Result, Ok, Err, refl}
 use Rattle.crack_row.specs.Ranges.{Range}
 use Rattle.crack_row.specs.declared.refusal.Refusal.{Refusal}

@@ -20,7 +20,7 @@ use Rattle.crack_commands.specs.declared.statement.Statement.TheVariants.{Insert
 abbrev pub Reading : Type 0
 Reading = Result Statement Refusal
 
--- whether it is a word: it has a byte
+-- whether it is a word, which has a byte
 abbrev pub is_word : List ℕ → Bool
 is_word [] = false
 is_word (b ∷ bs) = true
@@ -75,7 +75,7 @@ row_number_of word =
     let serial = number_up_to GREATEST_SERIAL (after_first (λ b. b == 46) word) in
     option_map (λ n. record { part = n.0; serial = record { 0 = n.1 } }) (option_zip part serial)
 
--- the only word; no bytes, which are neither number nor name, if there is none or several
+-- the only word; if there is none or several, no bytes, which are neither a number nor a name
 abbrev pub only_word : List (List ℕ) → List ℕ
 only_word (word ∷ []) = word
 only_word _ = []
@@ -89,7 +89,7 @@ policy_named name =
 abbrev pub made : {A : Type 0} → (A → Statement) → Option A → Reading
 made statement arguments = ok_or (option_map statement arguments) BadStatement
 
--- a statement over the range between two numbers, which alone may be wrong
+-- a statement over the range between two numbers, refused if these aren't the ends of a range
 abbrev pub over : (Range → Statement) → Option (ℕ × ℕ) → Reading
 over statement (Some (low, high)) = if nat_le low high && nat_le high GREATEST_BOUND then Ok (statement (record { low = low; high = high })) else Err BadRange
 over statement None = Err BadStatement
@@ -109,6 +109,6 @@ named name arguments =
     else if bytes_eq name (codes "quit") && length arguments == 0 then Ok Quit
     else Err BadStatement
 
--- the meaning of a line: the first of its words is a name, and the others are its arguments
+-- the meaning of a line: its first word is a name, and the others are the arguments
 unfoldable pub statement_of : List ℕ → Reading
 statement_of line = named (slice_index_or (words line) 0 []) (drop 1 (words line))

@@ -23,16 +23,16 @@ abbrev pub has_space : List ℕ → Bool
 has_space [] = false
 has_space (b ∷ bs) = b == 32 || has_space bs
 
--- the first of the words, and what follows it: an empty word if there is none
+-- the first word, and what follows it; an empty word if there is none
 pub record IsFirstWord (bytes word rest : List ℕ) : Type 0 where
   pub some : is_word word ≡ true → words bytes ≡ word ∷ words rest
   pub none : is_word word ≡ false → (words bytes ≡ []) × (words rest ≡ [])
 
--- the number that the first of the words is, if it is one, and what follows that word
+-- the number that the first word is, if it is one, and what follows the word
 abbrev pub IsFirstNumber : List ℕ → Option ℕ → List ℕ → Type 0
 IsFirstNumber bytes number rest = (word : List ℕ) × IsFirstWord bytes word rest × (number ≡ number_of word)
 
--- the integer that the first of the words is, if it is one, and what follows that word
+-- the integer that the first word is, if it is one, and what follows the word
 abbrev pub IsFirstWholeNumber : List ℕ → Option ℤ → List ℕ → Type 0
 IsFirstWholeNumber bytes number rest = (word : List ℕ) × IsFirstWord bytes word rest × (number ≡ whole_number_of word)
 
@@ -113,7 +113,7 @@ update_from row pair = made (λ u. Update u.0 u.1.0 u.1.1) (option_zip row pair)
 abbrev pub update_of : List (List ℕ) → Reading
 update_of arguments = made (λ u. Update u.0 u.1.0 u.1.1) (option_zip (row_number_of (slice_index_or arguments 0 [])) (key_and_payload (drop 1 arguments)))
 
--- the range between these ends, which alone are refused as a bad range
+-- the range between these ends; only these may be refused as a bad range
 abbrev pub range_from : Option (ℕ × ℕ) → Result Range Refusal
 range_from (Some (low, high)) = if nat_le low high && nat_le high GREATEST_BOUND then Ok (record { low = low; high = high }) else Err BadRange
 range_from None = Err BadStatement

@@ -87,7 +87,7 @@ policy_text Auto = codes "policy auto\n"
 abbrev pub field_text : ℕ → List ℕ
 field_text number = codes " " ++ decimal number
 
--- the numbers below a count whose bits are set, rising
+-- the numbers below a count whose bits are set, in rising order
 unfoldable pub bits_text : ℕ → ℕ → List ℕ
 bits_text bits count = flat_map field_text (filter (λ number. bit_at bits number == 1) (range_with_len 0 count))
 

@@ -1,4 +1,4 @@
-//! An insert at the front of bytes whose first line end isn't known yet.
+//! An insert at the front of bytes, read before the end of the line is found.
 ghost use Rattle.std.specs.Prelude.{◌≡◌, ◌<◌, ◌≤◌, true, length, take, slice_index, IfSome};
 ghost use Rattle.std.specs.List.{list_all};
 ghost use Rattle.crack_commands.specs.Grammar.{is_digit};
@@ -20,9 +20,9 @@ pub struct LeadingInsert {
     pub len: usize,
 }
 
-/// The insert that bytes begin with, up to a line feed, if it is written without needless spaces, and its
-/// numbers are short, as most inserts are. The end of the line isn't searched for first. None says nothing of what the
-/// bytes begin with. O(bytes of the line), no memory.
+/// The insert that bytes begin with, up to a line feed, if it is written without needless spaces, and its numbers are
+/// short, as most inserts are. The end of the line isn't searched for first. None doesn't mean that there is no insert.
+/// O(bytes of the line), no memory.
 #[inline(always)]
 pub fn leading_insert(bytes: &[u8]) -> Option<LeadingInsert>
     ensures { IfSome result (λ i. BeginsWithInsert bytes.now i.len i.key i.payload) }

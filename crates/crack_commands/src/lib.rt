@@ -1,4 +1,4 @@
-//! The statement language and its texts: a line to a statement, a reply or a layout to lines.
+//! The statement language and its texts: from a line to a statement, and from a reply or a layout to lines.
 #![tactic(auto)]
 
 mod leading;

@@ -1,4 +1,4 @@
-//! Bytes to a writer.
+//! Writing bytes.
 ghost use Rattle.crack_commands.specs.Texts.{Writes};
 
 use crack_row::{Refusal, Watched};

@@ -10,7 +10,7 @@ use crate::words::{
 };
 use crack_row::{Key, KeyRange, Payload, Policy, Refusal, RowNo};
 
-/// A question or a request of a line.
+/// The statement of a line.
 #[derive(Clone, Copy, Debug)]
 pub enum Statement {
     /// Insert a row.
@@ -26,19 +26,19 @@ pub enum Statement {
         key: Key,
         payload: Payload,
     },
-    /// How many rows have their key in a range.
+    /// Count the rows of a range.
     Count(KeyRange),
-    /// The sum of the payloads of these rows.
+    /// Add up the payloads of the rows of a range.
     Sum(KeyRange),
-    /// These rows.
+    /// List the rows of a range.
     Select(KeyRange),
-    /// The layout of a partition.
+    /// Report the layout of a partition.
     Layout(u32),
     /// Make a checkpoint of a partition.
     Checkpoint(u32),
-    /// How pending rows are merged from now on.
+    /// Change how pending rows are merged from now on.
     Policy(Policy),
-    /// The end of the session.
+    /// End the session.
     Quit,
 }
 

@@ -1,4 +1,4 @@
-//! The texts of replies, layouts and refusals, to a writer.
+//! Writing the texts of replies, layouts and refusals.
 ghost use Rattle.std.specs.Prelude.{◌≡◌, ◌+◌, ◌<◌, ◌≤◌, ◌++◌, length, decimal, codes};
 ghost use Rattle.std.specs.List.{flat_map};
 ghost use Rattle.std.specs.Fmt.{signed_decimal};
@@ -286,8 +286,8 @@ fn write_refused<W: Write>(
     send(writer, text.as_slice())
 }
 
-/// Writes the line of a refusal that carries the numbers of missing workers, one number at a time: all of them exceed a
-/// text.
+/// Writes the line of a refusal that carries the numbers of missing workers, one number at a time, since all of them
+/// don't fit into a text.
 fn write_missing<W: Write>(code: u32, missing: u64, writer: &mut Watched<W>) -> Result<(), Refusal>
     ensures { Writes W.contents (refused_text code (bits_text missing 64)) result writer.old writer.new }
 {

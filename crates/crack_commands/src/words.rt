@@ -18,7 +18,7 @@ pub const MOST_DIGITS: usize = 20;
 /// This many digits fit 64 bits, whatever they are.
 pub(crate) const SHORT_DIGITS: usize = 19;
 
-/// This many digits are read at once if a number has as many.
+/// The number of digits that are read at once, if there are as many.
 const BLOCK_DIGITS: usize = 8;
 
 /// The greatest number by which a statement names a partition.
@@ -27,7 +27,7 @@ pub const GREATEST_PART: u32 = 4294967295;
 /// The greatest number by which a statement names a row of a partition.
 pub const GREATEST_SERIAL: u64 = 18446744073709551615;
 
-/// The key and the payload, if there are exactly two words, which are a key and a payload.
+/// The key and the payload that two words are, if there are exactly two such words.
 #[inline(always)]
 pub fn key_and_payload(bytes: &[u8]) -> Option<(Key, Payload)>
     ensures { result ≡ key_and_payload (words bytes.now) }
@@ -40,8 +40,7 @@ pub fn key_and_payload(bytes: &[u8]) -> Option<(Key, Payload)>
     any_key_and_payload(bytes)
 }
 
-/// A number and an integer, if there are exactly two words, these, 64 bits are enough for each, and no space comes
-/// after them.
+/// A number and an integer, if these are exactly two words, 64 bits are enough for each, and no space is after them.
 #[inline(always)]
 fn two_short_words(bytes: &[u8]) -> Option<(u64, i128)>
     ensures { IfSome result (λ pair. key_and_payload (words bytes.now) ≡ row_from pair.0 pair.1) }

@@ -26,7 +26,7 @@ use Rattle.crack_core.specs.Steps.{bounds_of, reply_unless, MayLackCell, IsOutco
 use Rattle.crack_core.specs.Inside.{is_full}
 use Rattle.crack_core.specs.Asking.{lasting_bounds, lasting, lasting_after, Asks, AsksInTurn, replies, refuses, asking, counted, summed}
 
--- a table that was just checkpointed
+-- a table right after a checkpoint
 abbrev folded_table : PlainState → ℕ → PlainView
 folded_table s accepted = record { state = s; folded = accepted; since = 0 }
 
@@ -79,7 +79,7 @@ get-folded (t ∷ tables) (suc part) = get-folded tables part
 abbrev refused_with : Refusal → Result Reply Refusal
 refused_with e = Err e
 
--- what is expected, by what is tested in turn
+-- the expected answer, by the tests in turn
 abbrev by_tests : Bool → Bool → Bool → ℕ → Reply → Result Reply Refusal
 by_tests is_own is_full is_over limit said = reply_unless (if is_own then option_or (if is_full then Some (HistoryFull limit) else (if is_over then Some LifeOver else None)) None else Some KeyOutside) said
 
@@ -136,7 +136,7 @@ asked-folded limits splits tables between new part count command r some fold out
       leaves = ap lasting left ∙ after-lasting limits between part command r ∙ ap (λ (ts : List PlainView). lasting_after ts part command r) same;
     }
 
--- what no full history refused, and what one did
+-- a command that no full history refused, and one that a full history refused
 pub not-full-is : (r : Result Reply Refusal) (limit : ℕ) → is_full r ≡ false → r ≡ Err (HistoryFull limit) → ⊥
 not-full-is r limit not is = true≢false (sym (ap is_full is) ∙ not)
 
@@ -153,7 +153,7 @@ short false full_now over limit said Lacks Lacks' r full comes = elim comes [
 short true full_now false limit said Lacks Lacks' r full comes = inl (inr (refl, inl refl))
 short true full_now true limit said Lacks Lacks' r full comes = inr (refl, refl)
 
--- what the outcome is then
+-- the outcome then
 abbrev Shortly : Limits → Range → Option PlainView → Command → Result Reply Refusal → Type 0
 Shortly limits keys table command r = IsOutcome (lasting_bounds limits) keys table command r ⊎ ((r ≡ Err OutOfMemory) × (expected (lasting_bounds limits) keys table command ≡ Err LifeOver))
 
@@ -226,7 +226,7 @@ AsksInTurn-stops {limits} {splits} query old parts i part command said e between
     let whole : take i parts ++ part ∷ drop (i + 1) parts ≡ parts = ap (λ (p : ℕ × Range). take i parts ++ p ∷ drop (i + 1) parts) is ∙ ap (λ (r : List (ℕ × Range)). take i parts ++ r) (sym (drop_more parts i part below)) ∙ take-append-drop i parts in
     subst (λ (ps : List (ℕ × Range)). AsksInTurn limits splits query old ps (Err e) new) whole (refuses (take i parts) part (drop (i + 1) parts) said e between new so_far (rw asked at asks))
 
--- what a small reply counts
+-- the count of a small reply
 pub counted-small : (r : Reply) → IsSmall r → counted r ≤ 4294967295
 counted-small (Placed serial) small = omega arith
 counted-small (Gone row) small = omega arith
@@ -236,7 +236,7 @@ counted-small (Counted count) small = omega (arith, small)
 counted-small (Summed sum) small = omega arith
 counted-small (Rows rows) small = omega arith
 
--- and what it sums up
+-- and its sum
 pub summed-small : (r : Reply) → IsSmall r → (neg_ℤ (pos (2 ^ 96)) ≤ℤ summed r) × (summed r ≤ℤ pos (2 ^ 96))
 summed-small (Placed serial) small = (omega (arith, ints), omega (arith, ints))
 summed-small (Gone row) small = (omega (arith, ints), omega (arith, ints))

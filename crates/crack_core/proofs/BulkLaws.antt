@@ -13,7 +13,7 @@ use Rattle.crack_plain.specs.Plain.{PlainView}
 use Rattle.crack_core.specs.Asking.{Inserts, Deletes, Updates}
 use Rattle.crack_core.specs.Bulk.{Call, Answered, none, one_more, Went, whole, stopped, flag, key_at, payload_at, row_at, InsertsAt, DeletesAt, UpdatesAt, CountsAt, SumsAt, CountsKeys, SumsKeys, joined}
 
--- what was answered of a list stays so where each call before does
+-- the calls of a list that were answered stay answered if each call before them does
 pub answered-as : (call call' : Call) (old : List PlainView) (done : ℕ) (new : List PlainView) → ((k : ℕ) (before after : List PlainView) → k < done → call k None before after → call' k None before after) → Answered call old done new → Answered call' old done new
 answered-as call call' old done new turns none = none
 answered-as call call' old done new turns (one_more begun between new' so_far called) =
@@ -68,7 +68,7 @@ pub inserts-stop : (limits : Limits) (splits : List Bound) (keys : List ℕ) (pa
 inserts-stop limits splits keys payloads parts serials i key payload e old between new below key_is payload_is so_far inserts =
     stopped i e between new below so_far (keyed limits splits keys payloads i key payload (Err e) between new key_is payload_is inserts)
 
--- a row is taken out, or that is refused
+-- a row is removed, or that is refused
 pub deletes-more : (limits : Limits) (splits : List Bound) (parts serials gone : List ℕ) (i : ℕ) (row : RowNo) (went : Option Row) (is : Bool) (flagged : ℕ) (old between new : List PlainView)
     → i < length gone → row ≡ row_at parts serials i → is ≡ is_some went → flagged ≡ flag is
     → Answered (DeletesAt limits splits parts serials gone) old i between
@@ -116,7 +116,7 @@ updates-stop limits splits parts serials keys payloads found i row key payload e
     stopped i e between new below so_far
     (true, updated-by limits splits parts serials keys payloads i row key payload (Err e) between new row_is key_is payload_is updates, λ none'. cc none')
 
--- a range more is counted
+-- one more range is counted
 pub counts-more : (limits : Limits) (splits : List Bound) (firsts lasts counts : List ℕ) (i count : ℕ) (old between new : List PlainView)
     → i < length counts
     → Answered (CountsAt limits splits firsts lasts counts) old i between
@@ -127,7 +127,7 @@ counts-more limits splits firsts lasts counts i count old between new within so_
     (λ k before after below was. rw (kept-nat counts i k count below) was) so_far
     (rw (set-nat counts i count within) counted)
 
--- a range more is added up
+-- one more range is added up
 pub sums-more : (limits : Limits) (splits : List Bound) (firsts lasts lows : List ℕ) (highs : List ℤ) (i low : ℕ) (high sum : ℤ) (old between new : List PlainView)
     → i < length lows → i < length highs → sum ≡ joined low high
     → Answered (SumsAt limits splits firsts lasts lows highs) old i between

@@ -108,7 +108,7 @@ fold-nowhere parts i beyond =
     let none = slice_get_past (tables_of parts) i (omega (arith, beyond, length-map parts (λ (p : Part). table_of p.past))) in
     subst (λ (t : Option PlainView). IsFoldOutcome t (Err NoSuchPartition)) (sym none) refl
 
--- what a checkpoint gives, of the partition that is replaced
+-- the outcome of a checkpoint, from the partition that is replaced
 pub fold-outcome : (r : Result ℕ Refusal) (n : ℕ) → IfOk r (λ count. count ≡ n) → IfErr r (λ e. e ≡ OutOfMemory) → (r ≡ Ok n) ⊎ (r ≡ Err OutOfMemory)
 fold-outcome (Ok count) n ok err = inl (ap Ok ok)
 fold-outcome (Err e) n ok err = inr (ap Err err)

@@ -14,7 +14,7 @@ use Rattle.crack_core.specs.Listing.{rows_in, of_part, listed, listed_at, no_row
 abbrev row_of : ℕ → ℕ → ℕ → ℤ → ℕ × Row
 row_of part serial key payload = (part, record { serial = record { 0 = serial }; key = record { 0 = key }; payload = record { 0 = payload } })
 
--- rows after those that there is room for are nowhere
+-- rows after those that there is room for aren't written
 pub stand-longer : (rows more : List (ℕ × Row)) (parts serials keys : List ℕ) (payloads : List ℤ) → length parts ≤ length rows → StandIn rows parts serials keys payloads → StandIn (rows ++ more) parts serials keys payloads
 stand-longer rows more parts serials keys payloads full stand k within there =
     let below : k < length rows = omega arith in
@@ -53,7 +53,7 @@ stand-more rows row parts serials keys payloads at is below s k' p stand k withi
 pub of_part-more : (part : ℕ) (rows : List Row) (i : ℕ) (d : Row) → i < length rows → of_part part (take (i + 1) rows) ≡ of_part part (take i rows) ++ (part, get_or rows i d) ∷ []
 of_part-more part rows i d below = ap (of_part part) (take_more rows i d below) ∙ map-append (λ (row : Row). (part, row)) (take i rows) (get_or rows i d ∷ [])
 
--- a partition's reply more
+-- one more partition's reply
 listed-suc : (met : List (ℕ × Range)) (replies : List Reply) (i : ℕ) (d : ℕ × Range) (d' : Reply) → i < length met → i < length replies → listed (take (suc i) met) (take (suc i) replies) ≡ listed (take i met) (take i replies) ++ of_part (get_or met i d).0 (rows_in (get_or replies i d'))
 listed-suc [] replies i d d' in_met in_replies = absurd (omega arith)
 listed-suc (m ∷ met) [] i d d' in_met in_replies = absurd (omega arith)
@@ -91,7 +91,7 @@ rest-behind before part rows i parts serials keys payloads full stand =
     append_assoc before (of_part part (take i rows)) (of_part part (drop i rows)) ∙ ap (λ (more : List (ℕ × Row)). before ++ more) (sym (map-append row (take i rows) (drop i rows)) ∙ ap (of_part part) (take-append-drop i rows)) in
     subst (λ (all : List (ℕ × Row)). StandIn all parts serials keys payloads) cut (stand-longer (before ++ of_part part (take i rows)) (of_part part (drop i rows)) parts serials keys payloads full stand)
 
--- how many rows are listed with a partition's more
+-- how many rows are listed with one more partition
 pub listed-long : (part : ℕ) (so_far : List (ℕ × Row)) (rows : List Row) → length (so_far ++ of_part part rows) ≡ length so_far + length rows
 listed-long part so_far rows =
     let with_part : Row → ℕ × Row = λ r. (part, r) in

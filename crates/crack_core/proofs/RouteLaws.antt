@@ -251,7 +251,7 @@ parts_of-last splits r are filled bounded =
     ap (λ (b : Bool). cond b (parts_below splits r (length splits + 1)) ((route splits r.low, r) ∷ [])) (lt-ltb r.low r.high filled)
     ∙ ap (parts_below splits r) all ∙ parts_below-back splits r (last + 1) more are filled bounded refl (omega (arith, within))
 
--- as many parts as partitions from the first to the last
+-- there are as many parts as partitions from the first to the last
 pub length-parts_below : (splits : List Bound) (r : Range) (some : ℕ) → AreSplits splits → r.low < r.high → r.high ≤ GREATEST_BOUND → route splits r.low + some ≤ route splits (r.high - 1) + 1 → length (parts_below splits r (route splits r.low + some)) ≡ some
 length-parts_below splits r zero are filled bounded to = ap length (parts_below-front splits r (route splits r.low + zero) are filled bounded (omega arith))
 length-parts_below splits r (suc some) are filled bounded to =

@@ -14,7 +14,7 @@ use Rattle.crack_part.specs.Upkeep.{is_automatic}
 use Rattle.crack_part.proofs.ClearLaws.{full-of-rows}
 use Rattle.crack_core.specs.Steps.{bounds_of, taken_where_full, MayLackCell}
 
--- a command that takes a cell brings a key
+-- a command that takes a cell has a key
 brings-key : (s : State) (command : Command) → takes_cell s (change_of command) ≡ true → is_some (key_of command) ≡ true
 brings-key s (Insert key payload) takes = refl
 brings-key s (Delete serial) takes = cc takes

@@ -63,7 +63,7 @@ kept-or-short said (Err e) r gives says short = inr (gives.err ∙ ap Err short)
 abbrev cause : Bool → Option Refusal → Bool → Option Refusal
 cause is_own stop lacks = if is_own then option_or stop (if lacks then Some NoCell else None) else Some KeyOutside
 
--- what comes out, by the first cause to refuse it
+-- the outcome, by the first cause to refuse the command
 by_cause : (is_own lacks : Bool) (stop : Option Refusal) (said : Reply) (Lacks : Type 0) (r : Result Reply Refusal) → IfSome (cause is_own stop lacks) (λ e. r ≡ Err e) → (cause is_own stop lacks ≡ None → (r ≡ Ok said) ⊎ (r ≡ Err OutOfMemory)) → (lacks ≡ true → Lacks) → (r ≡ reply_unless (cause is_own stop false) said) ⊎ (IsOk (reply_unless (cause is_own stop false) said) × ((r ≡ Err OutOfMemory) ⊎ ((r ≡ Err NoCell) × Lacks)))
 by_cause false lacks stop said Lacks r refused rest lack = inl refused
 by_cause true lacks (Some e) said Lacks r refused rest lack = inl refused
@@ -208,7 +208,7 @@ outcome-at splits limits parts s r d are within outcome =
     let there = slice_get-map table parts s.part ∙ ap (option_map table) (slice_get-get_or parts s.part d within) in
     rw (there, ← are.keys s.part d within) (subst (λ (l : Limits). IsOutcome (bounds_of l) (get_or parts s.part d).keys (Some (table_of (get_or parts s.part d).past)) s.command r) (are.alike s.part d within) outcome)
 
--- what holds of a partition and of the one that replaces it holds of those with its number
+-- a relation of a partition and the one that replaces it holds of those with its number
 pub replaced-at : (R : Part → Part → Type 0) (parts : List Part) (i : ℕ) (q d : Part) → i < length parts → R (get_or parts i d) q → (old new : Part) → slice_get parts i ≡ Some old → slice_get (set parts i q) i ≡ Some new → R old new
 replaced-at R parts i q d within related old new at_old at_new =
     let first : get_or parts i d ≡ old = some_is (sym (slice_get-get_or parts i d within) ∙ at_old) in
@@ -218,10 +218,10 @@ replaced-at R parts i q d within related old new at_old at_new =
     some_is : {x y : Part} → Some x ≡ Some y → x ≡ y
     some_is e = cc
 
--- nothing holds of a partition that doesn't exist
+-- any relation holds of a partition that doesn't exist
 pub nowhere-at : (R : Part → Part → Type 0) (parts : List Part) (i : ℕ) → length parts ≤ i → (old new : Part) → slice_get parts i ≡ Some old → slice_get parts i ≡ Some new → R old new
 nowhere-at R parts i beyond old new at_old at_new = absurd (omega (arith, beyond, slice_get_within parts i old at_old))
 
--- a vector whose elements were lent, once as many were returned
+-- a vector whose elements were borrowed, once as many were returned
 pub come_back : (old new : List Part) (n : ℕ) → length new ≡ n → take n (new ++ drop (length new) old) ≡ new
 come_back old new n long = take-append-le n new (drop (length new) old) (omega (arith, long)) ∙ take_all n new (omega (arith, long))

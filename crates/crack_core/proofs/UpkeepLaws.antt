@@ -18,7 +18,7 @@ none-due : (b : Bool) → (b && false) ≡ false
 none-due true = refl
 none-due false = refl
 
--- on request none is due
+-- if upkeep is on request, no checkpoint is due
 upkept-on_request : (limits : Limits) (past : Past) → upkept (on_request limits) past ≡ past
 upkept-on_request limits past = ap (λ (b : Bool). cond b (folded past) past) (none-due (nat_le limits.history (length past.tail)))
 
@@ -28,7 +28,7 @@ entry-kept true true past e = refl
 entry-kept true false past e = refl
 entry-kept false due past e = refl
 
--- what one job leaves
+-- a partition's past after one job
 one : (limits : Limits) (part : ℕ) (job : Job) (result : Result Done Refusal) (past : Past) → past_after limits part job result past ≡ cond (is_kept_up limits part job result past) (past_after (on_request limits) part job result (folded past)) (past_after (on_request limits) part job result past)
 one limits part (Perform step) (Ok (Replied reply)) past =
     let e : Entry = record { worker = step.worker; command = step.command; reply = reply } in

@@ -20,7 +20,7 @@ use Rattle.crack_core.specs.Steps.{Bounds, taken_where_full, expected, IsOutcome
 use Rattle.crack_core.specs.declared.asking.Query.{Query}
 use Rattle.crack_core.specs.declared.asking.Query.TheVariants.{CountRows, SumPayloads, SelectRows}
 
--- what bounds partitions whose full histories are checkpointed: no history, but their lives, and the cells of their rows
+-- the bounds of partitions whose full histories are checkpointed: no bound on a history, but those of their lives and of their cells
 abbrev pub lasting_bounds : Limits → Bounds
 lasting_bounds limits = record { stop = λ table. if nat_le limits.life (accepted_of table) then Some LifeOver else None; cells = limits.cells; taken = taken_where_full limits; due = λ table. false }
 
@@ -28,14 +28,14 @@ lasting_bounds limits = record { stop = λ table. if nat_le limits.life (accepte
 abbrev pub lasting : List PlainView → List PlainView
 lasting tables = map checkpointed tables
 
--- the outcome of asking a partition whose full history is checkpointed first: what its plain rows require; if that is 10, it may be 8, for a
--- checkpoint that found no memory
+-- the outcome of asking a partition whose full history is checkpointed first: the one that its plain rows require; in place of 10 it may be 8, if a
+-- checkpoint finds no memory
 abbrev pub IsLastingOutcome : Limits → List Bound → List PlainView → ℕ → Command → Result Reply Refusal → Type 0
 IsLastingOutcome limits splits tables part command outcome =
     IsOutcomeAt (lasting_bounds limits) splits tables part command outcome
     ⊎ ((outcome ≡ Err OutOfMemory) × (expected (lasting_bounds limits) (keys_of_part splits part) (slice_get tables part) command ≡ Err LifeOver))
 
--- the partitions after the outcome of asking one of them: a refusal leaves all as they were
+-- the partitions after the outcome of asking one of them: a refusal leaves all unchanged
 abbrev pub lasting_after : List PlainView → ℕ → Command → Result Reply Refusal → List PlainView
 lasting_after tables part command (Ok reply) = slice_set tables part (checkpointed (table_after (slice_index_or tables part fresh_table) command))
 lasting_after tables part command (Err e) = tables
@@ -112,6 +112,6 @@ summed _ = pos 0
 abbrev pub Counts : Limits → List Bound → Range → Result ℕ Refusal → List PlainView → List PlainView → Type 0
 Counts limits splits range result old new = Reads limits splits CountRows (λ said count. count ≡ sum_by counted said) range result old new
 
--- the payloads of a range are added up: so are its parts
+-- the payloads of a range are added up: those of its parts, and then these sums
 abbrev pub Sums : Limits → List Bound → Range → Result ℤ Refusal → List PlainView → List PlainView → Type 0
 Sums limits splits range result old new = Reads limits splits SumPayloads (λ said sum. sum ≡ total_by summed said) range result old new

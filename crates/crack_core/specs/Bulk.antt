@@ -17,7 +17,7 @@ use Rattle.crack_core.specs.declared.bulk.Progress.{Progress}
 abbrev pub Call : Type 1
 Call = ℕ → Option Refusal → List PlainView → List PlainView → Type 0
 
--- as many calls of a list were answered, from the first on, each on the partitions that the previous one left
+-- this many calls of a list were answered, from the first on, each on the partitions after the previous one
 pub data Answered (call : Call) (old : List PlainView) : ℕ → List PlainView → Type 0 where
   none : Answered call old 0 old
   one_more : (done : ℕ) (between new : List PlainView) → Answered call old done between → call done None between new → Answered call old (done + 1) new
@@ -32,13 +32,15 @@ abbrev pub comes_to : {X : Type 0} → X → Option Refusal → Result X Refusal
 comes_to x None = Ok x
 comes_to x (Some e) = Err e
 
--- the key, the payload and the row's number at a place of lists of them
+-- the key at a place of a list
 abbrev pub key_at : List ℕ → ℕ → Key
 key_at keys k = record { 0 = slice_index_or keys k 0 }
 
+-- the payload at a place of a list
 abbrev pub payload_at : List ℤ → ℕ → Payload
 payload_at payloads k = record { 0 = slice_index_or payloads k (pos 0) }
 
+-- the row's number at a place of two lists
 abbrev pub row_at : List ℕ → List ℕ → ℕ → RowNo
 row_at parts serials k = record { part = slice_index_or parts k 0; serial = record { 0 = slice_index_or serials k 0 } }
 
@@ -65,10 +67,11 @@ pub record OverKeys {X : Type 0} (Asks : Range → Result X Refusal → List Pla
   pub asked : first ≤ last + 1 → Asks (record { low = first; high = last + 1 }) result old new
   pub refused : last + 1 < first → (result ≡ Err BadRange) × (new ≡ old)
 
--- the keys from one to another are counted, or their payloads added up
+-- the rows whose keys are from one to another are counted
 abbrev pub CountsKeys : Limits → List Bound → ℕ → ℕ → Result ℕ Refusal → List PlainView → List PlainView → Type 0
 CountsKeys limits splits first last result old new = OverKeys (Counts limits splits) first last result old new
 
+-- the payloads of the rows whose keys are from one to another are added up
 abbrev pub SumsKeys : Limits → List Bound → ℕ → ℕ → Result ℤ Refusal → List PlainView → List PlainView → Type 0
 SumsKeys limits splits first last result old new = OverKeys (Sums limits splits) first last result old new
 

@@ -7,7 +7,7 @@ use Rattle.crack_part.specs.Parts.{Part}
 use Rattle.crack_core.specs.Routes.{AreSplits}
 use Rattle.crack_core.specs.Opening.{AreParts}
 
--- its splits, the limits of each of its partitions, and these
+-- its splits, the limits of each of its partitions, and the partitions
 pub record CoreState : Type 0 where
   pub splits : List Bound
   pub limits : Limits

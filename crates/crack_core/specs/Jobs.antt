@@ -1,4 +1,4 @@
--- The expected answers to steps and checkpoints, one after the other, and what these leave.
+-- The expected answers to steps and checkpoints, one after the other, and the partitions after them.
 use Rattle.std.specs.Prelude.{◌≡◌, ◌≢◌, ℕ, ◌==◌, List, [], ◌∷◌, length, take, Option, Some, Result, Ok, Err, OnOk, OnErr, IfErr, slice_get, if◌then◌else◌}
 use Rattle.std.specs.Option.{option_map}
 use Rattle.crack_row.specs.declared.Bound.{Bound}
@@ -51,12 +51,12 @@ past_at limits part _ _ past = past
 abbrev pub KeepsJobs : Limits → List Past → List Job → List (Result Done Refusal) → List Past → Type 0
 KeepsJobs limits old jobs results new = (part : ℕ) → slice_get new part ≡ option_map (past_at limits part jobs results) (slice_get old part)
 
--- what holds of the partition with this number, if there is one, and of the one that takes its place
+-- a relation of the partition with this number, if there is one, and the one that takes its place
 abbrev pub AtPart : ℕ → (Part → Part → Type 0) → List Part → List Part → Type 0
 AtPart part Holds old new = (p q : Part) → slice_get old part ≡ Some p → slice_get new part ≡ Some q → Holds p q
 
--- what a step does to the partitions of these splits: each remains one, the step's own keeps its entry and is served or spared by the
--- step's policy, the others are as they were, and so are all after any refusal but 8
+-- what a step does to the partitions of these splits: each remains one, the step's own partition adds its entry and its store is read by the step's
+-- policy, the others are unchanged, and so are all after any refusal but 8
 pub record Makes (splits : List Bound) (limits : Limits) (step : Step) (result : Result Reply Refusal) (old new : List Part) : Type 0 where
   pub parts : AreParts splits limits new
   pub kept : KeepsJobs limits (pasts_of old) (Perform step ∷ []) (performed result ∷ []) (pasts_of new)
@@ -78,11 +78,11 @@ pub record AreExpectedOutcomes (limits : Limits) (splits : List Bound) (pasts : 
   pub outcomes : (k : ℕ) (job : Job) (result : Result Done Refusal) → slice_get jobs k ≡ Some job → slice_get results k ≡ Some result →
       IsJobOutcome (bounds_of limits) splits (option_map (λ (past : Past). table_of (past_at limits (part_of job) (take k jobs) (take k results) past)) (slice_get pasts (part_of job))) job result
 
--- a checkpoint of the partition with this number is made, and the others are as they were
+-- the partition with this number makes a checkpoint, and the others are unchanged
 abbrev pub FoldsAt : ℕ → List Part → List Part → Type 0
 FoldsAt number old new = (k : ℕ) → slice_get new k ≡ option_map (λ part. if number == k then folded_part part else part) (slice_get old k)
 
--- what a checkpoint does to the partitions of these splits: each remains one, the named one is checkpointed, and a refusal changes nothing
+-- what a checkpoint does to the partitions of these splits: each remains one, the named one makes a checkpoint, and a refusal changes nothing
 pub record Folds (splits : List Bound) (limits : Limits) (number : ℕ) (result : Result ℕ Refusal) (old new : List Part) : Type 0 where
   pub parts : AreParts splits limits new
   pub folds : OnOk result (FoldsAt number old new)

@@ -13,7 +13,7 @@ use Rattle.crack_core.specs.Asking.{Reads}
 use Rattle.crack_core.specs.Bulk.{OverKeys, key_at, payload_at}
 use Rattle.crack_core.specs.declared.asking.Query.TheVariants.{SelectRows}
 
--- the rows that a reply lists
+-- the rows that a partition's reply lists
 abbrev pub rows_in : Reply → List Row
 rows_in (Rows rows) = rows
 rows_in _ = []
@@ -22,16 +22,16 @@ rows_in _ = []
 abbrev pub of_part : ℕ → List Row → List (ℕ × Row)
 of_part part rows = map (λ row. (part, row)) rows
 
--- what partitions reply, as one list
+-- the rows that partitions reply with, as one list
 abbrev pub listed : List (ℕ × Range) → List Reply → List (ℕ × Row)
 listed (part ∷ parts) (reply ∷ replies) = of_part part.0 (rows_in reply) ++ listed parts replies
 listed _ _ = []
 
--- what is at a place of four lists
+-- the row at a place of four lists
 abbrev pub listed_at : List ℕ → List ℕ → List ℕ → List ℤ → ℕ → ℕ × Row
 listed_at parts serials keys payloads k = (slice_index_or parts k 0, record { serial = record { 0 = slice_index_or serials k 0 }; key = key_at keys k; payload = payload_at payloads k })
 
--- what is read past the end of a list of rows
+-- the default past the end of a list of rows
 abbrev pub no_row : ℕ × Row
 no_row = (0, record { serial = record { 0 = 0 }; key = record { 0 = 0 }; payload = record { 0 = pos 0 } })
 

@@ -1,4 +1,4 @@
--- What keeps partitions from being opened, and what they are opened with.
+-- Why partitions aren't opened, and the partitions that are.
 use Rattle.std.specs.Prelude.{◌≡◌, ℕ, ◌+◌, ◌<◌, ◌⊎◌, List, length, All, Option, None, Some, nat_le, slice_index_or, if◌then◌else◌}
 use Rattle.std.specs.Option.{option_or}
 use Rattle.crack_row.specs.Limits.{are_limits}
@@ -10,11 +10,11 @@ use Rattle.crack_part.specs.Parts.{Part, IsSound}
 use Rattle.crack_core.specs.declared.TheConstants.{MOST_SPLITS}
 use Rattle.crack_core.specs.Routes.{is_rising, keys_of_part}
 
--- what is wrong with splits, if anything: first whether they rise as they should, then whether they are too many
+-- the fault of splits, if there is one: first whether they rise as they should, then whether they are too many
 abbrev pub splits_fault : List Bound → Option Refusal
 splits_fault splits = if is_rising 0 splits then (if nat_le (length splits) MOST_SPLITS then None else Some TooManyPartitions) else Some BadSplits
 
--- what is wrong with limits, if anything
+-- the fault of limits, if there is one
 abbrev pub limits_fault : Limits → Option Refusal
 limits_fault limits = if are_limits limits then None else Some BadLimit
 

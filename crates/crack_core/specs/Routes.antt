@@ -1,4 +1,4 @@
--- Partitions by key range: where each begins and ends, and which of them a key or a range meets.
+-- Partitions by key range: where each begins and ends, and which of them have a key or a part of a range.
 use Rattle.std.specs.Prelude.{◌≡◌, ℕ, ◌+◌, ◌≤◌, ◌&&◌, Bool, true, List, [], ◌∷◌, length, map, filter, count_by, nat_lt, nat_le, slice_index_or, if◌then◌else◌}
 use Rattle.std.specs.List.{range_with_len}
 use Rattle.crack_row.specs.Ranges.{Range, clipped}

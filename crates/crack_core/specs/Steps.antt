@@ -1,4 +1,4 @@
--- The expected answers to a step and to a checkpoint, and what they leave of the plain rows.
+-- The expected answers to a step and to a checkpoint, and the plain rows after them.
 use Rattle.std.specs.Prelude.{◌≡◌, ◌⊎◌, ℕ, ◌+◌, ◌≤◌, Bool, true, false, List, length, map, Option, None, Some, Result, Ok, Err, IsOk, is_some, slice_get, slice_set, slice_index_or, sum_by, if◌then◌else◌}
 use Rattle.crack_row.specs.Ranges.{Range}
 use Rattle.crack_row.specs.Commands.{key_of}
@@ -17,8 +17,8 @@ use Rattle.crack_part.specs.Refusals.{table_of, stopped_by, first_cause}
 use Rattle.crack_part.specs.Upkeep.{is_automatic, is_due}
 use Rattle.crack_core.specs.Routes.{keys_of_part}
 
--- what bounds the partitions of a table: why one accepts no more commands, if so, how many cells its rows may take, how many may be taken
--- if a cell is missing, and whether a checkpoint is made before the next command is added
+-- the bounds of the partitions of a table: why one accepts no more commands, if so, how many cells its rows may take, how many may be taken if a cell
+-- is missing, and whether a checkpoint is made before the next command is added
 pub record Bounds : Type 0 where
   pub stop : PlainView → Option Refusal
   pub cells : ℕ
@@ -29,7 +29,7 @@ pub record Bounds : Type 0 where
 abbrev pub taken_where_full : Limits → PlainView → ℕ
 taken_where_full limits table = if is_automatic limits.upkeep then length table.state.rows else accepted_of table
 
--- what these limits are for the partitions of a table
+-- the bounds of partitions with these limits
 abbrev pub bounds_of : Limits → Bounds
 bounds_of limits = record { stop = stopped_by limits; cells = limits.cells; taken = taken_where_full limits; due = λ table. is_due limits table.since }
 
@@ -68,7 +68,7 @@ table_after table command = record { state = after table.state command; folded =
 abbrev pub upkept_by : Bounds → PlainView → PlainView
 upkept_by bounds table = if bounds.due table then checkpointed table else table
 
--- the partitions after the outcome of asking one of them: an answer is added after the checkpoint that is due, and a refusal leaves all as they were
+-- the partitions after the outcome of asking one of them: an answer is added after the checkpoint that is due, and a refusal leaves all unchanged
 abbrev pub tables_after : Bounds → List PlainView → ℕ → Command → Result Reply Refusal → List PlainView
 tables_after bounds tables part command (Ok reply) = slice_set tables part (table_after (upkept_by bounds (slice_index_or tables part fresh_table)) command)
 tables_after bounds tables part command (Err e) = tables
@@ -86,7 +86,7 @@ abbrev pub IsFoldOutcome : Option PlainView → Result ℕ Refusal → Type 0
 IsFoldOutcome None outcome = outcome ≡ Err NoSuchPartition
 IsFoldOutcome (Some table) outcome = (outcome ≡ Ok table.since) ⊎ (outcome ≡ Err OutOfMemory)
 
--- the partitions after the outcome of a checkpoint of one of them: a refusal leaves all as they were
+-- the partitions after the outcome of a checkpoint of one of them: a refusal leaves all unchanged
 abbrev pub tables_folded : List PlainView → ℕ → Result ℕ Refusal → List PlainView
 tables_folded tables part (Ok count) = slice_set tables part (checkpointed (slice_index_or tables part fresh_table))
 tables_folded tables part (Err e) = tables

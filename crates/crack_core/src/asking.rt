@@ -16,10 +16,10 @@ use crate::{Core, Step};
 use crack_row::{Command, Key, KeyRange, Payload, Policy, Refusal, Reply, Row, RowNo, Serial};
 use std::alloc::Global;
 
-/// What is asked of a range.
+/// A question about a range.
 #[derive(Clone, Copy, Debug)]
 pub enum Query {
-    /// How many rows it has.
+    /// The number of its rows.
     CountRows,
     /// The sum of their payloads.
     SumPayloads,
@@ -151,7 +151,7 @@ impl Core {
         }
     }
 
-    /// Adds up the payloads of the rows of a range, over all partitions, in the way of `count`. Refused as `count` is.
+    /// Adds up the payloads of the rows of a range, over all partitions, as `count` does. Refused as `count` is.
     pub fn sum(&mut self, range: KeyRange, policy: Policy) -> Result<i128, Refusal>
         ensures sums { Sums self.old.limits self.old.splits range result (lasting (tables_of self.old.parts))
             (lasting (tables_of self.new.parts)) }

@@ -44,7 +44,7 @@ impl Progress {
 /// 2^64.
 const HIGH_UNIT: u128 = 18446744073709551616;
 
-/// A multiple of 2^64 that is at least as great as any sum: 2^102, and how many times 2^64 that is.
+/// A multiple of 2^64 that no sum exceeds in size: 2^102, and its quotient by 2^64.
 const FARTHEST: i128 = 5070602400912917605986812821504;
 
 const FARTHEST_HIGH: i64 = 274877906944;

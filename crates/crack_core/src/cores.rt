@@ -1,4 +1,4 @@
-//! Partitions that one thread asks.
+//! Partitions asked by one thread.
 ghost use Rattle.std.specs.Prelude.{◌≡◌, ◌≢◌, ℕ, ◌+◌, ◌≤◌, vec_capacity, List, [], ◌∷◌, length, map, All, is_ok, IsOk};
 ghost use Rattle.std.specs.Prelude.{None, Some, IfOk, IfErr, OnErr, OnOk, Ok, Err, slice_get, if◌then◌else◌};
 ghost use Rattle.crack_row.specs.Limits.{of_history};
@@ -25,7 +25,8 @@ use smallvec::SmallVec;
 use std::alloc::Global;
 use std::marker::Model;
 
-/// Partitions by key range, which one thread asks. Contracts see its splits, the limits of each partition, and these.
+/// Partitions by key range, asked by one thread. Contracts see the splits, the limits of each partition, and the
+/// partitions.
 #[derive(Drop)]
 pub struct Core {
     splits: Vec<Bound>,
@@ -138,11 +139,11 @@ impl Core {
         }
     }
 
-    /// Asks one partition, by one `Partition::apply`. Refused, in this order: with 5 if there is no such partition,
-    /// with 4 if the command has a key that isn't the partition's, with 6 if its history is full and upkeep
-    /// is on request, with 10 if it has accepted as many commands as it may in total, with 9 if no cell is free
-    /// for a row, upkeep frees none and it has as many as it may have, and with 8 if no memory is found. Then nothing
-    /// has changed, except after 8, which leaves what `Partition::apply` says.
+    /// Asks one partition, by one call of `Partition::apply`. Refused, in this order: with 5 if there is no such
+    /// partition, with 4 if the command has a key that isn't the partition's, with 6 if its history is full and upkeep
+    /// is on request, with 10 if it has accepted as many commands as it may in total, with 9 if no cell is free for a
+    /// row, upkeep frees none and it has as many as it may have, and with 8 if no memory is found. Then nothing has
+    /// changed, except after 8, which leaves what `Partition::apply` says.
     #[inline(always)]
     pub fn step(&mut self, step: Step) -> Result<Reply, Refusal>
         // It is the reply of the partition's plain rows, or the refusal that they require; in place of a reply it may
@@ -179,7 +180,7 @@ impl Core {
         ensures kept { IfOk result (λ results.
             KeepsJobs self.old.limits (pasts_of self.old.parts) (map Job.Perform steps.now)
             (map performed results.items) (pasts_of self.new.parts)) }
-        // Each store is served by the policy of its own steps, in their order, and by nothing else.
+        // Each store is read by the policies of its own steps, in their order, and by nothing else.
         ensures stores { IfOk result (λ results.
             DoesAll self.old.splits self.old.limits (map Job.Perform steps.now)
             (map performed results.items) self.old.parts self.new.parts) }
@@ -215,8 +216,8 @@ impl Core {
             AreExpectedOutcomes self.old.limits self.old.splits (pasts_of self.old.parts) jobs.now results.items) }
         ensures kept { IfOk result (λ results.
             KeepsJobs self.old.limits (pasts_of self.old.parts) jobs.now results.items (pasts_of self.new.parts)) }
-        // Each store is served by the policy of its own steps, in their order, and by nothing else; a checkpoint
-        // leaves it as it is.
+        // Each store is read by the policies of its own steps, in their order, and by nothing else; a checkpoint leaves
+        // it as it is.
         ensures stores { IfOk result (λ results.
             DoesAll self.old.splits self.old.limits jobs.now results.items self.old.parts self.new.parts) }
         ensures opened { (self.new.splits ≡ self.old.splits) × (self.new.limits ≡ self.old.limits) }

@@ -13,7 +13,7 @@ use crack_part::Partition;
 use crack_row::{Bound, KeyRange, Limits, Refusal};
 use std::alloc::Global;
 
-/// What is wrong with splits, if anything: 11 if they don't rise strictly or one isn't 1 to `GREATEST_KEY`, else 12
+/// The fault of splits, if there is one: 11 if they don't rise strictly or one isn't 1 to `GREATEST_KEY`, else 12
 /// if there are more than `MOST_SPLITS`. Takes no memory. O(splits).
 pub fn splits_fault(splits: &[Bound]) -> Option<Refusal>
     ensures value { result ≡ splits_fault splits.now }
@@ -28,7 +28,7 @@ pub fn splits_fault(splits: &[Bound]) -> Option<Refusal>
     None
 }
 
-/// What is wrong with limits, if anything: 14 if one of them isn't 1 to the greatest of its kind.
+/// The fault of limits, if there is one: 14 if one of them isn't 1 to the greatest of its kind.
 pub fn limits_fault(limits: Limits) -> Option<Refusal>
     ensures value { result ≡ limits_fault limits }
     ensures good { result ≡ None → AreLimits limits }

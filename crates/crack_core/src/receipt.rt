@@ -2,8 +2,8 @@
 
 use crack_row::{Command, Reply};
 
-/// What a worker's command was answered, and the place of its entry: in which partition, and how many commands that
-/// had accepted before.
+/// The reply to a worker's command, and the place of its entry: the partition, and how many commands that had accepted
+/// before.
 #[derive(Drop, Debug)]
 pub struct Receipt {
     pub part: u32,

@@ -2,7 +2,7 @@
 
 use crack_row::{Command, Policy, Reply};
 
-/// What a worker asks of a partition, and which pending rows are merged for it.
+/// A worker's command at a partition, and which pending rows are merged for it.
 #[derive(Clone, Copy, Debug)]
 pub struct Step {
     pub worker: u32,
@@ -11,7 +11,7 @@ pub struct Step {
     pub policy: Policy,
 }
 
-/// What a thread does to the partitions of a core: a step, or a checkpoint of a partition.
+/// A call of a core: a step, or a checkpoint of a partition.
 #[derive(Clone, Copy, Debug)]
 pub enum Job {
     /// Ask a partition.

@@ -8,9 +8,8 @@ ghost use Rattle.crack_core.specs.declared.step.Done.{Done};
 
 use crate::Core;
 
-/// A command whose history is full leaves what a checkpoint and then the command leave: under automatic upkeep, any
-/// jobs leave a partition what they leave on request if each checkpoint that upkeep makes is requested as a job
-/// before its step. Does nothing.
+/// States that automatic upkeep has the effect of checkpoints on request: after any jobs a partition is as it would be
+/// if each checkpoint that upkeep makes were requested as a job before its step. Does nothing.
 pub fn upkeep_is_checkpoints(core: &Core)
     ensures { (part : ℕ) (jobs : List Job) (results : List (Result Done Refusal)) (past : Past) →
         IsKeptUp core.now.limits part jobs results past }

@@ -1,4 +1,4 @@
-//! Receipts compared with what partitions keep.
+//! Receipts compared with the pasts that partitions keep.
 ghost use Rattle.std.specs.Prelude.{◌+◌, ◌≤◌};
 ghost use Rattle.crack_table.specs.Cover.{told, IsKept};
 
@@ -27,7 +27,7 @@ fn receipt(part: u32, position: u64) -> Receipt {
     }
 }
 
-/// What a partition keeps that has made no checkpoint.
+/// The past that a partition without a checkpoint keeps.
 fn standing(tail: &[Entry]) -> Kept<'_>
     ensures { IsKept (told result) }
 {
@@ -39,7 +39,7 @@ fn standing(tail: &[Entry]) -> Kept<'_>
     }
 }
 
-/// What a partition keeps that has two commands in its base, of which this many placed and removed a row.
+/// The past that a partition with two commands in its base keeps, of which this many placed and removed a row.
 fn two_folded(inserted: u64, deleted: u64, tail: &[Entry]) -> Kept<'_>
     requires { inserted + deleted ≤ 2 }
     ensures { IsKept (told result) }
@@ -52,14 +52,14 @@ fn two_folded(inserted: u64, deleted: u64, tail: &[Entry]) -> Kept<'_>
     }
 }
 
-/// Whether receipts cover what one partition keeps.
+/// Whether receipts cover the past that one partition keeps.
 fn cover_one(alloc: Global, kept: Kept<'_>, receipts: &[&[Receipt]]) -> Result<(), Refusal>
     requires { IsKept (told kept) }
 {
     cover(alloc, &[kept], receipts)
 }
 
-/// Whether receipts cover what two partitions keep.
+/// Whether receipts cover the pasts that two partitions keep.
 fn cover_two(
     alloc: Global,
     first: Kept<'_>,

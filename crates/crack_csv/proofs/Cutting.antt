@@ -1,4 +1,4 @@
--- How far an export is that is refused.
+-- How far a refused export has come.
 use Rattle.std.proofs.Common.{◌≡◌, ℕ, zero, suc, ◌+◌, ◌-◌, ◌<◌, ◌≤◌, ◌⊎◌, Bool, true, Option, Some, Ok, Err, inl, inr, List, [], ◌∷◌, ◌++◌, length, map, take, drop, refl, sym, ap, ◌∙◌, arith, length-append, append_assoc, subst}
 use Rattle.std.specs.Prelude.{slice_get, slice_set}
 use Rattle.std.specs.List.{concat, flat_map}
@@ -42,7 +42,7 @@ batch_unsent f xs m n e failed failed' a b c grows within sent (inr (cut, is, fr
     let whole : flat_map f (take n xs) ++ flat_map f (drop n xs) ≡ flat_map f xs = sym (flat_map-append f (take n xs) (drop n xs)) ∙ ap (flat_map f) (take-append-drop n xs) in
     inr (cut, is, rw (concat_map f xs, ← whole) (front_first a c _ (flat_map f (drop n xs)) until))
 
--- after texts that are written whole, others aren't
+-- whole texts are written, and those after them aren't
 pub unsent_behind : (xs ys : List (List ℕ)) (e : Refusal) (failed failed' : Bool) (a b c : Option (List ℕ)) → Appends a b (concat xs) → AreUnsent ys e failed failed' b c → AreUnsent (xs ++ ys) e failed failed' a c
 unsent_behind xs ys e failed failed' a b c sent (inl (short, same, count, few, wrote)) =
     let l = length-append xs ys in
@@ -172,7 +172,7 @@ no_rest : {X : Type 0} (xs done rest : List X) → xs ≡ done ++ rest → lengt
 no_rest xs done [] split all = refl
 no_rest xs done (x ∷ rest) split all = absurd (let l = length-append done (x ∷ rest) in let n = ap length split in omega (arith, l, n, all))
 
--- what is written can't be flushed
+-- the output can't be flushed
 pub Exporting-kept : {bounds : Bounds} {splits : List Bound} {tables : List PlainView} {part count : ℕ} {left : Option (List PlainView)} {out out' : Option (List ℕ)} (receipts receipts' : ℕ) (failed failed' : Bool) (out'' : Option (List ℕ)) → Exporting bounds splits tables part count left out out' → receipts' ≡ receipts + part → part ≡ length tables → failed' ≡ true
     → Keeps out' out'' → IsExportCut bounds splits tables WriteFault receipts receipts' failed failed' left out out''
 Exporting-kept {bounds} {splits} {tables} {out = out} {out' = out'} receipts receipts' failed failed' out'' was so_far all is kept = record {

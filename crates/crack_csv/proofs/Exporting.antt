@@ -134,14 +134,14 @@ keeps_appends None b h = tt
 keeps_appends (Some x) None h = absurd h
 keeps_appends (Some x) (Some y) h = h ∙ sym (append-nil x)
 
--- a reply that comes out is the one that is expected
+-- a reply is the expected one
 reply_is : (stop : Option Refusal) (said reply : Reply) (Lacks : Type 0) → (◌≡◌ {A = Result Reply Refusal} (Ok reply) (reply_unless stop said)) ⊎ (IsOk (reply_unless stop said) × ((◌≡◌ {A = Result Reply Refusal} (Ok reply) (Err OutOfMemory)) ⊎ ((◌≡◌ {A = Result Reply Refusal} (Ok reply) (Err NoCell)) × Lacks))) → reply ≡ said
 reply_is None said reply Lacks (inl same) = cc same
 reply_is (Some e) said reply Lacks (inl same) = cc same
 reply_is stop said reply Lacks (inr (ok, inl short)) = cc short
 reply_is stop said reply Lacks (inr (ok, inr short)) = cc (short.0)
 
--- a partition that answers a select is there, and lists its rows of the range
+-- a partition that answers a select exists, and lists its rows of the range
 pub replied_rows : (bounds : Bounds) (keys : Range) (there : Option PlainView) (range : Range) (reply : Reply) → IsOutcome bounds keys there (Select range) (Ok reply) → (table : PlainView) × (there ≡ Some table) × (reply ≡ Rows (rows_in range table.state.rows))
 replied_rows bounds keys None range reply (inl same) = cc same
 replied_rows bounds keys None range reply (inr (ok, inl short)) = cc short

@@ -70,7 +70,7 @@ pub record Going {R : Type 0} (remaining : R → Option (List ℕ)) (reader : Re
   pub inserted : AreInserted bounds splits tables records loaded left
   pub count : length records + 1 ≡ number
 
--- what reading one more record does
+-- the effect of reading one more record
 abbrev pub ReadsOne : {R : Type 0} → (R → Option (List ℕ)) → Reader R → Reader R → Fields → Type 0
 ReadsOne remaining old new fields = (text : List ℕ) (records : List Fields) → IsBehind remaining old text records → IsBehind remaining new text (records ++ fields ∷ [])
 
@@ -102,7 +102,7 @@ Going-row new fields left' g reads plain brings = record {
 pub Going-end : {R : Type 0} {remaining : R → Option (List ℕ)} {old : Reader R} {bounds : Bounds} {splits : List Bound} {tables : List PlainView} {bytes : List ℕ} {number loaded : ℕ} {left : Option (List PlainView)} → Going remaining old bounds splits tables bytes number loaded left → ((text : List ℕ) (records : List Fields) → IsBehind remaining old text records → AreRecords default_config st.StartRecord text records) → IsLoaded bounds splits tables bytes loaded left
 Going-end g ends = record { records = g.records; all = ends _ g.records g.behind; inserted = g.inserted }
 
--- why a record isn't inserted after this many others: they are as many as may be, or it is refused
+-- why a record isn't inserted after this many others: there are as many as allowed, or it is refused
 abbrev pub IsCause : Bounds → List Bound → List PlainView → ℕ → ℕ → Fields → Refusal → Type 0
 IsCause bounds splits tables loaded number fields e = ((loaded ≡ MOST_RECORDS) × (e ≡ ReadFault)) ⊎ ((loaded < MOST_RECORDS) × Refuses bounds splits tables number (new_row_of fields) e)
 

@@ -1,4 +1,4 @@
--- Rows keep within the keys of their partition.
+-- The rows of a partition have its keys.
 use Rattle.std.proofs.Common.{◌≡◌, ℕ, suc, ◌+◌, ◌<◌, ◌&&◌, Bool, true, false, cond, List, [], ◌∷◌, ◌++◌, length, map, filter, get_or, refl, ap, ◌∙◌, arith}
 use Rattle.std.specs.Prelude.{All}
 use Rattle.std.specs.List.{list_all, flat_map}
@@ -26,7 +26,7 @@ both_true : (a b : Bool) → (a && b) ≡ true → (a ≡ true) × (b ≡ true)
 both_true true b e = (refl, e)
 both_true false b e = absurd (cc e)
 
--- nothing is left out if all pass
+-- a filter that all pass leaves nothing out
 filter_all : {X : Type 0} (p : X → Bool) (xs : List X) → list_all p xs ≡ true → filter p xs ≡ xs
 filter_all p [] e = refl
 filter_all p (x ∷ xs) e = let both = both_true (p x) (list_all p xs) e in rw both.0 (ap (λ z. x ∷ z) (filter_all p xs both.1))

@@ -1,4 +1,4 @@
--- What a load and an export ask a desk, whatever is known of its rows.
+-- The calls of a desk by a load and an export, whatever is known of its rows.
 use Rattle.std.specs.Prelude.{◌≡◌, ℕ, ◌+◌, ◌≤◌, ◌⊎◌, Bool, true, List, [], ◌∷◌, ◌++◌, length, map, Option, None, Some, Result, Ok, Err}
 use Rattle.std.specs.List.{AllZip, concat, flat_map}
 use Rattle.std.specs.Io.KnownBytes.{Appends}
@@ -60,8 +60,8 @@ lines_in replies = header_text ∷ map record_text (flat_map listed replies)
 abbrev pub IsListed : {D : Type 0} → (D → Call → D → Type 0) → List Bound → Policy → ℕ → D → D → Option (List ℕ) → Option (List ℕ) → Type 0
 IsListed leads splits policy count old new out out' = (replies : List Reply) × (length replies ≡ length splits + 1) × Calls leads old (listings splits policy 0 replies) new × (count ≡ length (flat_map listed replies)) × Appends out out' (concat (lines_in replies))
 
--- on a refusal it is asked for the rows of the first ones, and their lines aren't all written; or they are, and the next one refuses; or there is
--- no other, and what is written can't be flushed
+-- on a refusal it is asked for the rows of the first partitions, and their lines aren't all written; or they are, and the next partition refuses; or
+-- there is no other, and the output can't be flushed
 abbrev pub IsListedFirst : {D : Type 0} → (D → Call → D → Type 0) → List Bound → Policy → Refusal → D → D → Bool → Bool → Option (List ℕ) → Option (List ℕ) → Type 0
 IsListedFirst leads splits policy e old new failed failed' out out' = (replies : List Reply) × (length replies ≤ length splits + 1) × (last : List Call) × Calls leads old (listings splits policy 0 replies ++ last) new
     × (((last ≡ []) × AreUnsent (lines_in replies) e failed failed' out out')

@@ -1,4 +1,4 @@
--- What `export_csv` leaves.
+-- The result of `export_csv`.
 use Rattle.std.specs.Prelude.{◌≡◌, ℕ, ◌+◌, ◌<◌, ◌⊎◌, List, [], ◌∷◌, ◌++◌, length, map, take, slice_get, Option, Some, Err, codes, Bool, true}
 use Rattle.std.specs.List.{concat, flat_map}
 use Rattle.std.specs.Io.KnownBytes.{Appends}
@@ -46,13 +46,13 @@ AreUnsent texts e failed failed' out out' = ((e ≡ OutOfMemory) × (failed' ≡
     ⊎ ((e ≡ WriteFault) × (failed' ≡ true) × AppendsFront out out' (concat texts))
 
 -- why an export stops after these partitions, before the rest: the lines aren't all written; or they are, and the next partition refuses the
--- list of its rows; or there is no other, and what is written can't be flushed
+-- list of its rows; or there is no other, and the output can't be flushed
 abbrev pub IsStopped : Bounds → List Bound → List PlainView → List PlainView → Refusal → Bool → Bool → Option (List ℕ) → Option (List ℕ) → Type 0
 IsStopped bounds splits done rest e failed failed' out out' = AreUnsent (lines_of splits done) e failed failed' out out'
     ⊎ ((table : PlainView) × (slice_get rest 0 ≡ Some table) × IsOutcome bounds (keys_of_part splits (length done)) (Some table) (Select (keys_of_part splits (length done))) (Err e) × (failed' ≡ failed) × Appends out out' (concat (lines_of splits done)))
     ⊎ ((e ≡ WriteFault) × (failed' ≡ true) × (rest ≡ []) × Appends out out' (concat (lines_of splits done)))
 
--- An export that is refused: the first partitions are asked, and their rows are as they were; the rest is untouched.
+-- An export that is refused: the first partitions are asked, and their rows are unchanged; the rest is unchanged as a whole.
 pub record IsExportCut (bounds : Bounds) (splits : List Bound) (tables : List PlainView) (e : Refusal) (receipts receipts' : ℕ) (failed failed' : Bool) (left : Option (List PlainView)) (out out' : Option (List ℕ)) : Type 0 where
   pub done : List PlainView
   pub rest : List PlainView

@@ -56,7 +56,7 @@ abbrev pub IsUnsent : List ℕ → Refusal → Bool → Bool → Option (List �
 IsUnsent text e failed failed' out out' = ((e ≡ OutOfMemory) × (failed' ≡ failed) × Keeps out out')
     ⊎ ((e ≡ WriteFault) × (failed' ≡ true) × AppendsFront out out' text)
 
--- A partition refuses the list of its rows: everything is as it was.
+-- A partition refuses the list of its rows: nothing has changed.
 pub record IsUnlisted (bounds : Bounds) (splits : List Bound) (tables : List PlainView) (part : ℕ) (table : PlainView) (e : Refusal) (receipts receipts' : ℕ) (failed failed' : Bool) (left : Option (List PlainView)) (out out' : Option (List ℕ)) : Type 0 where
   pub cause : IsOutcome bounds (keys_of_part splits part) (Some table) (Select (keys_of_part splits part)) (Err e)
   pub left_is : left ≡ Some tables

@@ -1,4 +1,4 @@
--- What `load_csv` leaves.
+-- The result of `load_csv`.
 use Rattle.std.specs.Prelude.{◌≡◌, ℕ, ◌+◌, ◌<◌, ◌⊎◌, List, [], ◌∷◌, ◌++◌, length, map, fold, Option, Some, None, Err, slice_set, slice_index_or}
 use Rattle.csv.specs.Reading.{default_config, AreRecords, strip_bom}
 use Rattle.csv.specs.declared.parser.State.TheVariants as st
@@ -36,7 +36,8 @@ pub record IsLoaded (bounds : Bounds) (splits : List Bound) (tables : List Plain
   pub all : AreRecords default_config st.StartRecord (strip_bom bytes) records
   pub inserted : AreInserted bounds splits tables records count left
 
--- A record of the bytes is refused after this many others, whose rows are inserted: it isn't a header, and there are as many as there may be, or it is refused.
+-- A record of the bytes is refused after this many others, whose rows are inserted: it isn't a header, and there are as many as allowed, or it is refused by
+-- itself.
 pub record IsRefused (bounds : Bounds) (splits : List Bound) (tables : List PlainView) (bytes : List ℕ) (records : List (List (List ℕ))) (fault : LoadFault) : Type 0 where
   pub fields : List (List ℕ)
   pub first : AreFirstOf (strip_bom bytes) (records ++ fields ∷ [])

@@ -34,8 +34,8 @@ pub fn export_csv<D: Desk, W: Write>(
     ensures exported { IfOk result (λ count. (tables : List PlainView) → D.tables desk.old ≡ Some tables →
         IsExported (D.bounds desk.old) (D.splits desk.old) tables count (D.tables desk.new)
         (W.contents (device writer.old)) (W.contents (device writer.new))) }
-    // On a refusal the first partitions are asked, and no row is changed. Their records are written up to what the
-    // cause says.
+    // On a refusal the first partitions are asked, and no row is changed. Their records are written as far as the cause
+    // implies.
     ensures cut { IfErr result (λ e. (tables : List PlainView) → D.tables desk.old ≡ Some tables →
         IsExportCut (D.bounds desk.old) (D.splits desk.old) tables e (D.receipts desk.old) (D.receipts desk.new)
         (has_failed writer.old) (has_failed writer.new) (D.tables desk.new) (W.contents (device writer.old))

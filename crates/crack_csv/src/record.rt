@@ -12,7 +12,7 @@ use crack_row::{Key, Payload, Refusal};
 use csv::{ByteRecord, Error, ErrorKind, Reader};
 use std::io::Read;
 
-/// What is inserted for a record.
+/// The row that is inserted for a record.
 #[derive(Clone, Copy, PartialEq, Eq, Debug)]
 pub struct NewRow {
     pub key: Key,

@@ -65,7 +65,7 @@ fn write_record(writer: &mut Writer<Vec<u8>>, first: &[u8], second: &[u8]) -> Re
     }
 }
 
-/// What was written.
+/// The text that was written.
 fn text_of(writer: Writer<Vec<u8>>) -> Result<Vec<u8>, Refusal>
     ensures text { IfOk result (λ text. text_written ⟦<Vec<u8> as Write>⟧.contents writer ≡ Some text.items) }
     ensures err { IfErr result (λ e. e ≡ Refusal.OutOfMemory) }

@@ -1,5 +1,5 @@
-//! Two sessions over one core, and a session and an export: the second starts from what the first left, by what `serve`
-//! promises.
+//! Two sessions over one core, and a session and an export: the second starts where the first ended, by the contract of
+//! `serve`.
 ghost use Rattle.std.specs.Prelude.{◌≡◌, ℕ, List, Some, IfOk};
 ghost use Rattle.crack_row.specs.Devices.{device};
 ghost use Rattle.crack_plain.specs.Plain.{PlainView};
@@ -68,8 +68,8 @@ fn serve_and_export<R: Read, W: Write>(
     }
 }
 
-/// What the three write, one after another. It promises nothing, so that the test carries nothing of their
-/// promises.
+/// The outputs of the three, one after another. It promises nothing, so that the test carries nothing of their
+/// contracts.
 fn tell_all(alloc: Global, core: &mut Core) -> Result<Vec<u8>, Refusal> {
     let mut first = Watched::new(b"insert 150 6\nquit\ninsert 1 1\n".as_slice());
     let mut second = Watched::new(b"insert 50 5\ncount 0 200\n".as_slice());

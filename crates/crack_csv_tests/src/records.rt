@@ -31,7 +31,7 @@ fn bad_record(number: u64, loaded: u64) -> Result<u64, LoadFault> {
     Err(LoadFault { refusal, loaded })
 }
 
-/// A load of what a reader returns into one partition, which is to end in this way.
+/// A load of a reader's bytes into one partition, which is to end in this way.
 fn assert_load(
     rt: &impl Abort,
     alloc: Global,

@@ -49,7 +49,7 @@ static COMPLETED: &[u8] = b"policy complete\nrow 0.0\nrow 0.1\ncount 2\ncount 0\
 row 0.2\nrow 0.3\ncount 2\nlayout 0 rows 4 column 4 out 0 in 0 cells 4 free 0 pieces 4\n\
 piece 0 10 0\npiece 10 20 2\npiece 20 30 0\npiece 30 18446744073709551616 2\n";
 
-/// By the gradual merge the one of the range is.
+/// By the gradual merge the row of the range is put in.
 static GRADUAL: &[u8] =
     b"policy gradual\ninsert 10 1\ninsert 40 4\ncount 0 18446744073709551616\ncount 20 30\n\
 insert 15 5\ninsert 50 6\ncount 10 20\nlayout 0\n";
@@ -58,7 +58,7 @@ static MERGED: &[u8] = b"policy gradual\nrow 0.0\nrow 0.1\ncount 2\ncount 0\n\
 row 0.2\nrow 0.3\ncount 2\nlayout 0 rows 4 column 3 out 0 in 1 cells 4 free 0 pieces 4\n\
 piece 0 10 0\npiece 10 20 2\npiece 20 30 0\npiece 30 18446744073709551616 1\n";
 
-/// And so it is by a sum and by a select, which merge as a count does.
+/// And so is it by a sum and by a select, which merge as a count does.
 static GRADUAL_SUM: &[u8] =
     b"policy gradual\ninsert 10 1\ninsert 40 4\ncount 0 18446744073709551616\ncount 20 30\n\
 insert 15 5\ninsert 50 6\nsum 10 20\nlayout 0\n";
@@ -75,7 +75,7 @@ static MERGED_BY_A_SELECT: &[u8] = b"policy gradual\nrow 0.0\nrow 0.1\ncount 2\n
 row 0.2\nrow 0.3\nrows 2\n0.0 10 1\n0.2 15 5\nlayout 0 rows 4 column 3 out 0 in 1 cells 4 free 0 pieces 4\n\
 piece 0 10 0\npiece 10 20 2\npiece 20 30 0\npiece 30 18446744073709551616 1\n";
 
-/// By ripple it is, and the row above the range that makes room for it is pending again.
+/// By ripple it is put in, and the row above the range that makes room for it is pending again.
 static RIPPLE: &[u8] =
     b"policy ripple\ninsert 10 1\ninsert 40 4\ncount 0 18446744073709551616\ncount 20 30\n\
 insert 15 5\ninsert 50 6\ncount 10 20\nlayout 0\n";

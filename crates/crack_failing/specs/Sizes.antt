@@ -1,5 +1,5 @@
 -- What private clauses alone cite.
--- How much a reader gives at a time.
+-- The number of bytes that a reader returns at a time.
 use Rattle.std.specs.Prelude.{ℕ, ◌-◌, ◌^◌, ◌%◌, max, List, [], ◌∷◌, length, slice_index}
 
 -- how many bytes a read may give, by the number of reads before it: the sizes in turn, 0 for one byte; without sizes as many as there is room for

@@ -1,4 +1,4 @@
-//! Devices that fail where a test wants it to: a reader and a writer.
+//! Devices that fail at the call that a test names: a reader and a writer.
 #![tactic(auto)]
 
 pub mod sink;

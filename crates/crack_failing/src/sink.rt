@@ -16,8 +16,8 @@ pub struct Sink {
 }
 
 impl Sink {
-    /// A writer that takes all that it is given, after the bytes that are there, and never fails but if it finds no
-    /// memory for them.
+    /// A writer that takes all that it is given, after the bytes that are there, and fails only if it finds no memory
+    /// for them.
     pub fn new(bytes: Vec<u8>) -> Sink
         ensures bytes { result.bytes ≡ bytes }
         ensures whole { result.most ≡ 2 ^ 64 - 1 }
@@ -31,7 +31,7 @@ impl Sink {
         }
     }
 
-    /// The same writer, which takes at most this many bytes at a time, and one where this is 0.
+    /// The same writer, which takes at most this many bytes at a time, or one if this is 0.
     pub fn taking(self, most: usize) -> Sink
         ensures { result ≡ record self { most = most } }
     {
@@ -69,7 +69,7 @@ impl Sink {
         self.calls
     }
 
-    /// Counts a call, and says whether it is to fail.
+    /// Counts a call, and returns whether it is to fail.
     fn fails(&mut self) -> bool
         ensures calls { self.new ≡ record self.old { calls = min (self.old.calls + 1) (2 ^ 64 - 1) } }
         ensures fails { result ≡ nat_le self.old.fails_at self.new.calls }

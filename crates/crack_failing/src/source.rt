@@ -1,4 +1,4 @@
-//! A reader over memory that cuts what it gives, and fails.
+//! A reader over memory that returns bytes in pieces, and fails.
 ghost use Rattle.std.specs.Prelude.{◌≡◌, ◌+◌, ◌<◌, ◌^◌, ◌-◌, [], min, length, drop, Some, is_ok, nat_lt, IfOk};
 ghost use Rattle.std.specs.Io.{ReadsAtMost};
 ghost use Rattle.crack_failing.specs.Sizes.{most_at};

@@ -1,4 +1,4 @@
-//! What a table comes to.
+//! The totals of a table.
 use crack_row::Refusal;
 use crack_table::{Table, Worker, gather};
 use std::alloc::Global;

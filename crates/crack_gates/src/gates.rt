@@ -1,4 +1,4 @@
-//! Gates that say no: always, at one partition, or until another worker is inside; and those that say yes, and note to
+//! Gates that refuse: always, at one partition, or until another worker is inside; and gates that consent, and note to
 //! whom, or which checkpoints were due.
 ghost use Rattle.std.specs.Prelude.{◌≡◌, ◌<◌, not, false, nat_eq};
 ghost use Rattle.std.specs.Bool.{OnFalse};
@@ -8,7 +8,7 @@ use std::alloc::{AllocError, Global};
 use std::sync::atomic::{AtomicBool, AtomicU32, AtomicU64, Ordering};
 use std::thread;
 
-/// A gate that always says no.
+/// A gate that always refuses.
 #[derive(Drop)]
 pub struct Shut;
 
@@ -22,7 +22,7 @@ impl Gate for Shut {
     }
 }
 
-/// A gate that says no at one partition, and yes at each other.
+/// A gate that refuses at one partition, and consents at every other.
 #[derive(Drop)]
 pub struct ShutAt {
     pub part: u32,
@@ -39,8 +39,8 @@ impl Gate for ShutAt {
     }
 }
 
-/// A gate that says no until it was asked so often, and from then on yes. It counts how often it is asked, by whomever,
-/// and notes whether that is about one partition, with the turns of one call, in order.
+/// A gate that refuses until it was asked this often, and consents from then on. It counts how often it is asked, by
+/// any worker, and notes whether that is at one partition, with the turns of one call, in order.
 #[derive(Drop)]
 pub struct Counting {
     part: u32,
@@ -50,7 +50,7 @@ pub struct Counting {
 }
 
 impl Counting {
-    /// A gate that is to be asked about this partition, and says no as often as this.
+    /// A gate that is asked about this partition, and refuses this many times.
     pub fn new(part: u32, opens_at: u32) -> Counting {
         Counting {
             part,
@@ -83,22 +83,22 @@ impl Gate for Counting {
     }
 }
 
-/// Gives way, long enough for another thread to arrive.
+/// Yields, long enough for another thread to arrive.
 fn give_way() {
     'turns: for _ in 0..1000u32 {
         thread::yield_now();
     }
 }
 
-/// A gate that says no to each of partitions 0 and 1 until the other has been inside. Before each no it gives way.
-/// At other partitions it says yes.
+/// A gate that refuses each of partitions 0 and 1 until the other has been inside. It yields before each refusal. At
+/// other partitions it consents.
 #[derive(Drop)]
 pub struct Meeting {
     arrived: [AtomicBool; 2],
 }
 
 impl Meeting {
-    /// A gate at which nobody has arrived.
+    /// A gate at which no worker has arrived.
     pub fn new() -> Meeting {
         Meeting {
             arrived: [AtomicBool::new(false), AtomicBool::new(false)],
@@ -122,7 +122,7 @@ impl Gate for Meeting {
     }
 }
 
-/// A gate that notes whether it is asked while someone else is inside. It says no twenty times, and gives way before
+/// A gate that notes whether it is asked while another worker is inside. It refuses twenty times, and yields before
 /// each answer.
 #[derive(Drop)]
 pub struct Alone {
@@ -131,7 +131,7 @@ pub struct Alone {
 }
 
 impl Alone {
-    /// A gate at which nobody is.
+    /// A gate with no worker inside.
     pub fn new() -> Alone {
         Alone {
             inside: AtomicBool::new(false),
@@ -139,7 +139,7 @@ impl Alone {
         }
     }
 
-    /// Whether two were inside at once.
+    /// Whether two were inside at the same time.
     pub fn met(&self) -> bool {
         self.met.load(Ordering::SeqCst)
     }
@@ -200,9 +200,9 @@ impl Notes {
     }
 }
 
-/// A gate that says yes, and notes its worker each time. All gates of one partition share their notes, which then are
-/// in the order of its history, as long as each command is let in once and nobody comes between a gate's yes and the
-/// command.
+/// A gate that consents, and notes its worker each time. All gates of one partition share their notes, which then are
+/// in the order of its history, as long as each command is let in once and no other comes between a gate's consent and
+/// the command.
 #[derive(Clone, Copy, Drop)]
 pub struct Noting<'a> {
     pub worker: u32,
@@ -218,8 +218,8 @@ impl Gate for Noting<'_> {
     }
 }
 
-/// A gate that says yes, and notes the checkpoints that were due: how many, how many entries they took, and of which
-/// partition the last was.
+/// A gate that consents, and notes the checkpoints that were due: how many, how many entries they took, and the
+/// partition of the last one.
 #[derive(Drop)]
 pub struct Due {
     count: AtomicU64,

@@ -1,4 +1,4 @@
-//! What tests of tables stand on: gates that say no or note whom they let in, and what a table comes to.
+//! Helpers for tests of tables: gates that refuse or note whom they let in, and the totals of a table.
 #![tactic(auto)]
 
 pub mod ending;

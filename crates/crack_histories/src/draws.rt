@@ -1,4 +1,4 @@
-//! What a worker asks next, drawn from a seed.
+//! The next command of a worker, drawn from a seed.
 
 use crack_row::{
     Bound, BoundNumber, Command, GREATEST_BOUND, GREATEST_PAYLOAD, Key, KeyNumber, KeyRange,
@@ -29,7 +29,7 @@ const NEAR: u32 = 3;
 /// How wide the range of a query is, at most, if it isn't of all keys.
 const WIDEST: u32 = 64;
 
-/// How many serials back a deletion or an update aims, at most.
+/// How many serials back the row of a deletion or an update is, at most.
 const BACK: u32 = 64;
 
 /// Numbers that look random (SplitMix64).
@@ -53,7 +53,7 @@ impl Numbers {
     }
 }
 
-/// What a partition is asked.
+/// A question to a partition.
 #[derive(Clone, Copy)]
 pub enum Asked {
     /// To answer a command.
@@ -62,18 +62,18 @@ pub enum Asked {
     Checkpoint,
 }
 
-/// What is asked, and of which partition.
+/// A question, and its partition.
 #[derive(Clone, Copy)]
 pub struct Question {
     pub part: u32,
     pub asked: Asked,
 }
 
-/// The questions of one worker: they depend on its seed, and on the serials that it was answered.
+/// The questions of one worker: they depend on its seed, and on the serials in its replies.
 #[derive(Drop)]
 pub struct Draws {
     numbers: Numbers,
-    /// The serial of the last row that it was answered, in each partition.
+    /// The serial of the last row that it placed in each partition.
     last: [u64; PARTS],
 }
 

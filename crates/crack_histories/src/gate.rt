@@ -1,4 +1,4 @@
-//! What makes threads meet: they begin together, and a gate under the locks that gives way and refuses now and then.
+//! Helpers that make threads meet: they begin together, and a gate under the locks yields and refuses now and then.
 
 use crate::draws::PARTS;
 use crack_table::Gate;
@@ -11,10 +11,10 @@ const REFUSED: u32 = 50;
 /// Of each partition's commands one of this many yields to other threads under its lock, and comes at the second turn.
 const GIVES_WAY: u32 = 3;
 
-/// How often a thread that waits for the others to begin gives way, at most.
+/// How often a thread that waits for the others to begin yields, at most.
 const PATIENCE: u32 = 100000;
 
-/// A gate that counts the commands of each partition, and by that number gives way or says no at every turn.
+/// A gate that counts the commands of each partition, and by that number yields or refuses at every turn.
 #[derive(Drop)]
 pub struct Restless {
     begun: AtomicU32,

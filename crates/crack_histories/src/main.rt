@@ -2,12 +2,12 @@
 //! `crack_histories SEED WORKERS STATEMENTS POLICY LIMIT CELLS LIFE`. STATEMENTS are those of each worker, LIMIT is
 //! that of each history, CELLS and LIFE are the other limits of each partition.
 //!
-//! It writes for each worker, after `worker W`, what it asked and what it was answered, and after `receipts W` its
-//! receipts; then for each partition, after `partition P`, the entries of its history, where it was checkpointed
-//! `partition P folded N inserted I deleted D rows R` and R lines `P.S K V` before them; and the totals. What is asked
-//! is written as a session's statement, with the partition's number before it, in a receipt the position and the worker
-//! besides, and in an entry the worker alone; the lines of the reply follow. A gathering that is refused ends the run
-//! with its refusal, in place of the histories.
+//! It writes for each worker, after `worker W`, its commands and their replies, and after `receipts W` its receipts;
+//! then for each partition, after `partition P`, the entries of its history, with `partition P folded N inserted I
+//! deleted D rows R` and R lines `P.S K V` before them if it was checkpointed; and the totals. A command is written as
+//! a session's statement, with the partition's number before it, in a receipt the position and the worker besides, and
+//! in an entry the worker alone; the lines of the reply follow. A gathering that is refused ends the run with its
+//! refusal, in place of the histories.
 #![tactic(auto)]
 
 mod draws;
@@ -23,7 +23,7 @@ use std::sync::Wait;
 use std::thread::Threads;
 use std::{env, io};
 
-/// What a run is handed: to start threads and wait for them.
+/// The handles that a run is given: to start threads and wait for them.
 trait Host: Alloc<A = Global> + Threads + Wait + Sync {}
 
 impl<R: Alloc<A = Global> + Threads + Wait + Sync> Host for R {}
@@ -56,7 +56,7 @@ fn plan_of(words: &[&str]) -> anyhow::Result<Plan> {
     }
 }
 
-/// Has the workers ask, and writes what they were answered, and the histories.
+/// Has the workers ask, and writes their replies and the histories.
 fn run<R: Host, W: Write>(rt: &R, plan: Plan, writer: &mut Watched<W>) -> Result<(), Refusal> {
     let mut pool = Pool::open(rt.alloc(), plan)?;
     if let Err(error) = work(rt, plan, &mut pool, writer) {

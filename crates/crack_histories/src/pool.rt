@@ -15,7 +15,7 @@ use std::sync::Wait;
 use std::thread::Threads;
 use std::{mem, thread};
 
-/// What a run does.
+/// The parameters of a run.
 #[derive(Clone, Copy)]
 pub struct Plan {
     pub seed: u64,
@@ -23,11 +23,11 @@ pub struct Plan {
     /// How many commands and checkpoints each worker asks for.
     pub statements: u32,
     pub policy: Policy,
-    /// What bounds each partition.
+    /// The limits of each partition.
     pub limits: Limits,
 }
 
-/// A worker, what it asks, and the text of what it asked and was answered.
+/// A worker, its questions, and the text of its questions and their answers.
 #[derive(Drop)]
 struct Hand {
     worker: Worker,
@@ -86,7 +86,7 @@ impl Hand {
         self
     }
 
-    /// Writes what was asked and answered, and then the receipts.
+    /// Writes the questions and answers, and then the receipts.
     fn write<W: Write>(&self, writer: &mut Watched<W>) -> Result<(), Refusal> {
         if self.cut {
             return Err(Refusal::OutOfMemory);
@@ -122,7 +122,7 @@ impl Pool {
         Ok(Pool { table, hands })
     }
 
-    /// Has each worker ask, on threads of their own. No worker is left if it finds no memory.
+    /// Has each worker ask, on threads of their own. Without memory no worker is left.
     pub fn work<R: Threads + Wait + Sync>(
         &mut self,
         rt: &R,
@@ -136,7 +136,7 @@ impl Pool {
         Ok(())
     }
 
-    /// Writes what the workers asked and were answered, one worker after the other.
+    /// Writes the questions and answers of the workers, one worker after the other.
     pub fn write<W: Write>(&self, writer: &mut Watched<W>) -> Result<(), Refusal> {
         'hands: for hand in self.hands.iter() {
             hand.write(writer)?;
@@ -159,7 +159,7 @@ impl Pool {
     }
 }
 
-/// The workers, with what they ask.
+/// The workers, with their questions.
 fn hands_of(alloc: Global, seed: u64, workers: Vec<Worker>) -> Result<Vec<Hand>, AllocError> {
     let mut hands = Vec::new(alloc);
     'workers: for worker in workers {

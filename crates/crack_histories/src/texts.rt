@@ -50,7 +50,7 @@ fn write_query<W: Write>(name: &str, range: KeyRange, writer: &mut Watched<W>) -
     writeln!(writer, "{name} {low} {high}")
 }
 
-/// Writes a command, and what was replied to it.
+/// Writes a command and its reply.
 fn write_replied<W: Write>(
     part: u32,
     command: &Command,
@@ -61,7 +61,7 @@ fn write_replied<W: Write>(
     write_reply(part, reply, writer)
 }
 
-/// Writes a command, and why it was refused.
+/// Writes a command and its refusal.
 fn write_refused<W: Write>(
     part: u32,
     command: &Command,
@@ -72,7 +72,7 @@ fn write_refused<W: Write>(
     write_refusal(refusal, writer)
 }
 
-/// Writes what a partition was asked, and what it answered.
+/// Writes a question to a partition, and its answer.
 pub fn write_answer<W: Write>(
     part: u32,
     command: &Command,
@@ -86,7 +86,7 @@ pub fn write_answer<W: Write>(
     }
 }
 
-/// Writes that a partition was asked for a checkpoint, and what that reported.
+/// Writes a checkpoint of a partition, and its result.
 pub fn write_checkpoint<W: Write>(
     part: u32,
     told: &Result<u64, Refusal>,
@@ -99,8 +99,8 @@ pub fn write_checkpoint<W: Write>(
     }
 }
 
-/// Writes a partition's number, and its base where something was checkpointed: how many entries went, how many of them
-/// placed a row and took one out, and the rows.
+/// Writes a partition's number, and its base if something was checkpointed: how many entries were removed, how many of
+/// them placed a row and removed one, and the rows.
 pub fn write_base<W: Write>(
     part: u32,
     partition: &Partition,
@@ -123,14 +123,14 @@ pub fn write_base<W: Write>(
     Ok(())
 }
 
-/// Writes a receipt: its partition, position and worker, and what was asked and replied.
+/// Writes a receipt: its partition, position and worker, and the command and its reply.
 pub fn write_receipt<W: Write>(receipt: &Receipt, writer: &mut Watched<W>) -> Result<(), Refusal> {
     let (part, position, worker) = (receipt.part, receipt.position, receipt.worker);
     written(write!(writer, "{part} {position} {worker} "))?;
     write_replied(part, &receipt.command, &receipt.reply, writer)
 }
 
-/// Writes an entry: its worker, and what was asked and replied.
+/// Writes an entry: its worker, and the command and its reply.
 pub fn write_entry<W: Write>(
     part: u32,
     entry: &Entry,

@@ -12,7 +12,7 @@ use Rattle.crack_index.specs.declared.mark.Mark.{Mark}
 use Rattle.crack_index.specs.Marks.{InOrder, Rising, Fits, bounds_of, HasBound, position_of, next_mark, last_mark, first_behind, last_before, start_of, end_of, size_between, pieces_from, added, raised, lowered, lowered_at}
 use Rattle.crack_index.specs.Steps.{one_up, one_down}
 
--- what is beyond the last mark, if a list must return something
+-- the default beyond the last mark
 abbrev pub no_mark : Mark
 no_mark = record { bound = record { 0 = 0 }; position = 0 }
 

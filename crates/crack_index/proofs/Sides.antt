@@ -321,7 +321,7 @@ pieces_whole none made all low high l h last marks len piece empty is_low is_hig
     let from_nothing : pieces_from low 0 marks high len ≡ made ++ size_between last.bound last.position high len ∷ [] = rw (empty, append-nil marks) at told in
     rw (is_all, is_piece, ← is_low, ← is_high) (sym from_nothing)
 
--- What an index keeps
+-- The invariant of an index
 
 pub length-added : (m : Mark) (marks : List Mark) → length (added m marks) ≡ length marks + 1
 length-added m [] = omega arith

@@ -230,7 +230,7 @@ module _ (P : Mark → Type 0) (l : Option (Box Grown Global)) (m : Mark) (r : O
 pub All-some : (P : Mark → Type 0) (o : Option (Box Grown Global)) (box : Box Grown Global) (n : Grown) → o ≡ Some box → n ≡ box.value → All P (marks_of o) → All P n.marks
 All-some P o box n is at all = subst (λ (k : Grown). All P k.marks) (sym at) (subst (λ (p : Option (Box Grown Global)). All P (marks_of p)) is all)
 
--- if the mark is above a number, so are those to the right of it, and where it is not, nor are those to the left
+-- if the mark is above a number, so are those to the right of it, and if it isn't, neither are those to the left
 pub above-right : (number : ℕ) (l : List Mark) (m : Mark) (r : List Mark) → Rising (l ++ m ∷ r) → number < m.bound.0 → All (λ n. number < n.bound.0) r
 above-right number l m r rising above = λ k d h. omega (arith, above, (Rising-behind l m r rising k d h).bounds)
 
@@ -245,12 +245,12 @@ pub none-is : (o : Option Mark) → is_some o ≡ false → o ≡ None
 none-is None is = refl
 none-is (Some e) is = absurd (cc)
 
--- what a walk has made of a side of a node: it went over the marks in its own order, and the side is as high as before
+-- the result of a walk over a side of a node: it visited the marks in its own order, and the side is as high as before
 pub record Walked {V : Type 0} (step : Mark → Way → V → Mark → Way → V → Type 0) (turn : List Mark → List Mark) (o o' : Option (Box Grown Global)) (a b : Way) (u v : V) : Type 0 where
   pub goes : Goes step (turn (marks_of o)) a u (turn (marks_of o')) b v
   pub height : height_of o' ≡ height_of o
 
--- of the side to which it came first, and of the mark after that; it goes on
+-- the result for the side that it visited first, and for the mark after it; the walk goes on
 pub record Neared {V : Type 0} (step : Mark → Way → V → Mark → Way → V → Type 0) (turn : List Mark → List Mark) (o o' : Option (Box Grown Global)) (m m' : Mark) (a b : Way) (u v : V) : Type 0 where
   pub goes : Goes step (turn (marks_of o) ++ m ∷ []) a u (turn (marks_of o') ++ m' ∷ []) b v
   pub height : height_of o' ≡ height_of o

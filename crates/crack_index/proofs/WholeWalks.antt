@@ -52,7 +52,7 @@ module _ {V : Type 0} (visits : V → ℕ → Bool → V → Type 0) (number : �
   up-rest : (m : Mark) (way : Way) (w : V) (ns ns' : List Mark) (c : Way) (z : V) → Goes (StepsUp visits number) ns (record way { ended = Some m }) w ns' c z → (ns' ≡ ns) × (c ≡ record way { ended = Some m }) × (z ≡ w)
   up-rest m way w ns ns' c z onward = Goes-over (StepsUp visits number) (record way { ended = Some m }) w (λ n n' b v step. up-over visits number n n' m (record way { ended = Some m }) b w v step refl) ns ns' (record way { ended = Some m }) c w z onward refl refl
 
-  -- from where bounds moved: the first of them, the marks that were passed, and what has become of them
+  -- where bounds moved: the first of them, the marks that were passed, and the same marks afterwards
   up-level : (at : Mark) (old new rest rest' : List Mark) (a b : Way) (u v : V) → Rising (old ++ rest) → All (λ n. n.position ≤ at.position) old → All (InOrder at) rest → new ≡ map (raised at.bound.0 at.position) old
       → number < at.bound.0 → a.ended ≡ None → a.last ≡ at.position → Goes (StepsUp visits number) rest a u rest' b v
       → Climbs visits (first_behind at.position (old ++ rest)) (map (raised at.bound.0 at.position) (old ++ rest)) u b.ended (new ++ rest') v

@@ -1,5 +1,5 @@
 -- What private clauses alone cite.
--- What a tree and an index keep: rising marks, and sides of almost equal height.
+-- The invariants of a tree and of an index: rising marks, and sides of almost equal height.
 use Rattle.std.specs.Prelude.{◌≡◌, ℕ, ◌+◌, ◌-◌, ◌^◌, ◌<◌, ◌≤◌, max, length, List, ◌∷◌, ◌++◌, Option, Some, None}
 use Rattle.std.specs.declared.alloc.Global.{Global}
 use Rattle.std.proofs.Common.{Box}
@@ -30,7 +30,7 @@ pub record IsBalanced (left : Option (Box Grown Global)) (mark : Mark) (right : 
   pub even : DifferByAtMost 1 (height_of left) (height_of right)
   pub tall : IsTall (length (marks_of left ++ mark ∷ marks_of right)) height
 
--- what an index keeps: its marks rise, there are this many, and they and the spare nodes are fewer than the greatest number
+-- the invariant of an index: its marks rise, there are this many, and they and the spare nodes are fewer than the greatest number
 pub record IsKept (marks : List Mark) (spare len : ℕ) : Type 0 where
   pub rising : Rising marks
   pub counted : length marks ≡ len

@@ -1,5 +1,5 @@
 -- What private clauses alone cite.
--- How a walk goes through marks one by one: what it does at each, and all of them.
+-- The steps of a walk, one at each mark, and all of them together.
 use Rattle.std.specs.Prelude.{◌≡◌, ◌≢◌, ℕ, ◌+◌, ◌-◌, ◌<◌, ◌≤◌, Bool, true, false, List, [], ◌∷◌, Some, None}
 use Rattle.crack_index.specs.declared.mark.Mark.{Mark}
 use Rattle.crack_index.specs.declared.walk.Way.{Way}
@@ -18,11 +18,11 @@ pub data StepsUp {V : Type 0} (visits : V → ℕ → Bool → V → Type 0) (nu
   apart : (m : Mark) (way : Way) (v : V) → m.bound.0 ≤ number → StepsUp visits number m way v m way v
   -- the walk has ended
   over : (m e : Mark) (way : Way) (v : V) → way.ended ≡ Some e → StepsUp visits number m way v m way v
-  -- it is where the bounds were that moved last: it moves along
+  -- it is at the place of the bounds that moved last: it moves with them
   along : (m : Mark) (way : Way) (v : V) → number < m.bound.0 → way.ended ≡ None → m.position ≡ way.last → StepsUp visits number m way v (one_up m) way v
-  -- the visitor is given its place, and says that the walk goes on
+  -- the visitor is given its place, and lets the walk go on
   goes_on : (m : Mark) (way : Way) (v w : V) → number < m.bound.0 → way.ended ≡ None → m.position ≢ way.last → visits v m.position true w → StepsUp visits number m way v (one_up m) (record way { last = m.position }) w
-  -- it says that the walk ends there
+  -- the visitor ends the walk there
   stops : (m : Mark) (way : Way) (v w : V) → number < m.bound.0 → way.ended ≡ None → m.position ≢ way.last → visits v m.position false w → StepsUp visits number m way v m (record way { ended = Some m }) w
 
 -- the same for a walk down from the last bound at or below a number
@@ -33,11 +33,11 @@ pub data StepsDown {V : Type 0} (visits : V → ℕ → Bool → V → Type 0) (
   over : (m e : Mark) (way : Way) (v : V) → way.ended ≡ Some e → StepsDown visits number m way v m way v
   -- it is at the front, so no place is before it: the walk ends there
   front : (m : Mark) (way : Way) (v : V) → m.bound.0 ≤ number → way.ended ≡ None → m.position ≡ 0 → StepsDown visits number m way v m (record way { ended = Some m }) v
-  -- it is where the bounds were that moved last: it moves along
+  -- it is at the place of the bounds that moved last: it moves with them
   along : (m : Mark) (way : Way) (v : V) → m.bound.0 ≤ number → way.ended ≡ None → 0 < m.position → m.position ≡ way.last → StepsDown visits number m way v (one_down m) way v
-  -- the visitor is given the last place before it, and says that the walk goes on
+  -- the visitor is given the last place before it, and lets the walk go on
   goes_on : (m : Mark) (way : Way) (v w : V) → m.bound.0 ≤ number → way.ended ≡ None → 0 < m.position → m.position ≢ way.last → visits v (m.position - 1) true w → StepsDown visits number m way v (one_down m) (record way { last = m.position }) w
-  -- it says that the walk ends there
+  -- the visitor ends the walk there
   stops : (m : Mark) (way : Way) (v w : V) → m.bound.0 ≤ number → way.ended ≡ None → 0 < m.position → m.position ≢ way.last → visits v (m.position - 1) false w → StepsDown visits number m way v m (record way { ended = Some m }) w
 
 -- this many steps, one for each mark of a list in its order

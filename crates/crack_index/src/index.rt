@@ -64,7 +64,7 @@ impl CrackerIndex {
         }
     }
 
-    /// Makes room for `n` more bounds; refused with 8 if it finds no memory. Then it keeps what it found.
+    /// Makes room for `n` more bounds. Refused with 8 if it finds no memory; room that was made until then stays.
     pub fn reserve(&mut self, n: usize) -> Result<(), Refusal>
         ensures marks { self.new.marks ≡ self.old.marks }
         ensures ok { OnOk result (n ≤ self.new.room) }
@@ -268,9 +268,10 @@ impl CrackerIndex {
         next
     }
 
-    /// Walks up from the least bound above the key: the visitor is given the place of the bound, and if it says so,
-    /// that bound and those above it that are there move up by one, and the walk goes on to the next place. Returns the
-    /// bound at which it ended, if one is left. O(log bounds) and the bounds at the places on its way. Takes no memory.
+    /// Walks up from the least bound above the key: the visitor is given the place of the bound, and if it returns
+    /// true, that bound and those above it that are there move up by one, and the walk goes on to the next place.
+    /// Returns the bound at which it ended, if one is left. O(log bounds) and the bounds at the places on its way.
+    /// Takes no memory.
     #[inline(always)]
     pub fn climb<V: Visitor>(&mut self, key: Key, visitor: &mut V) -> Option<Mark>
         requires small { All (λ m. m.position < usize.MAX) self.old.marks }
@@ -286,9 +287,9 @@ impl CrackerIndex {
     }
 
     /// Walks down from the greatest bound at or below the key: the visitor is given the last place before the bound,
-    /// and if it says so, that bound and those below it that are at its place move down by one, and the walk goes on to
-    /// the next place. Returns the bound at which it ended, if one is left; a bound at the column's front has no place
-    /// before it, and ends it. O(log bounds) and the bounds at the places on its way. Takes no memory.
+    /// and if it returns true, that bound and those below it that are at its place move down by one, and the walk goes
+    /// on to the next place. Returns the bound at which it ended, if one is left; a bound at the column's front has no
+    /// place before it, and ends it. O(log bounds) and the bounds at the places on its way. Takes no memory.
     #[inline(always)]
     pub fn descend<V: Visitor>(&mut self, key: Key, visitor: &mut V) -> Option<Mark>
         requires ready { V.is_ready visitor.old }
@@ -302,9 +303,9 @@ impl CrackerIndex {
         walk::descend(&mut self.root, key.number(), visitor)
     }
 
-    /// Walks over the bounds from the highest down: the visitor is given each, and says how far it rises. No bound
-    /// rises further than the one above it, and none further than `most`; if one doesn't rise, none below it is
-    /// looked at. How far the lowest rose. O(bounds that rise + log bounds). Takes no memory.
+    /// Walks over the bounds from the highest down: the visitor is given each, and returns how far it rises. No bound
+    /// rises further than the one above it, and none further than `most`; if one doesn't rise, the walk ends. Returns
+    /// how far the lowest rose. O(bounds that rise + log bounds). Takes no memory.
     pub fn raise_each<V: Raiser>(&mut self, most: usize, visitor: &mut V) -> usize
         requires small { All (λ m. m.position + most ≤ usize.MAX) self.old.marks }
         requires ready { V.is_ready visitor.old }
@@ -316,8 +317,8 @@ impl CrackerIndex {
     {
         raising::raise_down(&mut self.root, most, visitor)
     }
-    /// Walks over the bounds from the lowest up: the visitor is given each, and says at which place it is then.
-    /// None goes before the one below it. The place of the last, or 0 if there is none. O(bounds). Takes no memory.
+    /// Walks over the bounds from the lowest up: the visitor is given each, and returns its new place. No bound moves
+    /// before the one below it. Returns the place of the last, or 0 if there is none. O(bounds). Takes no memory.
     pub fn place_each<V: Placer>(&mut self, visitor: &mut V) -> usize
         requires { V.is_ready visitor.old }
         ensures places { Places V.places 0 self.old.marks visitor.old self.new.marks visitor.new result }

@@ -2,7 +2,8 @@
 
 use crack_row::InnerBound;
 
-/// A bound, and the place at which it divides the column: as many rows are below the bound, and they are first.
+/// A bound, and the place at which it divides the column: the rows before this place are below the bound, and no
+/// others.
 #[derive(Clone, Copy, PartialEq, Eq, Debug)]
 pub struct Mark {
     pub bound: InnerBound,

@@ -1,4 +1,4 @@
-//! An AVL tree of marks in rising order, whose nodes are handed in, and whose look-ups and moves take no memory
+//! An AVL tree of marks in rising order, whose nodes the caller passes in, and whose look-ups and moves take no memory
 //! ("An algorithm for the organization of information", 1962).
 ghost use Rattle.std.specs.Prelude.{◌≡◌, ◌+◌, ◌-◌, ◌^◌, ◌<◌, ◌≤◌, max, length, [], ◌∷◌, ◌++◌, map, List, ℕ, vec_len};
 ghost use Rattle.std.specs.Prelude.{vec_capacity, OnOk, IfOk, IfErr};
@@ -485,8 +485,8 @@ fn piece_between(low: Edge, high: Edge) -> PieceSize
     }
 }
 
-/// Fills the stock up to this many spare nodes, one box at a time; refused with 8 if it finds no memory: then it keeps
-/// those that it made.
+/// Fills the stock up to this many spare nodes, one box at a time. Refused with 8 if it finds no memory; the nodes made
+/// until then stay.
 pub(crate) fn fill(spare: &mut Vec<Box<Node>>, nodes: usize) -> Result<(), Refusal>
     requires { vec_len spare.old ≤ nodes }
     ensures ok { OnOk result (nodes ≤ vec_len spare.new) }

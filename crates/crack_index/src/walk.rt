@@ -1,5 +1,5 @@
 //! Walks over the marks of a tree in order, from place to place, each one recursion over the tree: a bound at the place
-//! that was just given moves along, and at a bound after it the visitor is given the next place.
+//! of the last visit moves as well, and at a bound after it the visitor is given the next place.
 ghost use Rattle.std.specs.Prelude.{ℕ, ◌≡◌, ◌<◌, ◌≤◌, reverse, length, All, Contains, IfSome, None, is_some};
 ghost use Rattle.crack_index.specs.Marks.{Rising, next_mark, last_mark};
 ghost use Rattle.crack_index.specs.Steps.{Goes, StepsUp, StepsDown};
@@ -13,7 +13,7 @@ use crack_row::KeyNumber;
 /// The progress of a walk.
 #[derive(Clone, Copy)]
 struct Way {
-    /// Where the bounds were that moved last; before any moved, a place at which none can move.
+    /// The place from which bounds moved last; before any moved, a place at which none can move.
     last: usize,
     /// The bound at which the walk ended, if it has.
     ended: Option<Mark>,

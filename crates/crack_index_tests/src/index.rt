@@ -128,7 +128,7 @@ fn bounds_are_as_wide_as_keys(rt: HostRuntime) {
     drop(index);
 }
 
-/// Where the bounds are after this one and those above it that are at its place moved up.
+/// The places of the bounds after this one and those above it that are at its place moved up.
 fn raised(rt: &impl Abort, alloc: Global, bound: InnerBound) -> [Option<usize>; 3] {
     let mut index = tens(rt, alloc);
     match index.position(bound) {
@@ -141,7 +141,7 @@ fn raised(rt: &impl Abort, alloc: Global, bound: InnerBound) -> [Option<usize>; 
     places(&index)
 }
 
-/// Where the bounds are after this one and those below it that are at its place moved down.
+/// The places of the bounds after this one and those below it that are at its place moved down.
 fn lowered(rt: &impl Abort, alloc: Global, bound: InnerBound) -> [Option<usize>; 3] {
     let mut index = tens(rt, alloc);
     match index.position(bound) {
@@ -154,7 +154,7 @@ fn lowered(rt: &impl Abort, alloc: Global, bound: InnerBound) -> [Option<usize>;
     places(&index)
 }
 
-/// Where the bounds are after those at place 1 moved down.
+/// The places of the bounds after those at place 1 moved down.
 fn lowered_at_one(rt: &impl Abort, alloc: Global) -> [Option<usize>; 3] {
     let mut index = tens(rt, alloc);
     index.lower_at(1);
@@ -234,7 +234,8 @@ fn a_step_down_goes_to_the_place_before(rt: HostRuntime) {
     drop(index);
 }
 
-/// Keeps the sum of the places that it is given, and goes on as long as it was given fewer than this many.
+/// A visitor that adds up the places that it is given, and lets the walk go on as long as it was given fewer than this
+/// many.
 #[derive(Clone, Copy)]
 struct Sums {
     told: u32,

@@ -1,4 +1,4 @@
-//! The index beside bounds in a sorted vector, over lists of calls that a seed gives.
+//! The index compared with bounds in a sorted vector, over lists of calls from a seed.
 
 ghost use Rattle.std.specs.Prelude.{◌<◌, All};
 
@@ -86,7 +86,7 @@ fn lower(index: &mut CrackerIndex, marks: &mut [Mark], bound: InnerBound) {
     }
 }
 
-/// Goes along on a walk for this many places.
+/// A visitor that lets a walk go on for this many places.
 #[derive(Clone, Copy)]
 struct Places {
     left: u64,
@@ -144,13 +144,13 @@ fn assert_same(rt: &impl Abort, index: &CrackerIndex, marks: &[Mark]) {
     }
 }
 
-/// The next of the numbers that a seed gives.
+/// The next of the numbers from a seed.
 fn next(seed: u64) -> u64 {
     seed.wrapping_mul(6364136223846793005)
         .wrapping_add(1442695040888963407)
 }
 
-/// This many calls, after each of which both are the same.
+/// This many calls; both are the same after each of them.
 fn call(rt: &impl Abort, alloc: Global, seed: u64, calls: usize) -> Result<(), Fail> {
     let mut index = CrackerIndex::new(alloc);
     let mut marks: Vec<Mark> = Vec::new(alloc);
@@ -238,7 +238,7 @@ fn climb(index: &mut CrackerIndex, marks: &mut [Mark], key: KeyNumber, places: u
     }
 }
 
-/// A walk up over bounds that a seed gives, after which both are the same.
+/// A walk up over bounds from a seed; both are the same after it.
 fn climb_once(rt: &impl Abort, alloc: Global, seed: u64) -> Result<(), Fail> {
     let mut index = CrackerIndex::new(alloc);
     let mut marks: Vec<Mark> = Vec::new(alloc);

@@ -15,7 +15,7 @@ use Rattle.crack_bulk.proofs.FilledLaws.{FillsOn, AreFilled, doomed_first, fille
 use Rattle.crack_merge.specs.Merges.{Begins, fills, takes_last, PullsOut, PullsAll, begins, pulls}
 use Rattle.crack_merge.proofs.PulledInBulk.{Pulls-Draws}
 
--- a search from a place on finds what one from an earlier place does, if none is between them
+-- a search from a place on finds the same as one from an earlier place, if no row of the range is between them
 pub found-later : (r : Range) (keys : List ℕ) (at from place : ℕ) → NoneIn r keys 0 at → NoneIn r keys 0 from → IsFirstIn r keys at place → IsFirstIn r keys from place
 found-later r keys at from place none_at none first = record {
   after = elim (cases_lt place from) [ inl l ↦ absurd (none place (omega arith) l first.holds) | inr l ↦ l ];
@@ -33,7 +33,7 @@ begins-later fillers t at seen next c none_at none (takes_last left) = takes_las
 
 -- some pulls, and then all others
 module _ (r fillers : Range) (s t : State) (from seen : ℕ) (out : PullsOut r fillers s from seen t) (none_out : NoneIn r (keys_at t.cells t.pending_out) 0 from) (none_in : NoneIn fillers (keys_at t.cells t.pending_in) 0 seen) where
-  -- no other yet, or some
+  -- none of the others yet, or some
   abbrev IsOn : ℕ → ℕ → State → Type 0
   IsOn from' seen' u = ((u ≡ t) × (from' ≡ 0) × NoneIn fillers (keys_at t.cells t.pending_in) 0 seen') ⊎ PullsOut r fillers s from' seen' u
 

@@ -1,4 +1,4 @@
--- What a carry of a pending insertion has done, and what the carries of a merge keep.
+-- The effect of the carry of a pending insertion, and the invariant of the carries of a merge.
 use Rattle.std.proofs.Common.{◌≡◌, ℕ, ◌<◌, ◌∷◌, [], length, None, ap, ◌∙◌, arith, ◌+◌, drop, refl}
 use Rattle.std.specs.List.{remove}
 use Rattle.std.proofs.lemmas.List.Edits.{length-remove}

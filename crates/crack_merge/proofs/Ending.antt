@@ -22,7 +22,7 @@ use Rattle.crack_store.specs.Ends.{EndsBy}
 use Rattle.crack_merge.specs.Merges.{IsCeiling, Carries, buries, evicts, ends, goes_on, CarriesIn, carries}
 use Rattle.crack_merge.specs.Loops.{MayEnd, EvictsOver, ended}
 
--- a carry whose pushes have come to a hand that ends it by a rule
+-- a carry whose pushes have reached a hand that ends it by a rule
 ends_by : (ceiling : Option ℕ) (rule : CarryEnd) (c : Carried) → EndsBy ceiling rule c → Carries ceiling c (ended rule c)
 ends_by ceiling Buries c by = buries c by
 ends_by None Evicts c by = absurd (by.1 tt)
@@ -33,7 +33,7 @@ pub carries_by : (ceiling : Option ℕ) (rule : CarryEnd) (c e : Carried) → Pu
 carries_by ceiling rule c e (PushesOn.stays d) by = ends_by ceiling rule d by
 carries_by ceiling rule c e (PushesOn.pushes d f lasting below room rest) by = goes_on d (ended rule f) lasting below room (carries_by ceiling rule (pushed_on d) f rest by)
 
--- the rule by which it ends may end it
+-- the rule that ends it is one that may end it
 pub MayEnd-by : (ceiling : Option ℕ) (rule : CarryEnd) (c : Carried) → EndsBy ceiling rule c → MayEnd rule c
 MayEnd-by ceiling Buries c by = by
 MayEnd-by ceiling Evicts c by = omega (arith, by.0)
@@ -44,7 +44,7 @@ EvictsOver-by ceiling Buries c by = tt
 EvictsOver-by ceiling Evicts c by = by.1
 EvictsOver-by ceiling Appends c by = tt
 
--- pushes leave all but column, marks and tally
+-- pushes change only column, marks and tally
 pub record KeepsRest (c e : Carried) : Type 0 where
   pub column_room : e.store.column_room ≡ c.store.column_room
   pub in_room : e.store.in_room ≡ c.store.in_room
@@ -117,7 +117,7 @@ EndsAlike-room rule c d room hand = alike rule d.store d.hand d.store.column_roo
     alike Evicts t h column_room in_room store hand = rw (store, hand) (record { same = record { same = refl }; may = λ may. may })
     alike Appends t h column_room in_room store hand = rw (store, hand) (record { same = record { same = refl }; may = λ may. may })
 
--- what room is left
+-- the room that is left
 pub record HasRoom (s : State) : Type 0 where
   pub column : 0 < s.column_room
   pub pending_in : 0 < s.in_room
@@ -146,7 +146,7 @@ pub record IsOnWay (ceiling : Option ℕ) (r : Range) (s : State) (from : ℕ) (
   pub carries_in : (t : State) → Carries ceiling c t → CarriesIn ceiling r s from t
   pub room : HasRoom c.store
 
--- its carry has come as far as to the rule that ends it: the rows up to this one are carried, a search finds what it finds there, and as many are left
+-- its carry has reached the rule that ends it: the rows up to this one are carried, a search finds the same as before, and as many are left
 pub record Arrives (ceiling : Option ℕ) (r : Range) (s : State) (from : ℕ) (rule : CarryEnd) (e : Carried) : Type 0 where
   pub carries_in : CarriesIn ceiling r s from (ended rule e)
   pub finds : (found : Option ℕ) → Finds r (pending_keys e.store) from found → Finds r (pending_keys (ended rule e)) from found

@@ -11,7 +11,7 @@ use Rattle.crack_bulk.proofs.Carried.{Leads}
 use Rattle.crack_bulk.proofs.AllLaws.{IsUnder, in_bulk-through}
 use Rattle.crack_merge.specs.Merges.{IsCeiling, Carries, buries, evicts, ends, goes_on, CarriesIn, CarriesAll, begins, carries}
 
--- if a carry leads, it leads by its rules
+-- if a carry leads to a store, it leads there by its rules
 Carries-Leads : (ceiling : Option ℕ) (c : Carried) (t : State) → Leads ceiling c t → Carries ceiling c t
 Carries-Leads ceiling c t (Leads.buries d doomed) = buries d doomed
 Carries-Leads None c t (Leads.evicts d lasting over) = absurd (over tt)

@@ -1,4 +1,4 @@
--- What a pull of a pending deletion has done, wherever its hand came from, and what the pulls of a merge keep.
+-- The effect of the pull of a pending deletion, wherever its hand came from, and the invariant of the pulls of a merge.
 use Rattle.std.proofs.Common.{◌≡◌, ◌⊎◌, ℕ, ◌+◌, ◌-◌, ◌<◌, ◌≤◌, List, [], ◌∷◌, length, Some, None, refl, ap, sym, ◌∙◌, inl, inr, arith}
 use Rattle.std.specs.List.{remove}
 use Rattle.std.proofs.lemmas.List.{get_or_default, length-map, length-take-le}
@@ -33,7 +33,7 @@ pub record PullsAt (c : Carried) (t : State) (place : ℕ) : Type 0 where
   pub column_room : t.column_room ≡ c.store.column_room
   pub moved : t.tally.moved ≡ c.store.tally.moved
 
--- what is at a place of the column comes into hand by an exchange
+-- the row at a place of the column comes into hand by an exchange
 pub exchanged_hand : (c : Carried) (place : ℕ) (h : Handle) → StandsAt c.store.column place h → (exchanged place c).hand ≡ h
 exchanged_hand c place h stands = get_or_default c.store.column place c.hand h stands.within ∙ sym stands.is
 
@@ -126,7 +126,7 @@ pub record FillsFirst (fillers : Range) (s t : State) (seen : ℕ) : Type 0 wher
   pub each : (length s.pending_in + length t.pending_out ≡ length t.pending_in + length s.pending_out) ⊎ Finds fillers (keys_at t.cells t.pending_in) seen None
 
 -- pending deletions of a range up to some place were taken out, and the search goes on from `from`; no row was moved, and the column is shorter by one for
--- each that no filler was for
+-- each that had no filler
 pub record TakesInside (policy : Policy) (r fillers : Range) (s t : State) (from seen : ℕ) : Type 0 where
   pub advances : Advances policy s t
   pub intact : IsIntact t []
@@ -201,7 +201,7 @@ ahead_of_begun r fillers t from k seen next doomed c behind intact finds pending
     let above : IsIn fillers (hand_key (lifted i t)) = found_key fillers t t.pending_in seen i (lifted i t).hand found (StandsAt-get_or t.pending_in i no_handle within) in
     piece_end-behind (lifted i t).store ((lifted i t).hand ∷ []) (hand_key (lifted i t)) place doomed (IsIntact-lifted i t within intact) stands.within stands.is (omega (arith, below.1, above.0, behind (omega (arith, above.0, above.1))))
 
--- there is room for fillers, or none is left to be searched for
+-- there is room for fillers, or none is left
 abbrev pub HasRoomFor : State → ℕ → Type 0
 HasRoomFor s seen = (length s.pending_in ≤ seen) ⊎ (0 < s.column_room)
 

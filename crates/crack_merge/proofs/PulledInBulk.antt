@@ -13,13 +13,13 @@ use Rattle.crack_bulk.proofs.AllPulledLaws.{DrawsOn, pulled_in_bulk-through}
 use Rattle.crack_bulk.proofs.Draws.{Draws}
 use Rattle.crack_merge.specs.Merges.{takes_last, Pulls, reaches, exchanges, draws, PullsOut, PullsAll, begins, pulls}
 
--- if a pull leads, it leads by its rules
+-- if a pull leads to a store, it leads there by its rules
 pub Pulls-Draws : (d : Handle) (c : Carried) (t : State) → Draws d c t → Pulls d c t
 Pulls-Draws d c t (Draws.reaches e is) = reaches e is
 Pulls-Draws d c t (Draws.exchanges e j other at from to) = exchanges e j other at from to
 Pulls-Draws d c t (Draws.draws e j u other at before rest) = draws e j u other at before (Pulls-Draws d (pulled_back e) u rest)
 
--- and leaves the pending insertions
+-- and leaves the pending insertions unchanged
 pending-Draws : (d : Handle) (c : Carried) (t : State) → Draws d c t → t.pending_in ≡ c.store.pending_in
 pending-Draws d c t (Draws.reaches e is) = refl
 pending-Draws d c t (Draws.exchanges e j other at from to) = refl

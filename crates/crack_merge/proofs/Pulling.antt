@@ -1,4 +1,4 @@
--- The pulls of a range with the store where it is: what holds while a hand is on its way, and how the next pull begins.
+-- The pulls of a range without moving the store: the invariant while a hand is on its way, and how the next pull begins.
 use Rattle.std.proofs.Common.{◌≡◌, ℕ, ◌+◌, ◌-◌, ◌<◌, ◌≤◌, List, ◌∷◌, [], length, Some, None, refl, ap, sym, ◌∙◌, arith}
 use Rattle.std.specs.Prelude.{slice_index}
 use Rattle.std.specs.List.{Contains, remove}
@@ -21,7 +21,7 @@ pub keys_in-buried : (c : Carried) → IsIntact c.store (c.hand ∷ []) → IsDo
 keys_in-buried c intact doomed =
     keys_still c.store.cells (buried c).cells c.store.pending_in (StillReads-buried c intact) (IsIntact-buried c doomed intact).owned.pending_reads
 
--- the doomed row that a pull is for is one of the pending deletions
+-- the doomed row of a pull is one of the pending deletions
 pub contained_stands : (hs : List Handle) (h : Handle) → (is : Contains hs h) → StandsAt hs is.0 h
 contained_stands hs h is = record { within = is.1; is = sym is.2 }
 
@@ -93,7 +93,7 @@ module _ (r fillers : Range) (s : State) (from seen : ℕ) (c : Carried) (on : I
       long : length (keys_at (buried d).cells (buried d).pending_out) + 1 ≡ length d.store.pending_out
       long = omega (arith, length-map (buried d).pending_out (key_at (buried d).cells), one.fewer)
 
-      -- so the search after it finds, one place before, what the search from its place on finds after the burial
+      -- so a search from its place on after the burial finds the row that a search after its place finds, one place earlier
       pulling_next : (place : ℕ) → Finds r (keys_at d.store.cells d.store.pending_out) (from + 1) (Some place) → Finds r (keys_at (buried d).cells (buried d).pending_out) from (Some (place - 1))
       pulling_next place first =
           let within : place < length d.store.pending_out = omega (arith, first.within, length-map d.store.pending_out (key_at d.store.cells)) in

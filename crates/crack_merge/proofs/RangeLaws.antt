@@ -17,7 +17,7 @@ use Rattle.crack_state.specs.State.{State, Reads, HaveKeysIn}
 use Rattle.crack_state.proofs.CrackLaws.{key_within}
 use Rattle.crack_merge.specs.Merges.{CarriesIn, CarriesAll, CarriesSome, PullsOut, PullsAll, begins, carries, pulls}
 
--- where rows of the range have gone before it
+-- if rows of the range before it are gone
 module _ (cells : List (Cell Row)) (r : Range) (before left : List Handle) (from : ℕ) (lacks : LacksFirst cells r before left from) where
   none_inside : (to : ℕ) → to ≤ length left → NoneIn r (keys_at cells left) from to → NoneInside cells r left from to
   none_inside to within none = λ j d start before.

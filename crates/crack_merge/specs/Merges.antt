@@ -1,4 +1,4 @@
--- What a carry, a pull and a merge have done to a store when they end.
+-- The effect of a carry, a pull and a merge on a store.
 use Rattle.std.specs.Prelude.{◌≡◌, ◌≢◌, ◌<◌, ◌≤◌, ⊤, ℕ, ◌+◌, ◌++◌, take, drop, length, List, [], Option, Some, None}
 use Rattle.crack_row.specs.Ranges.{Range}
 use Rattle.crack_row.specs.declared.command.Policy.{Policy}
@@ -26,8 +26,8 @@ pub data Carries (ceiling : Option ℕ) : Carried → State → Type 0 where
   -- else, it ends before that: the hand takes the place of the row there, and the carry goes on with that row in hand
   goes_on : (c : Carried) (t : State) → ¬ IsDoomed c → IsBelow ceiling (hand_key c) → piece_end c.store (hand_key c) < length c.store.column → Carries ceiling (pushed_on c) t → Carries ceiling c t
 
--- pending insertions of a range were carried, in order of arrival: each was lifted where the search found it that continued from the
--- place of the one before, the last of all at this place
+-- pending insertions of a range were carried, in order of arrival: each was lifted at the place where a search from the place of the one before found
+-- it, the last of all at this place
 pub data CarriesIn (ceiling : Option ℕ) (r : Range) (s : State) : ℕ → State → Type 0 where
   -- none was
   begins : CarriesIn ceiling r s 0 s
@@ -49,7 +49,7 @@ pub record CarriesSome (ceiling : Option ℕ) (r : Range) (s t : State) : Type 0
   pub left : Finds r (keys_at last.cells last.pending_in) from (Some next)
   pub room : SameButRoom last t
 
--- pending deletions are gone only with pending insertions: at most as many
+-- at most as many pending deletions are gone as pending insertions
 abbrev pub BuriesFew : State → State → Type 0
 BuriesFew s t = length s.pending_out + length t.pending_in ≤ length t.pending_out + length s.pending_in
 
@@ -62,16 +62,16 @@ pub data Pulls (doomed : Handle) : Carried → State → Type 0 where
   -- else, it is before that piece: the hand takes the last place before its piece, and the pull goes on with the row that was there in hand
   draws : (c : Carried) (place : ℕ) (t : State) → c.hand ≢ doomed → StandsAt c.store.column place doomed → place < piece_start c.store (hand_key c) → Pulls doomed (pulled_back c) t → Pulls doomed c t
 
--- a pull begins with the pending insertion of these keys that a search finds from a place on, and the next search continues from there; if
--- it finds none, with the column's last row
+-- a pull begins with the pending insertion of these keys that a search finds from a place on, and the next search continues from there; without one,
+-- it begins with the column's last row
 pub data Begins (fillers : Range) (s : State) (seen : ℕ) : ℕ → Carried → Type 0 where
   -- a filler
   fills : (place : ℕ) → Finds fillers (keys_at s.cells s.pending_in) seen (Some place) → Begins fillers s seen place (lifted place s)
   -- no filler is left, and the next search looks at none
   takes_last : Finds fillers (keys_at s.cells s.pending_in) seen None → Begins fillers s seen (length s.pending_in) (lifted_last s)
 
--- pending deletions of a range were pulled, in order of arrival: each where the search found it that continued from the place of the
--- one before, the last of all at the first of the two places; the search for fillers continues from the second
+-- pending deletions of a range were pulled, in order of arrival: each at the place where a search from the place of the one before found it, the last
+-- of all at the first of the two places; the search for fillers continues from the second
 pub data PullsOut (r fillers : Range) (s : State) : ℕ → ℕ → State → Type 0 where
   -- none was, and no filler is before the place
   begins : (seen : ℕ) → seen ≤ length s.pending_in → NoneIn fillers (keys_at s.cells s.pending_in) 0 seen → PullsOut r fillers s 0 seen s
@@ -85,8 +85,8 @@ pub record PullsAll (r fillers : Range) (s t : State) : Type 0 where
   pub pulls : PullsOut r fillers s from seen t
   pub none : Finds r (keys_at t.cells t.pending_out) from None
 
--- the pending insertions of a store after the first ones, this many, were put in under ripple, as far as they are of the range: those are gone,
--- and after the others are the evicted ones, at most as many
+-- the pending insertions of a store after those of the range among the first ones, this many, were merged under ripple: they are gone, and after the
+-- others are the evicted ones, at most as many
 pub record EvictsFirst (s : State) (r : Range) (left : List Handle) : Type 0 where
   pub passed : ℕ
   pub within : passed ≤ length s.pending_in
@@ -103,8 +103,8 @@ LeavesRest Gradual s t r = (k : ℕ) × (k ≤ length s.pending_in) × (t.pendin
 LeavesRest Ripple s t r = (hs : List Handle) × EvictsFirst s r hs × Fills s t r hs
 LeavesRest Auto s t r = ⊥
 
--- a merge that found no memory on the way: what it had done stays, and commands see the same rows as before; of the pending
--- deletions some are left, in order of arrival
+-- a merge that found no memory on the way: what it did until then stays, and commands see the same rows as before; some of the pending deletions are
+-- left, in order of arrival
 pub record Stops (policy : Policy) (s t : State) (r : Range) : Type 0 where
   pub follows : Follows s t
   pub intact : IsIntact t []

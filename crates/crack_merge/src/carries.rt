@@ -12,12 +12,12 @@ ghost use Rattle.crack_merge.specs.Loops.{MayEnd, EvictsOver, ended};
 use crack_row::{Bound, KeyRange, Refusal};
 use crack_store::{CarryEnd, Carrying, Store};
 
-/// Carries the pending insertions of a range, each as far as to the ceiling, in order of arrival; passes over the
-/// others once. The ceiling lies at or above the range's high end, so no row that is evicted is one of these again.
-/// O(1) for each pending row that it passes, and O(log bounds) and the pieces on its way for each that it carries.
-/// If there is no bound and the range has all keys, it is one loop, with room made once for all; if there is no
-/// ceiling, or no row is doomed, the rows are carried in bulk, which goes once through the pieces for all of them.
-/// Refused with 8 where it finds no memory; the rows that it had carried stay where they are.
+/// Carries the pending insertions of a range, each up to the ceiling, in order of arrival; passes over the others once.
+/// The ceiling lies at or above the range's high end, so no row that is evicted is in the range. O(1) for each pending
+/// row that it passes, and O(log bounds) and the pieces on its way for each that it carries. If there is no bound and
+/// the range has all keys, it is one loop, with room made once for all; if there is no ceiling, or no row is doomed,
+/// the rows are carried in bulk, which goes once through the pieces for all of them. Refused with 8 if it finds no
+/// memory; the rows carried until then stay where they are.
 pub fn carry_range(
     mut store: Store,
     range: KeyRange,
@@ -50,8 +50,8 @@ pub fn carry_range(
     }
 }
 
-/// The first pending insertion of a range, with which carries of one after the other begin; none if all are carried:
-/// either there was none, or all were carried at once. O(pending insertions).
+/// The first pending insertion of a range, from which they are carried one after the other; none if there was none or
+/// all were carried at once. O(pending insertions).
 fn first_to_carry(store: &mut Store, range: KeyRange, ceiling: Option<Bound>) -> Option<usize>
     requires { IsCeiling (ceiling_of ceiling) range }
     ensures carried { IfNone result (CarriesAll (ceiling_of ceiling) range store.old store.new) }
@@ -67,8 +67,8 @@ fn first_to_carry(store: &mut Store, range: KeyRange, ceiling: Option<Bound>) ->
     Some(first)
 }
 
-/// Carries all pending insertions of a range at once under a ceiling or none, of which `first` is the first; whether it
-/// did so. O(pending insertions), and O(pieces) for each that is carried.
+/// Carries all pending insertions of a range at once under a ceiling or none, of which `first` is the first; returns
+/// whether it did so. O(pending insertions), and O(pieces) for each that is carried.
 fn carry_all(store: &mut Store, range: KeyRange, first: usize, ceiling: Option<Bound>) -> bool
     requires ceiling { IsCeiling (ceiling_of ceiling) range }
     requires first { Finds range (keys_at store.old.cells store.old.pending_in) 0 (Some first) }
@@ -81,9 +81,9 @@ fn carry_all(store: &mut Store, range: KeyRange, first: usize, ceiling: Option<B
     }
 }
 
-/// Carries all pending insertions of a range at once, of which `first` is the first; whether it did so. Where no bound
-/// stands and the range has all keys, they are put after the column's last row, else they are carried in bulk. Where it
-/// finds no memory for all of them, it carries none. O(pending insertions), and O(pieces) for each that is carried.
+/// Carries all pending insertions of a range at once, of which `first` is the first; returns whether it did so. If
+/// there is no bound and the range has all keys, they are appended to the column, else they are carried in bulk.
+/// Without memory for all of them it carries none. O(pending insertions), and O(pieces) for each that is carried.
 pub(crate) fn carry_at_once(store: &mut Store, range: KeyRange, first: usize) -> bool
     requires { Finds range (keys_at store.old.cells store.old.pending_in) 0 (Some first) }
     ensures all { IsTrue result → CarriesAll None range store.old store.new }
@@ -96,7 +96,7 @@ pub(crate) fn carry_at_once(store: &mut Store, range: KeyRange, first: usize) ->
     store.carry_in_bulk(range, first)
 }
 
-/// As `carry_at_once`, but under a ceiling: the rows that make way beyond it are evicted.
+/// Like `carry_at_once`, but under a ceiling: the rows beyond it that they replace are evicted.
 fn carry_under(store: &mut Store, range: KeyRange, first: usize, ceiling: Bound) -> bool
     requires ceiling { range.high ≤ ceiling.0 }
     requires first { Finds range (keys_at store.old.cells store.old.pending_in) 0 (Some first) }

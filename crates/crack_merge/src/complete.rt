@@ -14,9 +14,9 @@ use crack_row::{KeyRange, Refusal};
 use crack_store::{MergeReport, Store};
 
 /// Merges every pending row, if one of them has its key in the range, else none; the range was cracked before.
-/// O(pieces) for each pending row, which takes O(1) to take, and one search for the place of each doomed row. Refused
-/// with 8 if it finds no memory for a pending insertion; the rows that it had put in stay where they are, and no
-/// doomed row is gone except those that they met.
+/// O(pieces) for each pending row, and one search for the place of each doomed row. Refused with 8 if it finds no
+/// memory for a pending insertion; the rows put in until then stay where they are, and only the doomed rows that they
+/// met are gone.
 pub fn merge_complete(
     store: Store,
     range: KeyRange,
@@ -91,8 +91,8 @@ fn put_in_all(mut store: Store) -> Result<Store, (Store, Refusal)>
     Ok(end(carrying, rule))
 }
 
-/// Puts in every pending insertion at once, if that is done and memory is found for all; returns whether none is left.
-/// O(pending insertions), and O(pieces) for each.
+/// Puts in every pending insertion at once, if that is worth it and memory is found for all; returns whether none is
+/// left. O(pending insertions), and O(pieces) for each.
 fn put_in_at_once(store: &mut Store) -> bool
     ensures puts { IsTrue result → PutsIn Complete store.old store.new }
     ensures all { IsTrue result → store.new.pending_in ≡ [] }

@@ -13,8 +13,8 @@ use crack_store::{MergeReport, Store};
 
 /// Merges the pending rows whose key is in the range, and no others but doomed rows that are in the way; the range was
 /// cracked before. O(pending rows) to find them, O(pieces) for each that is merged, and one search for the place of
-/// each doomed row. Refused with 8 if it finds no memory for a pending insertion of the range; the rows that it had
-/// put in stay where they are, and no doomed row is gone except those that they met.
+/// each doomed row. Refused with 8 if it finds no memory for a pending insertion of the range; the rows put in until
+/// then stay where they are, and only the doomed rows that they met are gone.
 pub fn merge_gradual(
     store: Store,
     range: KeyRange,

@@ -10,12 +10,12 @@ use crack_arena::Handle;
 use crack_row::{KeyRange, Row};
 use crack_store::{Carrying, Store};
 
-/// Takes the pending deletions of a range out, in order of arrival; passes over the others once. A pending
-/// insertion whose key is one of `fillers` fills the place of each, the first from the place `seen` on, and if there
-/// is none left the column's last row. No filler is before `seen`; pending insertions are passed over once. O(1)
-/// for each pending row that it passes; for each that it takes out O(log bounds) and the pieces on its way, and one
-/// search for its place. Those for which there are fillers are taken out in bulk, and then the others, if that is worth
-/// it and there is memory for a list of them; else takes none.
+/// Takes the pending deletions of a range out, in order of arrival; passes over the others once. A pending insertion
+/// whose key is one of `fillers` fills the place of each, the first from the place `seen` on, and if there is none left
+/// the column's last row. No filler is before `seen`; pending insertions are passed over once. O(1) for each pending
+/// row that it passes; for each that it takes out O(log bounds) and the pieces on its way, and one search for its
+/// place. Those for which there are fillers are taken out in bulk, and then the others, if that is worth it and there
+/// is memory for a list of them. Takes no other memory.
 pub fn pull_range(mut store: Store, range: KeyRange, fillers: KeyRange, seen: usize) -> Store
     requires behind { fillers.low < fillers.high → range.high ≤ fillers.low }
     requires within { seen ≤ length store.pending_in }
@@ -48,7 +48,7 @@ fn pull_rest(store: Store, range: KeyRange, fillers: KeyRange) -> Store
     }
 }
 
-/// Takes them out where no filler is found from the place `seen` on: in bulk, if that is worth it and there is memory
+/// Takes them out if no filler is found from the place `seen` on: in bulk, if that is worth it and there is memory
 /// for a list of them.
 fn pull_unfilled(mut store: Store, range: KeyRange, fillers: KeyRange, seen: usize) -> Store
     requires behind { fillers.low < fillers.high → range.high ≤ fillers.low }
@@ -129,9 +129,9 @@ fn bury_and_begin(carrying: &mut Carrying, fillers: KeyRange, seen: usize) -> us
     }
 }
 
-/// Draws a doomed row into the hand: the cell in hand goes down through the pieces to fill its place, takes the last
-/// place before its own piece, and the row that was there is in hand. Another doomed row that comes into hand is
-/// drawn on like any other. The cell in hand may come from anywhere after the doomed row; where the pull ends, the
+/// Brings a doomed row into the hand: the cell in hand moves down through the pieces to fill its place, each time to
+/// the last place before its own piece, and the row that was there is in hand. Another doomed row that comes into hand
+/// moves on like any other. The cell in hand may come from any place after the doomed row; at the end of the pull the
 /// doomed row is in hand, and is to be buried. O(log bounds) and O(1) for each piece, and the bounds at its place; one
 /// search for the doomed row's place. Takes no memory.
 fn draw(carrying: &mut Carrying, doomed: Handle<Row>)

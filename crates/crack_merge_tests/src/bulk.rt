@@ -1,4 +1,4 @@
-//! Carries in bulk leave what one row after the other leaves, over stores that look random.
+//! Carries in bulk have the result of carrying one row after the other, in random stores.
 ghost use Rattle.std.specs.Prelude.{◌≡◌, ◌+◌, ◌<◌, ◌≤◌};
 
 use crate::merge::{complete_at, crack_between, gradual_at, insert};
@@ -25,7 +25,7 @@ impl Numbers {
     }
 }
 
-/// What a store contains: serial, slot and generation of each row of its column, from the last place down, and of its
+/// The contents of a store: serial, slot and generation of each row of its column, from the last place down, and of its
 /// pending insertions in their order, and the sizes of its pieces.
 #[derive(Drop, PartialEq, Debug)]
 pub(crate) struct Contents {
@@ -65,7 +65,7 @@ fn hand_of(carrying: &Carrying) -> [u64; 3] {
 }
 
 /// Takes the last row of the column out, and puts it after the pending insertions, or frees it if it is doomed; returns
-/// what it was.
+/// the row.
 pub(crate) fn take_last(rt: &impl Abort, store: Store) -> (Store, [u64; 3]) {
     let mut store = store;
     let len = store.column_len();
@@ -82,7 +82,7 @@ pub(crate) fn take_last(rt: &impl Abort, store: Store) -> (Store, [u64; 3]) {
     }
 }
 
-/// Takes the first pending insertion out, and puts it after the others; returns what it was.
+/// Takes the first pending insertion out, and puts it after the others; returns the row.
 pub(crate) fn take_first(rt: &impl Abort, store: Store) -> (Store, [u64; 3]) {
     let mut store = store;
     let len = store.pending_in();
@@ -104,7 +104,7 @@ fn note(rt: &impl Abort, rows: &mut Vec<u64>, row: [u64; 3]) {
     }
 }
 
-/// What the store contains.
+/// The contents of the store.
 pub(crate) fn contents_of(rt: &impl Abort, alloc: Global, store: Store) -> Contents {
     let mut store = store;
     let mut contents = Contents {
@@ -132,7 +132,7 @@ pub(crate) fn contents_of(rt: &impl Abort, alloc: Global, store: Store) -> Conte
 }
 
 /// Merges up to twelve rows of random keys into a store of random rows: all at once, or one after the other. Returns
-/// what it contains then, and what was counted.
+/// its contents then, and the counts.
 fn merged(rt: &impl Abort, alloc: Global, seed: u64, at_once: bool) -> (Contents, MergeReport) {
     let mut numbers = Numbers(seed);
     let keys = numbers.below(60) + 1;

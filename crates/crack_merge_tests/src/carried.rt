@@ -1,4 +1,4 @@
-//! Carries of a range leave what the carry of each of its rows leaves, even if doomed rows are in the way: each row
+//! Carries of a range have the result of carrying each of its rows, even if doomed rows are in the way: each row
 //! in its cell, and the free cells in their order.
 //!
 //! The test `sweep_..` holds whichever one of its allocations is refused, so it may be run with each of them refused in
@@ -41,7 +41,7 @@ pub(crate) fn doom_some(rt: &impl Abort, store: &mut Store, numbers: &mut Number
     }
 }
 
-/// Inserts up to twelve rows whose keys differ: these, in order of arrival.
+/// Inserts up to twelve rows with different keys, in this order of arrival.
 fn insert_some(
     rt: &impl Abort,
     alloc: Global,
@@ -87,8 +87,7 @@ fn crack_if(rt: &impl Abort, store: &mut Store, range: KeyRange, cracks: bool)
     }
 }
 
-/// Carries the pending insertions of a range under a ceiling or none; the store as far as they were carried, and
-/// whether all were.
+/// Carries the pending insertions of a range under a ceiling or none; returns the store, and whether all were carried.
 fn carried_or_stopped(
     rt: &impl Abort,
     store: Store,
@@ -181,8 +180,8 @@ struct Carry {
     under: bool,
 }
 
-/// Carries pending insertions of random keys in a store of random rows, of which some may be doomed. What the store
-/// contains once it has six rows more, which take free cells first, and what was counted.
+/// Carries pending insertions of random keys in a store of random rows, of which some may be doomed. Returns the
+/// contents of the store once it has six more rows, which take free cells first, and the counts.
 fn carried_by(rt: &impl Abort, alloc: Global, seed: u64, carry: Carry) -> (Contents, MergeReport) {
     let mut numbers = Numbers(seed);
     let keys = numbers.below(60) + 1;
@@ -214,8 +213,8 @@ fn carried_by(rt: &impl Abort, alloc: Global, seed: u64, carry: Carry) -> (Conte
     (contents_of(rt, alloc, store), tally)
 }
 
-/// Asserts for each seed that the carries of all rows at once and of one after the other leave the same; how many rows
-/// were evicted.
+/// Asserts for each seed that carrying all rows at once and one after the other has the same result; returns how many
+/// rows were evicted.
 fn assert_alike(rt: &impl Abort, alloc: Global, seeds: u64, under: bool) -> u64 {
     let mut evicted = 0u64;
     for seed in 0..seeds {
@@ -317,7 +316,7 @@ fn sweep_carries_in_bulk(rt: HostRuntime) {
     assert_eq!(rt; serials, [5, 2, 1, 3, 4, 0]);
 }
 
-/// Dooms a row of the column, at the second time where memory was refused once.
+/// Dooms a row of the column, at the second time if memory was refused once.
 pub(crate) fn doom_at_last(rt: &impl Abort, store: &mut Store, serial: u64)
     requires low { store.old.keys.low ≡ 0 }
     requires high { store.old.keys.high ≡ GREATEST_BOUND }
@@ -372,7 +371,7 @@ fn pending_serial(rt: &impl Abort, store: Store) -> (Store, u64) {
     (store, row[0])
 }
 
-/// Three rows are carried into a piece under a ceiling, beyond which two rows stand.
+/// Three rows are carried into a piece under a ceiling, beyond which there are two rows.
 #[test]
 fn sweep_carries_under_a_ceiling(rt: HostRuntime) {
     let mut store = Store::new(rt.alloc(), KeyRange::all());

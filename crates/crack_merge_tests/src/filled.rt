@@ -1,4 +1,4 @@
-//! Pulls by fillers in bulk leave what one after the other leaves, over stores that look random.
+//! Pulls by fillers in bulk have the result of one after the other, in random stores.
 ghost use Rattle.std.specs.Prelude.{◌≡◌, ◌<◌, ◌≤◌};
 
 use crate::bulk::{Contents, Numbers, contents_of, some_store};
@@ -57,8 +57,8 @@ fn pulled_with(rt: &impl Abort, store: Store, range: KeyRange, fillers: KeyRange
 }
 
 /// Pulls pending deletions of a random range in a store of random rows, as long as there are fillers by these: in bulk,
-/// or one after the other, as where the fillers' keys begin at no bound. What the store contains once it has six rows
-/// more, which take free cells first, and what was counted.
+/// or one after the other, as where the fillers' keys begin at no bound. Returns the contents of the store once it has
+/// six more rows, which take free cells first, and the counts.
 fn pulled_by(rt: &impl Abort, alloc: Global, seed: u64, in_bulk: bool) -> (Contents, MergeReport) {
     let mut numbers = Numbers(seed);
     let keys = numbers.below(60) + 1;

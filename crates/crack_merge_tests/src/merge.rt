@@ -1,4 +1,4 @@
-//! A merge of pending rows counts them, and the rows that made way for them.
+//! A merge of pending rows counts them, and the rows that it moved for them.
 ghost use Rattle.std.specs.Prelude.{◌≡◌, ◌<◌, ◌≤◌};
 ghost use Rattle.crack_state.specs.Merge.{IsCracked};
 
@@ -404,7 +404,8 @@ fn ripple_fills_the_place_of_a_doomed_row(rt: HostRuntime) {
     drop(store);
 }
 
-/// Asserts what a merge counts of two more rows over four, where the rows are then, and the sizes of the pieces.
+/// Asserts the counts of a merge of two more rows over four, the places of the rows afterwards, and the sizes of the
+/// pieces.
 fn assert_two_more(
     rt: &impl Abort,
     alloc: Global,

@@ -17,11 +17,11 @@ use Rattle.crack_part.specs.Inside.{early_refusal_of, Frees, FreesNone, AppliesB
 use Rattle.crack_part.proofs.RefusalLaws.{refused-late-none, refused-late-cell}
 use Rattle.crack_part.proofs.ClearLaws.{has-cell, cleared-first, not-without, not-without-cell, uncleared, served-upkept, spared-upkept, refused-upkept, Spares-unchanged}
 
--- the outcome of it if no cell is missing, whatever came before
+-- the outcome of a command if no cell is missing, whatever was done before
 abbrev pub AppliesCleared : Policy → ℕ → Command → Part → Result (Reply × Reply) Refusal → Part → Type 0
 AppliesCleared policy worker command old result new = AppliesBy worker command (early_refusal_of old command) (ServesCleared policy old.keys old.next command old.store) (SparesCleared policy old.keys (range_of command) old.store) old result new
 
--- it is refused for its cause
+-- the command is refused for its cause
 pub applies-refused : (Served Spared : State → Type 0) (worker : ℕ) (command : Command) (cause : Option Refusal) (p q : Part) (r : Result (Reply × Reply) Refusal) (e : Refusal) → r ≡ Err e → cause ≡ Some e → q ≡ p → Spared q.store → AppliesBy worker command cause Served Spared p r q
 applies-refused Served Spared worker command cause p q r e is by same spared = rw (is, by) (record {
   replies = tt;
@@ -36,7 +36,7 @@ applies-refused Served Spared worker command cause p q r e is by same spared = r
   memory = λ none. cc none;
 })
 
--- it finds no memory
+-- the command finds no memory
 pub applies-short : (Served Spared : State → Type 0) (worker : ℕ) (command : Command) (cause : Option Refusal) (p q : Part) (r : Result (Reply × Reply) Refusal) (e : Refusal) → r ≡ Err e → e ≡ OutOfMemory → cause ≡ None → q ≡ record p { store = q.store } → Spared q.store → AppliesBy worker command cause Served Spared p r q
 applies-short Served Spared worker command cause p q r e is short none same spared = rw (is, none) (record {
   replies = tt;
@@ -75,7 +75,7 @@ applies-without policy worker command p q r e is none frees same = elim frees [
       applies-short (Serves policy p command) (Spares policy p command) worker command (refusal_of p command) p q r e is short.0 late same (inl (short.1, short.2))
 ]
 
--- it goes on after cells were freed if that is due
+-- the command is answered after cells were freed if that is due
 pub applies-upkept : (policy : Policy) (worker : ℕ) (command : Command) (p q t : Part) (r : Result (Reply × Reply) Refusal) → early_refusal_of p command ≡ None → Frees p command q → q ≡ record p { store = q.store } → AppliesCleared policy worker command q r t → Applies policy worker command p r t
 applies-upkept policy worker command p q t r none frees same done =
     let early : early_refusal_of q command ≡ None = refused-upkept p q command same ∙ none in

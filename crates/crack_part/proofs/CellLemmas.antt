@@ -69,7 +69,7 @@ fits-replaced most row s t (Some true) few free rewrites =
 fits-replaced most row s t (Some false) few free renews =
     omega (arith, ap (λ (u : State). length u.cells) renews.after.same, length-cells_with row s.cells s.free most few (free refl))
 
--- a change that doesn't lack a cell leaves no more than may be
+-- after a change that doesn't lack a cell there are no more cells than the limit
 fits-performed : (most next : ℕ) (change : Option Change) (s t : State) → length s.cells ≤ most → lacks_cell most s change ≡ false → Performs next change s t → length t.cells ≤ most
 fits-performed most next None s t few not same = omega (arith, ap (λ (u : State). length u.cells) same)
 fits-performed most next (Some (Place key payload)) s t few not admits =
@@ -78,7 +78,7 @@ fits-performed most next (Some (Remove serial)) s t few not removes = fits-remov
 fits-performed most next (Some (Rewrite serial key payload)) s t few not replaces =
     fits-replaced most (row_with serial key payload) s t (pending_by s serial.0) few (λ stands. room most s (Some (Rewrite serial key payload)) not (rw stands refl)) replaces
 
--- no more do a command's merges: they make no cell
+-- nor after a command's merges, which make no cell
 pub fits-served : (policy : Policy) (keys : Range) (most next : ℕ) (command : Command) (s t : State) → length s.cells ≤ most → lacks_cell most s (change_of command) ≡ false → ServesCleared policy keys next command s t → length t.cells ≤ most
 fits-served policy keys most next (Insert key payload) s t few not served = fits-performed most next (Some (Place key payload)) s t few not (rw served.prepared at served.performed)
 fits-served policy keys most next (Delete serial) s t few not served = fits-performed most next (Some (Remove serial)) s t few not (rw served.prepared at served.performed)

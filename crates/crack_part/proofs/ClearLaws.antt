@@ -1,4 +1,4 @@
--- What follows from doomed rows that are taken out for their cells.
+-- What follows if doomed rows are taken out for their cells.
 use Rattle.std.specs.Prelude.{◌≡◌, ℕ, ◌<◌, ◌≤◌, ◌+◌, Bool, true, false, ◌&&◌, ◌==◌, not, All, List, [], ◌∷◌, length, nat_le, Option, Result, Ok, Err, OnOk, OnErr}
 use Rattle.std.proofs.Common.{zero, suc, arith, ap, refl, sym, inl, inr}
 use Rattle.std.proofs.lemmas.Bool.{true≢false, and_parts, and_from, ne_eqb, leb-true, eqb-true}
@@ -49,7 +49,7 @@ frees s t intact done =
 pub has-free : (s t : State) → IsIntact s [] → 0 < length s.pending_out → CracksAndMerges Complete s t s.keys → 0 < length t.free
 has-free s t intact waits done = omega (arith, waits, frees s t intact done)
 
--- so that no cell is missing
+-- so no cell is missing
 none-lacks : (full free takes : Bool) → free ≡ false → (full && (free && takes)) ≡ false
 none-lacks true free takes some = rw some refl
 none-lacks false free takes some = refl
@@ -65,7 +65,7 @@ some-waits (suc n) is = omega arith
 pub waits : (limits : Limits) (s : State) → may_clear limits s ≡ true → 0 < length s.pending_out
 waits limits s may = some-waits (length s.pending_out) (and_parts (is_automatic limits.upkeep) (not (length s.pending_out == 0)) may).1
 
--- if a cell is missing, one is freed first where that may be, and else the change is without one
+-- if a cell is missing, one is freed first if that is possible, and otherwise the change lacks one
 freed-else : (a b : Bool) → b ≡ true → (a && not b) ≡ false
 freed-else true b is = rw is refl
 freed-else false b is = refl

@@ -1,4 +1,4 @@
--- What a read of a range within a partition's keys says of the plain rows.
+-- What a read of a range within a partition's keys implies for the plain rows.
 use Rattle.std.proofs.Common.{◌≡◌, ℕ, ◌<◌, ◌≤◌, ◌-◌, List, [], ◌∷◌, get_or, inl, inr, Bool, false, cond, Some, None, Result, Ok, Err, IfOk, arith, refl, sym, ap, ◌∙◌}
 use Rattle.std.specs.List.{All, count_by}
 use Rattle.std.specs.List.Sorted.{IsPermutation, IsNonDecreasingBy}
@@ -19,7 +19,7 @@ use Rattle.crack_state.proofs.SettledLaws.{count-settled, IsSettled-of}
 use Rattle.crack_state.proofs.StretchLaws.{sum-settled, rows-settled}
 use Rattle.crack_state.proofs.LiveLaws.{live_rows-within}
 
--- of these keys the same are in a range and in what it has in common with them
+-- a range and its intersection with these keys have the same keys of them
 is_in-clipped : (r keys : Range) (k : ℕ) → IsIn keys k → is_in (clipped r keys) k ≡ is_in r k
 is_in-clipped r keys k within = grind (arith, nat_tests)
 
@@ -48,12 +48,12 @@ plain-within s plain intact same = All-permutation (λ (r : Row). IsIn s.keys r.
 pub count-none : (s : State) (r : Range) (plain : List Row) → IsCommon r s.keys None → IsIntact s [] → IsPermutation (live_rows s) plain → 0 ≡ count_by (in_range r) plain
 count-none s r plain empty intact same = sym (count-empty (clipped r s.keys) plain empty) ∙ count-clipped r s.keys plain (plain-within s plain intact same)
 
--- in a settled store the places of the common range's ends count the plain rows
+-- in a settled store the places of the intersection's ends count the plain rows
 pub count-places : (s : State) (r common : Range) (plain : List Row) → IsCommon r s.keys (Some common) → IsIntact s [] → IsSettled s common → IsPermutation (live_rows s) plain → edge s common.high - edge s common.low ≡ count_by (in_range r) plain
 count-places s r common plain is intact settled same =
     count-settled s common plain settled same ∙ ap (λ (c : Range). count_by (in_range c) plain) is.0 ∙ count-clipped r s.keys plain (plain-within s plain intact same)
 
--- the rows of a range are those of what it has in common with the keys
+-- the rows of a range are those of its intersection with the keys
 step : (row : Row) (b c : Bool) (xs ys : List Row) → b ≡ c → xs ≡ ys → cond b (row ∷ xs) xs ≡ cond c (row ∷ ys) ys
 step row b c xs ys e f = rw (e, f) refl
 
@@ -71,7 +71,7 @@ rows-empty r (row ∷ rows) empty = step row (in_range r row) false (rows_in r r
 pub rows-none : (s : State) (r : Range) (plain : List Row) → IsCommon r s.keys None → IsIntact s [] → IsPermutation (live_rows s) plain → rows_in r plain ≡ []
 rows-none s r plain empty intact same = sym (rows-clipped r s.keys plain (plain-within s plain intact same)) ∙ rows-empty (clipped r s.keys) plain empty
 
--- in a settled store the rows between the places of the common range's ends have the plain rows' sum
+-- in a settled store the rows between the places of the intersection's ends have the plain rows' sum
 pub sum-places : (s : State) (r common : Range) (plain : List Row) → IsCommon r s.keys (Some common) → IsIntact s [] → IsSettled s common → IsPermutation (live_rows s) plain → sum_of (stretch_rows s common) ≡ sum_of (rows_in r plain)
 sum-places s r common plain is intact settled same =
     let clips = rows-clipped r s.keys plain (plain-within s plain intact same) in
@@ -97,11 +97,11 @@ sum-part s range part plain intact settled low high first order last cracked sam
     let inner = IsSettled-of s part order (omega (arith, low, first)) (omega (arith, high, last)) cracked (λ k d h. outside (get_or s.pending_in k d) (settled.pending k d h)) (λ k d h. outside (get_or s.pending_out k d) (settled.doomed k d h)) intact in
     sum-settled s part plain inner same
 
--- what a range has in common with keys lies in them
+-- the intersection of a range with keys lies in them
 pub within-clipped : (r keys common : Range) → common ≡ clipped r keys → common.low < common.high → (keys.low ≤ common.low) × (common.high ≤ keys.high)
 within-clipped r keys common is filled = (grind (arith, nat_tests, is, filled), grind (arith, nat_tests, is, filled))
 
--- the rows of what a range has in common with the keys have the sum of the range's
+-- the rows of the intersection of a range with the keys have the sum of the range's rows
 pub sum-common : (s : State) (r common : Range) (plain : List Row) → IsCommon r s.keys (Some common) → IsIntact s [] → IsPermutation (live_rows s) plain → sum_of (rows_in common plain) ≡ sum_of (rows_in r plain)
 sum-common s r common plain is intact same =
     ap (λ (c : Range). sum_of (rows_in c plain)) is.0 ∙ ap sum_of (rows-clipped r s.keys plain (plain-within s plain intact same))

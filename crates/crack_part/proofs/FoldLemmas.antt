@@ -17,7 +17,7 @@ rows-folded p rows sound same rising =
     let plain = (state_of p).rows in
     sorted_is rows plain rising (IsNumbered-after_past p.past sound.legal.base).rising (IsPermutation-trans plain (live_rows p.store) rows (IsPermutation-sym (live_rows p.store) plain sound.faithful.rows) same)
 
--- the next serial is the number of rows that were placed, and those gone are the placed minus the remaining ones
+-- the next serial is the number of rows that were placed, and the number removed is that of the placed less that of the remaining ones
 pub placed-folded : (p : Part) → IsSound p → p.next ≡ inserted_in p.past
 placed-folded p sound = sound.faithful.serial ∙ next-after_past p.past sound.legal.base sound.legal.replies
 
@@ -31,7 +31,7 @@ base_by rows next folded placed gone = record { state = record { rows = rows; ne
 same_base : (rows left : List Row) (next after folded placed added gone taken : ℕ) → rows ≡ left → next ≡ after → placed ≡ added → gone ≡ taken → base_by rows next folded placed gone ≡ base_by left after folded added taken
 same_base rows left next after folded placed added gone taken a b c d = rw (a, b, c, d) refl
 
--- the base that a checkpoint writes is what the past comes to
+-- the base that a checkpoint writes is that of the past
 pub base-folded : (p : Part) (rows : List Row) → IsSound p → rows ≡ (state_of p).rows → base_of rows (p.past.base.folded + length p.past.tail) p.next (p.next - length rows) ≡ base_after p.past
 base-folded p rows sound is =
     same_base rows (state_of p).rows p.next (state_of p).next _ p.next (inserted_in p.past) (p.next - length rows) (deleted_in p.past) is sound.faithful.serial (placed-folded p sound) (omega (arith, gone-folded p rows sound is))

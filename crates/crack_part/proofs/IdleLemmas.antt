@@ -1,4 +1,4 @@
--- A merge where no row is pending: there is nothing to do.
+-- A merge if no row is pending: there is nothing to do.
 use Rattle.std.proofs.Common.{◌≡◌, ◌≤◌, false, [], refl, sym, arith}
 use Rattle.std.proofs.Math.Nat.{max-eq_left}
 use Rattle.crack_row.specs.Ranges.{Range}
@@ -67,7 +67,7 @@ LeavesNear-idle Gradual s r intact settled no_in no_out = tt
 LeavesNear-idle Ripple s r intact settled no_in no_out = MergesNear-idle s r intact settled no_in no_out
 LeavesNear-idle Auto s r intact settled no_in no_out = tt
 
--- a store that was cracked and has no pending row is merged as it stands
+-- a store that was cracked and has no pending row is merged
 pub CracksAndMerges-idle : (policy : Policy) (s u : State) (r : Range) → r.low ≤ r.high → s.keys.low ≤ r.low → r.high ≤ s.keys.high → Refines s u r → IsCracked u r → IsIntact u [] → u.pending_in ≡ [] → u.pending_out ≡ [] → CracksAndMerges (read_by policy) s u r
 CracksAndMerges-idle policy s u r order low high refines cracked intact no_in no_out =
     let untouched : is_touched u r ≡ false = rw (no_in, no_out) refl in

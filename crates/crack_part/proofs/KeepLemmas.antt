@@ -1,4 +1,4 @@
--- What cracks and merges keep of a store, and its state if they found no memory.
+-- What cracks and merges preserve in a store, and its state if they found no memory.
 use Rattle.std.proofs.Common.{◌≡◌, ℕ, ◌+◌, ◌<◌, ◌≤◌, Bool, true, false, cond, not, List, [], ◌∷◌, filter, length, Option, Some, None, refl, ap, subst, ◌∙◌, inl, inr, arith}
 use Rattle.std.proofs.lemmas.Bool.{cases_lt}
 use Rattle.std.proofs.lemmas.List.{take_all, drop_all, append-nil}
@@ -18,7 +18,7 @@ use Rattle.crack_state.proofs.FollowLaws.{Follows-trans, Follows-room, Tallies-t
 use Rattle.crack_merge.specs.Merges.{EvictsFirst, LeavesRest, Stops}
 use Rattle.crack_part.specs.Parts.{is_merged_first, read_by, CracksAndMerges, Readies, Settles, ReadsRange, StopsAt, StopsRead, Prepares, SparesCleared}
 
--- the same rows for commands to see, as many cells, and as many of them freed or still to be
+-- commands see the same rows, and there are as many cells, and as many of them freed or still to be
 pub record Keeps (s t : State) : Type 0 where
   pub ends : t.keys ≡ s.keys
   pub live : live_rows t ≡ live_rows s
@@ -135,7 +135,7 @@ SomeOf-filter test (h ∷ hs) = by_test (test h) (SomeOf-filter test hs)
     by_test true some = kept h (filter test hs) hs some
     by_test false some = left_out h (filter test hs) hs some
 
--- a whole merge is one that stopped at its end
+-- a whole merge is a merge that stopped at its end
 Leaves-rest : (policy : Policy) (s t : State) (r : Range) → Leaves policy s t r → LeavesRest policy s t r
 Leaves-rest Complete s t r leaves = by_test (is_touched s r) leaves.0
   where
@@ -196,7 +196,7 @@ Stops-merged policy s t u r merges tallies room =
         (rest.0, rest.1, record { count = rest.2.count; few = rest.2.few; loses = record { passed = loses.passed; left_are = same ∙ loses.left_are; count_is = loses.count_is } })
     by_policy Auto rest same = rest
 
--- nothing but room is new
+-- nothing changes except the room
 StopsRead-room : (policy : Policy) (s t : State) (r : Range) → SameButRoom s t → StopsRead policy s t r
 StopsRead-room policy s t r same = by_test (is_merged_first policy s) refl
   where

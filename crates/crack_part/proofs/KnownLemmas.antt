@@ -1,4 +1,4 @@
--- What changes of plain rows leave of the sums that are known.
+-- The known sums after changes of plain rows.
 use Rattle.std.proofs.Common.{◌≡◌, ℕ, ℤ, pos, ◌+ℤ◌, ◌-◌, ◌-ℤ◌, ◌≤ℤ◌, neg_ℤ, to_z, of_z, ◌<◌, ◌≤◌, nat_lt, Bool, true, false, cond, List, [], ◌∷◌, ◌++◌, map, filter, Some, None, arith, refl, sym, ◌∙◌}
 use Rattle.std.specs.Prelude.{AllPairs, Result, Ok, Err, OnOk, OnErr}
 use Rattle.std.specs.List.{find}
@@ -55,7 +55,7 @@ adds-early since low high row early = grind (arith, nat_tests, early)
 adds-late : (since low high : ℕ) (row : Row) → since ≤ row.serial.0 → adds since (record { low = low; high = high }) row ≡ pos 0
 adds-late since low high row late = grind (arith, nat_tests, late)
 
--- what is left of the sums is right, and of the same rows
+-- the remaining sums are right, and are of the same rows
 pub Knows-left : (next : ℕ) (known : Known) (plain : PlainState) → Knows known plain → Knows (left next known) plain
 Knows-left next known plain knows = by_test (nat_lt MOST_PLACED (next - known.since))
   where
@@ -90,7 +90,7 @@ Knows-unchanged known plain row none knows =
 pub Knows-read : (known : Known) (plain : PlainState) (command : Command) → change_of command ≡ None → Knows known (after plain command) → Knows known plain
 Knows-read known plain command none knows = rw none at knows
 
--- what is known after an answer, by what it is after each outcome
+-- the known sums after an answer, by those after each outcome
 pub KnowsThen-of : (old new : Known) (plain : PlainState) (command : Command) (result : Result Reply Refusal) → OnOk result (Knows new (after plain command)) → OnErr result (new ≡ old) → Knows old plain → KnowsThen new plain command result
 KnowsThen-of old new plain command (Ok reply) ok err knows = ok
 KnowsThen-of old new plain command (Err refusal) ok err knows = rw err knows

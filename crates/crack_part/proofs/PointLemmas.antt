@@ -1,4 +1,4 @@
--- What deletes and updates make of the live rows, stated for a list of them.
+-- The live rows after deletes and updates, stated for a list of them.
 use Rattle.std.proofs.Common.{◌≡◌, ◌≢◌, ℕ, Bool, true, false, List, [], ◌∷◌, filter, map, Option, Some, None, Result, Ok, Err, refl, sym, ap}
 use Rattle.std.specs.Prelude.{IfSome, IfNone, OnOk, OnErr, is_some, nat_lt}
 use Rattle.std.specs.List.{All}

@@ -1,4 +1,4 @@
--- What follows where a partition refuses no command, or one for a cause.
+-- What follows if a partition refuses no command, or one for a cause.
 use Rattle.std.specs.Prelude.{◌≡◌, ◌<◌, Bool, true, false, Option, None, Some, IfSome, length, ◌&&◌, not, nat_le, nat_lt, if◌then◌else◌}
 use Rattle.std.specs.Option.{option_or}
 use Rattle.std.proofs.Common.{refl, ap, ◌∙◌}
@@ -52,7 +52,7 @@ may-keep p command none =
 abbrev cause : Bool → Option Refusal → Bool → Option Refusal
 cause own stop lacks = if own then option_or stop (if lacks then Some NoCell else None) else Some KeyOutside
 
--- what refuses a command whatever cells there are refuses it
+-- a cause that refuses a command whatever cells there are refuses it
 cause-early : (own : Bool) (stop : Option Refusal) (lacks : Bool) (e : Refusal) → cause own stop false ≡ Some e → cause own stop lacks ≡ Some e
 cause-early true (Some x) lacks e is = is
 cause-early true None lacks e is = cc is
@@ -61,7 +61,7 @@ cause-early false stop lacks e is = is
 pub refused-early : (p : Part) (command : Command) (e : Refusal) → early_refusal_of p command ≡ Some e → refusal_of p command ≡ Some e
 refused-early p command e is = cause-early (is_key_in p.keys (key_of command)) (stopped_by p.limits (table_of p.past)) (is_without_cell p.limits p.store (change_of command)) e is
 
--- if nothing else refuses it, it is refused if it is without a cell, and nowhere else
+-- if nothing else refuses it, it is refused exactly if it lacks a cell
 cause-late : (own : Bool) (stop : Option Refusal) (lacks : Bool) → cause own stop false ≡ None → cause own stop lacks ≡ (if lacks then Some NoCell else None)
 cause-late true (Some x) lacks none = cc none
 cause-late true None lacks none = refl

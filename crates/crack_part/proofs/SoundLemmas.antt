@@ -90,7 +90,7 @@ MayPerform-within p (Some (Place key payload)) sound within = IsAdmissible-place
 MayPerform-within p (Some (Remove serial)) sound within = few_freed p sound
 MayPerform-within p (Some (Rewrite serial key payload)) sound within = (rw sound.ends within, record { cell = few_cells p sound; few = few_freed p sound })
 
--- the live rows, and what the history bounds, are as they were
+-- the live rows, and the numbers that the history bounds, are as they were
 pub IsSound-kept : (p : Part) (t : State) → IsSound p → Keeps p.store t → IsIntact t [] → IsSound (record p { store = t })
 IsSound-kept p t sound keeps intact = record {
   limited = sound.limited;
@@ -143,7 +143,7 @@ spent reply = (if is_gone reply then 1 else 0) + (if is_changed reply then 1 els
 Spends-same : (m n : ℕ) (s t : State) → t ≡ s → Spends m n s t
 Spends-same m n s t same = rw same (record { keys = refl; cells = omega arith; freed = omega arith })
 
--- a row with this serial is in the plain rows where the store finds one
+-- a row with this serial is in the plain rows if the store finds one
 is_some-row_in : (s : State) (plain : List Row) (serial : Serial) (pending : Bool) → IsIntact s [] → IsPermutation (live_rows s) plain → pending_by s serial.0 ≡ Some pending → IsSome (row_in plain serial)
 is_some-row_in s plain serial pending intact faithful is = subst (λ (o : Option Row). IsSome o) (row_by-find s serial.0 plain intact faithful) (row_by-pending s serial.0 pending is intact)
 
@@ -173,7 +173,7 @@ Spends-replaced s t plain row (Some pending) is intact faithful within renewable
     by_row None none spends = absurd (false≢true none)
     by_row (Some old) some spends = spends
 
--- what a command spends, as its reply says
+-- the cells that a command uses, by its reply
 Spends-performed : (next : ℕ) (plain : PlainState) (command : Command) (s t : State) → IsIntact s [] → IsPermutation (live_rows s) plain.rows → MayPerform next (change_of command) s → Performs next (change_of command) s t → Spends (made (reply_to plain command)) (spent (reply_to plain command)) s t
 Spends-performed next plain (Insert key payload) s t intact faithful may admits =
     let row = placed next key payload in

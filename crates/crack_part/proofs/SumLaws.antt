@@ -39,7 +39,7 @@ sum-parts since rows low mid high first second =
 pub sum-nothing : (since : ℕ) (rows : List Row) (low : ℕ) → sum_before since rows low low ≡ pos 0
 sum-nothing since rows low = let is = sum-parts since rows low low low (omega arith) (omega arith) in omega (arith, ints, is)
 
--- where all serials are below it, it is the sum of the rows of the range
+-- if all serials are below it, it is the sum of the rows of the range
 pub sum-all : (since : ℕ) (range : Range) (rows : List Row) → All (λ row. row.serial.0 < since) rows → total_by (adds since range) rows ≡ sum_of (rows_in range rows)
 sum-all since range rows below =
     total_by-agree (adds since range) (λ row. cond (in_range range row) (amount row.payload) (pos 0)) rows (λ k d h. each (get_or rows k d) (below k d h)) ∙ sym (total_by-filter (λ (row : Row). amount row.payload) (in_range range) rows)
@@ -54,7 +54,7 @@ sum-placed since rows row low high late =
     let none : f row ≡ pos 0 = grind (arith, nat_tests, late) in
     omega (arith, ints, total_by-append f rows (row ∷ []), total_by-cons f row [], none)
 
--- without the row of a serial, whatever rows add
+-- without the row of a serial, whatever each row adds
 pub total-taken : (f : Row → ℤ) (serial : ℕ) (rows : List Row) (row : Row) → AllPairs (λ (earlier later : Row). earlier.serial.0 < later.serial.0) rows → find (has_serial serial) rows ≡ Some row → total_by f rows ≡ f row +ℤ total_by f (filter (is_other serial) rows)
 total-taken f serial [] row rising found = absurd (true≢false (sym (ap is_some found)))
 total-taken f serial (x ∷ xs) row rising found =
@@ -71,7 +71,7 @@ total-taken f serial (x ∷ xs) row rising found =
         let now = rest (rw is at found) in
         rw is (omega (arith, ints, total_by-cons f x xs, total_by-cons f x (filter (is_other serial) xs), now))
 
--- with a row in the place of the one of its serial, whatever rows add
+-- with a row in the place of the one with its serial, whatever each row adds
 pub total-put : (f : Row → ℤ) (new : Row) (rows : List Row) (row : Row) → AllPairs (λ (earlier later : Row). earlier.serial.0 < later.serial.0) rows → find (has_serial new.serial.0) rows ≡ Some row → total_by f (map (replaced new) rows) +ℤ f row ≡ total_by f rows +ℤ f new
 total-put f new [] row rising found = absurd (true≢false (sym (ap is_some found)))
 total-put f new (x ∷ xs) row rising found =
@@ -88,7 +88,7 @@ total-put f new (x ∷ xs) row rising found =
         let now = rest (rw is at found) in
         rw is (omega (arith, ints, total_by-cons f x xs, total_by-cons f x (map (replaced new) xs), now))
 
--- a row of a serial that a list doesn't have
+-- the row of a serial that a list doesn't have
 pub apart-none : (serial : ℕ) (rows : List Row) → find (has_serial serial) rows ≡ None → All (λ (r : Row). r.serial.0 ≢ serial) rows
 apart-none serial [] none = All-nil (λ (r : Row). r.serial.0 ≢ serial)
 apart-none serial (x ∷ xs) none = by_test (x.serial.0 == serial) refl (Decides-eqb x.serial.0 serial) (λ none. apart-none serial xs none)
@@ -123,7 +123,7 @@ adds-here serial low high row = cond (row.serial.0 == serial) (added low high (S
 adds-next : (since low high : ℕ) (row : Row) → adds (since + 1) (record { low = low; high = high }) row ≡ adds since (record { low = low; high = high }) row +ℤ adds-here since low high row
 adds-next since low high row = grind (arith, nat_tests, ints)
 
--- the rows up to the next serial: the row of this one, if there is one, adds to the sum
+-- up to the next serial: the row of this serial, if there is one, is added to the sum
 pub sum-next : (since : ℕ) (rows : List Row) (low high : ℕ) (o : Option Row) → AllPairs (λ (earlier later : Row). earlier.serial.0 < later.serial.0) rows → find (has_serial since) rows ≡ o → sum_before (since + 1) rows low high ≡ sum_before since rows low high +ℤ added low high o
 sum-next since rows low high None rising none =
     let both = total-sum (adds (since + 1) (record { low = low; high = high })) (adds since (record { low = low; high = high })) (adds-here since low high) (adds-next since low high) rows in

@@ -29,14 +29,14 @@ upkept-full limits past full unshut =
     let due = due-tested (nat_le limits.history (length past.tail)) (is_automatic limits.upkeep) (le-leb limits.history (length past.tail) full) unshut in
     ap (λ (b : Bool). cond b (folded past) past) due
 
--- a history that begins again, from the base that a past comes to
+-- a history that begins again, from the base of a past
 pub past-anew : (past : Past) (base : Base) (tail : List Entry) (e : Entry) → base ≡ base_after past → tail ≡ e ∷ [] → record { base = base; tail = tail } ≡ with_entry (folded past) e
 past-anew past base tail e from alone = rw (from, alone) refl
 
 pub state_after-anew : (past : Past) (base : Base) (tail : List Entry) (e : Entry) → base ≡ base_after past → tail ≡ e ∷ [] → state_after (record { base = base; tail = tail }) ≡ after (state_after past) e.command
 state_after-anew past base tail e from alone = ap state_after (past-anew past base tail e from alone) ∙ state_after-push (folded past) e
 
--- a past and its table are kept up alike, and neither the plain rows nor the number of commands change
+-- upkeep does the same to a past and to its table, and changes neither the plain rows nor the number of commands
 pub table_of-upkept : (limits : Limits) (past : Past) → table_of (upkept limits past) ≡ upkept_table limits (table_of past)
 table_of-upkept limits past = by_test (is_due limits (length past.tail))
   where

@@ -1,4 +1,4 @@
--- Which changes lack a cell, and what is done about it.
+-- Which changes lack a cell, and how upkeep frees cells.
 use Rattle.std.specs.Prelude.{ℕ, Bool, true, false, ◌&&◌, ◌==◌, not, length, Option, Some, nat_le, unwrap_or, option_map}
 use Rattle.crack_row.specs.declared.command.Change.{Change}
 use Rattle.crack_row.specs.declared.command.Change.TheVariants.{Place, Rewrite}
@@ -17,7 +17,7 @@ takes_cell s _ = false
 abbrev pub lacks_cell : ℕ → State → Option Change → Bool
 lacks_cell most s change = nat_le most (length s.cells) && ((length s.free == 0) && takes_cell s change)
 
--- whether doomed rows wait whose cells upkeep may free
+-- whether there are doomed rows whose cells upkeep may free
 abbrev pub may_clear : Limits → State → Bool
 may_clear limits s = is_automatic limits.upkeep && not (length s.pending_out == 0)
 

@@ -54,8 +54,8 @@ Frees p command q = (lacks_cell q.limits.cells q.store (change_of command) ≡ f
 abbrev pub FreesNone : Part → Command → Refusal → Part → Type 0
 FreesNone p command e q = ((e ≡ NoCell) × (is_without_cell p.limits p.store (change_of command) ≡ true) × (q ≡ p)) ⊎ ((e ≡ OutOfMemory) × (is_cleared_first p.limits p.store (change_of command) ≡ true) × StopsAt Complete p.store q.store p.store.keys)
 
--- The outcome of a worker's command at a partition that refuses it for this cause, if any, and serves or spares its store like this: the reply of its
--- plain rows, and one more entry; or a refusal, which leaves its past.
+-- The outcome of a worker's command at a partition that refuses it for this cause, if any, and changes or leaves its store in this way: the reply of
+-- its plain rows, and one more entry; or a refusal, which leaves its past unchanged.
 pub record AppliesBy (worker : ℕ) (command : Command) (cause : Option Refusal) (Served Spared : State → Type 0) (old : Part) (result : Result (Reply × Reply) Refusal) (new : Part) : Type 0 where
   pub replies : IfOk result (λ replies. (replies.0 ≡ reply_to (state_of old) command) × (replies.1 ≡ replies.0))
   pub small : IfOk result (λ replies. IsSmall replies.0)

@@ -32,7 +32,7 @@ sum_before since rows low high = total_by (adds since (record { low = low; high 
 abbrev pub with_row : Option Row → (ℕ → ℕ → ℤ) → ℕ → ℕ → ℤ
 with_row row m low high = m low high +ℤ added low high row
 
--- the pieces whose sums are known, of the rows that were placed before a serial
+-- the pieces with known sums, and the serial before which the rows of these sums were placed
 pub record Known : Type 0 where
   pub pieces : List (ℕ × ℤ)
   pub since : ℕ
@@ -42,24 +42,24 @@ pub record Knows (known : Known) (plain : PlainState) : Type 0 where
   pub past : known.since ≤ plain.next
   pub right : AreRight (sum_before known.since plain.rows) known.pieces
 
--- few rows were placed since the sums were last asked for, if the next row gets this serial
+-- few rows were placed since the sums were last used, if the next row gets this serial
 abbrev pub IsFresh : ℕ → Known → Type 0
 IsFresh next known = next ≤ known.since + MOST_PLACED
 
--- what is left of the sums that are known where the next row gets this serial: none, if many rows were placed since
+-- the known sums that remain if the next row gets this serial: none, if many rows were placed since
 abbrev pub left : ℕ → Known → Known
 left next known = cond (nat_lt MOST_PLACED (next - known.since)) (record known { pieces = [] }) known
 
--- what a store that is settled for a range says of a part of it: its sum, of any list of the live rows
+-- the sum that a store that is settled for a range reports of a part of it: that of any list of the live rows
 abbrev pub SaysSettled : State → Range → ℕ → ℕ → ℤ → Type 0
 SaysSettled s range low high sum = IsSettled s range → s.keys.low ≤ range.low → range.high ≤ s.keys.high → range.low ≤ low → low ≤ high → high ≤ range.high → (plain : List Row) → IsPermutation (live_rows s) plain → sum ≡ sum_of (rows_in (record { low = low; high = high }) plain)
 
--- after an answer the sums that are known are those of the plain rows that it left
+-- after an answer the known sums are those of the plain rows after it
 abbrev pub KnowsThen : Known → PlainState → Command → Result Reply Refusal → Type 0
 KnowsThen known plain command (Ok reply) = Knows known (after plain command)
 KnowsThen known plain command (Err refusal) = Knows known plain
 
--- a partition's invariant, and that the sums that it knows are those of its plain rows
+-- a partition's invariant, including that the known sums are those of its plain rows
 pub record KnowsPart (known : Known) (part : Part) : Type 0 where
   pub sound : IsSound part
   pub knows : Knows known (state_of part)

@@ -64,7 +64,7 @@ pub record IsSound (part : Part) : Type 0 where
 abbrev pub folded_part : Part → Part
 folded_part part = record part { past = folded part.past }
 
--- a row as a change places it
+-- the row that a change places
 abbrev pub placed : ℕ → Key → Payload → Row
 placed serial key payload = row_with (record { 0 = serial }) key payload
 
@@ -82,12 +82,12 @@ abbrev pub read_by : Policy → Policy
 read_by Auto = Ripple
 read_by policy = policy
 
--- where a merge of this policy leaves rows: ripple near the range
+-- where a merge of this policy moves rows: under ripple near the range
 abbrev pub LeavesNear : Policy → State → State → Range → Type 0
 LeavesNear Ripple s t r = MergesNear s t r
 LeavesNear _ s t r = Unit {0}
 
--- a store is cracked at the ends of a range, which leaves it intact, and then this is done
+-- a store is cracked at the ends of a range, which leaves it intact, and then this step is made
 pub record CracksAnd (Does : State → State → Type 0) (s t : State) (r : Range) : Type 0 where
   pub cracked : State
   pub refines : Refines s cracked r
@@ -102,7 +102,7 @@ CracksAndMerges policy s t r = CracksAnd (λ (cracked merged : State). Merges po
 abbrev pub Readies : Bool → State → State → Type 0
 Readies due s t = ((due ≡ false) × (t ≡ s)) ⊎ ((due ≡ true) × CracksAndMerges Complete s t s.keys)
 
--- if that is due, all pending rows are merged first, and then this is done
+-- if that is due, all pending rows are merged first, and then this step is made
 pub record ReadiesAnd (due : Bool) (Does : State → State → Type 0) (s t : State) : Type 0 where
   pub ready : State
   pub readies : Readies due s ready
@@ -117,12 +117,12 @@ pub record ReadsRange (policy : Policy) (s t : State) (r : Range) : Type 0 where
   pub empty : r.high ≤ r.low → t ≡ s
   pub settled : r.low < r.high → Settles policy s t r
 
--- what a read of a range under one policy that found no memory did to a store: nothing, or the store is cracked at the ends of the range, no
--- other bound is new, and the merge went as far as it came
+-- what a read of a range under one policy that found no memory did to a store: nothing, or the store is cracked at the ends of the range, no other
+-- bound is new, and the merge stopped on the way
 abbrev pub StopsAt : Policy → State → State → Range → Type 0
 StopsAt policy s t r = SameButRoom s t ⊎ ((r.low < r.high) × CracksAnd (λ (cracked stopped : State). Stops policy cracked stopped r) s t r)
 
--- no memory was found while all pending rows were merged, which was due, or afterwards; then this was done
+-- no memory was found while all pending rows were merged, which was due, or afterwards; then this step was made
 abbrev pub ReadiesOr : Bool → (State → State → Type 0) → State → State → Type 0
 ReadiesOr due Stops s t = ((due ≡ true) × StopsAt Complete s t s.keys) ⊎ ReadiesAnd due Stops s t
 
@@ -130,7 +130,7 @@ ReadiesOr due Stops s t = ((due ≡ true) × StopsAt Complete s t s.keys) ⊎ Re
 abbrev pub StopsRead : Policy → State → State → Range → Type 0
 StopsRead policy s t r = ReadiesOr (is_merged_first policy s) (λ (ready stopped : State). StopsAt (read_by policy) ready stopped r) s t
 
--- what is done to a store before a command is replied: the range that it reads, if any, is read as far as it is within the keys
+-- what is done to a store before the reply to a command: the range that it reads, if any, is read as far as it is within the keys
 abbrev pub Prepares : Policy → Range → Option Range → State → State → Type 0
 Prepares policy keys None s t = t ≡ s
 Prepares policy keys (Some range) s t = ReadsRange policy s t (clipped range keys)
@@ -141,7 +141,7 @@ abbrev pub SparesCleared : Policy → Range → Option Range → State → State
 SparesCleared policy keys None s t = SameButRoom s t
 SparesCleared policy keys (Some range) s t = StopsRead policy s t (clipped range keys)
 
--- what is done to a store after a command is replied: the change that it makes, if any, is made
+-- what is done to a store after the reply to a command: the change that it makes, if any, is made
 abbrev pub Performs : ℕ → Option Change → State → State → Type 0
 Performs next None s t = t ≡ s
 Performs next (Some (Place key payload)) s t = SameButRoom (admitted (placed next key payload) s) t

@@ -1,4 +1,4 @@
--- What a partition refuses a command with, whatever memory there is.
+-- Why a partition refuses a command, whatever memory there is.
 use Rattle.std.specs.Prelude.{Bool, true, length, Option, None, Some, nat_le, if◌then◌else◌}
 use Rattle.std.specs.Option.{option_or}
 use Rattle.crack_row.specs.Commands.{change_of, key_of}
@@ -14,7 +14,7 @@ use Rattle.crack_part.specs.Parts.{Part}
 use Rattle.crack_part.specs.Upkeep.{is_full}
 use Rattle.crack_part.specs.Cells.{is_without_cell}
 
--- the plain rows that a past left, how many commands its base comes to, and how many entries its history has
+-- the plain rows after a past, how many commands its base counts, and how many entries its history has
 abbrev pub table_of : Past → PlainView
 table_of past = record { state = state_after past; folded = past.base.folded; since = length past.tail }
 
@@ -23,15 +23,15 @@ abbrev pub is_key_in : Range → Option Key → Bool
 is_key_in keys None = true
 is_key_in keys (Some key) = is_in keys key.0
 
--- why a partition of these limits accepts no command more: as many were accepted since its last checkpoint as its history may have, and it
--- makes none by itself, or as many since its opening as it may accept in total
+-- why a partition with these limits accepts no more commands: as many were accepted since its last checkpoint as its history may have, and it makes
+-- no checkpoint by itself, or as many since its opening as it may accept in total
 abbrev pub stopped_by : Limits → PlainView → Option Refusal
 stopped_by limits table = if is_full limits table.since then Some (HistoryFull limits.history) else (if nat_le limits.life (accepted_of table) then Some LifeOver else None)
 
--- the first cause to refuse a command: its key is none of these, no command more is accepted, it lacks a cell
+-- the first cause to refuse a command: its key is none of these, no more commands are accepted, it lacks a cell
 abbrev pub first_cause : Range → Option Refusal → Bool → Command → Option Refusal
 first_cause keys stop lacks command = if is_key_in keys (key_of command) then option_or stop (if lacks then Some NoCell else None) else Some KeyOutside
 
--- what a partition refuses a command with, if anything
+-- why a partition refuses a command, if it does
 abbrev pub refusal_of : Part → Command → Option Refusal
 refusal_of part command = first_cause part.keys (stopped_by part.limits (table_of part.past)) (is_without_cell part.limits part.store (change_of command)) command

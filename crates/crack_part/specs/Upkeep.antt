@@ -5,7 +5,7 @@ use Rattle.crack_row.specs.declared.limit.Upkeep.{Upkeep}
 use Rattle.crack_row.specs.declared.limit.Upkeep.TheVariants.{OnRequest, Automatic}
 use Rattle.crack_plain.specs.Past.{Past, folded}
 
--- whether checkpoints are made when they are due, unasked
+-- whether checkpoints are made automatically when they are due
 abbrev pub is_automatic : Upkeep → Bool
 is_automatic OnRequest = false
 is_automatic Automatic = true

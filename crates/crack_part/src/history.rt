@@ -8,10 +8,10 @@ use std::alloc::Global;
 /// grows without being copied, and its unused part takes no memory.
 const FIRST_ENTRIES: usize = 2048;
 
-/// For how many entries a checkpointed history keeps its room.
+/// The number of entries for which a checkpointed history keeps its room.
 const KEPT_ENTRIES: usize = 4096;
 
-/// What commands that are no longer kept left: the rows, by rising serial (24 bytes each), how many commands there
+/// The effect of commands that are no longer kept: the rows, by rising serial (24 bytes each), how many commands there
 /// were, and how many rows they placed and removed.
 #[derive(Drop)]
 pub(crate) struct Base {
@@ -21,7 +21,7 @@ pub(crate) struct Base {
     pub(crate) gone: u64,
 }
 
-/// What a checkpoint needs, before it is made.
+/// The memory that a checkpoint needs, allocated before it is made.
 #[derive(Drop)]
 pub(crate) struct Fold {
     pub(crate) base: Base,
@@ -75,7 +75,7 @@ pub(crate) fn push_reserved<T: Drop>(items: &mut Vec<T>, item: T)
     items.push_reserved(item);
 }
 
-/// Replaces what was kept by a base, and empties the history, which has room if it had. Takes no memory.
+/// Makes a base of what was kept, and empties the history, which keeps its room. Takes no memory.
 pub(crate) fn begin_anew(base: &mut Base, history: &mut Vec<Entry>, fold: Fold)
     requires fresh { IfSome fold.fresh (λ list. (list.items ≡ []) × (0 < vec_capacity list)) }
     ensures base { base.new ≡ fold.base }

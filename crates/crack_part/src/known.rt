@@ -1,4 +1,4 @@
-//! The sums of pieces that a partition knows.
+//! The known sums of pieces of a partition.
 ghost use Rattle.std.specs.Prelude.{◌≡◌, ℕ, ℤ, ◌<◌, ◌≤◌, ◌^◌, [], IfSome, IsSome, OnSome};
 ghost use Rattle.std.specs.Map.{keys_of};
 ghost use Rattle.crack_row.specs.Rows.{sum_of};
@@ -14,12 +14,12 @@ use crack_sums::{PieceSums, Source};
 use std::alloc::Global;
 use std::marker::Model;
 
-/// If more rows than this were placed since the sums were last asked for, they are forgotten: to look the rows up
-/// would take longer than to sum anew.
+/// If more rows than this were placed since the sums were last used, the sums are forgotten: looking the rows up would
+/// take longer than summing again.
 const MOST_PLACED: u64 = 256;
 
-/// The sums of pieces that are known, of the rows that were placed before a serial. They are sums of plain rows, by
-/// key: no crack and no merge makes them wrong.
+/// The known sums of pieces, of the rows that were placed before a serial. They are sums of plain rows, by key, so
+/// cracks and merges don't change them.
 #[derive(Drop)]
 pub(crate) struct KnownSums {
     pieces: PieceSums,
@@ -76,9 +76,9 @@ impl KnownSums {
         }
     }
 
-    /// The sum of a range for which the store is settled. What isn't known of it is summed in the store. None if
-    /// that finds no memory, or the numbers don't suffice. O(log pieces) and a step for each piece in the range, once
-    /// its pieces are known.
+    /// The sum of a range for which the store is settled. Parts whose sum isn't known are summed in the store. None if
+    /// it finds no memory, or 128 bits aren't enough. O(log pieces) and a step for each piece in the range, once the
+    /// sums of its pieces are known.
     pub(crate) fn sum(&mut self, store: &Store, next: u64, range: KeyRange) -> Option<i128>
         requires filled { range.low < range.high }
         requires settled { IsSettled store.now range }
@@ -94,7 +94,7 @@ impl KnownSums {
         self.pieces.sum(range, &Settled { store, range })
     }
 
-    /// Takes in the rows that were placed since the sums were last asked for, or forgets the sums if they are many.
+    /// Adds the rows that were placed since the sums were last used, or forgets the sums if these rows are many.
     fn catch_up(&mut self, store: &Store, next: u64)
         ensures knows { (plain : PlainState) → IsNumbered plain → IsFaithful store.now next plain →
             Knows self.old plain → Knows self.new plain × (self.new.since ≡ next) }
@@ -108,7 +108,7 @@ impl KnownSums {
         self.since = next;
     }
 
-    /// Forgets the sums if many rows were placed since they were last asked for: the next sum would forget them, so a
+    /// Forgets the sums if many rows were placed since they were last used: the next sum would forget them, so a
     /// change needn't adjust them.
     fn forget_if_late(&mut self, next: u64)
         ensures { self.new ≡ left next self.old }
@@ -119,7 +119,7 @@ impl KnownSums {
     }
 }
 
-/// Takes in the rows with these serials that are still there. O(rows * log pieces).
+/// Adds the rows with these serials that are still there. O(rows * log pieces).
 fn take_in(pieces: &mut PieceSums, store: &Store, from: u64, next: u64)
     ensures right { (plain : PlainState) → IsNumbered plain → IsFaithful store.now next plain → from ≤ next →
         AreRight (sum_before from plain.rows) pieces.old → AreRight (sum_before next plain.rows) pieces.new }
@@ -142,7 +142,7 @@ fn add(pieces: &mut PieceSums, row: Option<Row>)
     }
 }
 
-/// A store that is settled for a range, as what sums of parts of the range are asked of.
+/// A store that is settled for a range, as the source of the sums of parts of the range.
 #[derive(Clone, Copy)]
 struct Settled<'a> {
     store: &'a Store,

@@ -1,4 +1,4 @@
-//! A partition: the rows of a range of keys, and every command that it answered.
+//! A partition: the rows of a range of keys, and the history of its commands.
 #![tactic(auto)]
 
 mod changes;

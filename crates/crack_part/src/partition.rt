@@ -33,9 +33,9 @@ use crack_store::{MergeReport, Store};
 use std::alloc::Global;
 use std::marker::Model;
 
-/// The rows whose keys lie in one range, and every command that was answered since the last checkpoint, with the worker
-/// that asked and the reply, after a base: what the commands before it left. Contracts also see the layout of
-/// the store of its rows; the plain rows are those after the history, from the base on.
+/// The rows whose keys lie in one range, with a base, which is the effect of the commands up to the last checkpoint,
+/// and a history: every command answered since, with its worker and its reply. Contracts also see the layout of the
+/// store of its rows; the plain rows are those after the history, from the base on.
 #[derive(Drop)]
 pub struct Partition {
     alloc: Global,
@@ -185,9 +185,9 @@ impl Partition {
     }
 
     /// Makes its rows the base, and empties its history; returns how many entries it had. It cracks and merges nothing,
-    /// and changes no later reply. Refused with 8 if it finds no memory; then all is as it was. Like `Store::live_rows`
-    /// it is O(cells), and O(n log n) for n rows if serials don't rise with the cells; the history's memory is
-    /// freed, except the room of `KEPT_ENTRIES` entries.
+    /// and changes no later reply. Refused with 8 if it finds no memory; then nothing has changed. Like
+    /// `Store::live_rows` it is O(cells), and O(n log n) for n rows if serials don't rise with the cells; the history's
+    /// memory is freed, except the room of `KEPT_ENTRIES` entries.
     pub fn checkpoint(&mut self) -> Result<u64, Refusal>
         ensures ok { IfOk result (λ count. count ≡ length self.old.past.tail) }
         ensures folded { OnOk result (self.new ≡ folded_part self.old) }
@@ -201,7 +201,7 @@ impl Partition {
         Ok(count)
     }
 
-    /// Allocates what a checkpoint needs: the base that results from it, and the list of a history that starts again.
+    /// Allocates what a checkpoint needs: the new base, and the list of the history that starts again.
     fn fold(&self) -> Result<Fold, Refusal>
         ensures base { IfOk result (λ fold. base_of fold.base.rows.items fold.base.folded fold.base.placed
             fold.base.gone ≡ base_after self.now.past) }
@@ -239,7 +239,7 @@ impl Partition {
         self.limits.history
     }
 
-    /// What bounds it.
+    /// Its limits.
     pub fn limits(&self) -> Limits
         ensures value { result ≡ self.now.limits }
         ensures limited { AreLimits self.now.limits }
@@ -269,15 +269,15 @@ impl Partition {
     /// upkeep is automatic, it makes a checkpoint first, as `checkpoint` does, if the history is full; and if an
     /// insert, or an update of a row of the column, finds no free cell and as many cells as their limit, while doomed
     /// rows wait, it merges all pending rows first, as a count of all keys does under `Policy::Complete`. Refused, in
-    /// this order: with 4 if the command has a key that isn't the partition's, with 6 if the history is full
-    /// and upkeep is on request, with 10 if it has accepted as many commands as its life, with 9 if no cell is
-    /// free and upkeep frees none, with 8 if no memory is found. After 4, 6, 10 and 9 nothing has changed. After 8
-    /// no checkpoint is made; that merge may be made in part, or in whole; else a command that reads no range has
-    /// changed nothing, and one that reads a range has at most cracked the column at its ends and merged in part, or in
-    /// whole. An insert is O(1), amortised, a delete and an update O(log pieces), without upkeep. A command that reads
-    /// a range cracks the pieces in which its ends fall and merges by the policy what its range needs; a count is then
-    /// O(log pieces), a sum as well, with a step for each piece in the range whose sum is known, and for each row of
-    /// the others, and a select O(m log m) for m rows in the range.
+    /// this order: with 4 if the command has a key that isn't the partition's, with 6 if the history is full and upkeep
+    /// is on request, with 10 if it has accepted as many commands as its life, with 9 if no cell is free and upkeep
+    /// frees none, with 8 if no memory is found. After 4, 6, 10 and 9 nothing has changed. After 8 no checkpoint is
+    /// made, but that merge may be made in part or as a whole; a command that reads no range has changed nothing else,
+    /// and one that reads a range has at most cracked the column at its ends and merged in part or as a whole. An
+    /// insert is O(1), amortised, a delete and an update O(log pieces), without upkeep. A command that reads a range
+    /// cracks the pieces in which its ends fall and merges by the policy what its range needs; a count is then O(log
+    /// pieces), a sum as well, with a step for each piece in the range whose sum is known, and for each row of the
+    /// others, and a select O(m log m) for m rows in the range.
     #[inline(always)]
     pub fn apply(
         &mut self,
@@ -354,8 +354,8 @@ impl Partition {
         Ok((copies.reply, copies.receipt))
     }
 
-    /// Answers a command that may need upkeep. Its outcome has its place in memory here, so that where `apply`
-    /// begins none is cleared for it.
+    /// Answers a command that may need upkeep. Its outcome has its place in memory here, so that `apply` doesn't clear
+    /// one for it at its beginning.
     #[inline(always)]
     fn apply_apart(
         &mut self,
@@ -462,7 +462,7 @@ impl Partition {
         lacks_cell(&self.store, self.limits.cells, command)
     }
 
-    /// Whether doomed rows wait whose cells upkeep may free. O(1).
+    /// Whether there are doomed rows whose cells upkeep may free. O(1).
     fn may_clear(&self) -> bool
         ensures { result ≡ may_clear self.now.limits self.now.store }
     {
@@ -512,7 +512,7 @@ impl Partition {
         self.history.len() as u64 >= self.limits.history && !is_automatic(self.limits.upkeep)
     }
 
-    /// Refuses a command for the first cause except lack of a cell, before any memory is looked for.
+    /// Refuses a command for the first cause except lack of a cell, before any memory is allocated.
     #[inline(always)]
     fn may_keep(&self, command: &Command) -> Result<(), Refusal>
         ensures ok { OnOk result (early_refusal_of self.now command.now ≡ None) }
@@ -533,7 +533,7 @@ impl Partition {
     }
 }
 
-/// Whether checkpoints are made when they are due, unasked.
+/// Whether checkpoints are made automatically when they are due.
 #[inline(always)]
 fn is_automatic(upkeep: Upkeep) -> bool
     ensures { result ≡ is_automatic upkeep }
@@ -699,7 +699,7 @@ fn carry_out(
     }
 }
 
-/// The outcome of a command, part by part: if it isn't asked for, it isn't stored in memory.
+/// The outcome of a command, part by part: a part that isn't used isn't stored in memory.
 #[inline(always)]
 fn handed_on(answered: Result<(Reply, Reply), Refusal>) -> Result<(Reply, Reply), Refusal>
     ensures { result ≡ answered }

@@ -15,7 +15,7 @@ use crack_row::{KeyRange, Refusal, Row};
 use crack_store::Store;
 use std::alloc::Global;
 
-/// No sum of rows is as far from 0.
+/// The bound of sums: no sum of rows is as far from 0.
 const GREATEST_SUM: i128 = 79228162514264337593543950336;
 
 /// How many rows have their key in a range: the difference of two places of the column, which is settled for the
@@ -33,8 +33,8 @@ pub(crate) fn count(store: &Store, common: Option<KeyRange>) -> u64
     }
 }
 
-/// The sum of the payloads of the rows whose key is in a range: of the pieces in it, as far as their sums are known,
-/// and else of the rows between two places of the column, as for a count.
+/// The sum of the payloads of the rows whose key is in a range: that of the pieces in it, as far as their sums are
+/// known, and of the rows between two places of the column for the others, as for a count.
 #[inline(never)]
 pub(crate) fn sum(store: &Store, known: &mut KnownSums, next: u64, common: Option<KeyRange>) -> i128
     requires filled { IfSome common (λ r. r.low < r.high) }

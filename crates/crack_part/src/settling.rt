@@ -1,4 +1,4 @@
-//! What a range needs of the store before it is read, by the policy.
+//! The preparation of the store before a range is read, by the policy.
 ghost use Rattle.std.specs.Prelude.{◌≡◌, ◌<◌, ◌≤◌, true, IfOk, IfErr, OnErr, OnOk};
 ghost use Rattle.crack_state.specs.Merge.{IsCracked, Merges, Tallies};
 ghost use Rattle.crack_merge.specs.Merges.{Stops};

@@ -4,7 +4,7 @@ use crack_part::Partition;
 use crack_row::{Command, GREATEST_LIMIT, Key, KeyRange, Payload, Policy, Refusal, Reply, Serial};
 use std::process::Abort;
 
-/// What an insert is answered. It promises nothing, so that no test carries all that `ask` promises.
+/// The answer to an insert. It promises nothing, so that no test carries the contract of `ask`.
 fn ask_insert(book: &mut Book, partition: &mut Partition) -> Result<Reply, Refusal> {
     book.reserve()?;
     let insert = Command::Insert {

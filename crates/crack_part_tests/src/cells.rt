@@ -23,13 +23,13 @@ fn delete(serial: u64) -> Command {
     }
 }
 
-/// What worker 0 is answered. It promises nothing, so that no test carries all that a partition promises.
+/// The answer to worker 0. It promises nothing, so that no test carries the contract of a partition.
 fn ask(partition: &mut Partition, command: Command) -> Result<Reply, Refusal> {
     let (reply, _receipt) = partition.apply(0, command, Policy::Ripple)?;
     Ok(reply)
 }
 
-/// What stands where. Where no memory is found at first, it is then.
+/// The layout of a partition. If no memory is found at first, it is the second time.
 fn layout_of(rt: &impl Abort, partition: &Partition) -> Layout {
     match partition.layout() {
         Ok(layout) => layout,
@@ -42,7 +42,7 @@ fn rows_of(rt: &impl Abort, partition: &Partition) -> u64 {
     layout_of(rt, partition).rows
 }
 
-/// Holds how many rows a partition has, how many of them wait beside the column, and how many doomed ones in it.
+/// Asserts how many rows a partition has, how many of them are pending insertions, and how many are doomed.
 fn assert_counts(rt: &impl Abort, partition: &Partition, rows: u64, waiting: u64, doomed: u64) {
     let layout = layout_of(rt, partition);
     assert_eq!(rt; layout.rows, rows);
@@ -50,7 +50,7 @@ fn assert_counts(rt: &impl Abort, partition: &Partition, rows: u64, waiting: u64
     assert_eq!(rt; layout.pending_out, doomed);
 }
 
-/// Has a command answered. If no memory is found at first, the history is as it was, and so are the rows, of which
+/// Has a command answered. If no memory is found at first, the history is unchanged, and so are the rows, of which
 /// there are this many; then memory is found.
 fn answer(rt: &impl Abort, partition: &mut Partition, command: &Command, rows: u64) -> Reply {
     let kept = partition.history().len();
@@ -81,7 +81,7 @@ fn doom_two(rt: &impl Abort, partition: &mut Partition) {
     }
 }
 
-/// Inserts rows until no cell is left: the first one has the doomed rows taken out.
+/// Inserts rows until no cell is left: before the first one the doomed rows are taken out.
 fn fill(rt: &impl Abort, partition: &mut Partition) {
     let reply = answer(rt, partition, &insert(4), 1);
     assert!(rt; matches!(reply, Reply::Placed(Serial(3))));

@@ -1,4 +1,4 @@
-//! Partitions whose rows go, change, are added up and listed, and the layout after a merge.
+//! Partitions whose rows are deleted, changed, added up and listed, and the layout after a merge.
 use crack_part::Partition;
 use crack_row::{
     BoundNumber, Command, Key, KeyNumber, KeyRange, Layout, Payload, PayloadNumber, Policy,
@@ -61,13 +61,13 @@ fn assert_gone(
     Ok(())
 }
 
-/// A partition's layout. It promises nothing, so that no test carries all that `layout` promises.
+/// A partition's layout. It promises nothing, so that no test carries the contract of `layout`.
 fn layout_of(partition: &Partition) -> Result<Layout, Refusal> {
     partition.layout()
 }
 
-/// Asserts the numbers of rows, column places, pending deletions, pending insertions, cells and free cells, and of each
-/// piece where it begins and its size.
+/// Asserts the numbers of rows, column places, pending deletions, pending insertions, cells and free cells, and the
+/// beginning and the size of each piece.
 fn assert_layout(
     rt: &impl Abort,
     partition: &Partition,
@@ -202,7 +202,7 @@ fn a_doomed_row_in_the_way(rt: HostRuntime) -> Result<(), Refusal> {
     told
 }
 
-/// The rows outside the range wait on.
+/// The rows outside the range stay pending.
 fn merge_gradually(rt: &impl Abort, partition: &mut Partition) -> Result<(), Refusal> {
     fill(partition, &[10, 20, 30, 40])?;
     assert_count(rt, partition, KeyRange::all(), Policy::Gradual, 4)?;
@@ -224,7 +224,7 @@ fn a_gradual_merge(rt: HostRuntime) -> Result<(), Refusal> {
     told
 }
 
-/// Inserts the keys 10, 20, 30 and 40, which wait until the first count, and cracks at 15 and 25.
+/// Inserts the keys 10, 20, 30 and 40, which are pending until the first count, and cracks at 15 and 25.
 fn fill_and_crack(rt: &impl Abort, partition: &mut Partition) -> Result<(), Refusal> {
     fill(partition, &[10, 20, 30, 40])?;
     assert_layout(rt, partition, [4, 0, 0, 4, 4, 0], &[[0, 0]])?;
@@ -232,7 +232,7 @@ fn fill_and_crack(rt: &impl Abort, partition: &mut Partition) -> Result<(), Refu
     assert_count(rt, partition, KeyRange::new(15, 25)?, Policy::Complete, 1)
 }
 
-/// Inserts two rows into what was cracked, and counts one of them.
+/// Inserts two rows after the cracks, and counts one of them.
 fn crack_and_merge(rt: &impl Abort, partition: &mut Partition) -> Result<(), Refusal> {
     fill_and_crack(rt, partition)?;
     fill(partition, &[17, 90])?;
@@ -251,7 +251,7 @@ fn crack_and_merge(rt: &impl Abort, partition: &mut Partition) -> Result<(), Ref
     )
 }
 
-/// Rows wait until a count needs one of them; then all are merged, and no row is lost from sight on the way.
+/// Rows are pending until a count needs one of them; then all are merged, and no row is missing on the way.
 #[test]
 fn partition_cracks_and_merges(rt: HostRuntime) -> Result<(), Refusal> {
     let mut partition = Partition::open(rt.alloc(), KeyRange::all(), 1000)?;
@@ -260,7 +260,7 @@ fn partition_cracks_and_merges(rt: HostRuntime) -> Result<(), Refusal> {
     told
 }
 
-/// A pending row goes at once; the delete that finds none is kept.
+/// A pending row is removed immediately; a delete that finds no row is kept.
 fn delete_twice(rt: &impl Abort, partition: &mut Partition) -> Result<(), Refusal> {
     fill(partition, &[7])?;
     assert_gone(rt, partition, 0, 7)?;

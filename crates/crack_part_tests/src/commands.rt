@@ -119,7 +119,7 @@ piece 18446744073709551616 18446744073709551616 {most}\npiece 184467440737095516
     Ok(())
 }
 
-/// Asserts that a writer that fails from a call on has a part of the whole text, from its front on.
+/// Asserts that a writer that fails from a call on has a prefix of the whole text.
 fn assert_front(
     rt: &impl Abort,
     alloc: Global,

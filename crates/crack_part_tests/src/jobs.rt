@@ -67,7 +67,7 @@ fn tell_all<W: Write>(
     Ok(())
 }
 
-/// The outcome of jobs. It promises nothing, so that no test carries all that `run_jobs` promises.
+/// The outcome of jobs. It promises nothing, so that no test carries the contract of `run_jobs`.
 fn run(core: &mut Core, jobs: &[Job]) -> Result<Vec<Result<Done, Refusal>>, Refusal> {
     core.run_jobs(jobs)
 }
@@ -89,7 +89,7 @@ fn assert_done(
     told
 }
 
-/// A core of one partition with these limits, which does jobs.
+/// A core of one partition with these limits, which runs jobs.
 fn assert_jobs(
     rt: &impl Abort,
     alloc: Global,

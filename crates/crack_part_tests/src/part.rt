@@ -1,4 +1,4 @@
-//! A partition: each call once, with ample memory, and each refusal but that for lack of memory.
+//! A partition: each call once, with ample memory, and each refusal except the one for lack of memory.
 use crack_part::Partition;
 use crack_row::{
     Command, Entry, GREATEST_BOUND, GREATEST_CELLS, GREATEST_LIFE, GREATEST_LIMIT, Key, KeyNumber,
@@ -89,7 +89,7 @@ fn count_no_key(rt: &impl Abort, partition: &mut Partition) -> Result<(), Refusa
     Ok(())
 }
 
-/// A read is also kept, even one that can find nothing.
+/// A read is also kept, even one that can't find a row.
 #[test]
 fn partition_keeps_a_count_of_no_key(rt: HostRuntime) -> Result<(), Refusal> {
     let mut partition = Partition::open(rt.alloc(), KeyRange::all(), 1)?;

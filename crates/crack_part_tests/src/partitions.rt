@@ -1,5 +1,5 @@
-//! Partitions by key range that one thread asks: which a key or a range meets, what steps are answered, and what isn't
-//! opened.
+//! Partitions by key range that one thread asks: which of them have a key or a part of a range, the answers to steps,
+//! and refused openings.
 use crack_core::{Core, Step};
 use crack_row::{
     Bound, BoundNumber, Command, GREATEST_BOUND, GREATEST_LIMIT, Key, KeyRange, Layout, Payload,
@@ -79,7 +79,7 @@ fn step(part: u32, command: Command) -> Step {
     }
 }
 
-/// A step at a partition that isn't there is refused, and the next one is made.
+/// A step at a partition that doesn't exist is refused, and the next one is made.
 fn make_three(rt: &impl Abort, core: &mut Core) -> Result<(), Refusal> {
     let insert = Command::Insert {
         key: Key::from_number(7),
@@ -108,7 +108,7 @@ fn count_refused(core: &mut Core, part: u32) -> Option<Refusal> {
     core.step(step(part, Command::Count(KeyRange::all()))).err()
 }
 
-/// A partition's layout. It promises nothing, so that no test carries all that `layout` promises.
+/// A partition's layout. It promises nothing, so that no test carries the contract of `layout`.
 fn layout_of(core: &Core, part: u32) -> Result<Layout, Refusal> {
     core.layout(part)
 }

@@ -15,7 +15,7 @@ fn row(serial: u64, key: KeyNumber, payload: PayloadNumber) -> Row {
     }
 }
 
-/// What a table answers. It promises nothing, so that no test carries all that `apply` promises.
+/// The answer of a table. It promises nothing, so that no test carries the contract of `apply`.
 fn ask(table: &mut PlainTable, command: &Command) -> Result<Reply, Refusal> {
     table.apply(command)
 }
@@ -54,7 +54,7 @@ fn update(table: &mut PlainTable, new: Row) -> Result<Reply, Refusal> {
     ask(table, &update)
 }
 
-/// Changes a row, which keeps its serial, takes one out, and looks for that again.
+/// Changes a row, which keeps its serial, removes one, and looks for that again.
 fn change(rt: &impl Abort, table: &mut PlainTable) -> Result<(), Refusal> {
     let changed = update(table, row(0, 6, 60))?;
     assert!(rt; matches!(changed, Reply::Changed));
@@ -66,7 +66,7 @@ fn change(rt: &impl Abort, table: &mut PlainTable) -> Result<(), Refusal> {
     find_none(rt, table)
 }
 
-/// Looks for the row that went, to take it out and to change it.
+/// Looks for the removed row, to remove and to change it.
 fn find_none(rt: &impl Abort, table: &mut PlainTable) -> Result<(), Refusal> {
     let none = ask(table, &Command::Delete { serial: Serial(1) })?;
     assert!(rt; matches!(none, Reply::NoRow));
@@ -118,7 +118,7 @@ fn fold(rt: &impl Abort, table: &mut PlainTable) -> Result<(), Refusal> {
     insert(rt, table, row(2, 9, 90))
 }
 
-/// What the payloads of a range add up to.
+/// The sum of the payloads of a range.
 fn sum(table: &mut PlainTable, low: BoundNumber, high: BoundNumber) -> Result<i128, Refusal> {
     match ask(table, &Command::Sum(KeyRange::new(low, high)?))? {
         Reply::Summed(sum) => Ok(sum),
@@ -148,7 +148,7 @@ fn plain_table_adds_up_below_0(rt: HostRuntime) -> Result<(), Refusal> {
     told
 }
 
-/// A checkpoint reports what came since the last one, and changes no row.
+/// A checkpoint reports the number of commands since the last one, and changes no row.
 #[test]
 fn plain_table_counts_since_its_checkpoint(rt: HostRuntime) -> Result<(), Refusal> {
     let mut table = PlainTable::new(rt.alloc());

@@ -154,7 +154,7 @@ impl Session {
         (count, sum)
     }
 
-    /// Asserts what the sum of the range is, twice, and how many rows there are.
+    /// Asserts the sum of the range, twice, and how many rows there are.
     fn assert_read(&mut self, rt: &impl Abort, range: KeyRange) -> Result<(), Refusal> {
         let (rows, total) = self.found(range);
         let first = self.ask(Command::Sum(range))?;
@@ -201,7 +201,7 @@ impl Session {
         Ok(())
     }
 
-    /// Few changes and then reads, many times; at times there are so many inserts that what is known is forgotten, or
+    /// Few changes and then reads, many times; at times there are so many inserts that the known sums are forgotten, or
     /// a checkpoint.
     fn run(&mut self, rt: &impl Abort, numbers: &mut Numbers) -> Result<(), Refusal> {
         'rounds: for _ in 0..60 {

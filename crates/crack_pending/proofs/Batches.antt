@@ -24,7 +24,7 @@ use Rattle.crack_pending.proofs.Unknown.{counted_hole}
 use Rattle.crack_pending.proofs.Views.{place-within, KnowRows-kept}
 
 module _ (remembered : List Memory) (stands : List Bool) (coding : Coding) (coded : AreCoded remembered stands coding) (range : Range) (cells : List (Cell Row)) (handles : List Handle) (first last beyond : ℕ) (w : IsWindow coding.base coding.shift range first last beyond) (known : KnowRows cells handles remembered stands) (all : AreKnown remembered stands) (from to : ℕ) (candidates : List ℕ) (ahead : AreAhead coding.codes first last from to candidates 0) (before : IsMissed range cells handles stands 0 from) where
-  -- no row up to a spot is in the range, if none of the candidates before it is any more
+  -- no row up to a spot is in the range, if none of the candidates before it still is
   pub missed_ahead : (stands' : List Bool) → ((spot : ℕ) → HasRow stands' spot → HasRow stands spot) → (k : ℕ) → ((j : ℕ) → j < k → HasRow stands' (get_or candidates j 0) → ¬ IsIn range (key_at cells (get_or handles (get_or candidates j 0) no_handle))) → (limit : ℕ) → limit ≤ to → ((j : ℕ) → k ≤ j → j < length candidates → limit ≤ get_or candidates j 0) → IsMissed range cells handles stands' 0 limit
   missed_ahead stands' still k done limit within others spot after less at = elim (cases_lt spot from) [
     | inl l ↦ before spot (omega arith) l (still spot at)
@@ -88,7 +88,7 @@ module _ (cells : List (Cell Row)) (range : Range) (handles : List Handle) (reme
     counted = omega (arith, one.counted, two.counted);
   }
 
-  -- the pass has come further, where no more is in the range
+  -- the pass has come further, and none of those passed since is in the range
   pub IsPassed-to : (before after : List Bool) (codes : Coding) (came taken : List Handle) (known : List Memory) (start start' count unknowns : ℕ) → IsPassed cells range handles remembered before after codes came taken known start count unknowns → start' ≤ length handles → IsMissed range cells handles after 0 start' → IsPassed cells range handles remembered before after codes came taken known start' count unknowns
   IsPassed-to before after codes came taken known start start' count unknowns one within missed = record {
     within = within;

@@ -132,7 +132,7 @@ module _ (remembered : List Memory) (stands : List Bool) (coding : Coding) (code
         holes = λ spot l none. coded.holes spot l (sym (old spot l) ∙ none);
       }
 
-  -- at a spot whose code is below that of a hole, a row stands
+  -- a spot whose code is below that of a hole has a row
   pub coded_row : (spot : ℕ) → spot < length coding.codes → get_or coding.codes spot 0 < 65535 → HasRow stands spot
   coded_row spot within small = by_mark (get_or stands spot false) refl
     where

@@ -1,4 +1,4 @@
--- Laws of what is at spots that aren't holes.
+-- Laws of the rows at spots that aren't holes.
 use Rattle.std.proofs.Common.{◌≡◌, ℕ, zero, suc, ◌+◌, ◌-◌, ◌<◌, ◌≤◌, Bool, true, false, cond, List, [], ◌∷◌, ◌++◌, length, get_or, set, take, drop, zero-add, refl, sym, ap, inl, inr, length-drop, arith}
 use Rattle.std.specs.List.{remove}
 use Rattle.std.proofs.lemmas.List.{length-take-le}
@@ -131,7 +131,7 @@ module _ {X : Type 0} where
   length-kept (true ∷ bs) (x ∷ xs) beside = omega (arith, length-kept bs xs (omega (arith, beside)))
   length-kept (false ∷ bs) (x ∷ xs) beside = omega (arith, length-kept bs xs (omega (arith, beside)))
 
-  -- what is at a spot is what is kept at its place
+  -- the row at a spot is the one at its place
   pub kept-at : (bs : List Bool) (xs : List X) (spot : ℕ) (d : X) → length bs ≡ length xs → HasRow bs spot → get_or (kept bs xs) (place_at bs spot) d ≡ get_or xs spot d
   kept-at [] xs spot d beside stands = absurd (true≢false (sym stands))
   kept-at (b ∷ bs) [] spot d beside stands = absurd (omega (arith, beside))
@@ -144,7 +144,7 @@ module _ {X : Type 0} where
       let none : 0 + place_at bs n ≡ place_at bs n = omega arith in
       rw none (kept-at bs xs n d (omega (arith, beside)) stands)
 
-  -- one more hole takes out what was there
+  -- one more hole removes the row that was there
   pub kept-hole : (bs : List Bool) (xs : List X) (spot : ℕ) → length bs ≡ length xs → HasRow bs spot → kept (set bs spot false) xs ≡ remove (kept bs xs) (place_at bs spot)
   kept-hole [] xs spot beside stands = absurd (true≢false (sym stands))
   kept-hole (b ∷ bs) [] spot beside stands = absurd (omega (arith, beside))
@@ -178,7 +178,7 @@ module _ {X : Type 0} where
   kept-push (true ∷ bs) (x ∷ xs) y beside = ap (λ ys. x ∷ ys) (kept-push bs xs y (omega (arith, beside)))
   kept-push (false ∷ bs) (x ∷ xs) y beside = kept-push bs xs y (omega (arith, beside))
 
-  -- without holes all is kept
+  -- without holes the list is kept whole
   pub kept-full : (bs : List Bool) (xs : List X) → length bs ≡ length xs → place_at bs (length bs) ≡ length bs → kept bs xs ≡ xs
   kept-full [] [] beside full = refl
   kept-full [] (x ∷ xs) beside full = absurd (omega (arith, beside))
@@ -213,6 +213,6 @@ spot-once bs s t at_s at_t same = elim (cases_lt s t) [
 ]
 
 module _ {X : Type 0} where
-  -- what is kept at a place is at its spot
+  -- the row at a place is at its spot
   pub kept-at_place : (bs : List Bool) (xs : List X) (place : ℕ) (d : X) → length bs ≡ length xs → (s : IsSpotOf bs place) → get_or (kept bs xs) place d ≡ get_or xs s.spot d
   kept-at_place bs xs place d beside s = rw (s.is) at (kept-at bs xs s.spot d beside s.stands)

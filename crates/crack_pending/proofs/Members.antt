@@ -26,7 +26,7 @@ Has-within words number has = elim (cases_lt (number / 64) (length words)) [
       absurd (omega (arith, none, has))
 ]
 
--- words that read alike have the same bits
+-- words that read the same have the same bits
 pub Has-same : (words words' : List ℕ) → ((k : ℕ) → get_or words' k 0 ≡ get_or words k 0) → (number : ℕ) → Has words' number ↔ Has words number
 unfolding Has
 Has-same words words' same number =

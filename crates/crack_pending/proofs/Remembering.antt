@@ -11,7 +11,7 @@ use Rattle.crack_column.specs.Column.{Memory, nothing, memory_at, Agrees, Rememb
 pub Remembers-none : (cells : List (Cell Row)) → Remembers cells [] []
 Remembers-none cells = record { beside = refl; right = λ k d within. absurd (omega (arith, within)) }
 
--- one less
+-- one row less
 pub Remembers-remove : (cells : List (Cell Row)) (handles : List Handle) (remembered : List Memory) (place : ℕ) → place < length handles → Remembers cells handles remembered → Remembers cells (remove handles place) (remove remembered place)
 Remembers-remove cells handles remembered place within r =
     let long = length-remove handles place within in
@@ -24,7 +24,7 @@ Remembers-remove cells handles remembered place within r =
       ];
     }
 
--- over other cells, in which the row at one place is another, once that is remembered
+-- with other cells, in which the row at one place is another, once that row is remembered
 pub Remembers-anew : (cells cells' : List (Cell Row)) (handles : List Handle) (remembered : List Memory) (place : ℕ) (m : Memory) → Agrees cells' (get_or handles place no_handle) m → ((k : ℕ) (d : Handle) → k < length handles → k ≢ place → memory_at cells' (get_or handles k d) ≡ memory_at cells (get_or handles k d)) → Remembers cells handles remembered → Remembers cells' handles (set remembered place m)
 Remembers-anew cells cells' handles remembered place m is same r = record {
   beside = length-set remembered place m ∙ r.beside;

@@ -11,7 +11,7 @@ use Rattle.crack_arena.specs.Arena.{Cell, Handle, StandsAt, no_handle}
 use Rattle.crack_arena.specs.Rows.{key_at, keys_at}
 use Rattle.crack_pending.specs.Pending.{NoneIn, IsFirstIn}
 
--- what is at a place, whatever is read if there is none
+-- the element at a place, whatever the default is
 pub StandsAt-get_or : (handles : List Handle) (i : ℕ) (d : Handle) → i < length handles → StandsAt handles i (get_or handles i d)
 StandsAt-get_or handles i d within = record { within = within; is = get_or_default handles i d (get_or handles i d) within }
 

@@ -9,7 +9,7 @@ use Rattle.crack_pending.specs.Spots.{kept}
 use Rattle.crack_pending.specs.Keeps.{place_at, HasRow, AreKept}
 use Rattle.crack_pending.proofs.Kept.{Stands-within}
 
--- where a row stands once another has gone, it stood before, elsewhere
+-- a row that is in the list once another is removed was in it before, at another place
 pub stood : (bs : List Bool) (spot other : ℕ) → HasRow bs spot → HasRow (set bs spot false) other → (other ≢ spot) × HasRow bs other
 stood bs spot other at there = elim (cases_eq other spot) [
   | inl e ↦ absurd (true≢false (sym there ∙ rw e (get_or-set_same bs spot false false (Stands-within bs spot at))))
@@ -17,7 +17,7 @@ stood bs spot other at there = elim (cases_eq other spot) [
 ]
 
 module _ {X : Type 0} (p : X → Bool) where
-  -- the first of those that are wanted goes
+  -- the first of the wanted rows is removed
   pub inside-hole : (bs : List Bool) (xs : List X) (spot : ℕ) (d : X) → length bs ≡ length xs → HasRow bs spot → p (get_or xs spot d) ≡ true → ((k : ℕ) → k < spot → HasRow bs k → p (get_or xs k d) ≡ false) → filter p (kept bs xs) ≡ get_or xs spot d ∷ filter p (kept (set bs spot false) xs)
   inside-hole [] xs spot d beside at is none = absurd (true≢false (sym at))
   inside-hole (b ∷ bs) [] spot d beside at is none = absurd (omega (arith, beside))
@@ -47,7 +47,7 @@ module _ {X : Type 0} (p : X → Bool) where
       ]
   outside-hole (false ∷ bs) (x ∷ xs) (suc n) d beside at is = outside-hole bs xs n d (omega (arith, beside)) at is
 
-  -- none is wanted
+  -- no row is wanted
   pub none-inside : (bs : List Bool) (xs : List X) (d : X) → length bs ≡ length xs → ((k : ℕ) → k < length xs → HasRow bs k → p (get_or xs k d) ≡ false) → (filter p (kept bs xs) ≡ []) × (filter (λ x. not (p x)) (kept bs xs) ≡ kept bs xs)
   none-inside [] [] d beside none = (refl, refl)
   none-inside [] (x ∷ xs) d beside none = absurd (omega (arith, beside))
@@ -59,7 +59,7 @@ module _ {X : Type 0} (p : X → Bool) where
   none-inside (false ∷ bs) (x ∷ xs) d beside none =
       none-inside bs xs d (omega (arith, beside)) (λ k l there. none (suc k) (omega (arith, l)) there)
 
--- what comes after a list that has more after it
+-- the elements after a list that is followed by others
 pub drop-after : {X : Type 0} (xs ys : List X) → drop (length xs) (xs ++ ys) ≡ ys
 drop-after [] ys = refl
 drop-after (x ∷ xs) ys = drop-after xs ys

@@ -12,7 +12,7 @@ use Rattle.crack_pending.specs.Keeps.{place_at, HasRow, keys_of}
 use Rattle.crack_pending.specs.Inside.{AreKnown}
 use Rattle.crack_pending.proofs.Kept.{length-kept, kept-at, kept-hole, kept-set, kept-push, place_at-few, place_at-before, Stands-within}
 
--- one more key, as it is counted
+-- one more key, counted
 pub counted_one : (key : ℕ) → bool_byte (eqb key unknown) ≡ times unknown (key ∷ [])
 counted_one key = byte (eqb key unknown) ∙ sym (times_one unknown key)
   where

@@ -21,7 +21,7 @@ use Rattle.crack_pending.proofs.Moves.{kept-apart, kept-covered}
 use Rattle.crack_pending.proofs.Searches.{keys_at-StandsAt, length-keys_at, StandsAt-get_or}
 
 module _ (handles : List Handle) (stands : List Bool) (beside : length stands ≡ length handles) where
-  -- a row's place is one of the list
+  -- the place of a row is one of the list's places
   pub place-within : (spot : ℕ) → HasRow stands spot → place_at stands spot < length (kept stands handles)
   place-within spot at =
       let within = Stands-within stands spot at in
@@ -58,7 +58,7 @@ module _ (handles : List Handle) (stands : List Bool) (beside : length stands �
     pub once : (slot : ℕ) → times slot (slots (kept stands handles)) ≤ 1
     once slot = times_apart_once (kept stands handles) slot (kept-apart handles stands beside apart)
 
-    -- the place of a handle is the first, and it is nowhere where its cell's row is another
+    -- the place of a handle is the first, and a handle isn't in the list if the row of its cell has another
     pub handle-first : (h : Handle) (spot : ℕ) → IsSpotWith handles stands h.slot spot → h ≡ get_or handles spot h → IsFirstAt (kept stands handles) h (place_at stands spot)
     handle-first h spot with is =
         let here = place-StandsAt spot h with.stands_there is in
@@ -101,12 +101,12 @@ pub uncovered-unnoted : (handles : List Handle) (stands : List Bool) (spots : Li
 uncovered-unnoted handles stands spots slot past other with leads = absurd (omega (arith, leads.covered, past))
 
 module _ (handles : List Handle) (stands : List Bool) (spots : List ℕ) (slot : ℕ) (unnoted : IsUnnoted handles stands spots slot) (noted : ℕ) (led : LeadBack handles stands spots noted) where
-  -- if all spots are noted, no row of the cell is anywhere
+  -- if all spots are noted, no row of the cell is in the list
   pub unnoted-nowhere : length stands ≤ noted → IsNowhere handles stands slot
   unnoted-nowhere all spot with =
       unnoted spot with (rw (with.of) at (led spot (omega (arith, all, Stands-within stands spot with.stands_there)) with.stands_there))
 
-  -- nor where none is at the others
+  -- nor if none is at the others
   pub behind-nowhere : IsNotBehind handles stands slot noted → IsNowhere handles stands slot
   behind-nowhere behind spot with = elim (cases_lt spot noted) [
     | inl l ↦ unnoted spot with (rw (with.of) at (led spot l with.stands_there))
@@ -140,7 +140,7 @@ KnowRows-kept cells handles remembered stands beside keys_beside r spot at =
     rw (kept-at stands handles spot no_handle beside at, kept-at stands remembered spot nothing (omega (arith, beside, keys_beside)) at) at (r.right (place_at stands spot) no_handle (place-within handles stands beside spot at))
 
 module _ (range : Range) (cells : List (Cell Row)) (handles : List Handle) (stands : List Bool) (beside : length stands ≡ length handles) where
-  -- what no row between two spots has, none has between their places
+  -- a property that no row between two spots has, none between their places has
   missed-NoneIn : (start end : ℕ) → IsMissed range cells handles stands start end → place_at stands end ≤ length (kept stands handles) → NoneIn range (keys_at cells (kept stands handles)) (place_at stands start) (place_at stands end)
   missed-NoneIn start end missed short k after before inside =
       let within : k < length (kept stands handles) = omega (arith, before, short) in
@@ -337,7 +337,7 @@ room-within n more h k s some within = (omega (arith, some, within), omega (arit
 pub memory-sure : (n rows sure wanted cap cap' : ℕ) → rows ≤ n → sure ≤ wanted → n + sure ≤ cap → min (rows + wanted) cap ≤ cap' → rows + sure ≤ cap'
 memory-sure n rows sure wanted cap cap' few less within kept = omega (arith, few, less, within, kept)
 
--- what is sure to need no memory needs none then either
+-- pushes that needed no memory still need none
 pub room-sure : (n rows sure wanted h k s h' k' s' : ℕ) → rows ≤ n → sure ≤ wanted → sure ≤ spot_room n h k s → min (rows + wanted) h ≤ h' → min (rows + wanted) k ≤ k' → min (rows + wanted) s ≤ s' → sure ≤ spot_room rows h' k' s'
 room-sure n rows sure wanted h k s h' k' s' few less within kept_h kept_k kept_s = elim (cases_eq sure 0) [
   | inl e ↦ rw e (omega arith)
@@ -352,7 +352,7 @@ room-less n h k s = omega arith
 pub room-some : (n h k s : ℕ) → 0 < spot_room n h k s → (n < 2 ^ 32) × (n < h) × (n < k) × (n < s)
 room-some n h k s some = (omega (arith, some), omega (arith, some), omega (arith, some), omega (arith, some))
 
--- what follows from three things, if all is well
+-- the conclusion from three premises
 pub OnOk_three : {A E : Type 0} (r : Result A E) (P Q R S : Type 0) → OnOk r P → OnOk r Q → OnOk r R → (P → Q → R → S) → OnOk r S
 OnOk_three (Ok x) P Q R S p q s f = f p q s
 OnOk_three (Err e) P Q R S p q s f = tt

@@ -21,7 +21,7 @@ pub record AreAhead (codes : List ℕ) (first last from to : ℕ) (candidates : 
   pub inside : (k : ℕ) → next ≤ k → k < length candidates → (from ≤ slice_index candidates k) × (slice_index candidates k < to)
   pub rising : (j k : ℕ) → j < k → k < length candidates → slice_index candidates j < slice_index candidates k
 
--- what is kept of a pass that looks ahead is right
+-- the state of a pass that looks ahead is right
 abbrev pub IsAhead : List ℕ → Ahead → Type 0
 IsAhead codes ahead = AreAhead codes ahead.first ahead.last ahead.from ahead.to ahead.candidates.items ahead.next
 

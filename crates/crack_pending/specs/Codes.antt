@@ -1,12 +1,12 @@
 -- What private clauses alone cite.
--- The codes of 16 bits that stand for keys.
+-- The codes of 16 bits for keys.
 use Rattle.std.specs.Prelude.{◌≡◌, ℕ, ◌/◌, ◌-◌, ◌^◌, ◌<◌, ◌≤◌, Bool, false, List, length, min, slice_index, slice_index_or}
 use Rattle.crack_row.specs.Ranges.{Range}
 use Rattle.crack_arena.specs.Rows.{unknown}
 use Rattle.crack_column.specs.Column.{Memory, nothing}
 use Rattle.crack_pending.specs.Keeps.{HasRow}
 
--- the codes of the first spots, and what a key's code is made by
+-- the codes of the first spots, and how a key is coded
 pub record Coding : Type 0 where
   pub codes : List ℕ
   pub base : ℕ

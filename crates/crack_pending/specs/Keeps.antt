@@ -1,5 +1,5 @@
 -- What private clauses alone cite.
--- What a pending list keeps of its spots, and a set of its bits.
+-- The invariants of a pending list about its spots, and of a set about its bits.
 use Rattle.std.specs.Prelude.{◌≡◌, ℕ, ◌/◌, ◌%◌, ◌*◌, ◌<◌, ◌≤◌, ◌↔◌, List, length, slice_index, zero, suc, ◌+◌, ◌^◌, Bool, true, false, cond, [], ◌∷◌, slice_index_or, map}
 use Rattle.std.specs.Int.{bit_at}
 use Rattle.crack_arena.specs.Arena.{Handle, times, slots, no_handle}
@@ -14,7 +14,7 @@ pub record AreMarked (words : List ℕ) (handles : List Handle) (covered : ℕ) 
   pub within : covered ≤ 64 * length words
   pub right : (slot : ℕ) → Has words slot ↔ (0 < times slot (slots handles))
 
--- how many of the first spots aren't holes: the place of what is at the next
+-- how many of the first spots aren't holes: the place of the row at the next one
 abbrev pub place_at : List Bool → ℕ → ℕ
 place_at bs zero = 0
 place_at [] (suc n) = 0

@@ -14,17 +14,17 @@ pub record Pending : Type 0 where
   pub room : ℕ
   pub covered : ℕ
 
--- over whatever cells the first list remembers its rows rightly, the second does
+-- with any cells, if the first list remembers its rows correctly, so does the second
 abbrev pub StillRemembersRows : Pending → Pending → Type 0
 StillRemembersRows old new =
     (cells : List (Cell Row)) → Remembers cells old.handles old.remembered → Remembers cells new.handles new.remembered
 
--- so does the second if it has one more handle, and what is remembered of its row is right
+-- so does the second list if it has one more handle, and what is remembered of its row is right
 abbrev pub RemembersOneMore : Handle → Memory → Pending → Pending → Type 0
 RemembersOneMore handle memory old new =
     (cells : List (Cell Row)) → Agrees cells handle memory → Remembers cells old.handles old.remembered → Remembers cells new.handles new.remembered
 
--- once this is right of the row with this slot, and all others read as before, the second list remembers its rows rightly
+-- once this is right of the row with this slot, and all others read as before, the second list remembers its rows correctly
 abbrev pub RemembersAnew : ℕ → Memory → Pending → Pending → Type 0
 RemembersAnew slot memory old new =
     (cells cells' : List (Cell Row)) → Agrees cells' (slice_index_or old.handles (place_in old.handles slot) no_handle) memory → ((h : Handle) → h.slot ≢ slot → memory_at cells' h ≡ memory_at cells h) → Remembers cells old.handles old.remembered → Remembers cells' new.handles new.remembered

@@ -1,7 +1,7 @@
--- What contracts see of a list of pending rows, which keeps its handles at spots; those of rows that went are holes.
+-- What contracts see of a list of pending rows, which keeps its handles at spots; a removed row leaves a hole.
 use Rattle.std.specs.Prelude.{ℕ, ◌-◌, ◌^◌, Bool, cond, List, [], ◌∷◌, min}
 
--- what is at the spots that aren't holes, in order
+-- the elements at the spots that aren't holes, in order
 abbrev pub kept : {X : Type 0} → List Bool → List X → List X
 kept (b ∷ bs) (x ∷ xs) = cond b (x ∷ kept bs xs) (kept bs xs)
 kept _ _ = []

@@ -1,4 +1,4 @@
-//! Rows that a pass over codes found ahead of the one that was asked for, so that the next is ready.
+//! Rows that a pass over codes found ahead of the one that was searched for, so that the next is ready.
 ghost use Rattle.std.specs.Prelude.{◌≡◌, ◌+◌, ◌-◌, ◌<◌, ◌≤◌, ℕ, length, List, [], slice_index};
 ghost use Rattle.std.specs.Prelude.{vec_len, vec_capacity};
 ghost use Rattle.crack_pending.specs.Inside.{Lies};
@@ -25,9 +25,8 @@ pub(crate) struct Ahead {
     to: usize,
     candidates: Vec<usize>,
     next: usize,
-    /// Whether the cells of the candidates were read, and how many of them have a row. Nobody asks for the number: the
-    /// point is that they are read together, so that whoever takes the rows doesn't wait for the memory of one cell
-    /// after the other.
+    /// Whether the cells of the candidates were read, and how many of them have a row. The number isn't used: the cells
+    /// are read together so that taking the rows doesn't wait for the memory of one cell after the other.
     is_warm: bool,
     live: usize,
 }
@@ -74,8 +73,8 @@ impl Ahead {
         self.candidates.shrink_to(0);
     }
 
-    /// The first candidate from a spot on; if there is none up to a spot, that one. If it finds no memory it
-    /// looks no further.
+    /// The first candidate from a spot on; if there is none up to another spot, that spot. Without memory it looks no
+    /// further.
     pub(crate) fn seek(&mut self, codes: &[u16], first: u16, last: u16, start: usize) -> usize
         requires order { first ≤ last }
         requires low { last < 65535 }
@@ -90,7 +89,7 @@ impl Ahead {
         self.near()
     }
 
-    /// Starts at a spot if something else is searched for, or elsewhere.
+    /// Starts again at a spot if the codes that are searched for, or the place, have changed.
     fn turn_to(&mut self, first: u16, last: u16, start: usize)
         requires order { first ≤ last }
         requires low { last < 65535 }
@@ -124,7 +123,7 @@ impl Ahead {
         self.next = first_behind(&self.candidates, self.next, start);
     }
 
-    /// Goes on to the next candidates if all were passed. If it finds no memory it finds none.
+    /// Finds the next candidates if all were passed; none without memory.
     fn look_on(&mut self, codes: &[u16])
         requires ahead { IsAhead codes.now self.old }
         ensures ahead { IsAhead codes.now self.new }
@@ -229,8 +228,8 @@ fn gather_between(
     }
 }
 
-/// Puts the candidates from a spot on into the list, as many as it has room for, and returns up to where they are
-/// found.
+/// Puts the candidates from a spot on into the list, as many as it has room for, and returns the spot up to which they
+/// are found.
 pub(crate) fn gather(
     candidates: &mut Vec<usize>,
     codes: &[u16],

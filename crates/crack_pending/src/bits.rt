@@ -10,7 +10,7 @@ use std::marker::Model;
 /// How many numbers have their bits in one word.
 const WORD: usize = 64;
 
-/// For how many words there is room at least, each time that a set grows.
+/// The least number of words that a set has room for when it grows.
 const MORE_WORDS: usize = 32;
 
 /// Numbers up to an end that `make_places` moves, each in the set or not.

@@ -1,4 +1,4 @@
-//! How holes are closed up.
+//! Closing holes up.
 ghost use Rattle.std.specs.Prelude.{◌≡◌, ◌≤◌, length, vec_len, vec_capacity};
 ghost use Rattle.crack_pending.specs.Keeps.{place_at};
 ghost use Rattle.crack_pending.specs.Spots.{kept};

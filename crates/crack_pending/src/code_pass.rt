@@ -19,7 +19,7 @@ use crack_row::{KeyRange, Row};
 /// Read at once, without a branch for each.
 const BLOCK: usize = 32;
 
-/// Read at once where a pass meets none that it looks for.
+/// The number of codes that are read at once as long as a pass meets none that it looks for.
 const MANY: usize = 128;
 
 /// The codes of a pass's ends, and of a key that isn't known.

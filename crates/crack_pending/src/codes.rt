@@ -20,7 +20,7 @@ const GREATEST_CODE: u64 = 65534;
 /// How many bits a code has.
 const CODE_BITS: u32 = 16;
 
-/// How a key is coded: by this many bits fewer of what it is above the base.
+/// How keys are coded: the key less the base, without this many low bits.
 #[derive(Clone, Copy)]
 struct Scale {
     base: StoredKey,
@@ -37,8 +37,8 @@ impl Scale {
     }
 }
 
-/// The codes of the rows at the first spots, and what a pass found ahead. Whatever the scale is, they rise with the
-/// keys. It is chosen by the keys that exist when the first of them is coded.
+/// The codes of the rows at the first spots, and the candidates that a pass found ahead. Codes rise with the keys,
+/// whatever the scale is. The scale is chosen by the keys that exist when the first row is coded.
 #[derive(Drop)]
 pub(crate) struct Codes {
     codes: Vec<u16>,
@@ -108,7 +108,7 @@ impl Codes {
         self.ahead.give_back();
     }
 
-    /// Notes that the row at the spot went.
+    /// Notes that the row at the spot was removed.
     pub(crate) fn leave_hole(&mut self, spot: usize)
         ensures { self.new ≡ record self.old { codes = slice_set self.old.codes spot 65535 } }
     {
@@ -130,9 +130,8 @@ impl Codes {
         }
     }
 
-    /// The first spot, from one on, whose code lies between two; if there is none up to a spot, that one. It passes
-    /// over the codes once for all that are searched for in order, and looks ahead; if it finds no memory for
-    /// that, it looks no further.
+    /// The first spot, from one on, whose code lies between two; if there is none up to another spot, that spot.
+    /// Searches in order pass over the codes once and look ahead; without memory for that they don't look ahead.
     pub(crate) fn seek(&mut self, first: u16, last: u16, start: usize) -> usize
         requires order { first ≤ last }
         requires low { last < 65535 }
@@ -150,8 +149,7 @@ impl Codes {
         self.ahead.warm(handles, arena);
     }
 
-    /// Codes the rows at all spots that have no code yet. O(1) for each of them. If it finds no memory it codes
-    /// none.
+    /// Codes the rows at all spots that have no code yet. O(1) for each of them. Without memory it codes none.
     #[inline(never)]
     pub(crate) fn catch_up(&mut self, remembered: &[Remembered], stands: &[bool])
         requires beside { length stands.now ≡ length remembered.now }

@@ -91,8 +91,8 @@ impl<Kind> PendingList<Kind> {
     }
 
     /// Frees memory that holds no row: what is kept is room for half as many rows again as there are, for at least
-    /// 8,192, and for `room` pushes. O(1) if there are no holes, else O(len). It can't fail: what the allocator doesn't
-    /// take back remains room.
+    /// 8,192, and for `room` pushes. O(1) if there are no holes, else O(len). It can't fail: memory that the allocator
+    /// doesn't take back remains as room.
     pub fn shrink(&mut self, room: usize)
         requires { room ≤ self.old.room }
         ensures same { self.new ≡ record self.old { room = self.new.room } }
@@ -161,7 +161,7 @@ impl<Kind> PendingList<Kind> {
         self.add(handle, remembered);
     }
 
-    /// Puts the handle after all others, with what is beside it, and marks its cell.
+    /// Puts the handle after all others, with its key or the mark for none, and marks its cell.
     #[inline(always)]
     fn add(&mut self, handle: Handle<Row>, remembered: Remembered)
         requires room { 0 < self.old.room }
@@ -187,8 +187,8 @@ impl<Kind> PendingList<Kind> {
         self.list.at(place)
     }
 
-    /// Goes on from this place when one is next looked up, so that taking k of i rows at rising places, wherever they
-    /// are struck, costs O(i + k) in total. Contracts see no change.
+    /// The next look-up of a place starts from this one, so that taking k of i rows at rising places costs O(i + k) in
+    /// total. Contracts see no change.
     pub fn seek(&mut self, place: usize)
         requires { place < length self.old.handles }
         ensures { self.new ≡ self.old }
@@ -289,7 +289,7 @@ impl<Kind> PendingList<Kind> {
         self.marks.strike(slot);
     }
 
-    /// Remembers something else of the row whose cell this handle names. O(1).
+    /// Changes what is remembered of the row whose cell this handle names. O(1).
     pub fn remember(&mut self, handle: Handle<Row>, remembered: Remembered)
         requires { 0 < times handle.slot (slots self.old.handles) }
         ensures after { self.new ≡ record self.old {
@@ -310,7 +310,7 @@ impl<Kind> PendingList<Kind> {
 
     /// The first place at or after `from` whose row has its key in the range; O(1) for each place that it passes,
     /// without a branch for each key. It looks at a handle only if a key lies in the range, or isn't remembered. A
-    /// command that takes rows goes on from where it took the last one, and so passes over the list once.
+    /// command that takes rows continues where it took the last one, and so passes over the list once.
     pub fn next_in(&self, range: KeyRange, from: usize, arena: &Arena<Row>) -> Option<usize>
         requires { Remembers arena.now.cells self.now.handles self.now.remembered }
         ensures { Finds range (keys_at arena.now.cells self.now.handles) from result }
@@ -318,8 +318,8 @@ impl<Kind> PendingList<Kind> {
         self.list.next_in(range, from, arena)
     }
 
-    /// Like `next_in`, but goes on from the place that it finds when one is next looked up: finding a row and then
-    /// taking it is one pass.
+    /// Like `next_in`, but the next look-up of a place starts from the one that it finds: finding a row and then taking
+    /// it is one pass.
     pub fn seek_in(&mut self, range: KeyRange, from: usize, arena: &Arena<Row>) -> Option<usize>
         requires { Remembers arena.now.cells self.old.handles self.old.remembered }
         ensures finds { Finds range (keys_at arena.now.cells self.old.handles) from result }
@@ -339,8 +339,7 @@ impl<Kind> PendingList<Kind> {
         self.list.code_keys();
     }
 
-    /// The first place where the handle is; none if it is nowhere. O(1) if there are no holes, else
-    /// O(len).
+    /// The first place of the handle; none if it isn't in the list. O(1) if there are no holes, else O(len).
     pub fn place_of(&self, handle: Handle<Row>) -> Option<usize>
         ensures { MatchOption result (IsAbsent self.now.handles handle) (IsFirstAt self.now.handles handle) }
     {

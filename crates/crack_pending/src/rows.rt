@@ -1,4 +1,4 @@
-//! Spots at which a row is, counted: the place of a row is how many are before it.
+//! Counts of rows at spots: the place of a row is the number of rows before it.
 ghost use Rattle.std.specs.Prelude.{◌≡◌, ◌+◌, ◌<◌, ◌≤◌, length};
 ghost use Rattle.crack_pending.specs.Keeps.{place_at, HasRow};
 

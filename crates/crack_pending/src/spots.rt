@@ -1,4 +1,4 @@
-//! A list that leaves a hole where a row goes.
+//! A list that leaves a hole where a row is removed.
 ghost use Rattle.std.specs.Prelude.{◌≡◌, ◌+◌, ◌-◌, ◌*◌, ◌<◌, ◌≤◌, ◌^◌, ◌↔◌, ◌∷◌, [], ◌++◌, ℕ, length, All, MatchOption};
 ghost use Rattle.std.specs.Prelude.{false, IfErr, OnOk, OnErr, slice_set, slice_index, slice_index_or, vec_len};
 ghost use Rattle.std.specs.Prelude.{vec_capacity};
@@ -42,8 +42,8 @@ const MORE_PLACES: usize = 2048;
 /// For up to this many spots a pass reads keys, since making codes for so few gains nothing.
 const MOST_UNCODED: usize = 64;
 
-/// Handles in order of arrival, each at a spot of its own, and holes where rows went. A hole keeps its handle
-/// and its key, which nobody reads; a mark beside it distinguishes it from a row.
+/// Handles in order of arrival, each at a spot of its own, and holes where rows were removed. A hole keeps its handle
+/// and its key, which aren't read; a mark beside it distinguishes it from a row.
 #[derive(Drop)]
 pub(crate) struct SpotList {
     handles: Vec<Handle<Row>>,
@@ -53,13 +53,13 @@ pub(crate) struct SpotList {
     stands: Vec<bool>,
     /// How many rows there are.
     rows: usize,
-    /// Of how many of them the key isn't known.
+    /// How many of them have no known key.
     unknowns: usize,
     /// By cell number: the spot of its handle, if that was noted.
     spots: Vec<u32>,
     /// How many of the first spots are noted. A push notes none; what needs the spot of a cell first notes all.
     noted: usize,
-    /// How many rows are before `hint_spot`, from which the next look-up of a place goes on.
+    /// How many rows are before `hint_spot`, from which the next look-up of a place starts.
     hint_place: usize,
     hint_spot: usize,
 }
@@ -152,7 +152,7 @@ impl SpotList {
     }
 
     /// Closes all holes up before it grows; then it makes room for half as many more, and for `FIRST_SPOTS` at least,
-    /// so that n pushes cost O(n) however many rows go between them.
+    /// so that n pushes cost O(n) however many rows are removed between them.
     #[inline(never)]
     fn make_room(&mut self, additional: usize) -> Result<(), Refusal>
         requires { length self.old.handles + additional ≤ 2 ^ 32 }
@@ -258,7 +258,7 @@ impl SpotList {
         )]
     }
 
-    /// The next look-up of a place goes on from this one.
+    /// The next look-up of a place starts from this one.
     pub(crate) fn seek(&mut self, place: usize)
         requires { place < length self.old.handles }
         ensures { self.new ≡ self.old }
@@ -495,7 +495,7 @@ impl SpotList {
         self.codes.catch_up(&self.remembered, &self.stands);
     }
 
-    /// Like `next_in`; the next look-up of a place goes on from the one that is found.
+    /// Like `next_in`; the next look-up of a place starts from the one that is found.
     pub(crate) fn seek_in(
         &mut self,
         range: KeyRange,
@@ -597,7 +597,7 @@ fn place_of_spot(stands: &[bool], rows: usize, spot: usize) -> usize
     }
 }
 
-/// Of how many rows the key isn't known after the row at the spot has gone. If all are known, no key is looked at.
+/// How many rows have no known key after the row at the spot is removed. If all are known, no key is read.
 pub(crate) fn unknowns_without(remembered: &[Remembered], unknowns: usize, spot: usize) -> usize
     requires within { spot < length remembered.now }
     requires counted { (slice_index_or remembered.now spot nothing).key ≡ unknown → 0 < unknowns }
@@ -613,7 +613,7 @@ pub(crate) fn unknowns_without(remembered: &[Remembered], unknowns: usize, spot:
     }
 }
 
-/// How many rows are before the hint after the row at the spot has gone.
+/// How many rows are before the hint after the row at the spot is removed.
 fn hint_without(stands: &[bool], hint_place: usize, hint_spot: usize, spot: usize) -> usize
     requires hinted { hint_place ≡ place_at stands.now hint_spot }
     requires stands { HasRow stands.now spot }

@@ -1,4 +1,4 @@
-//! How all rows of a range are taken out.
+//! Taking all rows of a range out.
 ghost use Rattle.std.specs.Prelude.{◌≡◌, ◌+◌, ◌≤◌, ◌^◌, ◌++◌, ℕ, length, vec_len, vec_capacity};
 ghost use Rattle.crack_arena.specs.Arena.{times};
 ghost use Rattle.crack_arena.specs.Rows.{unknown};
@@ -20,17 +20,17 @@ use crack_arena::{Arena, Handle};
 use crack_column::Remembered;
 use crack_row::{KeyRange, Row};
 
-/// What is left of a list whose rows of a range were taken.
+/// The counts of a list after the rows of a range were taken.
 #[derive(Clone, Copy)]
 pub(crate) struct Left {
     /// How many rows were taken.
     pub(crate) taken: usize,
-    /// Of how many of the others the key isn't known.
+    /// How many of the others have no known key.
     pub(crate) unknowns: usize,
 }
 
 /// Leaves a hole at the spot of each row of a range, and puts their handles after the others of a list, in order. One
-/// pass: a row's place isn't asked for.
+/// pass: no row's place is looked up.
 pub(crate) fn take_hits(
     handles: &[Handle<Row>],
     remembered: &[Remembered],
@@ -97,9 +97,9 @@ pub(crate) fn take_hits(
     left
 }
 
-/// Takes the rows of a range at the spots that have a code, as `take_hits` does, if all keys are known; up to which
-/// spot it did so, and how many it took. It finds the candidates of many rows before it takes the first of them, so
-/// that no row waits for the memory of another. If it finds no memory for the candidates it takes none.
+/// Takes the rows of a range at the spots that have a code, as `take_hits` does, if all keys are known; returns the
+/// spot up to which it did so, and how many it took. It finds the candidates of many rows before it takes the first of
+/// them, so that no row waits for the memory of another. Without memory for the candidates it takes none.
 fn take_coded(
     handles: &[Handle<Row>],
     remembered: &[Remembered],
@@ -159,7 +159,7 @@ fn take_coded(
 }
 
 /// Takes the rows of a range at the spots that have a code, a batch of candidates at a time, for which a list has room;
-/// up to which spot it did so, and how many it took.
+/// returns the spot up to which it did so, and how many it took.
 fn take_blocks(
     handles: &[Handle<Row>],
     remembered: &[Remembered],
@@ -209,7 +209,8 @@ fn take_blocks(
     (spot, count)
 }
 
-/// Takes those of the candidates that are in a range, which are all of its rows from one spot up to another; how many.
+/// Takes those of the candidates that are in a range, which are all of its rows from one spot up to another; returns
+/// how many.
 fn take_candidates(
     handles: &[Handle<Row>],
     remembered: &[Remembered],

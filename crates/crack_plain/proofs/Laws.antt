@@ -58,7 +58,7 @@ rising-replaced new rows rising = λ i j d i_lt j_lt.
     let second = get_or-map (replaced new) rows j d d j_in in
     rw (first, second, serial-replaced new (get_or rows i d), serial-replaced new (get_or rows j d)) (rising i j d i_lt j_in)
 
--- each change keeps the serials in order
+-- after each change the serials are still in order
 pub IsNumbered-changed : (s : PlainState) (change : Option Change) → IsNumbered s → IsNumbered (changed s change)
 IsNumbered-changed s None numbered = numbered
 IsNumbered-changed s (Some (Place key payload)) numbered =
@@ -78,7 +78,7 @@ IsNumbered-changed s (Some (Rewrite serial key payload)) numbered =
       below = All-map (λ (r : Row). r.serial.0 < s.next) (replaced new) s.rows (λ k d k_lt. rw (serial-replaced new (get_or s.rows k d)) (numbered.below k d k_lt));
     }
 
--- and so does each command
+-- after each command, too
 pub IsNumbered-after : (s : PlainState) (command : Command) → IsNumbered s → IsNumbered (after s command)
 IsNumbered-after s command numbered = IsNumbered-changed s (change_of command) numbered
 
@@ -103,7 +103,7 @@ is_placed-reply_to s (Count range) = refl
 is_placed-reply_to s (Sum range) = refl
 is_placed-reply_to s (Select range) = refl
 
--- the next serial is raised by 1 where a row was placed
+-- the next serial is raised by 1 if a row was placed
 next-changed : (s : PlainState) (change : Option Change) → (changed s change).next ≡ s.next + (if places_row change then 1 else 0)
 next-changed s None = omega arith
 next-changed s (Some (Place key payload)) = refl
@@ -135,7 +135,7 @@ next-replay_from s (e ∷ es) replies =
     let first : inserted (e ∷ es) ≡ (if is_placed (reply_to s e.command) then 1 else 0) + inserted es = inserted-cons e es ∙ ap (λ reply. (if is_placed reply then 1 else 0) + inserted es) replies.0 in
     omega (arith, later, now, first)
 
--- if all rows have another serial, none is taken out and none is found
+-- if no row has the serial, none is removed and none is found
 others-all : (serial : ℕ) (rows : List Row) → All (λ (r : Row). serial < r.serial.0) rows → length (filter (is_other serial) rows) ≡ length rows
 others-all serial [] above = refl
 others-all serial (row ∷ rows) above =
@@ -166,7 +166,7 @@ replaced-same new (row ∷ rows) apart =
     by_test true same differs later = absurd (differs (same.0 refl))
     by_test false other differs later = ap (λ (rs : List Row). row ∷ rs) later
 
--- one row is taken out if one with the serial is found
+-- exactly one row is removed if one with the serial is found
 others-length : (serial : Serial) (rows : List Row) → AllPairs (λ (earlier later : Row). earlier.serial.0 < later.serial.0) rows → length (filter (is_other serial.0) rows) + (if is_gone (gone (row_in rows serial)) then 1 else 0) ≡ length rows
 others-length serial [] rising = refl
 others-length serial (row ∷ rows) rising =
@@ -178,7 +178,7 @@ others-length serial (row ∷ rows) rising =
     by_test true same above later = omega (arith, others-all serial.0 rows (subst (λ (n : ℕ). All (λ (r : Row). n < r.serial.0) rows) (same.0 refl) above))
     by_test false other above later = omega (arith, later)
 
--- one more row where one was placed, one row less where one went
+-- one more row if one was placed, one row less if one was removed
 pub length_rows-after : (s : PlainState) (command : Command) → IsNumbered s → length (after s command).rows + (if is_gone (reply_to s command) then 1 else 0) ≡ length s.rows + (if is_placed (reply_to s command) then 1 else 0)
 length_rows-after s (Insert key payload) numbered = omega (arith, length-append s.rows (record { serial = record { 0 = s.next }; key = key; payload = payload } ∷ []))
 length_rows-after s (Delete serial) numbered =

@@ -38,7 +38,7 @@ IsLegal-push keys limits past e legal room life within reply = record {
   lived = omega (arith, accepted_in-push past e);
 }
 
--- the serials of the rows that are left rise, below the next one
+-- the serials of the rows rise, and are below the next serial
 pub IsNumbered-after_past : (past : Past) → IsBase past.base → IsNumbered (state_after past)
 IsNumbered-after_past past base = IsNumbered-replay_from past.base.state past.tail base.numbered
 
@@ -46,7 +46,7 @@ IsNumbered-after_past past base = IsNumbered-replay_from past.base.state past.ta
 pub next-after_past : (past : Past) → IsBase past.base → AreReplies past.base.state past.tail → (state_after past).next ≡ inserted_in past
 next-after_past past base replies = omega (arith, next-replay_from past.base.state past.tail replies, base.serial)
 
--- the rows are those that were placed, minus those that went
+-- the rows are those that were placed, minus those that were removed
 pub length_rows-after_past : (past : Past) → IsBase past.base → AreReplies past.base.state past.tail → length (state_after past).rows + deleted_in past ≡ inserted_in past
 length_rows-after_past past base replies = omega (arith, length_rows-replay_from past.base.state past.tail base.numbered replies, base.held)
 
@@ -56,7 +56,7 @@ held-after_past past base replies =
     let gone : ℕ = deleted_in past in
     sym (ap (λ (n : ℕ). pos n -ℤ pos gone) (sym (length_rows-after_past past base replies)) ∙ +ℤ-neg_ℤ_cancel (pos left) (pos gone))
 
--- no command does two of these: place a row, take one out, change one
+-- a command does at most one of these: place a row, remove one, change one
 pub changes-le-accepted : (es : List Entry) → inserted es + deleted es + updated es ≤ accepted es
 changes-le-accepted [] = omega arith
 changes-le-accepted (e ∷ es) = by_reply e.reply (inserted-cons e es) (deleted-cons e es) (updated-cons e es) (changes-le-accepted es)
@@ -70,7 +70,7 @@ changes-le-accepted (e ∷ es) = by_reply e.reply (inserted-cons e es) (deleted-
     by_reply (Summed sum) placed gone changed later = omega (arith, placed, gone, changed, later)
     by_reply (Rows rows) placed gone changed later = omega (arith, placed, gone, changed, later)
 
--- the result of a past is a base, and with it in place of its history the past is legal
+-- the plain rows and totals of a past are a base, and the past with this base and an empty history is legal
 pub IsBase-after : (past : Past) → IsBase past.base → AreReplies past.base.state past.tail → IsBase (base_after past)
 IsBase-after past base replies = record {
   numbered = IsNumbered-after_past past base;

@@ -39,7 +39,7 @@ updated-push es e = omega (arith, updated-append es (e ∷ []))
 pub inserted-le-accepted : (es : List Entry) → inserted es ≤ accepted es
 inserted-le-accepted es = count_by-le-length _ es
 
--- no more rows went than commands were answered
+-- no more rows were removed than commands were answered
 pub deleted-le-accepted : (es : List Entry) → deleted es ≤ accepted es
 deleted-le-accepted es = count_by-le-length _ es
 

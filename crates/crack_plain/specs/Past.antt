@@ -7,14 +7,14 @@ use Rattle.crack_row.specs.declared.limit.Limits.{Limits}
 use Rattle.crack_plain.specs.Plain.{PlainState, no_rows, IsNumbered, replay_from, AreReplies, BringWithin}
 use Rattle.crack_plain.specs.Totals.{accepted, inserted, deleted}
 
--- what commands that are no longer kept left: the plain rows, how many commands there were, and how many rows they placed and removed
+-- the effect of commands that are no longer kept: the plain rows, how many commands there were, and how many rows they placed and removed
 pub record Base : Type 0 where
   pub state : PlainState
   pub folded : ℕ
   pub placed : ℕ
   pub gone : ℕ
 
--- a base that commands may leave: its next serial is the number of rows placed, and its rows are those placed, minus those gone
+-- a possible base: its next serial is the number of rows placed, and it has as many rows as were placed, minus those removed
 pub record IsBase (base : Base) : Type 0 where
   pub numbered : IsNumbered base.state
   pub serial : base.state.next ≡ base.placed
@@ -38,21 +38,23 @@ no_past = record { base = no_base; tail = [] }
 abbrev pub with_entry : Past → Entry → Past
 with_entry past entry = record past { tail = past.tail ++ entry ∷ [] }
 
--- the plain rows that it left
+-- the plain rows after a past
 abbrev pub state_after : Past → PlainState
 state_after past = replay_from past.base.state past.tail
 
--- how many commands were accepted since the opening, how many rows were placed, and how many were removed
+-- how many commands were accepted since the opening
 abbrev pub accepted_in : Past → ℕ
 accepted_in past = past.base.folded + accepted past.tail
 
+-- how many rows were placed since the opening
 abbrev pub inserted_in : Past → ℕ
 inserted_in past = past.base.placed + inserted past.tail
 
+-- how many rows were removed since the opening
 abbrev pub deleted_in : Past → ℕ
 deleted_in past = past.base.gone + deleted past.tail
 
--- the base that results from a past: the plain rows that it left, and its totals
+-- the base that a checkpoint makes of a past: the plain rows after it, and its totals
 abbrev pub base_after : Past → Base
 base_after past = record { state = state_after past; folded = accepted_in past; placed = inserted_in past; gone = deleted_in past }
 
@@ -64,7 +66,7 @@ folded past = record { base = base_after past; tail = [] }
 abbrev pub StandWithin : Range → List Row → Type 0
 StandWithin keys rows = All (λ (row : Row). IsIn keys row.key.0) rows
 
--- what a partition with these keys and limits may have as its past: the history's limit bounds the entries since the base, and the life's bounds base
+-- a possible past of a partition with these keys and limits: the history's limit bounds the entries since the base, and the life's bounds base
 -- and history
 pub record IsLegal (keys : Range) (limits : Limits) (past : Past) : Type 0 where
   pub base : IsBase past.base

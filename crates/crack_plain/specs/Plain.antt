@@ -55,15 +55,15 @@ IsSmall (Summed sum) = (neg_ℤ (pos (2 ^ 96)) <ℤ sum) × (sum <ℤ pos (2 ^ 9
 IsSmall (Rows rows) = length rows < 2 ^ 32
 IsSmall _ = Unit {0}
 
--- the state that a change leaves: a row that is placed gets the next serial; the row with a serial goes, or keeps its serial and its
--- place and gets another key and another payload
+-- the state after a change: a new row gets the next serial; the row with a serial is removed, or keeps its serial and its place and gets another key
+-- and another payload
 abbrev pub changed : PlainState → Option Change → PlainState
 changed s None = s
 changed s (Some (Place key payload)) = record { rows = s.rows ++ record { serial = record { 0 = s.next }; key = key; payload = payload } ∷ []; next = s.next + 1 }
 changed s (Some (Remove serial)) = record s { rows = filter (is_other serial.0) s.rows }
 changed s (Some (Rewrite serial key payload)) = record s { rows = map (replaced (row_with serial key payload)) s.rows }
 
--- the state that a command leaves
+-- the state after a command
 abbrev pub after : PlainState → Command → PlainState
 after s command = changed s (change_of command)
 
@@ -72,7 +72,7 @@ abbrev pub places_row : Option Change → Bool
 places_row (Some (Place key payload)) = true
 places_row _ = false
 
--- the command is answered from what exists: no row is placed, and the reply has no list
+-- the command takes no memory: no row is placed, and the reply has no list
 pub record TakesNoMemory (s : PlainState) (command : Command) : Type 0 where
   pub places : places_row (change_of command) ≡ false
   pub flat : IsFlat (reply_to s command)
@@ -85,7 +85,7 @@ answer s command = (reply_to s command, after s command)
 abbrev pub replay_from : PlainState → List Entry → PlainState
 replay_from s es = fold (λ s e. after s e.command) s es
 
--- each entry has the reply of the state that the entries before it leave
+-- each entry has the reply of the state after the entries before it
 abbrev pub AreReplies : PlainState → List Entry → Type 0
 AreReplies s [] = Unit {0}
 AreReplies s (e ∷ es) = (e.reply ≡ reply_to s e.command) × AreReplies (after s e.command) es

@@ -1,4 +1,4 @@
-//! Slow look-ups in a list of rows, and changes of it.
+//! Look-ups in a list of rows, and changes of it, row by row.
 ghost use Rattle.std.specs.Prelude.{◌≡◌, ◌≤◌, ◌*◌, pos, neg_ℤ, ◌≤ℤ◌, length, map, filter, count_by, IfOk, IfErr};
 ghost use Rattle.crack_row.specs.Ranges.{in_range};
 ghost use Rattle.crack_row.specs.Rows.{is_other, replaced, sum_of, farthest_amount};

@@ -14,8 +14,8 @@ use crack_row::{
 use std::alloc::Global;
 use std::marker::Model;
 
-/// A slow table: only a list of rows. Contracts see its plain state, how many commands it accepted up to its
-/// last checkpoint, and how many since.
+/// A table that is only a list of rows, and slow. Contracts see its plain state, how many commands it accepted up to
+/// its last checkpoint, and how many since.
 #[derive(Drop)]
 pub struct PlainTable {
     rows: Vec<Row>,

@@ -126,7 +126,7 @@ StaysOutside-trans s t u r a b = record {
   behind = b.behind ∙ drop_later t.column s.column (edge t r.high) (edge u r.high) b.rises a.behind;
 }
 
--- a `push_on` puts the hand inside the range, and if it meets a row after it, the range's end moves up
+-- a `push_on` puts the hand inside the range, and if it replaces a row after the range, the range's end moves up
 pub record PushesInside (c : Carried) (r : Range) : Type 0 where
   pub stays : StaysOutside c.store (pushed_on c).store r
   pub same : hand_key (pushed_on c) < r.high → edge (pushed_on c).store r.high ≡ edge c.store r.high
@@ -161,7 +161,7 @@ module _ (c : Carried) (r : Range) (of : IsRangeOf c.store r) (intact : IsIntact
         met = λ more. elim moved.high [ inl is ↦ absurd (omega (arith, more, there, high.below p is.0)) | inr is ↦ (is.0, is.1) ];
       }
 
-  -- an `append` comes if the range ends the column, and its end moves up
+  -- `append` is called if the range ends the column, and its end moves up
   pub StaysOutside-appended : piece_end c.store (hand_key c) ≡ length c.store.column → StaysOutside c.store (appended c) r
   StaysOutside-appended ends =
       let s = c.store in

@@ -1,4 +1,4 @@
--- What the pulls of a range do if fillers take its places.
+-- What the pulls of a range do if fillers take the places of its rows.
 use Rattle.std.proofs.Common.{◌≡◌, ℕ, ◌+◌, ◌-◌, ◌<◌, ◌≤◌, List, [], ◌∷◌, ◌++◌, length, get_or, take, drop, Some, refl, sym, ap, ◌∙◌, inl, inr, arith, length-append}
 use Rattle.std.specs.Prelude.{not}
 use Rattle.std.proofs.Math.Nat.{min-le_left, min-le_right, le-min}
@@ -86,7 +86,7 @@ module _ (s : State) (r : Range) (of : IsRangeOf s r) (intact : IsIntact s []) w
       let same = drop-set-lt (edge s r.high) d.store.column last d.hand (omega (arith, some, start)) ∙ stays.same in
       filled_from doomed (pulled_back d) u low (omega (arith, met.start, start)) (record { reads = stays.reads; same = same }) after rest
 
-  -- each pull had a filler, as far as to this store
+  -- up to this store, each pull had a filler
   abbrev HadEach : State → Type 0
   HadEach t = length s.pending_in + length t.pending_out ≡ length t.pending_in + length s.pending_out
 

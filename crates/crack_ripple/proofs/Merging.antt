@@ -1,4 +1,4 @@
--- What a ripple merge has done when it ends.
+-- The effect of a whole ripple merge.
 use Rattle.std.proofs.Common.{◌≡◌, ℕ, ◌+◌, ◌*◌, ◌<◌, ◌≤◌, cond, List, [], ◌++◌, length, get_or, take, drop, Some, ap, ◌∙◌, inl, inr, arith, mul-le-mul_right}
 use Rattle.std.proofs.Math.Nat.{min-le_right, le-min}
 use Rattle.std.specs.List.{All}
@@ -29,7 +29,7 @@ use Rattle.crack_ripple.proofs.EdgeLaws.{IsRangeOf, IsRangeOf-follows}
 use Rattle.crack_ripple.proofs.Filling.{LosesFirst-pulled, long-pulled, HadEach-pulled, StaysBehind-PullsOut}
 use Rattle.crack_ripple.proofs.Putting.{StopsIn, StopsIn-PutsNear, Fills-none, SomeOf-without, All-SomeOf, behind_range, PutsNear-CarriesIn, PutsNear-room, PutsInNear-all}
 
--- all that a call that puts in must say
+-- the whole contract of a call that puts rows in
 pub record PutIn (s t : State) (r : Range) : Type 0 where
   pub near : PutsInNear s t r
   pub tallies : Tallies Ripple s t
@@ -41,14 +41,14 @@ PutIn-carried s t r of intact all =
     let was = PutsNear-CarriesIn s r of intact all.from t all.carries in
     record { near = PutsInNear-all s r of intact all.from t was all.none; tallies = was.puts.advances.tallies; moves = was.moves; few = was.puts.few }
 
--- all that it must say if it is refused
+-- its contract if it is refused
 pub StopsIn-carried : (s t : State) (r : Range) → IsRangeOf s r → IsIntact s [] → CarriesSome (Some r.high) r s t → StopsIn s t r
 StopsIn-carried s t r of intact part =
     let was = PutsNear-CarriesIn s r of intact part.from part.last part.carries in
     let now = PutsNear-room s part.last t r part.from part.room was in
     StopsIn-PutsNear s r of intact part.from t now
 
--- all that the whole must say if no memory is found for a filler: what was put in stays
+-- the contract of the merge if no memory is found for a filler: the rows put in stay
 pub StopsIn-filled : (s m t : State) (r : Range) → PutIn s m r → SameButRoom m t → StopsIn s t r
 StopsIn-filled s m t r was room =
     let puts = was.near in
@@ -77,7 +77,7 @@ StopsIn-filled s m t r was room =
       few = omega (arith, was.few, ap length same_in, ap length same_out);
     }
 
--- all that a call that takes out must say
+-- the whole contract of a call that takes rows out
 pub record TakenOut (s t : State) (r : Range) : Type 0 where
   pub near : TakesOutNear s t r
   pub tallies : Tallies Ripple s t

@@ -27,7 +27,7 @@ use Rattle.crack_ripple.proofs.EdgeLaws.{IsRangeOf, high_divides, IsRangeOf-foll
 use Rattle.crack_ripple.specs.Near.{MovesNear, PutsInNear}
 use Rattle.crack_ripple.proofs.Carrying.{CarriesNear, CarriesNear-Carries, EvictsOne}
 
--- what is some of a list's front is some of the list
+-- some elements of a list's front are some of the list
 pub SomeOf-front : (some all : List Handle) (n : ℕ) → SomeOf some (take n all) → SomeOf some all
 SomeOf-front some all n of = SomeOf-trans some (take n all) all of (front all n)
   where
@@ -42,7 +42,7 @@ SomeOf-append some all other more nothing of = of
 SomeOf-append some all other more (left_out h one rest first) of = left_out h (one ++ other) (rest ++ more) (SomeOf-append one rest other more first of)
 SomeOf-append some all other more (kept h one rest first) of = kept h (one ++ other) (rest ++ more) (SomeOf-append one rest other more first of)
 
--- some of a list's front, and one after it
+-- some elements of a list's front, and one after it
 pub SomeOf-push : (some all : List Handle) (n k : ℕ) (h : Handle) → n ≤ k → k < length all → get_or all k h ≡ h → SomeOf some (take n all) → SomeOf (some ++ h ∷ []) (take (k + 1) all)
 SomeOf-push some all n k h order within is of =
     let front = SomeOf-front some (take k all) n (rw (take-take n k all order) of) in
@@ -64,7 +64,7 @@ SomeOf-without cells r passed hs =
     let back = drop passed hs in
     rw (take-append-drop passed hs) at (SomeOf-append (outside_of cells r front) front back back (SomeOf-filter (λ h. not (is_in r (key_at cells h))) front) (SomeOf-refl back))
 
--- what holds of all holds of some
+-- a property of all elements holds of some of them
 pub All-SomeOf : (P : Handle → Type 0) (some all : List Handle) → SomeOf some all → All P all → All P some
 All-SomeOf P some all nothing holds = All-nil P
 All-SomeOf P some all (left_out h one more of) holds = All-SomeOf P one more of (All-tail P h more holds)
@@ -85,7 +85,7 @@ behind_range s r some of intact is =
     let there : place + k < length s.column = omega (arith, within, length-drop place s.column) in
     rw (get_or-drop place s.column k d, ← get_or-map (key_at s.cells) s.column (place + k) d 0 there) (high.above (place + k) (omega arith) (omega (arith, there, length-map s.column (key_at s.cells)))))
 
--- what two parts of a merge moved
+-- the rows that two parts of a merge moved
 pub MovesNear-trans : (s t u : State) (r : Range) → bounds_of t.marks ≡ bounds_of s.marks → (IsExact u.tally → IsExact t.tally) → MovesNear s t r → MovesNear t u r → MovesNear s u r
 MovesNear-trans s t u r same before a b = λ exact.
     let first = a (before exact) in
@@ -98,7 +98,7 @@ pub record EvictsUpTo (s t : State) (r : Range) (evicted : List Handle) : Type 0
   pub before : edge s r.high + count ≤ edge t r.high
   pub some : SomeOf evicted (take count (drop (edge s r.high) s.column))
 
--- all that a call must say that puts in, if it is refused
+-- the whole contract of a call that puts rows in, if it is refused
 pub record StopsIn (s t : State) (r : Range) : Type 0 where
   pub stops : Stops Ripple s t r
   pub unfilled : EvictsFirst s r t.pending_in
@@ -154,7 +154,7 @@ finds_left s t r from found of intact was finds =
     let same = keys_still s.cells t.cells t.pending_in was.puts.advances.reads was.intact.owned.pending_reads in
     Finds-front r (keys_at s.cells was.left) (keys_at s.cells was.evicted) from found (All-map (λ key. r.high ≤ key) (key_at s.cells) was.evicted behind) (rw (same, was.pending_in, map-append (key_at s.cells) was.left was.evicted) at finds)
 
--- the search found a row of the range, and it was carried
+-- the search found a row of the range, which was carried
 module _ (s t u : State) (r : Range) (from place : ℕ) (was : PutsNear s t r from) (found : (place < length was.left) × LacksFirst s.cells r s.pending_in (remove was.left place) place) (carried : CarriesNear t u r place) where
   removed : remove t.pending_in place ≡ remove was.left place ++ was.evicted
   removed = ap (λ hs. remove hs place) was.pending_in ∙ remove-append_left was.left was.evicted place found.0

@@ -6,8 +6,8 @@ use Rattle.crack_state.specs.State.{State, IsIntact}
 use Rattle.crack_state.specs.Merge.{Follows, StillReads, SomeOf, Evicts, LosesFirst, IsExact, beyond, edge, outside_of, count_inside}
 
 -- the pending insertions of a range are put in, near it: the column is the same before the range's low end, and from the place of its high
--- end on, where that place is after the rows were put in; the rows that made way after the range are evicted, or buried if they were
--- doomed, of which there are no more than pending insertions in the range; and the column is no longer than it was, unless the range ends it
+-- end on, where that place is after the rows were put in; the rows after the range that were replaced are evicted, or buried if they were
+-- doomed, at most as many as pending insertions in the range; and the column is as long as it was, or shorter, unless the range ends it
 pub record PutsInNear (s t : State) (r : Range) : Type 0 where
   pub follows : Follows s t
   pub intact : IsIntact t []

@@ -11,13 +11,13 @@ use crack_merge::{carry_range, counted_between, pull_range};
 use crack_row::{KeyRange, Refusal};
 use crack_store::{MergeReport, Store};
 
-/// Merges the pending rows whose key is in the range, and no others but doomed rows that are in the way and the
-/// fillers, with room made near the range; the range was cracked before. A row that is evicted is merged by a later
-/// call whose range needs it, or fills a place in the same. O(pending rows) to find them, O(pieces of the range) for
-/// each that is put in, and for each that is taken out if a filler takes its place; O(pieces) for the others that
-/// are taken out; and one search for the place of each. Refused with 8 if it finds no memory for a pending insertion
-/// of the range or for a filler; the rows that it had put in stay where they are, no filler is taken, and no doomed row
-/// is gone except those that the rows put in met.
+/// Merges the pending rows whose key is in the range, and no others except doomed rows in the way and fillers, with
+/// room made near the range; the range was cracked before. A row that is evicted is merged by a later call whose range
+/// needs it, or becomes a filler in this one. O(pending rows) to find them, O(pieces of the range) for each that is put
+/// in, and for each that is taken out if a filler takes its place; O(pieces) for the others that are taken out; and one
+/// search for the place of each. Refused with 8 if it finds no memory for a pending insertion of the range or for a
+/// filler; the rows that it had put in stay where they are, no filler is taken, and only the doomed rows that the
+/// carries met are gone.
 pub fn merge_ripple(store: Store, range: KeyRange) -> Result<(Store, MergeReport), (Store, Refusal)>
     requires some { range.low < range.high }
     requires low { store.keys.low ≤ range.low }
@@ -75,11 +75,11 @@ pub fn ripple_in(store: Store, range: KeyRange) -> Result<Store, (Store, Refusal
     carry_range(store, range, Some(range.high()))
 }
 
-/// The second part of `merge_ripple`: takes the pending deletions of the range out, in order of arrival. A filler
-/// takes the place of each, the first pending insertion from the range's end up to the next bound, and if there is
-/// none left the column's last row. O(pending rows) to find them, O(pieces of the range) for each that has a filler,
-/// O(pieces) for the others, and one search for its place. Refused with 8 if it finds no memory for a filler; then all
-/// is as it was.
+/// The second part of `merge_ripple`: takes the pending deletions of the range out, in order of arrival. A filler takes
+/// the place of each, the first pending insertion from the range's end up to the next bound, and if there is none left
+/// the column's last row. O(pending rows) to find them, O(pieces of the range) for each that has a filler, O(pieces)
+/// for the others, and one search for its place. Refused with 8 if it finds no memory for a filler; then nothing has
+/// changed.
 pub fn ripple_out(mut store: Store, range: KeyRange) -> Result<Store, (Store, Refusal)>
     requires some { range.low < range.high }
     requires low { store.keys.low ≤ range.low }

@@ -22,7 +22,7 @@ pub filter_map_agree : {X Y : Type 0} (f g : X → Option Y) (xs : List X) → A
 filter_map_agree f g [] all = refl
 filter_map_agree f g (x ∷ xs) all = rw (All-head (λ y. f y ≡ g y) x xs all, filter_map_agree f g xs (All-tail (λ y. f y ≡ g y) x xs all)) refl
 
--- a function that gives nothing of any element
+-- a function that maps every element to nothing
 pub filter_map_none : {X Y : Type 0} (f : X → Option Y) (xs : List X) → All (λ x. f x ≡ None) xs → filter_map f xs ≡ []
 filter_map_none f [] none = refl
 filter_map_none f (x ∷ xs) none = rw (All-head (λ y. f y ≡ None) x xs none, filter_map_none f xs (All-tail (λ y. f y ≡ None) x xs none)) refl
@@ -31,7 +31,7 @@ pub filter_map-map : {X Y Z : Type 0} (f : Y → Option Z) (g : X → Y) (xs : L
 filter_map-map f g [] = refl
 filter_map-map f g (x ∷ xs) = ap (cons_option (f (g x))) (filter_map-map f g xs)
 
--- what is there and passes a test
+-- the value of an option, if there is one and it passes a test
 abbrev pub kept_by : {X : Type 0} → (X → Bool) → Option X → Option X
 kept_by test None = None
 kept_by test (Some x) = cond (test x) (Some x) None
@@ -52,12 +52,12 @@ filter_is : {X : Type 0} (test : X → Bool) (xs : List X) → filter test xs �
 filter_is test [] = refl
 filter_is test (x ∷ xs) = rw (← filter_is test xs) (kept_first (test x) x (filter test xs))
 
--- if all elements pass, none goes
+-- a filter that all elements pass leaves the list as it is
 pub filter_all : {X : Type 0} (test : X → Bool) (xs : List X) → All (λ x. test x ≡ true) xs → filter test xs ≡ xs
 filter_all test [] all = refl
 filter_all test (x ∷ xs) all = rw (All-head (λ y. test y ≡ true) x xs all, filter_all test xs (All-tail (λ y. test y ≡ true) x xs all)) refl
 
--- what holds of all that is given of the elements holds of all in the list
+-- what holds of all that the function returns holds of all elements of the mapped list
 pub All-filter_map : {X Y : Type 0} (P : Y → Type 0) (f : X → Option Y) (xs : List X) → ((x : X) → IfSome (f x) P) → All P (filter_map f xs)
 All-filter_map P f [] given = All-nil P
 All-filter_map {X} {Y} P f (x ∷ xs) given = by_value (f x) (given x) (All-filter_map P f xs given)
@@ -66,7 +66,7 @@ All-filter_map {X} {Y} P f (x ∷ xs) given = by_value (f x) (given x) (All-filt
     by_value None first rest = rest
     by_value (Some y) first rest = All-cons P y (filter_map f xs) first rest
 
--- what is given of an element is among what is given of the list
+-- what the function returns for an element is in the mapped list
 pub Contains-filter_map : {X Y : Type 0} (f : X → Option Y) (xs : List X) (i : ℕ) (x : X) (y : Y) → i < length xs → get_or xs i x ≡ x → f x ≡ Some y → Contains (filter_map f xs) y
 Contains-filter_map f [] i x y within at given = absurd (omega arith)
 Contains-filter_map f (z ∷ zs) zero x y within at given = rw (at, given) (0, omega arith, refl)

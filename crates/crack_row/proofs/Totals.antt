@@ -18,14 +18,14 @@ module _ {X : Type 0} (number : X → ℤ) where
   total_from first [] = omega (arith, ints)
   total_from first (x ∷ xs) = omega (arith, ints, total_from (first +ℤ number x) xs, total_from (pos 0 +ℤ number x) xs)
 
-  -- with one more element, before the others and after them
+  -- one more element, before the others or after them
   pub total_by-cons : (x : X) (xs : List X) → total_by number (x ∷ xs) ≡ number x +ℤ total_by number xs
   total_by-cons x xs = omega (arith, ints, total_from (pos 0 +ℤ number x) xs)
 
   pub total_by-append : (xs ys : List X) → total_by number (xs ++ ys) ≡ total_by number xs +ℤ total_by number ys
   total_by-append xs ys = fold-append adding (pos 0) xs ys ∙ total_from (total_by number xs) ys
 
-  -- if each is between a number and its negative, so is the total between as many of them
+  -- if each element is between -n and n, the total is between -n and n times the length
   pub total_by-least : (greatest : ℕ) (xs : List X) → All (λ x. neg_ℤ (pos greatest) ≤ℤ number x) xs → neg_ℤ (pos (length xs * greatest)) ≤ℤ total_by number xs
   total_by-least greatest [] all = omega (arith, ints)
   total_by-least greatest (x ∷ xs) all =
@@ -40,7 +40,7 @@ module _ {X : Type 0} (number : X → ℤ) where
       let rest = total_by-most greatest xs (All-tail (λ y. number y ≤ℤ pos greatest) x xs all) in
       omega (arith, ints, first, rest, total_by-cons x xs)
 
--- what an integer adds, and what it takes away
+-- the positive part of an integer, and its negative part
 abbrev gained : ℤ → ℕ
 gained (pos n) = n
 gained (negsuc n) = 0
@@ -68,7 +68,7 @@ module _ {X : Type 0} (number : X → ℤ) where
   total_by-permutation xs ys same =
       omega (arith, ints, total_by-parts xs, total_by-parts ys, sum_by-IsPermutation (λ x. gained (number x)) xs ys same, sum_by-IsPermutation (λ x. lost (number x)) xs ys same)
 
--- what is read from one list has the total of what is read from the other
+-- the total of a mapped list
 pub total_by-map : {X Y : Type 0} (number : Y → ℤ) (g : X → Y) (xs : List X) → total_by number (map g xs) ≡ total_by (λ x. number (g x)) xs
 total_by-map number g [] = refl
 total_by-map number g (x ∷ xs) = omega (arith, ints, total_by-cons number (g x) (map g xs), total_by-cons (λ y. number (g y)) x xs, total_by-map number g xs)
@@ -80,7 +80,7 @@ total_by-agree f g (x ∷ xs) all =
     let here = All-head (λ y. f y ≡ g y) x xs all in
     omega (arith, ints, here, total_by-cons f x xs, total_by-cons g x xs, total_by-agree f g xs (All-tail (λ y. f y ≡ g y) x xs all))
 
--- the elements that are left out add nothing
+-- the elements that a filter leaves out add nothing
 module _ {X : Type 0} (number : X → ℤ) (keeps : X → Bool) where
   abbrev kept : X → ℤ
   kept x = cond (keeps x) (number x) (pos 0)

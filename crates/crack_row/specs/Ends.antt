@@ -12,7 +12,7 @@ past_all end = nat_le GREATEST_BOUND end
 abbrev pub end_number : ℕ → ℕ
 end_number end = cond (past_all end) 0 end
 
--- both are read from an end that is stored like this
+-- an end that is stored in this form is read back unchanged
 pub past_back : (past : Bool) (number : ℕ) → cond past (number ≡ 0) (number < GREATEST_BOUND) → past_all (cond past GREATEST_BOUND number) ≡ past
 past_back true number is = refl
 past_back false number is = lt-leb GREATEST_BOUND number is

@@ -1,4 +1,4 @@
--- What bounds a partition.
+-- The limits of a partition.
 use Rattle.std.specs.Prelude.{ℕ, ◌≤◌, Bool, ◌&&◌, nat_le}
 use Rattle.crack_row.specs.declared.TheConstants.{GREATEST_LIMIT, GREATEST_CELLS, GREATEST_LIFE}
 use Rattle.crack_row.specs.declared.limit.Limits.{Limits}
@@ -18,6 +18,6 @@ is_limit greatest limit = nat_le 1 limit && nat_le limit greatest
 abbrev pub are_limits : Limits → Bool
 are_limits limits = is_limit GREATEST_LIMIT limits.history && (is_limit GREATEST_CELLS limits.cells && is_limit GREATEST_LIFE limits.life)
 
--- this limit of a history, and the greatest of the others; upkeep is on request
+-- the limits with this history limit and the greatest values of the others, and upkeep on request
 abbrev pub of_history : ℕ → Limits
 of_history history = record { history = history; cells = GREATEST_CELLS; life = GREATEST_LIFE; upkeep = OnRequest }

@@ -19,7 +19,7 @@ is_in r key = nat_le r.low key && nat_lt key r.high
 abbrev pub in_range : Range → Row → Bool
 in_range r row = is_in r row.key.0
 
--- the keys that lie in both ranges; if there is none, the empty range at the low end of the second
+-- the intersection of two ranges; if they share no key, the empty range at the low end of the second
 abbrev pub clipped : Range → Range → Range
 clipped r s =
     let low = max r.low s.low in

@@ -25,7 +25,7 @@ replaced new row = if row.serial.0 == new.serial.0 then new else row
 abbrev pub amount : Payload → ℤ
 amount payload = payload.0
 
--- no amount is farther from 0
+-- the greatest distance of an amount from 0
 abbrev pub farthest_amount : ℕ
 farthest_amount = 2 ^ 63
 

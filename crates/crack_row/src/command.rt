@@ -1,4 +1,4 @@
-//! What a partition is asked, and what it answers.
+//! The commands that a partition answers, and its replies.
 ghost use Rattle.std.specs.Prelude.{◌≡◌, ◌↔◌, IfOk, IfErr, IsOk, IsTrue};
 ghost use Rattle.crack_row.specs.Commands.{change_of, range_of, key_of};
 ghost use Rattle.crack_row.specs.Replies.{IsFlat};
@@ -6,7 +6,7 @@ ghost use Rattle.crack_row.specs.Replies.{IsFlat};
 use crate::{Key, KeyRange, Payload, Refusal, Row, RowList, Serial};
 use std::alloc::Global;
 
-/// What a worker asks of a partition.
+/// A command of a worker to a partition.
 #[derive(Clone, Copy, PartialEq, Eq, Debug)]
 pub enum Command {
     /// Places a row.
@@ -35,7 +35,7 @@ pub enum Command {
 /// What a command changes in the rows.
 #[derive(Clone, Copy, Debug)]
 pub enum Change {
-    /// One more row, which gets the next serial.
+    /// A new row, which gets the next serial.
     Place {
         key: Key,
         payload: Payload,
@@ -104,12 +104,12 @@ pub enum Policy {
     /// Only those whose key is in the range, with room made near it: a row that is in the way after the range is
     /// evicted, and becomes a pending insertion again.
     Ripple,
-    /// Like `Complete` if many insertions are pending compared with the rows of the column, else like `Ripple`; chosen
-    /// again for each range command.
+    /// `Complete` if many insertions are pending compared with the rows of the column, else `Ripple`; chosen for each
+    /// range command.
     Auto,
 }
 
-/// What a partition answers.
+/// The reply to a command.
 #[derive(Drop, Debug)]
 pub enum Reply {
     /// The serial of the row that was placed.
@@ -174,7 +174,7 @@ fn same_rows(one: &[Row], two: &[Row]) -> bool
     one == two
 }
 
-/// One answered command of a history: who asked, what, and the reply.
+/// An entry of a history: a worker, its command and the reply.
 #[derive(Drop, Debug)]
 pub struct Entry {
     pub worker: u32,

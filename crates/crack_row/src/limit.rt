@@ -1,4 +1,4 @@
-//! What bounds a partition.
+//! The limits of a partition.
 ghost use Rattle.std.specs.Prelude.{◌≡◌, ◌↔◌, IsTrue};
 ghost use Rattle.crack_row.specs.Limits.{AreLimits, are_limits, is_limit, of_history};
 
@@ -13,9 +13,9 @@ pub enum Upkeep {
     Automatic,
 }
 
-/// What bounds a partition: how many entries its history may have (1 to `GREATEST_LIMIT`), how many cells its rows may
-/// take (1 to `GREATEST_CELLS`), and how many commands it may accept in total (1 to `GREATEST_LIFE`); and what it does
-/// at these limits.
+/// The limits of a partition: how many entries its history may have (1 to `GREATEST_LIMIT`), how many cells its rows
+/// may take (1 to `GREATEST_CELLS`), and how many commands it may accept in total (1 to `GREATEST_LIFE`); and what it
+/// does at these limits.
 #[derive(Clone, Copy, PartialEq, Eq, Hash, Debug)]
 pub struct Limits {
     pub history: u64,
@@ -25,7 +25,8 @@ pub struct Limits {
 }
 
 impl Limits {
-    /// This limit of a history, which isn't tested, with the greatest of the others. Upkeep is on request.
+    /// The limits with this history limit, which isn't checked, and the greatest values of the others. Upkeep is on
+    /// request.
     pub fn of_history(history: u64) -> Limits
         ensures { result ≡ of_history history }
     {

@@ -104,7 +104,7 @@ impl Bound {
         Some(Key(self.0 as KeyNumber))
     }
 
-    /// The bound, if it lies between two keys.
+    /// The bound as an inner bound, if it lies between two keys.
     #[inline]
     pub fn inner(self) -> Option<InnerBound>
         ensures value { IfSome result (λ inner. inner.0 ≡ self.0) }

@@ -145,8 +145,8 @@ impl KeyRange {
     }
 }
 
-/// An end of a range: its number, or 0 if it is the one past all keys, and whether it is. Unlike a number of 128
-/// bits it is aligned like one of 64, so that values that hold ranges are smaller.
+/// An end of a range: its number, or 0 for the end past all keys, and whether it is that end. It is aligned like a
+/// number of 64 bits, so values that hold ranges are smaller than with one of 128.
 #[derive(Clone, Copy, Debug)]
 struct End {
     number: KeyNumber,

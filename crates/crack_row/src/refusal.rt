@@ -24,7 +24,7 @@ pub enum Refusal {
     /// The history has as many entries as its limit.
     #[error("refused 6 {length}")]
     HistoryFull { length: u64 },
-    /// A gate refused as often in one call as it is asked.
+    /// A gate refused each time that it was asked in one call.
     #[error("refused 7")]
     GateGaveUp,
     /// An allocation was refused.
@@ -113,25 +113,25 @@ impl Refusal {
 }
 
 impl Refusal {
-    /// The cause in words, for a person who reads a terminal or a log: one clause without a full stop or a line feed.
+    /// The cause in words, for a terminal or a log: one clause without a full stop or a line feed.
     pub fn cause(&self) -> &'static str {
         match self {
             Refusal::BadStatement => "the line is not a statement",
-            Refusal::BadRange => "the range is out of order or ends too high",
+            Refusal::BadRange => "the ends of the range are out of order, or too high",
             Refusal::KeyOutside => "the key belongs to another partition",
             Refusal::NoSuchPartition => "there is no such partition",
-            Refusal::HistoryFull { .. } => "the history is full until a checkpoint",
-            Refusal::GateGaveUp => "the gate never opened",
-            Refusal::OutOfMemory => "out of memory, or no thread could start",
+            Refusal::HistoryFull { .. } => "the history is full and needs a checkpoint",
+            Refusal::GateGaveUp => "the gate refused every time",
+            Refusal::OutOfMemory => "out of memory, or a thread could not be started",
             Refusal::NoCell => "no cell is free for the row",
-            Refusal::LifeOver => "the partition has accepted all commands of its life",
-            Refusal::BadSplits => "the splits do not rise, or one is not a key above 0",
+            Refusal::LifeOver => "the partition has accepted as many commands as it may",
+            Refusal::BadSplits => "the splits are not in rising order, or one is not a key above 0",
             Refusal::TooManyPartitions => "there are too many splits",
             Refusal::BadWorkerCount => "the number of workers is out of range",
             Refusal::BadLimit => "a limit is out of range",
             Refusal::WorkersMissing { .. } => "workers are missing",
             Refusal::StrangeReceipt { .. } => "receipts and histories disagree",
-            Refusal::ReadFault => "reading failed, or the port cannot be listened on",
+            Refusal::ReadFault => "reading failed, or the port is not available",
             Refusal::WriteFault => "writing failed",
             Refusal::BadRecord { .. } => "the record is not a key and a payload",
         }

@@ -52,7 +52,7 @@ pub fn run_audited_service<
     }
 }
 
-/// Lets each worker of a table serve sessions, at a desk of its own and with its own book.
+/// Has each worker of a table serve sessions, at a desk of its own and with its own book.
 fn serve_table<
     Rt: Threads + Wait + Sync,
     G: Gate + Sync,

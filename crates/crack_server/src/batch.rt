@@ -38,8 +38,8 @@ struct Crew {
 /// session, in parallel with the others. Then `writer` gets the line `worker w` and the session's output for each
 /// worker, and finally the totals. Refused, in this order: as `Table::open_with` is; with 17 if the reader fails or
 /// gives more than `MOST_INPUT_BYTES`; with 1 if a line has no number; as the session of the lowest worker whose
-/// session is cut off; as `gather` is; with 18 if the writer fails. It is 8 wherever no memory is found for the batch's
-/// own buffers, or a thread can't be started. Nothing is written before the workers are gathered.
+/// session is cut off; as `gather` is; with 18 if the writer fails. It is refused with 8 at any point if no memory is
+/// found for the batch's own buffers, or a thread can't be started. Nothing is written before the workers are gathered.
 pub fn run_batch<Rt: Threads + Wait + Sync, G: Gate + Sync, R: Read, W: Write>(
     rt: &Rt,
     alloc: Global,
@@ -58,7 +58,7 @@ pub fn run_batch<Rt: Threads + Wait + Sync, G: Gate + Sync, R: Read, W: Write>(
     }
 }
 
-/// Reads an input, and lets the workers serve it.
+/// Reads an input, and has the workers serve it.
 fn serve_input<Rt: Threads + Wait + Sync, G: Gate + Sync, R: Read>(
     rt: &Rt,
     alloc: Global,
@@ -77,7 +77,7 @@ fn serve_input<Rt: Threads + Wait + Sync, G: Gate + Sync, R: Read>(
     crew_of(alloc, served)
 }
 
-/// Lets each worker serve its share on a thread of its own. Refused with 8 if one can't be started, once the others
+/// Has each worker serve its share on a thread of its own. Refused with 8 if a thread can't be started, once the others
 /// have ended.
 fn serve_all<Rt: Threads + Wait + Sync, G: Gate + Sync>(
     rt: &Rt,

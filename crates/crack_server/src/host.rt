@@ -1,9 +1,9 @@
-//! What a server reports, and what it asks of the program that runs it.
+//! The events that a server reports, and the calls that it makes of the program that runs it.
 use crack_row::Refusal;
 use std::fmt;
 use std::fmt::{Display, Formatter, Write};
 
-/// Something that happened to a server. Its text is a line without its end.
+/// An event of a server. Its text is a line without its end.
 #[derive(Clone, Copy, Drop)]
 pub enum Notice {
     /// The server listens on this port of 127.0.0.1.
@@ -54,13 +54,13 @@ fn cause_of(refusal: Refusal) -> &'static str {
     }
 }
 
-/// What a server asks of the program that runs it, on any of its threads.
+/// The calls that a server makes of the program that runs it, on any of its threads.
 pub trait Host {
-    /// Takes note of something that happened.
+    /// Notes an event.
     fn note(&self, notice: Notice);
 
-    /// Connects to the server's own listener and closes the connection at once, so that one worker that waits for a
-    /// connection goes on. Returns whether it could.
+    /// Connects to the server's own listener and closes the connection immediately, so that one worker that waits for a
+    /// connection goes on. Returns whether that succeeded.
     fn knock(&self) -> bool;
 
     /// Waits for a moment, after a system call that failed and is to be repeated.

@@ -28,7 +28,7 @@ pub const MOST_INPUT_BYTES: u64 = 67108864;
 /// written, and the rest kept.
 pub const REPLY_BYTES: usize = 24576;
 
-/// How many entries are checkpointed between two notices of checkpoints that were due, at least: if a history may
-/// have this many, each checkpoint has a notice of its own; otherwise one notice is of several, so that not each
-/// statement has one.
+/// How many entries are checkpointed between two notices of checkpoints that were due, at least: if a history may have
+/// this many, each checkpoint has a notice of its own; otherwise one notice covers several, so that not every statement
+/// causes one.
 pub const ENTRIES_PER_NOTICE: u64 = 1000;

@@ -89,7 +89,7 @@ pub fn run_service<Rt: Threads + Wait + Sync, G: Gate + Sync, H: Host + Sync, I:
     }
 }
 
-/// Lets each worker of a table serve sessions, at a desk of its own.
+/// Has each worker of a table serve sessions, at a desk of its own.
 fn serve_table<Rt: Threads + Wait + Sync, G: Gate + Sync, H: Host + Sync, I: Read>(
     rt: &Rt,
     alloc: Global,
@@ -125,8 +125,8 @@ fn desks_of<'a, Rt: Wait, G: Gate>(
     Ok(desks)
 }
 
-/// Lets a worker at each desk serve sessions on a thread of its own. No ticket is given out before all threads are
-/// started: if one can't be, there are none, and the others end at once.
+/// Has a worker at each desk serve sessions on a thread of its own. No ticket is given out before all threads are
+/// started: if one can't be, there are no tickets, and the others end immediately.
 pub(crate) fn serve_desks<
     Rt: Threads + Wait + Sync,
     D: Desk + Send + Drop,
@@ -172,9 +172,8 @@ pub(crate) fn serve_desks<
     Ok(ended)
 }
 
-/// Waits until the input of a server ends that ends with it. Then no more tickets are given out, and each worker that
-/// waits for a connection is woken by one of the host's own: as many as wait then, since none begins to wait
-/// afterwards.
+/// Waits until the input of a server ends, if the server ends with it. Then no more tickets are given out, and each
+/// worker that waits for a connection is woken by a connection of the host's own. No worker begins to wait afterwards.
 fn await_end<Rt: Wait, H: Host, I: Read>(
     rt: &Rt,
     ending: Ending,
@@ -204,8 +203,8 @@ fn read_out<I: Read>(input: &mut I) {
     }
 }
 
-/// Wakes one worker that waits for a connection. A knock that fails, for example for lack of a descriptor, is repeated
-/// as long as a worker waits.
+/// Wakes one worker that waits for a connection. A knock that fails, for example because no descriptor is free, is
+/// repeated as long as a worker waits.
 fn wake<Rt: Wait, H: Host>(rt: &Rt, tickets: &Tickets, host: &H) {
     'tries: for _ in 0..u64::MAX {
         if host.knock() || tickets.waiting(rt) == 0 {
@@ -252,8 +251,8 @@ fn serve_tickets<Rt: Wait, D: Desk + Drop, H: Host>(
     desk
 }
 
-/// Serves one connection as a session. Its replies are kept until it reads again, and then sent at once. Returns why it
-/// was cut off, if it was.
+/// Serves one connection as a session. Its replies are kept until it reads again, and then sent together. Returns why
+/// it was cut off, if it was.
 fn serve_stream<D: Desk>(
     alloc: Global,
     desk: &mut D,
@@ -272,7 +271,7 @@ fn serve_stream<D: Desk>(
     match serve(alloc, desk, terms.policy, &mut reader, &mut writer) {
         Ok(_) => None,
         Err(fault) => {
-            // (so that the writer, which is released now, doesn't wait for anyone again)
+            // (so that the writer, which is dropped now, doesn't wait again)
             let _ = stream.shutdown(Shutdown::Both);
             Some(fault.refusal)
         }

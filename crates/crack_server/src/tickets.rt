@@ -1,4 +1,4 @@
-//! The sessions of a server: which worker serves the next, and when there is none.
+//! The sessions of a server: which worker serves the next one, and when there are no more.
 use std::sync::{Mutex, Wait};
 
 /// When a server ends.

@@ -55,7 +55,7 @@ pub(crate) fn witnessed_totals_of<J: Naming>(
     }
 }
 
-/// Gathers the workers of a table that witnesses its replies, and compares their receipts with its histories. Refused
+/// Gathers the workers of a table that witnesses its replies, and compares their receipts with the histories. Refused
 /// as its `gather` is, and then as `audit` is.
 pub(crate) fn audited_totals_of<J: Naming>(
     alloc: Global,

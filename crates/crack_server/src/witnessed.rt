@@ -52,7 +52,7 @@ pub fn run_witnessed_service<
     }
 }
 
-/// Lets each worker of a table serve sessions, at a desk of its own.
+/// Has each worker of a table serve sessions, at a desk of its own.
 fn serve_table<
     Rt: Threads + Wait + Sync,
     G: Gate + Sync,

@@ -7,7 +7,7 @@ use std::alloc::Global;
 use std::sync::Wait;
 use std::thread::Threads;
 
-/// How a batch of two workers over the partitions below and from 100 ends, and what it writes.
+/// How a batch of two workers over the partitions below and from 100 ends, and its output.
 fn batch<H: Threads + Wait + Sync, G: Gate + Sync>(
     rt: &H,
     alloc: Global,
@@ -57,7 +57,7 @@ fn a_line_without_a_number_refuses_the_batch(rt: HostRuntime) {
     assert!(rt; output.is_empty());
 }
 
-/// Workers that run one after the other, or under one lock, never meet: they are answered 7.
+/// Workers that run one after the other, or under one lock, never meet: they are refused with 7.
 #[test]
 fn two_workers_are_at_two_partitions_at_once(rt: HostRuntime) {
     let gate = Meeting::new();

@@ -11,7 +11,7 @@ use std::thread::Threads;
 use std::time::Duration;
 use std::{io, thread};
 
-/// What a server of this many workers and sessions writes.
+/// The output of a server of this many workers and sessions.
 fn server<H: Threads + Wait + Sync>(
     rt: &H,
     alloc: Global,
@@ -37,7 +37,7 @@ fn server<H: Threads + Wait + Sync>(
     }
 }
 
-/// A client that sent these bytes. A read of it fails where nothing comes for ten seconds, as from a server that
+/// A client that sent these bytes. A read of it fails if nothing comes for ten seconds, as from a server that
 /// accepts no connection.
 fn sender<N: Net<Listener = TcpListener, Stream = TcpStream>>(
     rt: &N,
@@ -57,7 +57,7 @@ fn answers_of(alloc: Global, mut stream: TcpStream) -> io::Result<Vec<u8>> {
     Ok(answers)
 }
 
-/// What a client that sends these bytes is answered.
+/// The answers to a client that sends these bytes.
 fn client<N: Net<Listener = TcpListener, Stream = TcpStream>>(
     rt: &N,
     alloc: Global,
@@ -67,7 +67,7 @@ fn client<N: Net<Listener = TcpListener, Stream = TcpStream>>(
     answers_of(alloc, sender(rt, port, bytes)?)
 }
 
-/// What two clients are answered, one after the other.
+/// The answers to two clients, one after the other.
 fn two_clients<N: Net<Listener = TcpListener, Stream = TcpStream>>(
     rt: &N,
     alloc: Global,
@@ -196,7 +196,7 @@ impl<'a, N: Net<Listener = TcpListener, Stream = TcpStream>> Host for Knocking<'
     fn pause(&self) {}
 }
 
-/// What a server of three workers writes whose input has ended.
+/// The output of a server of three workers whose input has ended.
 fn server_at_its_end<H: Threads + Wait + Net<Listener = TcpListener, Stream = TcpStream> + Sync>(
     rt: &H,
     alloc: Global,

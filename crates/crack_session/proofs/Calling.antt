@@ -26,19 +26,19 @@ Calls-then leads old (call ∷ calls) between more new were then = (were.0, were
 pub Calls-push : {D : Type 0} (leads : D → Call → D → Type 0) (old : D) (calls : List Call) (between : D) (call : Call) (new : D) → Calls leads old calls between → leads between call new → Calls leads old (calls ++ call ∷ []) new
 Calls-push leads old calls between call new were led = Calls-then leads old calls between (call ∷ []) new were (Calls-one leads between call new led)
 
--- one more replies
+-- one more partition replies
 pub AreAskedInTurn-more : (policy : Policy) (query : Query) (parts : List (ℕ × Range)) (i : ℕ) (part : ℕ × Range) (command : Command) (said said' : List PartReply) (reply : Reply) (calls : List Call) → i < length parts → part ≡ get_or parts i part → command ≡ asking query part.1 → said' ≡ said ++ record { part = part.0; reply = reply } ∷ [] → AreAskedInTurn policy query (take i parts) (Ok said) calls → AreAskedInTurn policy query (take (i + 1) parts) (Ok said') (calls ++ Asked part.0 command policy (Ok reply) ∷ [])
 AreAskedInTurn-more policy query parts i part command said said' reply calls below at asked grown so_far =
     let more : take (i + 1) parts ≡ take i parts ++ part ∷ [] = take_more parts i part below ∙ ap (λ p. take i parts ++ p ∷ []) (sym at) in
     rw (more, grown, asked) (one_replies (take i parts) part said reply calls so_far)
 
--- the next one refuses
+-- the next partition refuses
 pub AreAskedInTurn-stops : (policy : Policy) (query : Query) (parts : List (ℕ × Range)) (i : ℕ) (part : ℕ × Range) (command : Command) (said : List PartReply) (e : Refusal) (calls : List Call) → i < length parts → part ≡ get_or parts i part → command ≡ asking query part.1 → AreAskedInTurn policy query (take i parts) (Ok said) calls → AreAskedInTurn policy query parts (Err e) (calls ++ Asked part.0 command policy (Err e) ∷ [])
 AreAskedInTurn-stops policy query parts i part command said e calls below at asked so_far =
     let whole : take i parts ++ part ∷ drop (i + 1) parts ≡ parts = ap (λ p. take i parts ++ p ∷ drop (i + 1) parts) at ∙ ap (λ r. take i parts ++ r) (sym (drop_more parts i part below)) ∙ take-append-drop i parts in
     rw asked (subst (λ (ps : List (ℕ × Range)). AreAskedInTurn policy query ps (Err e) (calls ++ Asked part.0 (asking query part.1) policy (Err e) ∷ [])) whole (one_refuses (take i parts) part (drop (i + 1) parts) said e calls so_far))
 
--- more parts than one
+-- more than one part
 pub ArePartsAsked-several : (policy : Policy) (query : Query) (parts : List (ℕ × Range)) (answer : Answer) (calls : List Call) → 1 < length parts → AreSeveralAsked policy query parts answer calls → ArePartsAsked policy query parts answer calls
 ArePartsAsked-several policy query [] answer calls many asked = asked
 ArePartsAsked-several policy query (part ∷ []) answer calls many asked = absurd (omega (arith, many))

@@ -50,7 +50,7 @@ has_feed-in (b ∷ bs) ys h = ⊎_elim
     (λ (e : eqb b 10 ≡ false). let more : has_feed bs ≡ true = rw e at h in rw (e, has_feed-in bs ys more) refl)
     (cases_Bool (eqb b 10))
 
--- what begins has a first line
+-- bytes that begin with a whole line have this first line
 pub lines-first : (b : ℕ) (bs : List ℕ) → lines (b ∷ bs) ≡ first_line (b ∷ bs) ∷ lines (after_line (b ∷ bs))
 lines-first b [] = ⊎_elim
     (λ (e : eqb b 10 ≡ true). rw e refl)
@@ -61,7 +61,7 @@ lines-first b (c ∷ bs) = ⊎_elim
     (λ (e : eqb b 10 ≡ false). rw (e, lines-first c bs) refl)
     (cases_Bool (eqb b 10))
 
--- a feed at i after none before it
+-- a feed at i, and none before it
 split_at_feed : (xs : List ℕ) (i : ℕ) → i < length xs → get_or xs i 0 ≡ 10 → xs ≡ take i xs ++ 10 ∷ drop (i + 1) xs
 split_at_feed xs i below here =
     let rest = drop-cons xs i 0 below in
@@ -86,7 +86,7 @@ no_feed_more xs i below none here =
     let other : eqb (get_or xs i 0) 10 ≡ false = ne_eqb _ _ here in
     rw (take_more xs i 0 below, has_feed-append (take i xs) (get_or xs i 0 ∷ []) none, other) refl
 
--- what a search for a feed finds
+-- the result of a search for a feed
 no_feed_before : (xs : List ℕ) (n : ℕ) → Nowhere (Passes (is_byte 10) xs) 0 n → n ≤ length xs → has_feed (take n xs) ≡ false
 no_feed_before xs zero none within = refl
 no_feed_before xs (suc n) none within =
@@ -99,7 +99,7 @@ feed_found xs k first = (first.0.high, no_feed_before xs k first.0.before (omega
 pub no_feed_found : (xs : List ℕ) → IsFirstByte (is_byte 10) xs None → has_feed xs ≡ false
 no_feed_found xs none = ap has_feed (sym (take_all (length xs) xs (omega arith))) ∙ no_feed_before xs (length xs) none (omega arith)
 
--- without a feed, the first line is all there is
+-- without a feed, the first line is all bytes
 pub all_first_line : (xs : List ℕ) → has_feed xs ≡ false → first_line xs ≡ xs
 all_first_line [] h = refl
 all_first_line (b ∷ bs) h =

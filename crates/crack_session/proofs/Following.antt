@@ -10,7 +10,7 @@ use Rattle.crack_session.specs.Readings.{statements, until_quit, reading_of, is_
 use Rattle.crack_commands.specs.Grammar.{Reading}
 use Rattle.crack_session.proofs.Feeds.{lines-first}
 
--- a line says what its kept bytes say
+-- a line has the meaning of its kept bytes
 shorter_by_one : (xs : List ℕ) → length xs ≤ length (without_return xs) + 1
 shorter_by_one xs =
     let cut = length-take (length xs - 1) xs in
@@ -26,7 +26,7 @@ reading_kept raw = ⊎_elim
     (λ (l : 202 < length raw). let cut = length-take 202 raw in too_long (take 202 raw) (omega (arith, cut)) ∙ sym (too_long raw (omega arith)))
     (⊎_elim (λ (l : 202 < length raw). inr l) (λ (l : length raw ≤ 202). inl l) (cases_lt 202 (length raw)))
 
--- what the lines of some bytes say
+-- the meaning of the lines of some bytes
 statements-blank : (b : ℕ) (bs : List ℕ) → reading_of (first_line (b ∷ bs)) ≡ None → statements (b ∷ bs) ≡ statements (after_line (b ∷ bs))
 statements-blank b bs e = ap (λ ls. until_quit (filter_map reading_of ls)) (lines-first b bs) ∙ rw e refl
 
@@ -37,7 +37,7 @@ cond_cons : (q : Bool) (r : Reading) (rs : List Reading) → cond q (r ∷ []) (
 cond_cons true r rs = refl
 cond_cons false r rs = refl
 
--- a line says what all of it says, though only its beginning may be there
+-- a line has the meaning of its kept bytes, even if only its beginning is kept
 same_reading : (u line : List ℕ) → kept_of line ≡ kept_of (first_line u) → reading_of (first_line u) ≡ reading_of line
 same_reading u line k = sym (reading_kept (first_line u)) ∙ ap reading_of (sym k) ∙ reading_kept line
 

@@ -40,7 +40,7 @@ length-are bounds splits tables [] (b ∷ answers) new are = absurd are
 length-are bounds splits tables (q ∷ rs) [] new are = absurd are
 length-are bounds splits tables (q ∷ rs) (b ∷ answers) new are = omega (arith, length-are bounds splits are.0 rs answers new are.2)
 
--- the first lack of room, after one more answer
+-- the first lack of room after one more answer
 marked-last : (short : Bool) → cond short (Some 1) None ≡ marked None 1 short
 marked-last true = refl
 marked-last false = refl
@@ -80,7 +80,7 @@ ending-push [] r = refl
 ending-push (q ∷ []) r = refl
 ending-push (q ∷ p ∷ rs) r = ending-push (p ∷ rs) r
 
--- what known bytes are, after more
+-- the known bytes after more were read
 pub appended : (out : Option (List ℕ)) (o : List ℕ) (out' : Option (List ℕ)) (t : List ℕ) → out ≡ Some o → Appends out out' t → out' ≡ Some (o ++ t)
 appended None o out' t e h = cc
 appended (Some x) o None t e h = absurd h
@@ -91,7 +91,7 @@ kept_known None out' o h e = cc
 kept_known (Some x) None o h e = absurd h
 kept_known (Some x) (Some y) o h e = ap Some h ∙ e
 
--- Of all statements these are left. k are done: they are answered, and the texts of the answers are written.
+-- These are the statements that are left. k are done: they are answered, and the texts of the answers are written.
 pub record Going (bounds : Bounds) (splits : List Bound) (all left : List Reading) (k : ℕ) (short : Option ℕ) (how : How) (s0 s : Option (List PlainView)) (out0 out : Option (List ℕ)) : Type 0 where
   pub done : List Reading
   pub split : all ≡ done ++ left
@@ -126,7 +126,7 @@ Going-kept out out' g h = record {
 pub Going-left : {bounds : Bounds} {splits : List Bound} {all left : List Reading} {k : ℕ} {short : Option ℕ} {how : How} {s0 s : Option (List PlainView)} {out0 out : Option (List ℕ)} (left' : List Reading) → Going bounds splits all left k short how s0 s out0 out → left ≡ left' → Going bounds splits all left' k short how s0 s out0 out
 Going-left left' g e = record { done = g.done; split = g.split ∙ ap (λ z. g.done ++ z) e; count = g.count; ends = g.ends; told = g.told }
 
--- what a statement is answered, and the partitions afterwards, where they are known
+-- the answer to a statement, and the partitions afterwards, if they are known
 abbrev pub Answered : Bounds → List Bound → Reading → Answer → Option (List PlainView) → Option (List PlainView) → Type 0
 Answered bounds splits r a s s' = (tables : List PlainView) → s ≡ Some tables → (next : List PlainView) × IsAnswer bounds splits tables r a next × (s' ≡ Some next)
 

@@ -14,7 +14,7 @@ use Rattle.crack_plain.specs.Plain.{IsSmall}
 use Rattle.crack_session.specs.Queries.{counted, summed}
 use Rattle.crack_session.specs.Telling.{rows_told, list_text}
 
--- what a small reply counts or lists
+-- the count of a small reply
 counted-small : (r : Reply) → IsSmall r → counted r ≤ 4294967295
 counted-small (Placed serial) small = omega arith
 counted-small (Gone row) small = omega arith
@@ -24,7 +24,7 @@ counted-small (Counted count) small = omega (arith, small)
 counted-small (Summed sum) small = omega arith
 counted-small (Rows rows) small = omega (arith, small)
 
--- what a small reply sums up
+-- the sum of a small reply
 pub summed-small : (r : Reply) → IsSmall r → (neg_ℤ (pos (2 ^ 96)) ≤ℤ summed r) × (summed r ≤ℤ pos (2 ^ 96))
 summed-small (Placed serial) small = (omega (arith, ints), omega (arith, ints))
 summed-small (Gone row) small = (omega (arith, ints), omega (arith, ints))

@@ -46,7 +46,7 @@ AreMadeOf-push splits policy (q ∷ rs) (b ∷ answers) calls r a here are made 
     let rest = are.1 in
     (are.0, rest ++ here, ap (λ l. l ++ here) are.2 ∙ append_assoc are.0 rest here, are.3, AreMadeOf-push splits (policy_after policy b) rs answers rest r a here are.4 made)
 
--- Of all statements these are left. k are done: their answers are made of the calls that lead to the desk as it is, and the texts are written.
+-- These are the statements that are left. k are done: their answers are made of the calls that lead to the present desk, and the texts are written.
 pub record Making {D : Type 0} (leads : D → Call → D → Type 0) (splits : List Bound) (first : Policy) (old : D) (all left : List Reading) (k : ℕ) (short : Option ℕ) (policy : Policy) (now : D) (out0 out : Option (List ℕ)) : Type 0 where
   pub done : List Reading
   pub split : all ≡ done ++ left

@@ -1,4 +1,4 @@
--- An insert that is read before its line feed is looked for.
+-- An insert that is read before its line feed is searched for.
 use Rattle.std.proofs.Common.{◌≡◌, ℕ, ◌+◌, ◌-◌, ◌<◌, true, false, eqb, leb, ltb, Some, Ok, List, [], ◌∷◌, length, take, drop, get_or, refl, arith, length-take, suc, zero}
 use Rattle.std.proofs.lemmas.Bool.{and_parts, leb-true, ne_eqb, le-ltb}
 use Rattle.std.specs.List.{list_all}
@@ -34,7 +34,7 @@ insert_found bytes n begins =
     let none = no_feed_printed (take n bytes) begins.printed in
     (has_feed_at bytes n begins.within none begins.feed, first_line_at bytes n begins.within none begins.feed, after_line_at bytes n begins.within none begins.feed)
 
--- and is read as an insert
+-- and it is read as an insert
 pub insert_read : {key : Key} {payload : Payload} (bytes : List ℕ) (n : ℕ) → BeginsWithInsert bytes n key payload → reading_of (take n bytes) ≡ Some (Ok (Insert key payload))
 unfolding reading_of
 insert_read bytes n begins =

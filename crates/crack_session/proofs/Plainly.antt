@@ -1,4 +1,4 @@
--- What a command of a plain table leads to.
+-- The effect of a command of a plain table.
 use Rattle.std.specs.Prelude.{◌≡◌, ℕ, List, [], ◌∷◌, Option, Some, Result}
 use Rattle.std.proofs.Common.{refl}
 use Rattle.crack_row.specs.declared.command.Command.{Command}

@@ -1,4 +1,4 @@
--- What is in a range of a buffer.
+-- The bytes in a range of a buffer.
 use Rattle.std.proofs.Common.{◌≡◌, ℕ, ◌+◌, ◌-◌, ◌<◌, ◌≤◌, min, true, eqb, List, ◌++◌, length, take, drop, sym, ap, ◌∙◌, ⊎_elim, arith, length-take, length-drop}
 use Rattle.std.proofs.lemmas.Bool.{eqb-true, cases_lt}
 use Rattle.std.proofs.lemmas.List.{take-take, take_all, drop-drop, drop_at, length-take-le}
@@ -58,13 +58,13 @@ pub range_below : (a k : ℕ) (xs ys : List ℕ) (s : ℕ) → a ≤ length xs �
 range_below a k xs ys s within =
     between_is (put_mid a k xs ys) s a ∙ ap (drop s) (take-put_mid_below a k xs ys a (omega arith) within) ∙ sym (between_is xs s a)
 
--- the front of what was written
+-- the front of the bytes that were written
 pub range_written : (a k : ℕ) (xs ys : List ℕ) (n : ℕ) → a ≤ length xs → n ≤ length ys → slice_range (put_mid a k xs ys) a (a + n) ≡ take n ys
 range_written a k xs ys n within some =
     let whole : slice_range (put_mid a k xs ys) a (a + length ys) ≡ ys = between-put_mid a k xs ys (a + length ys) within (omega arith) in
     sym (range_front (put_mid a k xs ys) a (a + length ys) n (omega (arith, ap length whole, some))) ∙ ap (take n) whole
 
--- a line that was moved stays what it is while more is read after it
+-- a line that was moved is unchanged while more is read after it
 pub line_stays : (k : ℕ) (xs xs' ys : List ℕ) (s l : ℕ) (line : List ℕ) → slice_range xs' (202 - k) 202 ≡ kept_of (slice_range xs s l) → slice_range xs s l ≡ line → 202 ≤ length xs' → kept_of (slice_range (put_mid 202 4096 xs' ys) (202 - k) 202) ≡ kept_of line
 line_stays k xs xs' ys s l line is is' room =
     ap kept_of (range_below 202 4096 xs' ys (202 - k) room ∙ is ∙ ap kept_of is') ∙ take-take 202 202 line (omega arith)

@@ -1,4 +1,4 @@
--- How far a line has come while it is read.
+-- The progress of reading a line.
 use Rattle.std.proofs.Common.{◌≡◌, ℕ, ◌+◌, ◌-◌, ◌^◌, ◌<◌, ◌≤◌, min, Bool, true, false, eqb, Option, Some, None, Result, Ok, Err, IfErr, OnErr, List, [], ◌∷◌, ◌++◌, length, refl, sym, ap, ◌∙◌, arith, ⊎_elim, append_assoc, length-append, length-take, append-nil}
 use Rattle.std.proofs.lemmas.Bool.{cases_Bool, false≢true}
 use Rattle.std.specs.Io.KnownBytes.{prepend_known, Keeps, Consumes}
@@ -6,12 +6,12 @@ use Rattle.crack_session.specs.declared.TheConstants.{MOST_READS}
 use Rattle.crack_session.specs.Input.{has_feed, first_line, after_line, kept_of, Input, IsNextLine, IsBegun, IsPaid}
 use Rattle.crack_session.proofs.Feeds.{first_line-append, after_line-append, has_feed-append, first_line-in, after_line-in, has_feed-in, all_first_line, none_after, take-take-append}
 
--- what is ahead is what is unread, and what the reader has
+-- the bytes ahead are those that aren't used yet, and those that the reader has
 pub ahead_known : (xs : List ℕ) (known : Option (List ℕ)) (u : List ℕ) → prepend_known xs known ≡ Some u → (v : List ℕ) × (known ≡ Some v) × (u ≡ xs ++ v)
 ahead_known xs None u e = absurd (let h : ◌≡◌ {A = Option (List ℕ)} None (Some u) = e in cc)
 ahead_known xs (Some v) u e = (v, refl, (let h : ◌≡◌ {A = Option (List ℕ)} (Some (xs ++ v)) (Some u) = e in cc))
 
--- what a read brings was ahead
+-- the bytes of a read were ahead
 pub ahead_read : (old new : Option (List ℕ)) (xs u : List ℕ) → Consumes old new xs → old ≡ Some u → prepend_known xs new ≡ Some u
 ahead_read None new xs u h e = absurd (let e' : ◌≡◌ {A = Option (List ℕ)} None (Some u) = e in cc)
 ahead_read (Some v) None xs u h e = absurd h
@@ -26,7 +26,7 @@ pub record SoFar (u : List ℕ) (new : Option (List ℕ)) (line : List ℕ) : Ty
   pub kept : kept_of line ≡ kept_of front
   pub new_is : new ≡ Some rest
 
--- lines that are kept alike are kept alike with more after them
+-- lines of which the same bytes are kept have the same kept bytes with more after them
 kept-append : (xs ys zs : List ℕ) → kept_of xs ≡ kept_of ys → kept_of (xs ++ zs) ≡ kept_of (ys ++ zs)
 kept-append xs ys zs e = sym (take-take-append 202 xs zs) ∙ ap (λ w. kept_of (w ++ zs)) e ∙ take-take-append 202 ys zs
 
@@ -42,7 +42,7 @@ no_length (x ∷ xs) e = absurd (omega arith)
 pub SoFar-none_taken : (u : List ℕ) (new : Option (List ℕ)) (line : List ℕ) → new ≡ Some u → line ≡ [] → SoFar u new line
 SoFar-none_taken u new line e empty = record { front = []; rest = u; split = refl; none = refl; kept = ap kept_of empty; new_is = e }
 
--- more that has no line feed
+-- more bytes without a line feed
 pub SoFar-more : {u line : List ℕ} (xs : List ℕ) (known : Option (List ℕ)) (line' : List ℕ) → SoFar u (prepend_known xs known) line → has_feed xs ≡ false → line' ≡ line ++ xs → SoFar u known line'
 SoFar-more {u} {line} xs known line' s none grown =
     let known_is = ahead_known xs known s.rest s.new_is in
@@ -100,13 +100,13 @@ pub SoFar-ended : {u line : List ℕ} (known : Option (List ℕ)) (found : Bool)
 SoFar-ended known true s ended some none = SoFar-last known s ended (some refl)
 SoFar-ended known false s ended some none = SoFar-none known s ended (none refl)
 
--- what was taken is the beginning of a line
+-- the bytes that were taken are the beginning of a line
 pub SoFar-begun : {u line : List ℕ} (known known' : Option (List ℕ)) → SoFar u known line → Keeps known known' → IsBegun u known'
 SoFar-begun None known' s keeps = absurd (let h : ◌≡◌ {A = Option (List ℕ)} None (Some s.rest) = s.new_is in cc)
 SoFar-begun (Some v) None s keeps = absurd keeps
 SoFar-begun (Some v) (Some w) s keeps = record { front = s.front; rest = s.rest; split = s.split; none = s.none; left = ap Some keeps ∙ s.new_is }
 
--- what is after a line feed is shorter
+-- the rest after a line feed is shorter
 pub after_line-shorter : (xs : List ℕ) → has_feed xs ≡ true → length (after_line xs) < length xs
 after_line-shorter [] e = absurd (false≢true e)
 after_line-shorter (b ∷ bs) e = ⊎_elim
@@ -114,7 +114,7 @@ after_line-shorter (b ∷ bs) e = ⊎_elim
     (λ (h : eqb b 10 ≡ false). let more : has_feed bs ≡ true = rw h at e in rw h (let r = after_line-shorter bs more in omega (arith, r)))
     (cases_Bool (eqb b 10))
 
--- a read keeps what is ahead, and what is kept of the line
+-- a read preserves the bytes ahead, and the kept bytes of the line
 pub SoFar-read : {u line : List ℕ} (known new : Option (List ℕ)) (line' : List ℕ) → SoFar u known line → ((v : List ℕ) → known ≡ Some v → new ≡ Some v) → kept_of line' ≡ kept_of line → SoFar u new line'
 SoFar-read {u} {line} known new line' s goes same = record { front = s.front; rest = s.rest; split = s.split; none = s.none; kept = same ∙ s.kept; new_is = goes s.rest s.new_is }
 
@@ -155,7 +155,7 @@ Keeps-then (Some x) None c h k = absurd h
 Keeps-then (Some x) (Some y) None h k = absurd k
 Keeps-then (Some x) (Some y) (Some z) h k = k ∙ h
 
--- what holds in any case holds of an error
+-- a property that holds in any case holds of an error
 pub if_err_anyway : {T E : Type 0} (r : Result T E) (P : Type 0) → P → IfErr r (λ _. P)
 if_err_anyway (Ok x) P h = tt
 if_err_anyway (Err e) P h = h

@@ -49,7 +49,7 @@ whole_to : (xs ys : List ℕ) → has_feed ys ≡ false → whole_lines (xs ++ 1
 whole_to [] ys h = ap (λ z. 10 ∷ z) (none_whole ys h)
 whole_to (x ∷ xs) ys h = let in_it : has_feed (x ∷ xs ++ 10 ∷ ys) ≡ true = feed_in (x ∷ xs) ys in rw in_it (ap (λ z. x ∷ z) (whole_to xs ys h))
 
--- Of some bytes a prefix of whole lines is used, and these are left: the statements of the front are k, and no quit.
+-- A prefix of some bytes, of whole lines, is used, and the rest is left: the prefix has k statements, and no quit.
 pub record AreUsed (bytes left : List ℕ) (k : ℕ) : Type 0 where
   pub used : List ℕ
   pub joined : bytes ≡ used ++ left
@@ -105,11 +105,11 @@ line_feeds u ended last goes_on = ⊎_elim
     (λ (h : has_feed u ≡ false). absurd (false≢true (sym goes_on ∙ last h)))
     (cases_Bool (has_feed u))
 
--- the rest of known bytes is one
+-- the rest of known bytes is known
 same_rest : (known : Option (List ℕ)) (xs ys : List ℕ) → known ≡ Some xs → known ≡ Some ys → xs ≡ ys
 same_rest known xs ys e f = let both : ◌≡◌ {A = Option (List ℕ)} (Some xs) (Some ys) = sym e ∙ f in cc
 
--- what was taken is used, but for the beginning of a line
+-- the bytes that were taken are used, except for the beginning of a line
 pub AreUsed-done : {bytes : List ℕ} {k : ℕ} (u : List ℕ) (remaining : Option (List ℕ)) → AreUsed bytes u k → IsBegun u remaining → (taken rest : List ℕ) → remaining ≡ Some rest → bytes ≡ taken ++ rest → k ≡ length (statements (whole_lines taken))
 AreUsed-done {bytes} {k} u remaining a begun taken rest known split =
     let same : begun.rest ≡ rest = same_rest remaining begun.rest rest begun.left known in

@@ -1,4 +1,4 @@
--- What a session answers to a statement, and how it writes that.
+-- The answers of a session to a statement, and their texts.
 use Rattle.std.specs.List.{flat_map}
 use Rattle.std.specs.Prelude.{◌≡◌, ℕ, Bool, true, false, List, [], ◌∷◌, ◌++◌, ◌⊎◌, Result, Ok, Err, codes, slice_get}
 use Rattle.crack_row.specs.Ranges.{Range}
@@ -23,7 +23,7 @@ use Rattle.crack_session.specs.Queries.{asking, joined, listed}
 use Rattle.crack_core.specs.Routes.{keys_of_part, route, parts_of}
 use Rattle.crack_core.specs.Steps.{Bounds, IsOutcomeAt, IsLayoutOutcome, IsFoldOutcome, tables_after, tables_folded}
 
--- what is answered if there is an outcome, or why there is none
+-- the answer if there is an outcome, or why there is none
 abbrev pub told : {X : Type 0} → (X → Answer) → Result X Refusal → Answer
 told answer (Ok x) = answer x
 told answer (Err e) = Refused e
@@ -88,7 +88,7 @@ IsAnswerTo bounds splits tables (Checkpoint part) answer new = IsFolded tables p
 IsAnswerTo bounds splits tables (Policy policy) answer new = (answer ≡ Set policy) × (new ≡ tables)
 IsAnswerTo bounds splits tables Quit answer new = (answer ≡ Bye) × (new ≡ tables)
 
--- an answer to what a line is read as, and the partitions afterwards
+-- an answer to the reading of a line, and the partitions afterwards
 abbrev pub IsAnswer : Bounds → List Bound → List PlainView → Reading → Answer → List PlainView → Type 0
 IsAnswer bounds splits tables (Err e) answer new = (answer ≡ Refused e) × (new ≡ tables)
 IsAnswer bounds splits tables (Ok statement) answer new = IsAnswerTo bounds splits tables statement answer new

@@ -1,4 +1,4 @@
--- The calls that a desk is asked, and what is made of their outcomes: a session's answers, whatever is known of the rows.
+-- The calls of a desk, and the answers that a session makes of their outcomes, whatever is known of the rows.
 use Rattle.std.specs.Prelude.{◌≡◌, ℕ, List, [], ◌∷◌, ◌++◌, ◌⊎◌, length, Option, Result, Ok, Err}
 use Rattle.crack_row.specs.Ranges.{Range}
 use Rattle.crack_row.specs.declared.Bound.{Bound}
@@ -21,7 +21,7 @@ use Rattle.crack_session.specs.declared.query.Query.TheVariants.{Count as AsksCo
 use Rattle.crack_session.specs.Queries.{asking, joined}
 use Rattle.crack_session.specs.Answers.{told}
 
--- a call of a desk, and its outcome: a partition was asked a command by a policy, it was to make a checkpoint, or its layout was asked for
+-- a call of a desk, and its outcome: a partition was asked a command by a policy, was told to make a checkpoint, or was asked for its layout
 pub data Call : Type 0 where
   Asked : ℕ → Command → MergePolicy → Result Reply Refusal → Call
   Checkpointed : ℕ → Result ℕ Refusal → Call
@@ -49,12 +49,13 @@ pub data AreAskedInTurn (policy : MergePolicy) (query : Query) : List (ℕ × Ra
       → AreAskedInTurn policy query parts (Ok said) calls
       → AreAskedInTurn policy query (parts ++ part ∷ rest) (Err e) (calls ++ Asked part.0 (asking query part.1) policy (Err e) ∷ [])
 
--- several partitions are asked in turn, and their replies are joined; or none of them, if no memory is found for their replies
+-- several partitions are asked in turn, and their replies are joined
 pub record IsJoinedFrom (policy : MergePolicy) (query : Query) (parts : List (ℕ × Range)) (answer : Answer) (calls : List Call) : Type 0 where
   pub outcome : Result (List PartReply) Refusal
   pub asked : AreAskedInTurn policy query parts outcome calls
   pub answer_is : answer ≡ told (joined query) outcome
 
+-- the same, or none of them is asked, if no memory is found for their replies
 abbrev pub AreSeveralAsked : MergePolicy → Query → List (ℕ × Range) → Answer → List Call → Type 0
 AreSeveralAsked policy query parts answer calls = IsJoinedFrom policy query parts answer calls ⊎ ((answer ≡ Refused OutOfMemory) × (calls ≡ []))
 
@@ -77,7 +78,7 @@ IsMadeOf splits policy (Checkpoint part) answer calls = (outcome : Result ℕ Re
 IsMadeOf splits policy (Policy other) answer calls = (answer ≡ Set other) × (calls ≡ [])
 IsMadeOf splits policy Quit answer calls = (answer ≡ Bye) × (calls ≡ [])
 
--- the same for what a line is read as
+-- the same for the reading of a line
 abbrev pub IsReadingMadeOf : List Bound → MergePolicy → Reading → Answer → List Call → Type 0
 IsReadingMadeOf splits policy (Err e) answer calls = (answer ≡ Refused e) × (calls ≡ [])
 IsReadingMadeOf splits policy (Ok statement) answer calls = IsMadeOf splits policy statement answer calls

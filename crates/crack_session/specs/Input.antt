@@ -22,8 +22,8 @@ after_line (b ∷ bs) = if b == 10 then bs else after_line bs
 abbrev pub kept_of : List ℕ → List ℕ
 kept_of line = take KEPT_BYTES line
 
--- the line that was found last, or as much of the next one as is read; whether what isn't used yet is
--- right after it; what is read and not yet used; how many more reads there may be; whether a read brought nothing
+-- the line that was found last, or as much of the next one as is read; whether the bytes not yet used are right after it; the bytes that are read and
+-- not yet used; how many more reads there may be; whether a read returned nothing
 pub record Input : Type 0 where
   pub line : List ℕ
   pub joined : Bool
@@ -49,13 +49,13 @@ IsPaid old new remaining remaining' = new.ended ≡ false → (old.ended ≡ fal
 abbrev pub left_of : Input → ℕ
 left_of input = (READ_BYTES + 1) * input.reads + length input.unread
 
--- From these bytes on, there was no line, or this was the next one, as far as lines are kept; then what is ahead is new.
+-- From these bytes on, there was no line, or this was the next one, as far as lines are kept; the bytes ahead afterwards are these.
 abbrev pub IsNextLine : List ℕ → Bool → List ℕ → Option (List ℕ) → Type 0
 IsNextLine bytes false line new = bytes ≡ []
 IsNextLine bytes true line new = (0 < length bytes) × (kept_of line ≡ kept_of (first_line bytes))
     × (new ≡ Some (after_line bytes))
 
--- From these bytes on, what was taken is the beginning of a line: it has no line feed.
+-- From these bytes on, the bytes that were taken are the beginning of a line, which has no line feed.
 pub record IsBegun (bytes : List ℕ) (remaining : Option (List ℕ)) : Type 0 where
   pub front : List ℕ
   pub rest : List ℕ

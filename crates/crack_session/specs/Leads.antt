@@ -1,4 +1,4 @@
--- What calls of a core and of a plain table lead to.
+-- The effects of calls of a core and of a plain table.
 use Rattle.std.specs.Prelude.{◌≡◌, ℕ, [], ◌∷◌, List, OnOk, OnErr, slice_get}
 use Rattle.crack_row.specs.declared.Bound.{Bound}
 use Rattle.crack_row.specs.declared.command.Command.{Command}
@@ -19,11 +19,11 @@ rows_lead bounds splits old (Asked part command policy outcome) new = IsOutcomeA
 rows_lead bounds splits old (Checkpointed part outcome) new = IsFoldOutcome (slice_get old part) outcome × (new ≡ tables_folded old part outcome)
 rows_lead bounds splits old (Looked part outcome) new = IsLayoutOutcome (keys_of_part splits part) (slice_get old part) outcome × (new ≡ old)
 
--- what a call does to the stores of a core's partitions: the one that is asked is served or spared by the policy
+-- what a call does to the stores of a core's partitions: that of the partition that is asked changes by the policy, or doesn't change
 abbrev pub stores_lead : List Part → Call → List Part → Type 0
 stores_lead old (Asked part command policy outcome) new = OnOk outcome (AtPart part (λ p q. Serves policy p command q.store) old new) × OnErr outcome (AtPart part (λ p q. Spares policy p command q.store) old new)
 stores_lead old call new = Unit {0}
 
--- what a call of a core leads to
+-- the effect of a call of a core
 abbrev pub core_leads : CoreState → Call → CoreState → Type 0
 core_leads old call new = rows_lead (bounds_of old.limits) old.splits (tables_of old.parts) call (tables_of new.parts) × stores_lead old.parts call new.parts

@@ -1,4 +1,4 @@
--- A question about a range, and what several partitions reply together.
+-- A question about a range, and the joint reply of several partitions.
 use Rattle.std.specs.Prelude.{ℕ, ℤ, pos, List, [], length, sum_by}
 use Rattle.crack_row.specs.Rows.{total_by}
 use Rattle.crack_row.specs.Ranges.{Range}
@@ -13,7 +13,7 @@ use Rattle.crack_session.specs.declared.query.PartReply.{PartReply}
 use Rattle.crack_session.specs.declared.query.Query.{Query}
 use Rattle.crack_session.specs.declared.query.Query.TheVariants.{Count, Sum, Select}
 
--- the command that asks it of a range
+-- the command that asks this of a range
 abbrev pub asking : Query → Range → Command
 asking Count range = AskCount range
 asking Sum range = AskSum range
@@ -30,12 +30,12 @@ abbrev pub summed : Reply → ℤ
 summed (TellsSum sum) = sum
 summed _ = pos 0
 
--- the rows that a reply lists
+-- the rows that one of several replies lists
 abbrev pub listed : Reply → List Row
 listed (TellsRows rows) = rows
 listed _ = []
 
--- what several partitions reply together: counts and sums are added, and rows are listed one partition after another
+-- the joint reply of several partitions: counts and sums are added, and rows are listed one partition after another
 abbrev pub joined : Query → List PartReply → Answer
 joined Count replies = Counted (sum_by (λ (r : PartReply). counted r.reply) replies)
 joined Sum replies = Summed (total_by (λ (r : PartReply). summed r.reply) replies)

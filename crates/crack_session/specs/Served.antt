@@ -1,4 +1,4 @@
--- What `serve` leaves.
+-- The result of `serve`.
 use Rattle.std.specs.Prelude.{◌≡◌, ℕ, ◌+◌, ◌<◌, ◌≤◌, List, [], ◌∷◌, ◌++◌, length, take, map, Option, Some, ◌⊎◌}
 use Rattle.std.specs.List.{concat}
 use Rattle.crack_row.specs.declared.Bound.{Bound}
@@ -33,7 +33,7 @@ pub record CountsStatements (bytes : List ℕ) (end : End) : Type 0 where
   pub statements_are : end.statements ≡ length (statements bytes)
   pub how_is : end.how ≡ ending (statements bytes)
 
--- on a fault this many of them are done; if it is the reader's, those in the whole lines of the bytes that were taken, and no others
+-- on a fault this many of them are done; on one of the reader, exactly those in the whole lines of the bytes that were taken
 pub record IsDone (bytes : List ℕ) (fault : Fault) (remaining : Option (List ℕ)) : Type 0 where
   pub within : fault.done ≤ length (statements bytes)
   pub whole : fault.refusal ≡ ReadFault → (taken rest : List ℕ) → remaining ≡ Some rest → bytes ≡ taken ++ rest →
@@ -50,7 +50,7 @@ pub record IsCutWithin (bounds : Bounds) (splits : List Bound) (tables : List Pl
   pub cut : count < length text
   pub written_is : written ≡ Some (out ++ (concat texts ++ take count text))
 
--- on a fault the statements that are done are answered, and nothing follows their texts, or a prefix of one more
+-- on a fault the statements that are done are answered, and their texts are followed by nothing or by a prefix of one more
 abbrev pub IsCutOff : Bounds → List Bound → List PlainView → List ℕ → List ℕ → Fault → Option (List PlainView) → Option (List ℕ) → Type 0
 IsCutOff bounds splits tables bytes out fault left written = AreTold bounds splits tables (take fault.done (statements bytes)) out fault.first_short left written
     ⊎ IsCutWithin bounds splits tables bytes out fault left written

@@ -21,8 +21,8 @@ use Rattle.crack_session.specs.Answers.{IsJoined, IsAnswer, is_short_answer, ans
 use Rattle.crack_session.specs.Calls.{Call, Calls, IsReadingMadeOf, policy_after}
 use Rattle.crack_core.specs.Steps.{Bounds}
 
--- A desk is asked: its tables, if they are known, change as they may by its bounds and splits, and these stay; and such calls lead from one
--- state to the other.
+-- A desk is asked: its tables, if they are known, change as its bounds and splits allow, and these stay; and such calls lead from one state to the
+-- other.
 pub record AsksDesk {D : Type 0} (bounds : D → Bounds) (splits : D → List Bound) (tables : D → Option (List PlainView)) (leads : D → Call → D → Type 0) (IsChange : Bounds → List Bound → List PlainView → List PlainView → Type 0) (AreSuch : List Bound → List Call → Type 0) (old new : D) : Type 0 where
   pub is : (known : List PlainView) → tables old ≡ Some known → (next : List PlainView) × IsChange (bounds old) (splits old) known next × (tables new ≡ Some next)
   pub bounds_are : bounds new ≡ bounds old

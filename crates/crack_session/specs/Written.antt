@@ -1,4 +1,4 @@
--- What `serve` writes, whatever is known of the rows.
+-- The output of `serve`, whatever is known of the rows.
 use Rattle.std.specs.Prelude.{◌≡◌, ℕ, ◌+◌, ◌<◌, List, [], ◌∷◌, ◌++◌, length, take, map, Option, Some, ◌⊎◌}
 use Rattle.std.specs.List.{concat}
 use Rattle.crack_row.specs.declared.refusal.Refusal.TheVariants.{WriteFault}
@@ -30,7 +30,8 @@ pub record IsLastCut (Are : List Reading → List Answer → Type 0) (bytes out 
   pub cut : count < length (answer_text last)
   pub written_is : written ≡ Some (out ++ (concat (map answer_text answers) ++ take count (answer_text last)))
 
--- on a fault the statements that are done are answered, and nothing follows their texts, or a prefix of one more
+-- on a fault the statements that are done are answered, and their texts are followed by nothing or by a prefix of one more, whatever is known of the
+-- rows
 abbrev pub AreWrittenThen : (List Reading → List Answer → Type 0) → List ℕ → List ℕ → Fault → Option (List ℕ) → Type 0
 AreWrittenThen Are bytes out fault written = AreWritten Are (take fault.done (statements bytes)) out fault.first_short written
     ⊎ IsLastCut Are bytes out fault written

@@ -39,11 +39,11 @@ pub enum Answer {
     Laid { part: u32, layout: Layout },
     /// This many commands of a partition were checkpointed.
     Folded(u64),
-    /// The session's policy from now on.
+    /// The session has this policy from now on.
     Set(Policy),
     /// The line or its command was refused.
     Refused(Refusal),
-    /// The session ends.
+    /// The session is over.
     Bye,
 }
 
@@ -112,7 +112,7 @@ fn write_list<W: Write>(list: &PartReply, writer: &mut Watched<W>) -> Result<(),
     write_each_row(list.part, list.rows(), writer)
 }
 
-/// Answers what a line says.
+/// Answers the reading of a line.
 pub fn answer_reading<D: Desk>(
     alloc: Global,
     desk: &mut D,

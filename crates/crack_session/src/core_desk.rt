@@ -29,7 +29,7 @@ impl Desk for Core {
 
     #[inline(always)]
     fn ask(&mut self, part: u32, command: Command, policy: Policy) -> Result<Reply, Refusal>
-        // It is one step of worker 0, whose entry the partition keeps.
+        // The call is one step of worker 0, whose entry the partition keeps.
         ensures kept { KeepsJobs self.old.limits (pasts_of self.old.parts) (Perform (record {
           worker = 0;
           part = part;
@@ -57,7 +57,7 @@ impl Desk for Core {
     fn checkpoint(&mut self, part: u32) -> Result<u64, Refusal>
         ensures outcome { IsFoldOutcome (slice_get (tables_of self.old.parts) part) result }
         ensures after { tables_of self.new.parts ≡ tables_folded (tables_of self.old.parts) part result }
-        // A checkpoint of the named partition is made, and nothing else is changed.
+        // The named partition makes a checkpoint, and nothing else changes.
         ensures folds { OnOk result (FoldsAt part self.old.parts self.new.parts) }
         ensures opened { (self.new.splits ≡ self.old.splits) × (self.new.limits ≡ self.old.limits) }
         ensures accepted { accepted_by self.new.parts ≡ accepted_by self.old.parts }

@@ -1,4 +1,4 @@
-//! What answers commands.
+//! Desks, which answer commands.
 ghost use Rattle.std.specs.Prelude.{◌≡◌, ℕ, ◌+◌, List, length, All, is_ok, Some, IfOk, slice_get, if◌then◌else◌};
 ghost use Rattle.crack_plain.specs.Plain.{PlainView, IsNumbered, IsSmall};
 ghost use Rattle.crack_core.specs.Routes.{AreSplits, keys_of_part};
@@ -28,7 +28,7 @@ pub trait Desk {
     /// How many commands were accepted through this desk.
     ghost receipts: { Self → ℕ };
 
-    /// What a call, and its outcome, leads to: from one state to another.
+    /// The effect of a call with this outcome, from one state to another.
     ghost leads: { Self → Call → Self → Type 0 };
 
     /// Asks one partition. Refused, with the rows and histories as they were, with 5 if there is no such partition,
@@ -36,7 +36,8 @@ pub trait Desk {
     /// checkpoint is due, with 10 if it accepts no more commands, with 9 if no cell is free for a row, upkeep
     /// frees none and it has as many as it may have, and with 8 if it finds no memory.
     fn ask(&mut self, part: u32, command: Command, policy: Policy) -> Result<Reply, Refusal>
-        // It is the reply of the plain rows, or the refusal that they require; in place of a reply it may be 8, or 9.
+        // The outcome is the reply of the plain rows, or the refusal that they require; in place of a reply it may be
+        // 8, or 9.
         ensures outcome { (known : List PlainView) → tables self.old ≡ Some known →
             IsOutcomeAt (bounds self.old) (splits self.old) known part command result }
         // The plain rows change as the reply says, and a refusal leaves them.
@@ -51,8 +52,8 @@ pub trait Desk {
         ensures leads { leads self.old (Asked part command policy result) self.new };
 
     /// Makes a checkpoint of one partition, and returns how many commands it accepted since the last one: its rows are
-    /// kept as they are, and its commands aren't. It isn't kept itself. Refused with 5 if there is no such
-    /// partition, and with 8 if no memory is found; then nothing has changed.
+    /// kept as they are, and its commands aren't. The checkpoint itself isn't kept in the history. Refused with 5 if
+    /// there is no such partition, and with 8 if no memory is found; then nothing has changed.
     fn checkpoint(&mut self, part: u32) -> Result<u64, Refusal>
         ensures outcome { (known : List PlainView) → tables self.old ≡ Some known →
             IsFoldOutcome (slice_get known part) result }

@@ -27,8 +27,7 @@ const KEPT_BYTES: usize = 202;
 /// Room for the bytes of a read, and before them for a line that begins earlier.
 const ROOM_BYTES: usize = KEPT_BYTES + READ_BYTES;
 
-/// What was read; its front is the line that was found last, and its back isn't used yet.
-/// Takes no memory.
+/// The bytes that were read; the front is the line that was found last, and the back isn't used yet. Takes no memory.
 #[derive(Drop)]
 pub struct LineReader {
     bytes: [u8; ROOM_BYTES],
@@ -135,7 +134,7 @@ impl LineReader {
         }
     }
 
-    /// Adds to the line what is read up to a line feed, or all of it, and returns whether there was one.
+    /// Adds to the line the bytes up to a line feed, or all of them, and returns whether there was one.
     fn take_line(&mut self) -> bool
         requires { self.old.joined ≡ true }
         ensures found { result ≡ has_feed self.old.unread }
@@ -157,7 +156,7 @@ impl LineReader {
         }
     }
 
-    /// Reads more, if nothing is left to use; a read that brings nothing ends the input.
+    /// Reads more, if all bytes are used; a read that returns nothing ends the input.
     fn refill<R: Read>(&mut self, reader: &mut Watched<R>) -> Result<(), Refusal>
         requires line { (self.old.joined ≡ true) × (self.old.unread ≡ []) }
         requires goes_on { self.old.ended ≡ false }
@@ -228,7 +227,7 @@ pub fn next_line<R: Read, W: Write>(
     ensures begun { IfErr result (λ _. (u : List ℕ) →
         ahead input.old (R.remaining (device reader.old)) ≡ Some u →
         IsBegun u (R.remaining (device reader.new))) }
-    // A read failed, or no more may be made.
+    // A read failed, or no more reads are allowed.
     ensures err { IfErr result (λ e. ((e ≡ Refusal.WriteFault) × (has_failed writer.new ≡ true))
         ⊎ ((e ≡ Refusal.ReadFault)
         × ((has_failed reader.new ≡ true) ⊎ ((input.new.reads ≡ 0) × (input.new.ended ≡ false)

@@ -1,4 +1,4 @@
-//! What a line is read as.
+//! The reading of a line.
 ghost use Rattle.std.specs.Prelude.{◌≡◌, ◌==◌};
 ghost use Rattle.std.specs.List.{list_all};
 ghost use Rattle.crack_session.specs.Lines.{without_return};
@@ -25,7 +25,7 @@ pub fn read_line(line: &[u8]) -> Option<Result<Statement, Refusal>>
     Some(parse_statement(line))
 }
 
-/// Whether a line says that the session ends.
+/// Whether a line ends the session.
 #[inline(always)]
 pub fn says_quit(reading: &Result<Statement, Refusal>) -> bool
     ensures { result ≡ is_quit reading.now }

@@ -1,4 +1,4 @@
-//! Output is flushed.
+//! Flushing output.
 ghost use Rattle.std.specs.Prelude.{◌≡◌, true, IfErr, OnOk};
 ghost use Rattle.std.specs.Io.KnownBytes.{Keeps};
 ghost use Rattle.crack_row.specs.Devices.{device, has_failed};

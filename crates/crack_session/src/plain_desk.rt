@@ -1,4 +1,4 @@
-//! A plain table as a desk: partition 0, and no other.
+//! A plain table as a desk with one partition, 0.
 
 use crate::desk::Desk;
 use crack_plain::PlainTable;
@@ -24,7 +24,7 @@ impl Desk for PlainTable {
         if part != 0 {
             return Err(Refusal::NoSuchPartition);
         }
-        // A count is at most the number of rows, and that at most the number of accepted commands.
+        // A count is at most the number of rows, which is at most the number of accepted commands.
         let _rows = self.rows();
         let _accepted = self.accepted();
         self.apply(&command)

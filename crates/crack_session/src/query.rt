@@ -1,4 +1,4 @@
-//! Questions about a range, and what several partitions reply to them.
+//! Questions about a range, and the replies of several partitions to them.
 ghost use Rattle.std.specs.Prelude.{◌≡◌, ◌<◌, ◌≤◌, ◌^◌, List, All, length, sum_by, vec_len, vec_capacity};
 ghost use Rattle.crack_plain.specs.Plain.{IsSmall};
 ghost use Rattle.crack_session.specs.Queries.{asking, counted, summed, listed, joined};
@@ -29,7 +29,7 @@ impl Query {
     }
 }
 
-/// What one of several partitions replied.
+/// The reply of one of several partitions.
 #[derive(Drop, Debug)]
 pub struct PartReply {
     pub part: u32,
@@ -69,7 +69,7 @@ impl PartReply {
     }
 }
 
-/// What several partitions replied, in the order in which they were asked. Contracts see a list.
+/// The replies of several partitions, in the order in which they were asked. Contracts see a list.
 #[derive(Drop, Debug)]
 pub struct ReplyList {
     replies: Vec<PartReply>,
@@ -100,7 +100,7 @@ impl ReplyList {
     }
 }
 
-/// What replies say together: counts and sums are added, and rows are listed one partition after another.
+/// The joint answer of replies: counts and sums are added, and rows are listed one partition after another.
 pub fn joined(query: Query, replies: Vec<PartReply>) -> Answer
     requires small { All (λ (r : PartReply). IsSmall r.reply) replies.items }
     requires few { length replies.items ≤ 64 }

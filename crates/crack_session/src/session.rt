@@ -45,7 +45,7 @@ pub struct End {
 pub struct Fault {
     /// 17 or 18.
     pub refusal: Refusal,
-    /// How many statements were answered by a text that was written whole.
+    /// How many statements were answered with a text that was written whole.
     pub done: u64,
     /// The number, from 1, of the first statement that was refused for lack of room (6, 8, 9 or 10).
     pub first_short: Option<u64>,
@@ -139,7 +139,7 @@ fn respond_to_any<D: Desk, W: Write>(
     tell(&answer, progress, writer)
 }
 
-/// The key and the payload of the row that an insert has; none if the line says anything else.
+/// The key and the payload of the row that an insert has; none if it is any other line.
 #[inline(always)]
 fn inserted(reading: &Result<Statement, Refusal>) -> Option<(Key, Payload)>
     ensures { IfSome result (λ row. reading.now ≡ Ok (Statement.Insert row.0 row.1)) }
@@ -153,8 +153,8 @@ fn inserted(reading: &Result<Statement, Refusal>) -> Option<(Key, Payload)>
     }
 }
 
-/// Answers an insert, and writes the text. It asks in place, by a command that is known to be an insert, and its reply
-/// isn't an `Answer` before it is written.
+/// Answers an insert, and writes the text. The desk is asked in place, with a command that is known to be an insert,
+/// and the reply is written without becoming an `Answer`.
 #[inline(always)]
 fn respond_to_insert<D: Desk, W: Write>(
     desk: &mut D,
@@ -174,7 +174,7 @@ fn respond_to_insert<D: Desk, W: Write>(
     }
 }
 
-/// Writes the text of a reply, and counts it. It isn't a lack of room, and sets no policy.
+/// Writes the text of a reply, which is no lack of room and sets no policy, and counts it.
 #[inline(always)]
 #[tactic(auto, unfolding(crate::specs::Answers::answer_text))]
 fn tell_reply<W: Write>(
@@ -195,7 +195,7 @@ fn tell_reply<W: Write>(
     }
 }
 
-/// Writes a refusal. It is a separate function, so that no room for an answer is cleared where a reply is written.
+/// Writes a refusal. It is a separate function, so that no room for an answer is cleared when a reply is written.
 #[inline(never)]
 fn tell_refusal<W: Write>(
     refusal: Refusal,
@@ -269,16 +269,16 @@ pub fn serve<D: Desk, R: Read, W: Write>(
     // However the session went, its statements are counted and its end is returned.
     ensures counted { IfOk result (λ end. (bytes : List ℕ) → R.remaining (device reader.old) ≡ Some bytes →
         CountsStatements bytes end) }
-    // What is answered and written, and the desk afterwards.
+    // The answers, the output, and the desk afterwards.
     ensures served { IfOk result (λ end. (bytes out : List ℕ) (tables : List PlainView) →
         R.remaining (device reader.old) ≡ Some bytes → W.contents (device writer.old) ≡ Some out →
         D.tables desk.old ≡ Some tables →
         AreTold (D.bounds desk.old) (D.splits desk.old) tables (statements bytes) out end.first_short
         (D.tables desk.new) (W.contents (device writer.new))) }
-    // How many statements are done if the session was cut off.
+    // The number of statements done if the session was cut off.
     ensures done { IfErr result (λ fault. (bytes : List ℕ) → R.remaining (device reader.old) ≡ Some bytes →
         IsDone bytes fault (R.remaining (device reader.new))) }
-    // And what is answered and written then.
+    // The answers and the output then.
     ensures cut_off { IfErr result (λ fault. (bytes out : List ℕ) (tables : List PlainView) →
         R.remaining (device reader.old) ≡ Some bytes → W.contents (device writer.old) ≡ Some out →
         D.tables desk.old ≡ Some tables →
@@ -295,8 +295,8 @@ pub fn serve<D: Desk, R: Read, W: Write>(
         Some bytes → W.contents (device writer.old) ≡ Some out →
         AreWrittenThen (AreAnswersOf D.leads (D.splits desk.old) policy desk.old desk.new) bytes out fault
         (W.contents (device writer.new))) }
-    // In any case the desk's bounds and splits are as they were, so another session, or an export, over it continues
-    // from there.
+    // In any case the desk's bounds and splits are unchanged, so another session, or an export, over it continues from
+    // there.
     ensures splits { D.splits desk.new ≡ D.splits desk.old }
     ensures bounds { D.bounds desk.new ≡ D.bounds desk.old }
     // If it isn't cut off, no device has failed.

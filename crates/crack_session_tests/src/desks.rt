@@ -1,11 +1,11 @@
-//! Desks that refuse. The desk beside which they are held is the plain table, which `crack_session` has as one.
+//! Desks that refuse. They are compared with the plain table, which is a desk in `crack_session`.
 ghost use Rattle.std.specs.Prelude.{◌≡◌};
 
 use crack_plain::PlainTable;
 use crack_row::{Bound, Command, Layout, Policy, Refusal, Reply};
 use crack_session::Desk;
 
-/// A plain table that finds no memory for one of the commands that it is asked.
+/// A plain table that finds no memory for one of its commands.
 #[derive(Drop)]
 pub struct Starved {
     table: PlainTable,

@@ -22,7 +22,7 @@ static LINES: [&[u8]; 10] = [
     b"sum 0 10\n",
 ];
 
-/// What they are answered.
+/// Their answers.
 static REPLIES: [&[u8]; 10] = [
     b"row 0.0\n",
     b"row 0.1\n",
@@ -59,7 +59,7 @@ fn whole_parts(parts: &[&[u8]], bytes: usize) -> (u64, usize) {
     (count, bytes.saturating_sub(left))
 }
 
-/// What is seen of a session.
+/// The observed result of a session.
 #[derive(Drop)]
 struct Seen {
     result: Result<End, Fault>,
@@ -102,8 +102,8 @@ fn assert_whole(rt: &impl Abort, seen: &Seen, replies: &[u8]) {
     assert_eq!(rt; seen.result, Ok(ends(How::InputEnded, 10)));
 }
 
-/// Asserts that as many statements are done as are answered whole, and that what is written is a prefix of all replies;
-/// says how many bytes the whole ones are.
+/// Asserts that as many statements are done as are answered whole, and that the output is a prefix of all replies;
+/// returns how many bytes the whole ones are.
 fn assert_cut_off(rt: &impl Abort, seen: &Seen, refusal: Refusal, replies: &[u8]) -> usize {
     let written = seen.text.len();
     assert!(rt; replies.starts_with(seen.text.as_slice()));
@@ -117,7 +117,7 @@ fn assert_cut_off(rt: &impl Abort, seen: &Seen, refusal: Refusal, replies: &[u8]
     whole
 }
 
-/// Asserts that a reader which fails at its k-th read has the whole lines answered that it gave, and nothing else.
+/// Asserts that the whole lines from a reader which fails at its k-th read are answered, and nothing else.
 fn fail_read(
     rt: &impl Abort,
     alloc: Global,

@@ -1,9 +1,9 @@
-//! Devices that keep a log of what they are asked.
+//! Devices that log their calls.
 use std::cell::Cell;
 use std::io;
 use std::io::{Read, Write};
 
-/// What a reader and a writer were asked, in one log.
+/// The calls of a reader and a writer, in one log.
 #[derive(Drop)]
 pub struct Log {
     pub reads: Cell<u64>,
@@ -20,7 +20,7 @@ pub struct Log {
 }
 
 impl Log {
-    /// Nothing was asked yet.
+    /// No call yet.
     pub fn new() -> Log {
         Log {
             reads: Cell::new(0),
@@ -67,7 +67,7 @@ fn count_feeds(bytes: &[u8]) -> usize {
     bytes.iter().filter(|b| **b == b'\n').count()
 }
 
-/// A device that notes in a log what it is asked.
+/// A device that notes its calls in a log.
 #[derive(Drop)]
 pub struct Logged<'a, D> {
     pub device: D,

@@ -1,4 +1,4 @@
-//! Sessions that find no memory for a statement: what was refused changed nothing.
+//! Sessions that find no memory for a statement: a refused statement changes nothing.
 //!
 //! The tests `sweep_..` hold whichever one of their allocations is refused, so they may be run with each of them
 //! refused in turn.
@@ -15,7 +15,7 @@ use std::io::Write;
 use std::process::Abort;
 use std::test::Fail;
 
-/// Statements that ask for one command each: rows come, change, go and are read, with more that are pending in between.
+/// Statements of one command each: rows are inserted, changed, deleted and read, with pending rows in between.
 static LINES: [&[u8]; 17] = [
     b"insert 10 10\n",
     b"insert 20 20\n",
@@ -48,7 +48,7 @@ fn answer<D: Desk, W: Write>(
     assert!(rt; session(alloc, desk, &mut reader, writer).is_ok());
 }
 
-/// What a plain table replies that never hears the line at one place, with a refusal there.
+/// The replies of a plain table that skips the line at one place, with a refusal there.
 fn replies_without(rt: &impl Abort, alloc: Global, place: u64) -> Vec<u8> {
     let mut plain = PlainTable::new(alloc);
     let mut refusing = Refusing {
@@ -68,7 +68,7 @@ fn replies_without(rt: &impl Abort, alloc: Global, place: u64) -> Vec<u8> {
     writer.into_inner()
 }
 
-/// A desk that finds no memory once, at whichever command, answers from then on as if that had never been asked.
+/// A desk that finds no memory for one command answers from then on as if that command had never been asked.
 #[test]
 fn a_want_of_memory_stops_nothing(rt: HostRuntime) -> Result<(), Fail> {
     let alloc: Global = rt.alloc();
@@ -87,7 +87,7 @@ fn a_want_of_memory_stops_nothing(rt: HostRuntime) -> Result<(), Fail> {
     Ok(())
 }
 
-/// What a desk is answered to one line by a policy, and whether that is a lack of room. Room for the text is found at
+/// The answer of a desk to one line by a policy, and whether it is a lack of room. Room for the text is found at
 /// the second time.
 fn told<D: Desk>(
     rt: &impl Abort,
@@ -120,7 +120,7 @@ fn assert_layout(rt: &impl Abort, layout: &Layout) {
     assert_eq!(rt; layout.rows.saturating_add(layout.pending_out), placed);
 }
 
-/// Has one line answered by a core, and by a plain table if the core finds memory for it; says whether it didn't.
+/// Has one line answered by a core, and by a plain table if the core finds memory for it; returns whether it didn't.
 fn answer_beside(
     rt: &impl Abort,
     alloc: Global,
@@ -144,7 +144,7 @@ fn answer_beside(
     false
 }
 
-/// Has all lines answered by a fresh core, where one is opened, of which at most one is refused.
+/// Has all lines answered by a fresh core, if one is opened; at most one line is refused.
 fn answer_all(rt: &impl Abort, alloc: Global, policy: Policy) {
     let Ok(mut core) = Core::open(alloc, &[], GREATEST_LIMIT) else {
         return;

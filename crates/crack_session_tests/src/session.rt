@@ -13,7 +13,7 @@ use std::io::{Read, Write};
 use std::process::Abort;
 use std::test::Fail;
 
-/// How a session ends. It promises nothing, so that no test carries all that `serve` promises.
+/// How a session ends. It promises nothing, so that no test carries the contract of `serve`.
 pub fn session<D: Desk, R: Read, W: Write>(
     alloc: Global,
     desk: &mut D,
@@ -23,7 +23,7 @@ pub fn session<D: Desk, R: Read, W: Write>(
     serve(alloc, desk, Policy::Complete, reader, writer)
 }
 
-/// A session that writes to memory, which is to end: how, and what it wrote.
+/// A session that writes to memory: how it ended, and its output.
 fn run<D: Desk + Drop, R: Read + Drop>(
     alloc: Global,
     mut desk: D,
@@ -76,7 +76,7 @@ pub fn assert_run<D: Desk + Drop>(
     assert_told(rt, alloc, desk, input, replies, end)
 }
 
-/// The same where the reader gives a byte at a time.
+/// The same if the reader returns a byte at a time.
 fn assert_dripped<D: Desk + Drop>(
     rt: &impl Abort,
     alloc: Global,
@@ -210,7 +210,7 @@ fn a_full_history_is_told(rt: HostRuntime) -> Result<(), Fail> {
     )
 }
 
-/// What follows a lack of room is answered as usual.
+/// Statements after a lack of room are answered as usual.
 #[test]
 fn a_want_of_room_stops_nothing(rt: HostRuntime) -> Result<(), Fail> {
     assert_script(
@@ -298,7 +298,7 @@ const ROWS_IN_PIECES: &str =
 insert 90 1\ninsert 100 1\ninsert 110 1\ninsert 120 1\ninsert 130 1\ninsert 140 1\ninsert 150 1\ninsert 160 1\n\
 insert 170 1\ninsert 180 1\ninsert 190 1\ninsert 200 1\ninsert 210 1\ninsert 220 1\ncount 15 25\n";
 
-/// What these are answered.
+/// The answers to these.
 const ROWS_TOLD: &str =
     "row 0.0\nrow 0.1\nrow 0.2\nrow 0.3\nrow 0.4\nrow 0.5\nrow 0.6\nrow 0.7\nrow 0.8\nrow 0.9\nrow 0.10\n\
 row 0.11\nrow 0.12\nrow 0.13\nrow 0.14\nrow 0.15\nrow 0.16\nrow 0.17\nrow 0.18\nrow 0.19\nrow 0.20\nrow 0.21\n\
@@ -385,12 +385,12 @@ fn refusals_are_printed_as_they_are_replied(rt: HostRuntime) -> Result<(), Fail>
     Ok(())
 }
 
-/// What a desk answers. It promises nothing, so that no test carries all that `ask` promises.
+/// The answer of a desk. It promises nothing, so that no test carries the contract of `ask`.
 fn ask<D: Desk>(desk: &mut D, part: u32, command: Command) -> Result<Reply, Refusal> {
     desk.ask(part, command, Policy::Complete)
 }
 
-/// A desk by itself: what it is asked, how many it accepted, and that there is one partition.
+/// A desk by itself: its commands, how many it accepted, and that there is one partition.
 fn ask_it<D: Desk>(rt: &impl Abort, desk: &mut D) -> Result<(), Fail> {
     let insert = Command::Insert {
         key: Key::from_number(7),

@@ -66,7 +66,7 @@ fn a_limit_is_reached_in_one_part_of_two(rt: HostRuntime) -> Result<(), Fail> {
     )
 }
 
-/// Ranges whose ends are splits or stand beside them, and empty ones.
+/// Ranges whose ends are splits or next to them, and empty ranges.
 #[test]
 fn ranges_end_at_splits_and_beside_them(rt: HostRuntime) -> Result<(), Fail> {
     assert_split(

@@ -66,7 +66,7 @@ fn log_it(rt: &impl Abort, alloc: Global, input: &[u8], most: usize, room: usize
     drop(desk);
 }
 
-/// What is written is flushed before each read and at the end, and so is buffered to at most a write for each read.
+/// Output is flushed before each read and at the end, and so is buffered to at most one write for each read.
 #[test]
 fn writes_are_as_few_as_reads(rt: HostRuntime) -> Result<(), Fail> {
     let input = insert_often(rt.alloc())?;
@@ -77,7 +77,7 @@ fn writes_are_as_few_as_reads(rt: HostRuntime) -> Result<(), Fail> {
     Ok(())
 }
 
-/// So it is where each two bytes get ten, if the writer keeps the replies to a whole read.
+/// The same if each two bytes get ten, and the writer keeps the replies to a whole read.
 #[test]
 fn short_lines_get_few_writes(rt: HostRuntime) -> Result<(), Fail> {
     let mut input = Vec::new(rt.alloc());
@@ -108,8 +108,8 @@ fn quit_it(rt: &impl Abort, alloc: Global, log: &Log) {
     assert!(rt; !reader.failed());
 }
 
-/// After `quit` nothing is read, and what is written is flushed: there is one read, with a flush before it and one
-/// at the end.
+/// After `quit` nothing is read, and the output is flushed: there is one read, with a flush before it and one at the
+/// end.
 #[test]
 fn quit_reads_no_more_and_hands_on(rt: HostRuntime) {
     let log = Log::new();

@@ -93,7 +93,7 @@ once_filled s r (m ∷ ns) is owned n =
     let free_is : times n s.free ≡ times n (m ∷ ns) = ap (times n) is in
     rw (length-set s.cells m c) (omega (arith, owned.once n, times-places n s.column s.pending_in s.free [], free_is, times-cons n m ns, times_one n m, times-nil n))
 
--- the cell that the next row gets has none now
+-- the cell that the next row gets has no row now
 pub vacant : (s : State) (free : List ℕ) → s.free ≡ free → AreEmpty s.cells s.free → (cell_at s.cells (handle_for s.cells free).slot).value ≡ None
 vacant s [] is empty = ap (λ (c : Cell Row). c.value) (get_or_past s.cells (length s.cells) empty_cell (omega arith))
 vacant s (n ∷ ns) is empty = All-head (λ m. (cell_at s.cells m).value ≡ None) n ns (rw is at empty)
@@ -117,7 +117,7 @@ handle_of-push (e ∷ es) serial h fresh p = elim (cases_eq serial e.0) [
       ]
 ]
 
--- a row comes: an empty cell gets it, and its serial leads there
+-- a row is admitted: an empty cell gets it, and its serial leads there
 pub IsKeyed-more : (cells after : List (Cell Row)) (doomed : List ℕ) (serials later : List (ℕ × Handle)) (h : Handle) (row : Row) → Filled cells after h row → times h.slot doomed ≡ 0 → (cell_at cells h.slot).value ≡ None → handle_of serials row.serial.0 ≡ None → Maps row.serial.0 (Some h) serials later → IsKeyed cells doomed serials → IsKeyed after doomed later
 IsKeyed-more cells after doomed serials later h row fill off empty fresh maps keyed = record {
   leads = λ p g found. elim (cases_eq row.serial.0 p) [
@@ -171,12 +171,12 @@ freed_of-admitted row s (n ∷ ns) is owned =
     let within = free_within s n (rw is (omega (arith, times_head n ns))) owned in
     omega (arith, sum_by-set (λ (c : Cell Row). c.generation) s.cells n (record { generation = (cell_at s.cells n).generation; value = Some row }) empty_cell within)
 
--- one more cell only where none was free
+-- one more cell only if none was free
 length_cells-admitted : (row : Row) (s : State) (free : List ℕ) → s.free ≡ free → length s.cells < 2 ^ 32 - 1 + length s.free → length s.cells < 2 ^ 32 → length (cells_with row s.cells free) < 2 ^ 32
 length_cells-admitted row s [] is room few = omega (arith, ap length is, length_push s.cells (record { generation = 0; value = Some row }))
 length_cells-admitted row s (n ∷ ns) is room few = omega (arith, length-set s.cells n (record { generation = (cell_at s.cells n).generation; value = Some row }))
 
--- the store that a new row leaves, whatever its map looks like
+-- the store after a new row, whatever its map looks like
 pub IsIntact-grown : (row : Row) (s t : State) → t ≡ record (admitted row s) { serials = t.serials; in_room = t.in_room } → Maps row.serial.0 (Some (next_handle s)) s.serials t.serials → IsAdmissible row s → IsIntact s [] → IsIntact t []
 IsIntact-grown row s t same maps may intact =
     let owned = intact.owned in

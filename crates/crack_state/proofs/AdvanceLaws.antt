@@ -1,4 +1,4 @@
--- What each carry and each pull of a merge keeps, and so any list of them.
+-- The invariant of each carry and each pull of a merge, and so of any list of them.
 use Rattle.std.proofs.Common.{◌≡◌, ℕ, ◌+◌, ◌<◌, ◌≤◌, List, [], ◌∷◌, length, get_or, None, refl, sym, ap, ◌∙◌, inl, inr, arith, ◌-◌, length-set}
 use Rattle.std.specs.Prelude.{nat_le}
 use Rattle.std.specs.List.{All, remove}
@@ -135,7 +135,7 @@ Advances-lifted_last policy s = record {
   pending_out = SomeOf-refl s.pending_out;
 }
 
--- what the steps of a pull keep, from the hand with which it begins: each brings the hand nearer to the column's front
+-- the invariant of the steps of a pull, from the hand with which it begins: each brings the hand nearer to the column's front
 pub record Draws (s : State) (c : Carried) : Type 0 where
   pub same : c.store ≡ record s { column = c.store.column; marks = c.store.marks; tally = record s.tally { pulled = c.store.tally.pulled } }
   pub bounds : bounds_of c.store.marks ≡ bounds_of s.marks

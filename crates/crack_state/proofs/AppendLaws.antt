@@ -1,4 +1,4 @@
--- If there is no bound, each pending insertion is appended: one after the other they leave what all at once do.
+-- If there is no bound, each pending insertion is appended: one after the other has the same result as all at once.
 use Rattle.std.proofs.Common.{◌≡◌, ℕ, ◌+◌, ◌-◌, ◌<◌, ◌≤◌, List, [], ◌∷◌, length, get_or, min, suc, refl, sym, ap, ◌∙◌, inl, inr, arith}
 use Rattle.std.proofs.Math.Nat.{min-eq_left, min-eq_right}
 use Rattle.std.proofs.lemmas.Bool.{cases_lt}

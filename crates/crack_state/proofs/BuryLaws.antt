@@ -72,7 +72,7 @@ pub freed_of-emptied : (cells : List (Cell Row)) (h : Handle) → h.slot < lengt
 freed_of-emptied cells h within reads =
     omega (arith, sum_by-set (λ (x : Cell Row). x.generation) cells h.slot (record { generation = h.generation + 1; value = None }) empty_cell within, generation_of_read cells h reads)
 
--- what a freed cell leaves, if the handle was in hand or a pending insertion, and is no longer doomed
+-- the store after a cell is freed, if the handle was in hand or a pending insertion, and is no longer doomed
 pub IsIntact-freed : (s t : State) (h : Handle) (hand : List Handle) → t ≡ record s { cells = emptied h s.cells; free = h.slot ∷ s.free; pending_in = t.pending_in; pending_out = t.pending_out; serials = t.serials; tally = t.tally } → Reads s.cells h → ((n : ℕ) → times n (slots t.pending_in) + times n (h.slot ∷ []) ≡ times n (slots s.pending_in) + times n (slots hand)) → times h.slot (slots t.pending_out) ≡ 0 → ((n : ℕ) → times n (slots t.pending_out) ≤ times n (slots s.column)) → All (Reads s.cells) t.pending_in → All (Reads s.cells) t.pending_out → IsKeyed (emptied h s.cells) (slots t.pending_out) t.serials → freed_of s.cells + length t.pending_out < greatest → IsCounted t.tally → IsIntact s hand → IsIntact t []
 IsIntact-freed s t h hand same reads counts off few pending_reads doomed_reads keyed spare counted intact =
     let owned = intact.owned in
@@ -104,7 +104,7 @@ IsIntact-freed s t h hand same reads counts off few pending_reads doomed_reads k
       counted = counted;
     })
 
--- what was freed and what is doomed are together as many as before
+-- the number of freed cells and doomed rows together is as before
 pub freed-buried : (c : Carried) → IsDoomed c → IsIntact c.store (c.hand ∷ []) → freed_of (buried c).cells + length (buried c).pending_out ≡ freed_of c.store.cells + length c.store.pending_out
 freed-buried c doomed intact =
     let s = c.store in

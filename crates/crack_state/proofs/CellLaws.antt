@@ -41,7 +41,7 @@ read-value cells h r reads = sym (read_is_value cells h (reads_some cells h r re
 pub handle_same : (g h : Handle) → g.slot ≡ h.slot → g.generation ≡ h.generation → g ≡ h
 handle_same g h slots_same generations = λ i. record { slot = slots_same i; generation = generations i }
 
--- and handles that read the same cell are one
+-- and two handles that read the same cell are equal
 pub one_handle : (cells : List (Cell Row)) (g h : Handle) → Reads cells g → Reads cells h → g.slot ≡ h.slot → g ≡ h
 one_handle cells g h g_reads h_reads same =
     handle_same g h same (sym (generation_of_read cells g g_reads) ∙ ap (λ (n : ℕ). (cell_at cells n).generation) same ∙ generation_of_read cells h h_reads)

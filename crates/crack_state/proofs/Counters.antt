@@ -40,7 +40,7 @@ Rises-one before after n is same small =
     let counter = raised_counter n in
     record { rises = omega (arith, is, same, counter.rises small); exact = λ less. omega (arith, is, same, counter.exact (omega (arith, is, less))) }
 
--- a tally of which one counter is raised still fits
+-- a tally still fits after one counter is raised
 pub IsCounted-put_in : (tally : MergeReport) → IsCounted tally → IsCounted (record tally { put_in = more tally.put_in })
 IsCounted-put_in tally counted = record { put_in = (raised_counter tally.put_in).fits; taken_out = counted.taken_out; evicted = counted.evicted; moved = counted.moved; pulled = counted.pulled }
 

@@ -34,7 +34,7 @@ AreEnds r first second = ((first ≡ r.low) × (second ≡ r.high)) ⊎ ((first 
 abbrev pub cracked_at : InnerBound → ℕ → List Handle → State → State
 cracked_at bound place handles s = record s { column = handles; marks = added (record { bound = bound; position = place }) s.marks }
 
--- how a bound's own piece is cracked: its rows, divided by the bound, and no others; whatever is remembered about them
+-- how a bound's own piece is cracked: its rows, divided by the bound, and no others, whatever is remembered about them
 pub record CracksAt (s u : State) (bound : InnerBound) : Type 0 where
   pub place : ℕ
   pub missing : HasBound s.marks bound.0 → ⊥
@@ -55,7 +55,7 @@ key_within keys cells h within reads =
 pub column_keys-within : (s : State) (hand : List Handle) → IsIntact s hand → All (λ k. IsIn s.keys k) (column_keys s)
 column_keys-within s hand intact = All-map (λ k. IsIn s.keys k) (key_at s.cells) s.column (λ k d h. key_within s.keys s.cells (get_or s.column k d) intact.within (intact.owned.column_reads k d h))
 
--- at the place, a number divides the keys at or below which all in question is, or at or above which
+-- at the place, a number divides the keys if all the numbers in question are at or below it, or at or above it
 abbrev DividesAt : List ℕ → ℕ → (ℕ → Type 0) → Type 0
 DividesAt keys place Is = (number : ℕ) × Is number × IsDividedAt number keys place
 
@@ -161,7 +161,7 @@ cut_of s m is =
     let at : Contains (map position s.marks) m.position = (is.0, omega (arith, length-map s.marks position, is.1), get_or-map position s.marks is.0 m m.position is.1 ∙ ap position is.2) in
     Contains-append_right (0 ∷ []) (map position s.marks ++ length s.column ∷ []) m.position (Contains-append_left (map position s.marks) (length s.column ∷ []) m.position at)
 
--- where pieces begin and end, they still do after a refinement
+-- the places where pieces begin and end are such places after a refinement, too
 cuts_kept : (IsNew : ℕ → Type 0) (s u : State) → RefinesBy IsNew s u → (p : ℕ) → Contains (cuts s) p → Contains (cuts u) p
 cuts_kept IsNew s u refined p is =
     let In : ℕ → Type 0 = λ n. Contains (cuts u) n in

@@ -46,7 +46,7 @@ pub piece_end-behind : (s : State) (hand : List Handle) (key place : ℕ) (met :
 piece_end-behind s hand key place met intact within read below =
     piece_end-least s key (suc place) intact.rising (omega arith) (λ k d listed above. mark_behind s hand k place d met intact listed within read (omega arith))
 
--- where the row that came into hand was, its own piece lies
+-- the row that came into hand was in its own piece
 pub record MetAt (c : Carried) (place : ℕ) : Type 0 where
   pub start : piece_start c.store (hand_key c) ≤ place
   pub end : place ≤ piece_end c.store (hand_key c)
@@ -91,7 +91,7 @@ piece_end-lifted_last s some intact after =
     let behind = mark_behind s [] k (length s.column - 1) d last intact h within read high in
     grind (arith, nat_tests)))
 
--- a handle that is in a list is counted there
+-- the slot of a handle that is in a list is counted there
 counted : (hs : List Handle) (place : ℕ) (h : Handle) → StandsAt hs place h → 0 < times h.slot (slots hs)
 counted hs place h stands = times_map_at h.slot (λ (x : Handle). x.slot) hs place h stands.within (ap (λ (x : Handle). x.slot) (sym stands.is))
 

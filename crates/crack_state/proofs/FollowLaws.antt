@@ -1,4 +1,4 @@
--- What steps leave as it was, and what they count.
+-- What steps leave unchanged, and what they count.
 use Rattle.std.proofs.Common.{◌≡◌, ℕ, ◌+◌, ◌*◌, ◌<◌, ◌≤◌, List, [], ◌∷◌, length, refl, ap, ◌∙◌, arith, length-set}
 use Rattle.std.specs.Prelude.{nat_lt}
 use Rattle.std.proofs.lemmas.List.Edits.{length-remove}
@@ -111,7 +111,7 @@ Tallies-step policy s t put out in_rose out_rose evicted moved_rises moved pulle
 pub Tallies-room : (policy : Policy) (s t : State) → SameButRoom s t → Tallies policy s t
 Tallies-room policy s t room = rw room.same (Tallies-step policy s (record s { column_room = t.column_room; in_room = t.in_room }) 0 0 (Rises-none s.tally.put_in s.tally.put_in refl) (Rises-none s.tally.taken_out s.tally.taken_out refl) refl (omega arith) (omega arith) (omega arith) (omega arith) (omega arith) (omega arith))
 
--- what the pushes of a carry keep, from a hand that was lifted on: each brings the hand nearer to the column's end
+-- the invariant of the pushes of a carry, from a hand that was lifted on: each brings the hand nearer to the column's end
 pub record Pushes (b c : Carried) : Type 0 where
   pub same : c.store ≡ record b.store { column = c.store.column; marks = c.store.marks; tally = record b.store.tally { moved = c.store.tally.moved } }
   pub bounds : bounds_of c.store.marks ≡ bounds_of b.store.marks

@@ -13,7 +13,7 @@ use Rattle.crack_state.proofs.MergeLaws.{IsCracked-follows}
 use Rattle.crack_state.proofs.OutsideLaws.{SomeOf-outside, length-SomeOf_outside, length-outside, All-outside}
 use Rattle.crack_state.proofs.SettledLaws.{IsSettled-of}
 
--- what still reads has its key outside as before
+-- a handle that still reads has its key outside as before
 pub reads_outside : (cells after : List (Cell Row)) (r : Range) (hs : List Handle) → StillReads cells after → All (Reads after) hs → All (ReadsOutside cells r) hs → All (ReadsOutside after r) hs
 reads_outside cells after r hs still reads outside = λ k d h. rw (still (get_or hs k d) (reads k d h)) (outside k d h)
 

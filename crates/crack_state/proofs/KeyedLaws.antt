@@ -1,4 +1,4 @@
--- Which serials lead where, as a row goes; and a serial above those of all live rows isn't in the map.
+-- Where serials lead once a row is removed; and a serial above those of all live rows isn't in the map.
 use Rattle.std.proofs.Common.{◌≡◌, ◌≢◌, ℕ, ◌<◌, eqb, List, [], ◌∷◌, filter, length, Option, Some, None, refl, sym, ap, ◌∙◌, inl, inr, arith, zero-add}
 use Rattle.std.specs.Prelude.{unwrap_or, not}
 use Rattle.std.proofs.lemmas.Bool.{cases_eq, ne_eqb, eq-eqb}
@@ -52,7 +52,7 @@ Maps-over serial o p serials between after first second n = elim (cases_eq seria
   | inr ne ↦ rw (ne_eqb serial n ne) (maps_other serial n p serials after second ne ∙ sym (maps_other serial n o serials between first ne))
 ]
 
--- a row goes: its cell shows none, and no serial leads there
+-- a row is removed: its cell shows none, and no serial leads there
 pub IsKeyed-less : (cells after : List (Cell Row)) (doomed left : List ℕ) (serials later : List (ℕ × Handle)) (slot : ℕ) → Hides cells after doomed left slot → ((n : ℕ) (g : Handle) → handle_of later n ≡ Some g → (g.slot ≢ slot) × (handle_of serials n ≡ Some g)) → ((n : ℕ) (g : Handle) → g.slot ≢ slot → handle_of serials n ≡ Some g → handle_of later n ≡ Some g) → IsKeyed cells doomed serials → IsKeyed after left later
 IsKeyed-less cells after doomed left serials later slot hides fewer others keyed = record {
   leads = λ n g found.

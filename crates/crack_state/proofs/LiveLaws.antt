@@ -1,4 +1,4 @@
--- What commands see, as cells get and lose rows and rows are doomed; and that it is what column, pending insertions and hand hold.
+-- The rows that commands see, as cells get and lose rows and rows are doomed; they are those of column, pending insertions and hand.
 use Rattle.std.proofs.Common.{◌≡◌, ◌≢◌, ℕ, zero, suc, ◌<◌, Bool, true, false, ltb, List, [], ◌∷◌, ◌++◌, length, get_or, set, cond, Option, Some, None, refl, sym, ap, ◌∙◌, inl, inr, arith, zero-add}
 use Rattle.std.specs.Prelude.{◌==◌, if◌then◌else◌}
 use Rattle.std.specs.List.{All, filter_map, range_with_len}
@@ -26,7 +26,7 @@ live_read s h = if times h.slot (slots s.pending_out) == 0 then read s.cells h e
 abbrev pub live_among : State → List Handle → List Row
 live_among s hs = filter_map (live_read s) hs
 
--- nothing, whatever the test says: what a cell without a value shows, doomed or not
+-- nothing, whatever the test returns: what a cell without a value shows, doomed or not
 pub none_either : {X : Type 0} (b : Bool) → cond {A = Option X} b None None ≡ None
 none_either true = refl
 none_either false = refl
@@ -53,8 +53,7 @@ split_at_member x (y ∷ ys) some = elim (cases_eq y x) [
       record { front = y ∷ rest.front; back = rest.back; is = ap (λ zs. y ∷ zs) rest.is }
 ]
 
--- if the one has a row at a number that is in the list once, the other has none, and they agree at all others, that row
--- is the difference
+-- if one function has a row at a number that is in the list once, the other has none there, and they agree at all others, that row is the difference
 pub filter_map-less : (f g : ℕ → Option Row) (n : ℕ) (r : Row) (ns : List ℕ) → f n ≡ Some r → g n ≡ None → ((k : ℕ) → k ≢ n → f k ≡ g k) → times n ns ≡ 1 → IsPermutation (filter_map f ns) (r ∷ filter_map g ns)
 filter_map-less f g n r ns had lacks agree once =
     let at = split_at_member n ns (omega (arith, once)) in
@@ -113,7 +112,7 @@ All-live_at P cells doomed numbers each = All-filter_map P (live_at cells doomed
         let h : Handle = record { slot = n; generation = (cell_at cells n).generation } in
         each h r (rw (eq-eqb h.generation h.generation refl) is) (eqb-true (times n doomed) 0 kept)
 
--- what is given of the cells' numbers is, in some order, what is given of those in all places
+-- what a function returns for the cells' numbers is, in some order, what it returns for those in all places
 pub IsPermutation-places : {X : Type 0} (f : ℕ → Option X) (s : State) (hand : List Handle) → IsOwned s.cells s.free s.column s.pending_in s.pending_out hand → IsPermutation (filter_map f (range_with_len 0 (length s.cells))) (filter_map f (places_of s hand))
 IsPermutation-places f s hand owned = IsPermutation-filter_map f (range_with_len 0 (length s.cells)) (places_of s hand) (IsPermutation-times (range_with_len 0 (length s.cells)) (places_of s hand) (λ n. times-range n (length s.cells) ∙ sym (owned.once n)))
 

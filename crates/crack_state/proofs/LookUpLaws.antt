@@ -1,4 +1,4 @@
--- What a look-up of a serial says about the live rows, and about any list of them; and how such a list changes.
+-- What a look-up of a serial implies for the live rows, and for any list of them; and how such a list changes.
 use Rattle.std.proofs.Common.{◌≡◌, ◌≢◌, ℕ, Bool, List, [], ◌∷◌, map, filter, length, get_or, Option, Some, None, IsSome, refl, sym, ap, ◌∙◌}
 use Rattle.std.specs.Prelude.{◌==◌, unwrap_or}
 use Rattle.std.specs.List.{All, Contains, find, range_with_len}
@@ -79,7 +79,7 @@ gone-dooms serial s t dooms = dooms.map serial ∙ rw (eq-eqb serial serial refl
 filter-others : (serial : ℕ) (rows : List Row) → All (λ (r : Row). r.serial.0 ≢ serial) rows → filter (is_other serial) rows ≡ rows
 filter-others serial rows apart = filter_all (is_other serial) rows (λ k d h. rw (ne_eqb (get_or rows k d).serial.0 serial (apart k d h)) refl)
 
--- a list of the live rows, without the one that went
+-- a list of the live rows, without the one that was removed
 pub live-without : (s t : State) (serial : ℕ) (row : Row) (plain : List Row) → row.serial.0 ≡ serial → handle_of t.serials serial ≡ None → IsIntact t [] → IsPermutation (row ∷ live_rows t) (live_rows s) → IsPermutation (live_rows s) plain → IsPermutation (live_rows t) (filter (is_other serial) plain)
 live-without s t serial row plain is gone intact went same =
     let whole = IsPermutation-trans (row ∷ live_rows t) (live_rows s) plain went same in

@@ -39,7 +39,7 @@ last-pulled_back c m found some intact =
     (λ k d h before. rw (← at) ((intact.obeyed k d h).above (m.position - 1) (omega arith) (omega (arith, divides.within))))
     (λ k d h from. rw (← at) ((intact.obeyed k d h).below (m.position - 1) (omega arith))))
 
--- two keys on the same side of every bound have the same neighbours
+-- two keys on the same side of every bound have the same bounds next to them
 next_mark-same : (key other : ℕ) (marks : List Mark) → All (λ (m : Mark). ltb key m.bound.0 ≡ ltb other m.bound.0) marks → next_mark key marks ≡ next_mark other marks
 next_mark-same key other [] same = refl
 next_mark-same key other (m ∷ ms) same = rw (same 0 m (omega arith), next_mark-same key other ms (λ k d h. same (suc k) d (omega (arith, h)))) refl

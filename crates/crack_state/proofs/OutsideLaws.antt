@@ -1,4 +1,4 @@
--- Handles outside a range, and what is left of a list whose handles of the range go in their order.
+-- Handles outside a range, and the rest of a list whose handles of the range are removed in their order.
 use Rattle.std.proofs.Common.{◌≡◌, ℕ, zero, suc, ◌+◌, ◌<◌, ◌≤◌, Bool, true, false, List, [], ◌∷◌, ◌++◌, length, get_or, take, drop, refl, sym, ap, ◌∙◌, inl, inr, arith, length-append}
 use Rattle.std.specs.Prelude.{not}
 use Rattle.std.specs.List.{All, remove}
@@ -59,7 +59,7 @@ module _ (cells : List (Cell Row)) (r : Range) where
     | inr is ↦ rw (outside_of-out h more is, outside_of-out h one is) (kept h (outside_of cells r one) (outside_of cells r more) (SomeOf-outside one more of))
   ]
 
-  -- of those that are gone no more were outside the range than all
+  -- at most all of those that are gone were outside the range
   pub length-SomeOf_outside : (some all : List Handle) → SomeOf some all → length (outside_of cells r all) + length some ≤ length (outside_of cells r some) + length all
   length-SomeOf_outside some all nothing = omega arith
   length-SomeOf_outside some all (left_out h one more of) = elim (cases_Bool (inside h)) [
@@ -91,7 +91,7 @@ module _ (cells : List (Cell Row)) (r : Range) where
   outside_of-all (h ∷ hs) none =
       outside_of-out h hs (All-head (λ g. inside g ≡ false) h hs none) ∙ ap (λ gs. h ∷ gs) (outside_of-all hs (All-tail (λ g. inside g ≡ false) h hs none))
 
-  -- of the handles up to some place those of the range are gone, and so none of those that a search has passed by is in the range
+  -- of the handles up to some place those of the range are gone, so none of those that a search has passed is in the range
   pub record LacksFirst (before left : List Handle) (from : ℕ) : Type 0 where
     pub passed : ℕ
     pub within : passed ≤ length before
@@ -142,7 +142,7 @@ module _ (cells : List (Cell Row)) (r : Range) where
           let met_now = rw e at met in
           rw e (lacks_out x xs (remove (without_first cells r k xs) place) place is (go place (omega arith) (omega arith) (λ j g from to. none_now (suc j) g (omega arith) (omega arith)) met_now))
 
-  -- the next handle of the range goes
+  -- the next handle of the range is removed
   pub LacksFirst-next : (before left : List Handle) (from place : ℕ) (d : Handle) → LacksFirst before left from → from ≤ place → place < length left → NoneInside left from place → inside (get_or left place d) ≡ true → LacksFirst before (remove left place) place
   LacksFirst-next before left from place d lacks after within none met =
       rw lacks.left_are (next_at before lacks.passed place d (rw lacks.from_is at after) (rw lacks.left_are at within) (rw (lacks.left_are, lacks.from_is) at none) (rw lacks.left_are at met))

@@ -51,13 +51,13 @@ Divides-push_raised keys x high m at_end divides d least above =
       ])
     ]
 
--- `append` where a bound above the key is at the end
+-- `append` if a bound above the key is at the end
 pub Obeyed-push_raised : (keys : List ℕ) (marks : List Mark) (x : ℕ) (high : Mark) → high.position ≡ length keys → IsObeyed marks keys → All (λ m. x < m.bound.0 → high.bound.0 ≤ m.bound.0) marks → x < high.bound.0 → Divides keys high → IsObeyed (map (raised high.bound.0 high.position) marks) (keys ++ x ∷ [])
 Obeyed-push_raised keys marks x high at_end obeyed least above divides =
     All-map (Divides (keys ++ x ∷ [])) (raised high.bound.0 high.position) marks
     (λ k d h. Divides-push_raised keys x high (get_or marks k d) at_end divides (obeyed k d h) (least k d h) above)
 
--- `append` where no bound is above the key
+-- `append` if no bound is above the key
 pub Obeyed-push : (keys : List ℕ) (marks : List Mark) (x : ℕ) → IsObeyed marks keys → All (λ m. m.bound.0 ≤ x) marks → IsObeyed marks (keys ++ x ∷ [])
 Obeyed-push keys marks x obeyed low = λ k d h. IsDividedAt-append_above (get_or marks k d).bound.0 keys (get_or marks k d).position x (low k d h) (obeyed k d h)
 
@@ -87,7 +87,7 @@ pub AreMarks-map : (keys : Range) (column : List ℕ) (f : Mark → Mark) (marks
 AreMarks-map keys column f marks same obeyed rising inside =
     record { obeyed = obeyed; rising = rising; inside = All-map (λ (x : Mark). (keys.low < x.bound.0) × (x.bound.0 < keys.high)) f marks (λ k d h. rw (same (get_or marks k d)) (inside k d h)) }
 
--- what holds of an option that is nothing or something
+-- what holds of an option, by its cases
 pub cases_Option : {X : Type 0} (P : Option X → Type 0) (o : Option X) → (o ≡ None → P None) → ((x : X) → o ≡ Some x → P (Some x)) → P o
 cases_Option P None none some = none refl
 cases_Option P (Some x) none some = some x refl
@@ -114,7 +114,7 @@ piece_start-behind s key k d rising obeyed within below = cases_Option (λ o. (g
     let is_last = last_mark-is key s.marks m rising found in
     Divides-order (column_keys s) (get_or s.marks k d) m (obeyed k d within) (Divides-listed (column_keys s) s.marks m obeyed is_last.listed) (is_last.greatest k d within below))
 
--- marks that move count for less, where none counts for more and one for less
+-- a sum over marks falls if no mark counts for more and one counts for less
 sum_by-moved_le : (f : Mark → Mark) (after before : Mark → ℕ) → ((m : Mark) → after (f m) ≤ before m) → (marks : List Mark) → sum_by after (map f marks) ≤ sum_by before marks
 sum_by-moved_le f after before most [] = omega arith
 sum_by-moved_le f after before most (n ∷ ns) = omega (arith, sum_by-cons after (f n) (map f ns), sum_by-cons before n ns, most n, sum_by-moved_le f after before most ns)

@@ -1,4 +1,4 @@
--- What the commands on one row do to a store: it stays intact, one live row goes or is replaced, and no other changes.
+-- What the commands on one row do to a store: it stays intact, one live row is removed or replaced, and no other changes.
 use Rattle.std.proofs.Common.{◌≡◌, ◌≢◌, ℕ, ◌+◌, ◌<◌, ◌≤◌, Bool, true, false, ltb, List, [], ◌∷◌, map, length, get_or, set, Option, Some, None, refl, sym, ap, ◌∙◌, inl, inr, arith, length-set}
 use Rattle.std.specs.Prelude.{IfSome, IsSome, unwrap_or, is_some}
 use Rattle.std.specs.List.{All, Contains, filter_map, range_with_len}
@@ -89,7 +89,7 @@ listed_at s serial h found listed intact =
 hides_struck : (s : State) (serial : ℕ) (h : Handle) → handle_of s.serials serial ≡ Some h → IsIntact s [] → Hides s.cells (struck h s).cells (slots s.pending_out) (slots s.pending_out) h.slot
 hides_struck s serial h found intact = Hides-emptied s.cells (slots s.pending_out) (slots s.pending_out) h.slot (h.generation + 1) (stands1 s serial h found intact).within (λ n ne. refl)
 
--- the store that a cancel leaves, whatever its map looks like
+-- the store after a cancel, whatever its map looks like
 pub IsIntact-struck : (s : State) (serial : ℕ) (h : Handle) (after : List (ℕ × Handle)) → handle_of s.serials serial ≡ Some h → 0 < times h.slot (slots s.pending_in) → Maps serial None s.serials after → MayFree s → IsIntact s [] → IsIntact (record (struck h s) { serials = after }) []
 IsIntact-struck s serial h after found listed maps few intact =
     let owned = intact.owned in
@@ -122,7 +122,7 @@ hides_doomed s h kept =
     let one : times h.slot (slots (doomed_too h s).pending_out) ≡ 1 = omega (arith, times-doomed h.slot s h, kept, times_head h.slot [], times-nil h.slot) in
     record { others = λ m ne. refl; kept = λ n ne. omega (arith, times-doomed n s h, times_other n h.slot (λ e. ne (sym e))); none = rw one refl }
 
--- the store that a doom leaves, whatever its map looks like
+-- the store after a doom, whatever its map looks like
 pub IsIntact-doomed : (s : State) (serial : ℕ) (h : Handle) (after : List (ℕ × Handle)) → handle_of s.serials serial ≡ Some h → times h.slot (slots s.pending_in) ≡ 0 → Maps serial None s.serials after → MayFree s → IsIntact s [] → IsIntact (record (doomed_too h s) { serials = after }) []
 IsIntact-doomed s serial h after found unlisted maps few intact =
     let known = stands1 s serial h found intact in
@@ -167,7 +167,7 @@ Reads_over cells h row hs within h_reads reads =
       | inr ne ↦ rw (read-off h.slot cells (set cells h.slot c) (get_or hs k d) (AgreeOff-set cells h.slot c) ne) (reads k d j)
     ]
 
--- the row of a serial goes, and another comes in its cell
+-- the row of a serial is replaced by another in its cell
 IsKeyed-rewritten : (s : State) (h : Handle) (row : Row) → handle_of s.serials row.serial.0 ≡ Some h → IsIntact s [] → IsKeyed (overwritten row h s).cells (slots s.pending_out) s.serials
 IsKeyed-rewritten s h row found intact =
     let serial = row.serial.0 in
@@ -183,7 +183,7 @@ IsKeyed-rewritten s h row found intact =
     let own : Maps serial (Some h) s.serials s.serials = λ n. elim (cases_eq serial n) [ inl e ↦ rw (eq-eqb serial n e) (ap (handle_of s.serials) (sym e) ∙ found) | inr ne ↦ rw (ne_eqb serial n ne) refl ] in
     IsKeyed-more less (set s.cells h.slot full) doomed between s.serials h row fill known.live.kept (ap (λ (x : Cell Row). x.value) (get_or-set_same s.cells h.slot none empty_cell known.within)) (maps_this serial serial None s.serials between gone refl) (Maps-over serial None (Some h) s.serials between s.serials gone own) lost
 
--- the store that a write in place leaves
+-- the store after a write in place
 pub IsIntact-rewritten : (s : State) (h : Handle) (row : Row) → handle_of s.serials row.serial.0 ≡ Some h → 0 < times h.slot (slots s.pending_in) → IsIn s.keys row.key.0 → IsIntact s [] → IsIntact (overwritten row h s) []
 IsIntact-rewritten s h row found listed inside intact =
     let owned = intact.owned in
@@ -213,7 +213,7 @@ IsIntact-rewritten s h row found listed inside intact =
       counted = intact.counted;
     }
 
--- the store that a doom leaves, with such a map
+-- the store after a doom, with such a map
 abbrev between_doomed : Row → Handle → State → State
 between_doomed row h s = record (doomed_too h s) { serials = forgotten row.serial.0 s.serials }
 
@@ -221,7 +221,7 @@ IsIntact-between : (s : State) (h : Handle) (row : Row) → handle_of s.serials 
 IsIntact-between s h row found unlisted few intact =
     IsIntact-doomed s row.serial.0 h (forgotten row.serial.0 s.serials) found unlisted (Maps-forgotten row.serial.0 s.serials) few intact
 
--- the store that a renewal leaves, whatever its map looks like
+-- the store after a renewal, whatever its map looks like
 pub IsIntact-renewed : (s : State) (h : Handle) (row : Row) (after : List (ℕ × Handle)) → handle_of s.serials row.serial.0 ≡ Some h → times h.slot (slots s.pending_in) ≡ 0 → Maps row.serial.0 (Some (next_handle s)) s.serials after → IsIn s.keys row.key.0 → IsRenewable s → IsIntact s [] → IsIntact (record (renewed row h s) { serials = after }) []
 IsIntact-renewed s h row after found unlisted maps inside may intact =
     let serial = row.serial.0 in
@@ -235,11 +235,11 @@ pub others_live : (cells : List (Cell Row)) (doomed : List ℕ) (serials : List 
 others_live cells doomed serials serial numbers none keyed = All-live_at (λ (r : Row). r.serial.0 ≢ serial) cells doomed numbers (λ h r reads kept e.
     true≢false (ap is_some (sym (keyed.lists h r reads kept) ∙ ap (handle_of serials) e ∙ none)))
 
--- a list without the serial of a row stays where that row is put in its place
+-- a list without the serial of a row is unchanged if that row replaces the one with its serial
 map-replaced : (row : Row) (rows : List Row) → All (λ (r : Row). r.serial.0 ≢ row.serial.0) rows → map (replaced row) rows ≡ rows
 map-replaced row rows apart = map_fixed (replaced row) rows (λ k d h. rw (ne_eqb (get_or rows k d).serial.0 row.serial.0 (apart k d h)) refl)
 
--- one row goes and another of its serial comes
+-- one row is replaced by another with its serial
 pub replaced_in : (row old : Row) (before rest after : List Row) → old.serial.0 ≡ row.serial.0 → All (λ (r : Row). r.serial.0 ≢ row.serial.0) rest → IsPermutation (old ∷ rest) before → IsPermutation (row ∷ rest) after → IsPermutation (map (replaced row) before) after
 replaced_in row old before rest after same apart gone come =
     let first : replaced row old ≡ row = rw (eq-eqb old.serial.0 row.serial.0 same) refl in

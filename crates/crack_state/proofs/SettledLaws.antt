@@ -1,4 +1,4 @@
--- When a range is settled, and what its stretch of the column then answers.
+-- When a range is settled, and the replies that its stretch of the column then gives.
 use Rattle.std.proofs.Common.{◌≡◌, ◌⊎◌, ℕ, suc, ◌+◌, ◌-◌, ◌<◌, ◌≤◌, Bool, false, leb, ltb, List, [], ◌∷◌, ◌++◌, length, get_or, take, drop, cond, Option, None, refl, sym, ap, subst, ◌∙◌, inl, inr, arith}
 use Rattle.std.specs.Prelude.{◌==◌}
 use Rattle.std.specs.List.{All, filter_map, filter, between, count_by, range_with_len}
@@ -26,7 +26,7 @@ use Rattle.crack_state.proofs.LiveLaws.{none_either, IsPermutation-places}
 use Rattle.crack_state.proofs.CrackLaws.{column_keys-within}
 use Rattle.crack_state.proofs.PieceLaws.{Divides-listed}
 
--- a bound that stands, or is an end of the partition, divides the column at its edge
+-- a bound that is in the index, or is an end of the partition, divides the column at its place
 pub edge-divides : (s : State) (hand : List Handle) (bound : ℕ) → IsIntact s hand → s.keys.low ≤ bound → bound ≤ s.keys.high → Stands s bound → IsDividedAt bound (column_keys s) (edge s bound)
 edge-divides s hand bound intact above below stands =
     let all = column_keys-within s hand intact in
@@ -51,7 +51,7 @@ filter-live_rows test s hand owned =
 all_kept : (g : ℕ → Option Row) (cells : List (Cell Row)) (hs : List Handle) → All (λ (h : Handle). g h.slot ≡ read cells h) hs → filter_map g (slots hs) ≡ filter_map (read cells) hs
 all_kept g cells hs same = filter_map-map g (λ (h : Handle). h.slot) hs ∙ filter_map_agree (λ (h : Handle). g h.slot) (read cells) hs same
 
--- a row outside the range isn't let by
+-- a row outside the range doesn't pass the filter
 pub outside_false : (r : Range) (row : Row) → (row.key.0 < r.low) ⊎ (r.high ≤ row.key.0) → in_range r row ≡ false
 outside_false r row out = elim out [
   | inl l ↦ and_left (leb r.low row.key.0) (ltb row.key.0 r.high) (lt-leb r.low row.key.0 l)
@@ -76,7 +76,7 @@ kept_inside r s h reads above below kept =
     let high : row.0.key.0 < r.high = rw row.1 at below in
     rw (kept, row.1, read-value s.cells h row.0 row.1, le-leb r.low row.0.key.0 low, lt-ltb row.0.key.0 r.high high) refl
 
--- a row of the range isn't one of these, where they are outside it
+-- a row of the range isn't one of these if they are outside it
 not_among : (cells : List (Cell Row)) (r : Range) (h : Handle) → Reads cells h → r.low ≤ key_at cells h → key_at cells h < r.high → (hs : List Handle) → All (Reads cells) hs → All (ReadsOutside cells r) hs → times h.slot (slots hs) ≡ 0
 not_among cells r h reads above below hs all out = elim (cases_lt 0 (times h.slot (slots hs))) [
   | inl l ↦

@@ -17,7 +17,7 @@ use Rattle.crack_state.proofs.Counters.{IsCounted-put_in, IsCounted-moved}
 use Rattle.crack_state.proofs.PieceLaws.{cases_Option, Obeyed-raised, Obeyed-push, Obeyed-push_raised, Divides-listed, AreMarks, AreMarks-intact, AreMarks-map, bounds_above-less}
 use Rattle.crack_state.proofs.OwnedLaws.{times-exchange, times-taken, times-places}
 
--- what a step leaves that moves handles: cells and free numbers, pending deletions and map
+-- what a step that moves handles leaves unchanged: cells and free numbers, pending deletions and map
 pub IsIntact-moved : (s t : State) (hand hand' : List Handle) → t ≡ record s { column = t.column; pending_in = t.pending_in; marks = t.marks; tally = t.tally; column_room = t.column_room; in_room = t.in_room } → ((n : ℕ) → times n (slots t.column) + times n (slots t.pending_in) + times n (slots hand') ≡ times n (slots s.column) + times n (slots s.pending_in) + times n (slots hand)) → ((n : ℕ) → times n (slots s.pending_out) ≤ times n (slots s.column) + times n (slots hand) → times n (slots s.pending_out) ≤ times n (slots t.column) + times n (slots hand')) → All (Reads s.cells) t.column → All (Reads s.cells) t.pending_in → All (Reads s.cells) hand' → AreMarks s.keys (map (key_at s.cells) t.column) t.marks → IsCounted t.tally → IsIntact s hand → IsIntact t hand'
 IsIntact-moved s t hand hand' same counts few column_reads pending_reads hand_reads marked counted intact =
     let owned = intact.owned in
@@ -41,7 +41,7 @@ IsIntact-moved s t hand hand' same counts few column_reads pending_reads hand_re
       counted = counted;
     })
 
--- room alone
+-- only the room changes
 pub IsIntact-room : (s t : State) (hand : List Handle) → SameButRoom s t → IsIntact s hand → IsIntact t hand
 IsIntact-room s t hand room intact =
     let owned = intact.owned in

@@ -1,4 +1,4 @@
--- What is read from a stretch of the column: as places are passed, and once the range is settled.
+-- The rows of a stretch of the column: place by place, and once the range is settled.
 use Rattle.std.proofs.Common.{◌≡◌, ℕ, suc, ◌<◌, ◌≤◌, List, [], ◌∷◌, map, refl, ap, inl, inr, arith, ◌+◌, ◌+ℤ◌, ◌++◌, filter, length, get_or, Option, Some, None, sym, ◌∙◌}
 use Rattle.std.specs.List.{All, AllPairs, Contains, cons_option, filter_map, between}
 use Rattle.std.specs.List.Sorted.{IsPermutation, IsNonDecreasingBy}
@@ -92,7 +92,7 @@ stretch-settled s r plain settled same =
 pub sum-settled : (s : State) (r : Range) (plain : List Row) → IsSettled s r → IsPermutation (live_rows s) plain → sum_of (stretch_rows s r) ≡ sum_of (filter (in_range r) plain)
 sum-settled s r plain settled same = total_by-permutation (λ (row : Row). amount row.payload) (filter (in_range r) plain) (stretch_rows s r) (stretch-settled s r plain settled same)
 
--- and its rows, by rising serial, are just theirs, where those stand by rising serial
+-- and its rows, by rising serial, are theirs, if those are in order of rising serials
 pub rows-settled : (s : State) (r : Range) (plain rows : List Row) → IsSettled s r → IsPermutation (live_rows s) plain → AreRising plain → IsPermutation (stretch_rows s r) rows → IsNonDecreasingBy serial_of rows → rows ≡ filter (in_range r) plain
 rows-settled s r plain rows settled same rising listed sorted =
     let kept : AreRising (filter (in_range r) plain) = AllPairs-filter (λ (earlier later : Row). earlier.serial.0 < later.serial.0) (in_range r) plain rising in

@@ -1,5 +1,5 @@
 -- What private clauses alone cite.
--- What a crack at one bound, and each carry and each pull of a merge, leave of a store.
+-- A store after a crack at one bound, and after each carry and each pull of a merge.
 use Rattle.std.specs.Prelude.{◌≡◌, ℕ, ◌<◌}
 use Rattle.crack_row.specs.declared.command.Policy.{Policy}
 use Rattle.crack_state.specs.State.{State}
@@ -9,7 +9,7 @@ use Rattle.crack_state.specs.Merge.{RefinesBy, Follows, Tallies, StillReads, Som
 abbrev pub RefinesAt : State → State → ℕ → Type 0
 RefinesAt s u bound = RefinesBy (λ b. (b ≡ bound) × (s.keys.low < b) × (b < s.keys.high)) s u
 
--- what every carry and every pull of a merge of this policy keeps, and so each list of them: pending deletions only go
+-- the invariant of every carry and every pull of a merge of this policy, and so of each list of them: pending deletions are only removed
 pub record Advances (policy : Policy) (s t : State) : Type 0 where
   pub follows : Follows s t
   pub tallies : Tallies policy s t

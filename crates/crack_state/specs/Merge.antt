@@ -1,4 +1,4 @@
--- What a refinement and a merge may change of a store, and what they leave.
+-- What a refinement and a merge may change of a store, and what they leave unchanged.
 use Rattle.std.specs.Prelude.{◌≡◌, ◌⊎◌, ℕ, Bool, Option, Some, None, ◌+◌, ◌-◌, ◌*◌, ◌<◌, ◌≤◌, ◌||◌, not, nat_le, if◌then◌else◌, List, [], ◌∷◌, ◌++◌, length, take, drop, map, filter, count_by, Contains}
 use Rattle.std.specs.List.{All, filter_map, between, list_any}
 use Rattle.std.specs.List.Sorted.{IsPermutation}
@@ -13,7 +13,7 @@ use Rattle.crack_arena.specs.Rows.{key_at}
 use Rattle.crack_state.specs.declared.MergeReport.{MergeReport}
 use Rattle.crack_state.specs.State.{State, Reads, IsIntact, EachCounter, live_rows, freed_of, greatest}
 
--- what the handle reads has its key outside the range
+-- the row that the handle reads has its key outside the range
 abbrev pub ReadsOutside : List (Cell Row) → Range → Handle → Type 0
 ReadsOutside cells r h = (key_at cells h < r.low) ⊎ (r.high ≤ key_at cells h)
 
@@ -31,7 +31,7 @@ count_inside cells r hs = count_by (λ h. is_in r (key_at cells h)) hs
 
 -- the first list is some of the second's handles, in their order
 pub data SomeOf : List Handle → List Handle → Type 0 where
-  -- none of none
+  -- the empty list of the empty list
   nothing : SomeOf [] []
   -- the first handle is left out
   left_out : (h : Handle) (some all : List Handle) → SomeOf some all → SomeOf some (h ∷ all)
@@ -105,15 +105,15 @@ StillReads before after = (h : Handle) → Reads after h → read after h ≡ re
 abbrev pub is_touched : State → Range → Bool
 is_touched s r = list_any (λ h. is_in r (key_at s.cells h)) s.pending_in || list_any (λ h. is_in r (key_at s.cells h)) s.pending_out
 
--- which pending deletions are left by a merge that takes those of its range: some of those outside it, in their order; the others
--- were met by carries, and so are at most as many as the pending insertions in the range were
+-- which pending deletions remain after a merge that takes those of its range: some of those outside it, in their order; carries met the others, which
+-- are at most as many as the pending insertions in the range were
 pub record LeavesOutside (s t : State) (r : Range) : Type 0 where
   pub some : SomeOf t.pending_out (outside_of s.cells r s.pending_out)
   pub few : length (outside_of s.cells r s.pending_out) ≤ length t.pending_out + count_inside s.cells r s.pending_in
 
--- the pending insertions of a store after those of a range were put in under ripple: those outside the range, in their order, and then the
--- evicted, which are some of the column's rows from the place of the range's end on, in their order, at most as many as the pending
--- insertions in the range
+-- the pending insertions of a store after those of a range were merged under ripple: those outside the range, in their order, and then the evicted
+-- rows, which are some of the column's rows from the place of the range's end on, in their order, at most as many as the pending insertions in the
+-- range
 pub record Evicts (s : State) (r : Range) (left : List Handle) : Type 0 where
   pub evicted : List Handle
   pub pending_in : left ≡ outside_of s.cells r s.pending_in ++ evicted
@@ -139,14 +139,14 @@ pub record LosesFirst (cells : List (Cell Row)) (r : Range) (count : ℕ) (hs le
   pub left_are : left ≡ without_first cells r passed hs
   pub count_is : count_inside cells r (take passed hs) ≡ count
 
--- of these pending insertions t has all but the first fillers, at most as many as the pending deletions in the range
+-- store t has all these pending insertions except the first fillers, at most as many as the pending deletions in the range
 pub record Fills (s t : State) (r : Range) (hs : List Handle) : Type 0 where
   pub count : ℕ
   pub few : count ≤ count_inside s.cells r s.pending_out
   pub loses : LosesFirst s.cells (beyond s r) count hs t.pending_in
 
--- which pending rows are left by a merge of this policy: complete takes all or none of both, gradual and ripple those of the range; no merge
--- is by auto itself, which selects one of the others
+-- which pending rows remain after a merge of this policy: complete takes all or none of both, gradual and ripple those of the range; auto itself
+-- merges nothing, but selects one of the others
 abbrev pub Leaves : Policy → State → State → Range → Type 0
 Leaves Complete s t r = (t.pending_in ≡ (if is_touched s r then [] else s.pending_in)) × (t.pending_out ≡ (if is_touched s r then [] else s.pending_out))
 Leaves Gradual s t r = (t.pending_in ≡ outside_of s.cells r s.pending_in) × LeavesOutside s t r
@@ -160,7 +160,7 @@ pub record Merges (policy : Policy) (s t : State) (r : Range) : Type 0 where
   pub settled : IsSettled t r
   pub leaves : Leaves policy s t r
 
--- what was counted from one report to a later one
+-- the difference of two reports, each counter of the later less that of the earlier
 abbrev pub counted_between : MergeReport → MergeReport → MergeReport
 counted_between before after = record {
   put_in = after.put_in - before.put_in;
@@ -174,9 +174,8 @@ counted_between before after = record {
 abbrev pub IsExact : MergeReport → Type 0
 IsExact tally = EachCounter (λ n same. n < greatest) tally tally
 
--- what the report from s to t says if every counter is exact: with q pieces, what was put in and not evicted is gone from
--- the pending insertions, what was taken out is gone from the pending deletions, each row put in moved at most q rows, and
--- each row taken out pulled at most q
+-- the report from s to t if every counter is exact: with q pieces, the rows put in and not evicted are gone from the pending insertions, those taken
+-- out are gone from the pending deletions, each row put in moved at most q rows, and each row taken out pulled at most q
 pub record Counts (s t : State) (q : ℕ) : Type 0 where
   pub put_in : t.tally.put_in + length t.pending_in + s.tally.evicted ≡ s.tally.put_in + length s.pending_in + t.tally.evicted
   pub taken_out : t.tally.taken_out + length t.pending_out ≡ s.tally.taken_out + length s.pending_out

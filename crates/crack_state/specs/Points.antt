@@ -1,4 +1,4 @@
--- What the commands on one row do to a store. The row is found by its serial, and taken out, or replaced by another with its serial.
+-- What the commands on one row do to a store. The row is found by its serial, and removed, or replaced by another with its serial.
 use Rattle.std.specs.Prelude.{◌≡◌, ℕ, ◌+◌, ◌-◌, ◌<◌, ◌^◌, Bool, true, false, nat_lt, nat_eq, if◌then◌else◌, drop, length, List, [], ◌∷◌, ◌++◌, Option, Some, None, IsSome, slice_set}
 use Rattle.std.specs.List.{remove}
 use Rattle.std.specs.Option.{option_map, option_and_then, unwrap_or}

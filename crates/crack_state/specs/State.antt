@@ -11,8 +11,8 @@ use Rattle.crack_arena.specs.Rows.{key_at}
 use Rattle.crack_column.specs.Column.{IsDividedAt}
 use Rattle.crack_state.specs.declared.MergeReport.{MergeReport}
 
--- the partition's keys; the cells of the arena and its free numbers; the column; the pending columns; the marks of the index;
--- the handle of each live serial; the tally; and how many more handles are sure to fit in column and pending insertions without memory
+-- the partition's keys; the cells of the arena and its free numbers; the column; the pending columns; the marks of the index; the handle of each live
+-- serial; the tally; and for how many more handles column and pending insertions have room
 pub record State : Type 0 where
   pub keys : Range
   pub cells : List (Cell Row)
@@ -39,8 +39,8 @@ places column pending_in free hand = slots column ++ slots pending_in ++ free ++
 abbrev pub Reads : List (Cell Row) → Handle → Type 0
 Reads cells h = IsSome (read cells h)
 
--- each cell is in exactly one place; what is in column, pending insertions or hand reads a row; the doomed are
--- distinct, and each is in the column or is the hand
+-- each cell is in exactly one place; each handle in column, pending insertions or hand reads a row; the doomed ones are distinct, and each is in the
+-- column or in hand
 pub record IsOwned (cells : List (Cell Row)) (free : List ℕ) (column pending_in pending_out hand : List Handle) : Type 0 where
   pub once : (n : ℕ) → times n (places column pending_in free hand) ≡ (if nat_lt n (length cells) then 1 else 0)
   pub column_reads : All (Reads cells) column
@@ -65,7 +65,7 @@ IsObeyed marks keys = All (Divides keys) marks
 abbrev pub AreInside : Range → List Mark → Type 0
 AreInside keys marks = All (λ (m : Mark). (keys.low < m.bound.0) × (m.bound.0 < keys.high)) marks
 
--- what commands see of the cell with this number: its row, unless that is doomed
+-- the row that commands see in the cell with this number: its row, unless that is doomed
 abbrev pub live_at : List (Cell Row) → List ℕ → ℕ → Option Row
 live_at cells doomed n = if times n doomed == 0 then (cell_at cells n).value else None
 
@@ -117,7 +117,7 @@ pub record EachCounter (R : ℕ → ℕ → Type 0) (before after : MergeReport)
 abbrev pub IsCounted : MergeReport → Type 0
 IsCounted tally = EachCounter (λ n same. n ≤ greatest) tally tally
 
--- what the type of a store keeps, with no hand or one
+-- the invariant of the type of a store, with no hand or one
 pub record IsIntact (s : State) (hand : List Handle) : Type 0 where
   pub owned : IsOwned s.cells s.free s.column s.pending_in s.pending_out hand
   pub obeyed : IsObeyed s.marks (column_keys s)

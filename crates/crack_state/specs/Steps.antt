@@ -37,7 +37,7 @@ lower_last (Some m) marks = map (lowered m.bound.0 m.position) marks
 abbrev pub IsDoomed : Carried → Type 0
 IsDoomed c = 0 < times c.hand.slot (slots c.store.pending_out)
 
--- one more, up to the greatest number of a counter
+-- one more, except at the greatest number of a counter
 abbrev pub more : ℕ → ℕ
 more n = min (n + 1) greatest
 

@@ -1,9 +1,9 @@
-//! What a partition's store is, and what must hold of it: its cells and where each is, the steps by which rows move
+//! The state of a partition's store, and its invariant: its cells and where each is, the steps by which rows move
 //! between the pending columns, a hand and the cracked column, and what a refinement and a merge may change. The
 //! definitions are in `specs/`, over one record of plain lists, and the laws that the crates above cite in `proofs/`.
 #![tactic(auto)]
 
-/// What merges have counted; each number stays at its greatest value once it is there.
+/// What merges have counted; each counter stops at its greatest value.
 #[derive(Clone, Copy, PartialEq, Eq, Debug)]
 pub struct MergeReport {
     /// Pending insertions that were taken into the hand.
@@ -12,8 +12,8 @@ pub struct MergeReport {
     pub taken_out: u64,
     /// Rows that went from the hand back to the pending insertions.
     pub evicted: u64,
-    /// Rows that made way for the hand on its way up.
+    /// Rows that the hand replaced on its way up.
     pub moved: u64,
-    /// Rows that made way for the hand on its way down, or in its own piece.
+    /// Rows that the hand replaced on its way down, or in its own piece.
     pub pulled: u64,
 }

@@ -70,7 +70,7 @@ next_above number (n ∷ ns) x found = elim (cases_lt number n.bound.0) [
   | inr l ↦ next_above number ns x (rw (le-ltb number n.bound.0 l) at found)
 ]
 
--- and the next mark, if that isn't above it
+-- and is the next mark, if that isn't above it
 next_mark-added_behind : (number : ℕ) (m : Mark) (marks : List Mark) (x : Mark) → next_mark number marks ≡ Some x → x.bound.0 ≤ m.bound.0 → next_mark number (added m marks) ≡ Some x
 next_mark-added_behind number m [] x found below = absurd (cc)
 next_mark-added_behind number m (n ∷ ns) x found below = elim (cases_lt number n.bound.0) [
@@ -309,7 +309,7 @@ module _ (s u : State) (low high : InnerBound) (handles : List Handle) (known kn
   second_absent : HasBound (added low_mark s.marks) high.0 → ⊥
   second_absent = second.missing
 
--- what a crack in three of the piece into which two bounds fall leaves, and what is true while they are added
+-- the store after a crack in three of the piece into which two bounds fall, and what holds while they are added
 pub record IsThree (s u : State) (gap : Gap) (high : InnerBound) (a b : ℕ) : Type 0 where
   pub intact : IsIntact u []
   pub refined : Refines s u (record { low = gap.bound.0; high = high.0 })

@@ -1,4 +1,4 @@
--- An index may go to another thread, and threads may share one, by those of its nodes: a node has the law where what lies one level below has it.
+-- An index may go to another thread, and threads may share one, since this holds of its nodes: of a node, if it holds of the level below it.
 use denote.Model.{View}
 use denote.Model.Goals.{send, has_of, part_has}
 use denote.Model.Local.{Parts, rows}

@@ -1,4 +1,4 @@
--- What a walk over the bounds from the lowest up leaves, on which doomed rows are pulled out of the pieces.
+-- The store after a walk over the bounds from the lowest up, on which doomed rows are pulled out of the pieces.
 use Rattle.std.proofs.Common.{◌≡◌, ℕ, zero, suc, ◌+◌, ◌-◌, ◌≤◌, Bool, cond, min, max, nat_lt, nat_eq, List, [], ◌∷◌, ◌++◌, map, length, take, drop, get_or, set, Option, Some, None, refl, sym, ap, ◌∙◌, inl, inr, arith}
 use Rattle.std.specs.List.{All, between}
 use Rattle.std.proofs.Math.Nat.{min-eq_left}
@@ -43,7 +43,7 @@ module _ (cells : List (Cell Row)) (hs : List Handle) where
   abbrev pub ds : List Doomed
   ds = map (doomed_of cells) hs
 
-  -- doomed rows leave what their handles do
+  -- doomed rows have the effect of their handles
   pub map-drained : (low : ℕ) (high : Option InnerBound) (own : Handle → Bool) → ((h : Handle) → is_under high (key h) ≡ own h) → (gs rows : List Handle) → (left_by low high (map (doomed_of cells) gs) rows ≡ drained key itself low own gs rows) × (drawn doomed_key doomed_handle low (λ d. is_under high d.key) (map (doomed_of cells) gs) rows ≡ drawn key itself low own gs rows)
   map-drained low high own owns [] rows = (refl, refl)
   map-drained low high own owns (g ∷ gs) rows =
@@ -57,7 +57,7 @@ module _ (cells : List (Cell Row)) (hs : List Handle) where
   abbrev pub fall : Mark → Mark
   fall m = record m { position = m.position - count_below m.bound.0 ds }
 
-  -- what is before the gap, and what from the next piece on
+  -- the rows before the gap, and those from the next piece on
   pub record At (v : Drain) (front rows : List Handle) : Type 0 where
     pub ready : IsReady v
     pub doomed_are : v.doomed.items ≡ ds
@@ -198,7 +198,7 @@ module _ (cells : List (Cell Row)) (hs : List Handle) where
         stop = all.stop;
       }
     where
-      -- lists that are the same from a place on are so from a later one on
+      -- lists that are the same from a place on are the same from a later one on
       later : (xs ys : List Handle) (n k : ℕ) → n ≤ k → drop n xs ≡ drop n ys → drop k xs ≡ drop k ys
       later xs ys n k order same =
           let both : n + (k - n) ≡ k = omega (arith, order) in
@@ -222,7 +222,7 @@ module _ (s : State) (ds : List Doomed) (intact : IsIntact s []) (can : CanBePul
     column_room = s.column_room + length gs;
   }
 
-  -- what is left after all were pulled
+  -- the store after all were pulled
   pub record IsPulled (ms' : List Mark) (z : Drain) : Type 0 where
     pub column_is : z.column.handles ≡ column_of after
     pub marks_are : ms' ≡ marks_of 0 after
@@ -285,7 +285,7 @@ module _ (s : State) (ds : List Doomed) (intact : IsIntact s []) (can : CanBePul
       no_one [] = refl
       no_one (e ∷ es) = rw (le-ltb e.key 0 (omega arith)) (omega (arith, no_one es))
 
--- What still reads a row reads what it read before
+-- Handles that still read a row read the row that they read before
 
 buried-read : (hs : List Handle) (t : State) (h : Handle) → Reads (buried_all hs t).cells h → read (buried_all hs t).cells h ≡ read t.cells h
 buried-read [] t h reads = refl

@@ -1,4 +1,4 @@
--- What the walks under a ceiling leave of the bounds, and what an exchange of rows at its place leaves.
+-- The bounds after the walks under a ceiling, and the column after an exchange of rows at its place.
 use Rattle.std.proofs.Common.{◌≡◌, ℕ, zero, suc, ◌+◌, ◌-◌, ◌<◌, ◌≤◌, min, max, List, [], ◌∷◌, ◌++◌, map, length, take, drop, reverse, get_or, refl, sym, ap, ◌∙◌, inl, inr, arith}
 use Rattle.std.specs.Prelude.{All, AllPairs}
 use Rattle.std.proofs.lemmas.Bool.{cases_lt, lt-ltb, le-ltb}
@@ -66,7 +66,7 @@ pub map-reversed : (f : Mark → Mark) (ms : List Mark) → map f (reverse ms) �
 map-reversed f [] = refl
 map-reversed f (m ∷ ms) = ap (map f) (reverse-append (m ∷ []) ms) ∙ map-append f (reverse ms) (m ∷ []) ∙ ap (λ ns. ns ++ f m ∷ []) (map-reversed f ms) ∙ sym (reverse-append (f m ∷ []) (map f ms))
 
--- what the walk down leaves of marks around that of the ceiling
+-- the marks around that of the ceiling after the walk down
 pub record IsDown (edge : Mark) (count last : ℕ) (low high marks' : List Mark) (v w : CeilingSieve) : Type 0 where
   pub low' : List Mark
   pub after : marks' ≡ low' ++ map (higher count) (edge ∷ high)
@@ -121,7 +121,7 @@ placed v least last ms ms' u w same from pairs (Places.goes_on n place l m ns ns
     let rest = placed v (max place n) l ns ns' y z (told.1 ∙ same) (λ k d h. let one = pairs zero (suc k) d (omega arith) (omega (arith, h)) in omega (arith, top, one)) (λ i j d h k. pairs (suc i) (suc j) d (omega (arith, h)) (omega (arith, k))) on in
     ap (λ k. at_place k m ∷ ns') top ∙ ap (λ ks. at_place (stop_of v m) m ∷ ks) rest
 
--- where each goes that is in order, if those below the ceiling stand before the others' least place
+-- where each mark that is in order moves, if those below the ceiling are before the least place of the others
 stops_rise : (v : CeilingStop) (m n : Mark) → InOrder m n → (m.bound.0 < v.ceiling → m.position ≤ v.least) → stop_of v m ≤ stop_of v n
 stops_rise v m n order least = elim (cases_lt n.bound.0 v.ceiling) [
   | inl under_n ↦

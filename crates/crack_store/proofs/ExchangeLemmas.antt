@@ -1,4 +1,4 @@
--- Rows of a range that are taken out of a list, and take the places of others from a place on, one after the other.
+-- Rows of a range that are taken out of a list, and replace others from a place on, one after the other.
 use Rattle.std.proofs.Common.{◌≡◌, ℕ, zero, suc, ◌+◌, ◌-◌, ◌<◌, ◌≤◌, min, max, not, Bool, List, [], ◌∷◌, ◌++◌, map, length, take, drop, get_or, set, Some, refl, sym, ap, ◌∙◌, inl, inr, arith}
 use Rattle.std.specs.Prelude.{slice_get, filter}
 use Rattle.std.specs.List.{between}
@@ -18,7 +18,7 @@ use Rattle.crack_state.specs.Merge.{outside_of}
 use Rattle.crack_store.specs.Evictions.{AreApart, ArePut, IsPut, IsExchanged}
 
 module _ {X : Type 0} where
-  -- what stands where in a list of two parts
+  -- the elements of a list of two parts
   pub seam : (xs ys : List X) (n : ℕ) → length xs ≡ n → (take n (xs ++ ys) ≡ xs) × (drop n (xs ++ ys) ≡ ys)
   seam xs ys n is = (
     ap (λ k. take k (xs ++ ys)) (sym is) ∙ take-append-le (length xs) xs ys (omega arith) ∙ take_all (length xs) xs (omega arith),
@@ -43,7 +43,7 @@ module _ {X : Type 0} where
   pub drop-next : (n : ℕ) (xs : List X) → drop (n + 1) xs ≡ drop 1 (drop n xs)
   drop-next n xs = sym (drop-drop 1 n xs)
 
--- what stands at a place, and what follows it
+-- the element at a place, and those after it
 pub got : (hs : List Handle) (place : ℕ) (h : Handle) → slice_get hs place ≡ Some h → drop place hs ≡ h ∷ drop (place + 1) hs
 got [] place h is = absurd (cc)
 got (x ∷ xs) zero h is =
@@ -61,7 +61,7 @@ set_parts (y ∷ ys) (suc n) x within =
     let next : suc n + 1 ≡ suc (n + 1) = omega arith in
     rw next (ap (λ zs. y ∷ zs) (set_parts ys n x (omega (arith, within))))
 
--- no cell is in the list that is left more often than before
+-- no cell is more often in the remaining list than before
 fewer : (n : ℕ) (p : Handle → Bool) (hs : List Handle) → times n (slots (filter p hs)) ≤ times n (slots hs)
 fewer n p [] = omega arith
 fewer n p (h ∷ hs) =
@@ -71,7 +71,7 @@ fewer n p (h ∷ hs) =
       | inr out ↦ rw out (omega (arith, all, fewer n p hs))
     ]
 
--- what is left of a list that is apart from another is so too
+-- the rest of a list that is disjoint from another is disjoint, too
 pub apart-left : (cells : List (Cell Row)) (r : Range) (covered : ℕ) (xs hs : List Handle) → AreApart covered xs hs → AreApart covered xs (outside_of cells r hs)
 apart-left cells r covered xs hs apart = record {
   once = λ slot. omega (arith, apart.once slot, fewer slot (λ h. not (is_in r (key_at cells h))) hs);
@@ -82,7 +82,7 @@ module _ (cells : List (Cell Row)) (from : ℕ) (hs : List Handle) (c0 : Column)
   abbrev beyond : List Handle
   beyond = drop from c0.handles
 
-  -- on the way: so many of them were put in
+  -- on the way: this many of them were put in
   pub record IsOnWay (i : ℕ) (c : Column) (p : Pending) : Type 0 where
     pub few : i ≤ length hs
     pub pending : p.handles ≡ p0.handles ++ take i beyond

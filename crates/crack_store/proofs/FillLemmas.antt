@@ -1,4 +1,4 @@
--- What a walk over the bounds up to one leaves, on which doomed rows are pulled out of the pieces, and what fillers leave that come in before it.
+-- The store after a walk over the bounds up to one, on which doomed rows are pulled out of the pieces, and after fillers come in before it.
 use Rattle.std.proofs.Common.{◌≡◌, ℕ, zero, suc, ◌+◌, ◌-◌, ◌<◌, ◌≤◌, min, max, nat_lt, cond, List, [], ◌∷◌, ◌++◌, map, length, take, drop, reverse, get_or, set, None, refl, sym, ap, ◌∙◌, inl, inr, arith}
 use Rattle.std.specs.List.{All, remove}
 use Rattle.std.proofs.lemmas.Bool.{cases_lt, lt-ltb, le-ltb}
@@ -110,7 +110,7 @@ module _ (s : State) (ds : List Doomed) (fillers : Range) (edge : Mark) (intact 
   abbrev under_edge : Pieces Handle
   under_edge = pulled (key_at s.cells) itself 0 (map doomed_handle ds) (pieces_under s can.low edge)
 
-  -- what is left of a column and its marks after the walk
+  -- a column and its marks after the walk
   pub record IsBelow (ms' : List Mark) (z : Drain) : Type 0 where
     pub front_is : take (edge.position - length ds) z.column.handles ≡ column_of under_edge
     pub behind_is : drop edge.position z.column.handles ≡ drop edge.position s.column
@@ -335,7 +335,7 @@ module _ (r fillers : Range) (s : State) (edge : Mark) (intact : IsIntact s []) 
   abbrev Any : ℕ → ℕ → State → Type 0
   Any from seen t = Unit {0}
 
-  -- what the first pulls leave, this many
+  -- the store after the first pulls, this many
   filled-so : (n : ℕ) (low high : List Mark) → s.marks ≡ low ++ edge ∷ high → n ≤ length rows → n ≤ length fills → AreFilled r fillers Any n low edge (doomed_first r fillers n s) s (filled_by r fillers n low edge high s)
   filled-so n low high marks_are few_out few_in =
       fills-on r fillers Any (λ from place seen to t v on whole found found_in leads. tt) n low edge high s 0 0 (record { intact = intact; marks_are = marks_are; edge_is = next.same; beyond = beyond-all low high marks_are; behind = behind }) few_out few_in tt (λ k f l. absurd (omega (arith, f, l))) (λ k f l. absurd (omega (arith, f, l)))
@@ -398,7 +398,7 @@ module _ (r fillers : Range) (s : State) (edge : Mark) (intact : IsIntact s []) 
           buried = rw handles-of (buried-so (take n rows) s.cells s.pending_out so.buried);
         }
 
-    -- they were
+    -- they were pulled
     pub IsFilled-as : (t : State) → n ≡ min (length rows) (length fills) → FillsAs ds fillers edge s t → IsFilled r fillers s t
     IsFilled-as t count_is so = record {
       low = so.low;

@@ -1,4 +1,4 @@
--- What calls on the inside say about a step that returns a row or takes one out.
+-- What calls on the inside imply for a step that returns a row or takes one out.
 use Rattle.std.proofs.Common.{◌≡◌, ℕ, ◌<◌, true, List, [], ◌∷◌, length, get_or, Option, Some, None, sym, ap, subst, ◌∙◌, arith}
 use Rattle.std.specs.Prelude.{MatchOption, IsSome, is_some}
 use Rattle.std.proofs.lemmas.Bool.{true≢false}
@@ -23,12 +23,12 @@ use Rattle.crack_store.specs.Hand.{hand_of, carried_of}
 use Rattle.crack_store.specs.Keeps.{IsNear, HasHand, KeepsHand}
 use Rattle.crack_store.proofs.RememberLemmas.{KeepsIntact-column}
 
--- what a step makes is this store with a cell in hand, and keeps what belongs to it
+-- a step makes this store with a cell in hand, and its invariant holds
 pub record IsMade (p : Inside) (near : Near) (d : Carried) : Type 0 where
   pub is : carried_of p ≡ d
   pub keeps : KeepsHand p near
 
--- the hand changes places with a row of the column
+-- the hand is exchanged with a row of the column
 pub exchanged_to : (p : Inside) (column : Column) (index : Index) (notes : Notes) (tally : MergeReport) (place : ℕ) (near : Near) (d : Carried) → HasHand p → column ≡ exchanged_aside place p.column → place < length p.column.handles → put_at place index.marks tally (carried_of p) ≡ d → IsIntact d.store (d.hand ∷ []) → IsNear d.store.marks (hand_key d) near → IsMade (record p { column = column; index = index; notes = notes; tally = tally }) near d
 exchanged_to p column index notes tally place near d has column_is within put intact is_near =
     let q = record p { column = column; index = index; notes = notes; tally = tally } in
@@ -46,11 +46,11 @@ exchanged_to p column index notes tally place near d has column_is within put in
       };
     }
 
--- what a caller sees of a store with a cell in hand is intact
+-- the store with a cell in hand, as a caller sees it, is intact
 pub intact_hand : (p : Inside) (near : Near) (c : Carried) → carried_of p ≡ c → KeepsHand p near → IsIntact c.store (c.hand ∷ [])
 intact_hand p near c is keeps = subst (λ (d : Carried). IsIntact d.store (d.hand ∷ [])) is keeps.has.kept.intact
 
--- handles that compare as the same are one
+-- handles that compare as equal are equal
 pub same_handles : (h k : Handle) → same_handle h k ≡ true → h ≡ k
 same_handles h k e =
     let slots_agree : h.slot ≡ k.slot = grind (arith, nat_tests) in
@@ -70,13 +70,13 @@ once_first s hand h place intact stands = record {
       absurd (omega (arith, again, once, times-places h.slot hs s.pending_in s.free hand, times-taken h.slot hs place h stands.within stands.is, times_head h.slot [], times-nil h.slot));
 }
 
--- the cell in hand is nowhere in the column
+-- the cell in hand isn't in the column
 pub hand_absent : (c : Carried) (h : Handle) → IsIntact c.store (c.hand ∷ []) → c.hand.slot ≡ h.slot → IsAbsent c.store.column h
 hand_absent c h intact same =
     let s = c.store in
     λ place at. apart_from_times s.column h.slot (rw same at (hand_apart s.cells s.free s.column s.pending_in s.pending_out c.hand intact.owned).off_column) place h at.within (ap (λ (x : Handle). x.slot) (sym at.is))
 
--- what holds if a value was taken holds if there was one
+-- a property that holds if a value was taken holds if there was one
 pub when_some : (o value : Option Row) (P Q : Type 0) → o ≡ value → IsSome value → MatchOption o P (λ _. Q) → Q
 when_some None value P Q is some h = absurd (true≢false (sym (ap is_some is ∙ some)))
 when_some (Some r) value P Q is some h = h

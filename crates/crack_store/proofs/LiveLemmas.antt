@@ -1,4 +1,4 @@
--- What commands see of cells, one after the other.
+-- The rows that commands see in cells, one after the other.
 use Rattle.std.proofs.Common.{◌≡◌, ℕ, ◌+◌, ◌<◌, ◌≤◌, List, [], ◌∷◌, ◌++◌, length, get_or, take, drop, Option, refl, sym, ap, ◌∙◌, inl, inr, arith, add-one, zero-add}
 use Rattle.std.specs.List.{cons_option, filter_map, range_with_len}
 use Rattle.std.proofs.lemmas.List.{get_or-take, get_or-drop, get_or_append_left, get_or_push, length_push}
@@ -27,7 +27,7 @@ cell_in-stretch cells part slot place is within =
     ∙ get_or-take (length part) (drop slot cells) place empty_cell within
     ∙ get_or-drop slot cells place empty_cell
 
--- no rows rise
+-- the empty list rises
 pub rising-none : (last : ℕ) → AreRising [] last
 rising-none last = record { rise = λ i j d le within. absurd (omega (arith, within)); most = λ place row within. absurd (omega (arith, within)) }
 

@@ -1,4 +1,4 @@
--- What a look-up of a bound next to a key says.
+-- What a look-up of a bound next to a key implies.
 use Rattle.std.proofs.Common.{◌≡◌, ℕ, ◌<◌, ◌^◌, ◌-◌, ◌∷◌, [], List, map, length, Option, Some, None, refl, sym, ◌∙◌, arith}
 use Rattle.std.specs.Prelude.{Contains, IfSome}
 use Rattle.std.proofs.lemmas.List.Elements.{All-contains}
@@ -17,7 +17,7 @@ use Rattle.crack_store.specs.declared.carrying.Near.TheVariants.{Unsought, Above
 use Rattle.crack_store.specs.Keeps.{IsNear}
 use Rattle.crack_store.proofs.EdgeLemmas.{positions_small}
 
--- the bound where the own piece of the hand ends, before the column does, and what becomes of a hand that is put there
+-- the bound where the own piece of the hand ends, before the column's end, and the store after the hand is put there
 pub record IsUp (c : Carried) (m : Mark) : Type 0 where
   pub listed : Contains c.store.marks m
   pub small : m.position < 2 ^ 64 - 1
@@ -42,7 +42,7 @@ is_up c m is room intact =
       nearer = bounds_above-pushed_on c room intact;
     }
 
--- the bound where the own piece of the hand begins, after the column's front, and what becomes of a hand that is put before it
+-- the bound where the own piece of the hand begins, after the column's front, and the store after the hand is put before it
 pub record IsDown (c : Carried) (m : Mark) : Type 0 where
   pub listed : Contains c.store.marks m
   pub above : 0 < m.position
@@ -72,7 +72,7 @@ pub next_listed : (s : State) (hand : List Handle) (key : ℕ) (found : Option M
 next_listed s hand key None intact value = tt
 next_listed s hand key (Some m) intact value = (next_mark-is key s.marks m intact.rising (sym value)).listed
 
--- the bound that is kept stays the one next to a key that has the same neighbours
+-- the bound that is kept is also the one next to a key that lies between the same bounds
 pub IsNear-same : (marks : List Mark) (key other : ℕ) (near : Near) → next_mark other marks ≡ next_mark key marks → last_mark other marks ≡ last_mark key marks → IsNear marks key near → IsNear marks other near
 IsNear-same marks key other Unsought next last is = tt
 IsNear-same marks key other (Above mark) next last is = is ∙ sym next

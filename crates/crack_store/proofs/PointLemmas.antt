@@ -42,7 +42,7 @@ column_handle s serial h column found =
     let same = handle_by-is s serial h found in
     rw same at (unlisted_by s serial (found_by s serial false column))
 
--- a write through a handle that reads a row is done
+-- a write through a handle that reads a row takes place
 pub write_done : (r : Result Row Row) (P Q N : Type 0) → MatchResult r (λ _. P) (λ _. Q) → OnErr r N → (N → ⊥) → P
 write_done (Ok x) P Q N matched none reads = matched
 write_done (Err x) P Q N matched none reads = absurd (reads none)
@@ -50,6 +50,6 @@ write_done (Err x) P Q N matched none reads = absurd (reads none)
 pub reads_not_none : (o : Option Row) → IsSome o → o ≡ None → ⊥
 reads_not_none o some none = true≢false (sym some ∙ ap is_some none)
 
--- what the cell of a handle has once a row was written there
+-- the content of a handle's cell once a row was written there
 pub read-written : (cells : List (Cell Row)) (h : Handle) (row : Row) → h.slot < length cells → read (set cells h.slot (record { generation = h.generation; value = Some row })) h ≡ Some row
 read-written cells h row within = rw (get_or-set_same cells h.slot (record { generation = h.generation; value = Some row }) empty_cell within, eq-eqb h.generation h.generation refl) refl

@@ -1,4 +1,4 @@
--- What the column and the pending lists remember stays right if a cell changes of which they have no row.
+-- What the column and the pending lists remember stays right if a cell changes whose row they don't have.
 use Rattle.std.proofs.Common.{◌≡◌, ◌≢◌, ℕ, List, [], Some, get_or, refl}
 use Rattle.crack_row.specs.declared.Row.{Row}
 use Rattle.crack_arena.specs.Arena.{Cell, Handle, read, times, slots, cells_with}
@@ -45,7 +45,7 @@ memory_of row = record { key = row.key.0; payload = row.payload }
 pub memory-read : (cells : List (Cell Row)) (h : Handle) (row : Row) → read cells h ≡ Some row → memory_of row ≡ memory_at cells h
 memory-read cells h row reads = rw reads refl
 
--- what the cells of others say stays
+-- the cells of other rows are unchanged
 pub memory_at-off : (n : ℕ) (cells after : List (Cell Row)) (h : Handle) → AgreeOff n cells after → h.slot ≢ n → memory_at after h ≡ memory_at cells h
 memory_at-off n cells after h agree ne = rw (read-off n cells after h agree ne) refl
 

@@ -1,4 +1,4 @@
--- What a walk over the bounds from the highest down leaves of a column into which rows came, and of its bounds.
+-- A column into which rows came, and its bounds, after a walk over the bounds from the highest down.
 use Rattle.std.proofs.Common.{◌≡◌, ℕ, zero, suc, ◌+◌, ◌-◌, ◌≤◌, false, min, List, [], ◌∷◌, ◌++◌, map, length, take, drop, reverse, Some, None, refl, sym, ap, ◌∙◌, arith}
 use Rattle.std.specs.Prelude.{All, AllPairs}
 use Rattle.std.specs.List.{between}
@@ -32,7 +32,7 @@ use Rattle.crack_store.specs.Sieves.{AreClear, Passes, Rises}
 
 -- Parts of lists
 
--- what is at each place of three lists, one after another
+-- the element at each place of three lists, one after another
 three : {X : Type 0} (front lower rest : List X) (a b : ℕ) → length front ≡ a → length lower ≡ b → (take a (front ++ (lower ++ rest)) ≡ front) × (between a (a + b) (front ++ (lower ++ rest)) ≡ lower) × (drop (a + b) (front ++ (lower ++ rest)) ≡ rest)
 three front lower rest a b is_front is_lower =
     let all = front ++ (lower ++ rest) in
@@ -72,7 +72,7 @@ nothing-rises most last ms ms' v w none (Raises.stays m ns ns' x y l on) =
     (ap (λ ks. m ∷ ks) rest.0, rest.1)
 nothing-rises most last ms ms' v w none (Raises.goes_on n rise l m ns ns' x y z some told on) = absurd (omega (arith, some, none))
 
--- of the marks the highest comes first
+-- the marks, the highest first
 abbrev pub Falls : List Mark → Type 0
 Falls ms = AllPairs (λ m n. InOrder n m) ms
 
@@ -274,7 +274,7 @@ module _ (r : Range) (s : State) (intact : IsIntact s []) where
       length-keys [] = refl
       length-keys (h ∷ hs) = ap suc (length-keys hs)
 
-  -- if that was all, what is left is what the carries leave
+  -- once all were sifted, the result is that of the carries
   pub record IsCarried (u : State) : Type 0 where
     pub carried : SameButRoom (carried_in_bulk None r s) u
     pub kept : IsKept s u

@@ -1,4 +1,4 @@
--- How rows that stand after a column's last go by a piece, place by place.
+-- How rows after a column's last row pass a piece, place by place.
 use Rattle.std.proofs.Common.{◌≡◌, ℕ, zero, suc, ◌+◌, ◌-◌, ◌<◌, ◌≤◌, Bool, true, false, not, ◌&&◌, nat_lt, cond, List, [], ◌∷◌, ◌++◌, length, take, drop, get_or, set, Option, Some, None, refl, sym, ap, ◌∙◌, inl, inr, arith}
 use Rattle.std.specs.List.{All, between, filter}
 use Rattle.std.specs.Prelude.{IfSome}
@@ -15,7 +15,7 @@ use Rattle.crack_bulk.specs.Sweeps.{Swept, Round, with_more, goes_on, round, swe
 use Rattle.crack_bulk.proofs.SweepLaws.{by-step}
 use Rattle.crack_store.specs.Sweepings.{ends_in, up_to, sweep_of, leaving}
 
--- Two rows change places
+-- Two rows are exchanged
 
 module _ {X : Type 0} (d : X) where
   swapped-two : (a : List X) (x : X) (b : List X) (y : X) (c : List X) (i j : ℕ) → length a ≡ i → length a + (1 + length b) ≡ j → swapped d i j (a ++ x ∷ (b ++ y ∷ c)) ≡ a ++ y ∷ (b ++ x ∷ c)
@@ -32,7 +32,7 @@ module _ {X : Type 0} (d : X) where
   swapped-same : (xs : List X) (i : ℕ) → swapped d i i xs ≡ xs
   swapped-same xs i = rw (set-get_or xs i d) (set-get_or xs i d)
 
--- a test that is passed by what doesn't stop
+-- a test that a row passes if it doesn't stop
 passing : (own stop : Bool) → own && not stop ≡ true → own ≡ true
 passing true stop both = refl
 passing false stop both = absurd (false≢true both)
@@ -78,7 +78,7 @@ module _ (cells : List (Cell Row)) (out : List Handle) (low : ℕ) (high : Optio
   abbrev own : Handle → Bool
   own = up_to cells out high
 
-  -- the rows before a place have gone by the piece
+  -- the rows before a place have passed the piece
   pub record IsOn (front rows mid ts : List Handle) (start end from : ℕ) (handles : List Handle) (cursor used made going place : ℕ) : Type 0 where
     pub placed : List Handle
     pub rest : List Handle
@@ -123,7 +123,7 @@ module _ (cells : List (Cell Row)) (out : List Handle) (low : ℕ) (high : Optio
     sweep_is = sym (more-none (swept stops under own ts [] rows [] []));
   }
 
-  -- at the end all have
+  -- at the end all have passed it
   pub IsOn-end : (front rows mid ts : List Handle) (start end from : ℕ) (handles : List Handle) (cursor used made going place : ℕ) → length handles ≤ place → IsOn front rows mid ts start end from handles cursor used made going place → (handles ≡ front ++ ((sweep_of cells out low high ts rows).piece ++ (mid ++ (sweep_of cells out low high ts rows).tail))) × (made ≡ (sweep_of cells out low high ts rows).made)
   IsOn-end front rows mid ts start end from handles cursor used made going place over on = elim_todo on.todo refl
     where
@@ -167,7 +167,7 @@ module _ (cells : List (Cell Row)) (out : List Handle) (low : ℕ) (high : Optio
     abbrev seen : List Handle
     seen = on.done ++ on.queue
 
-    -- what stands before the place
+    -- the rows before the place
     abbrev before : List Handle
     before = front ++ ((on.placed ++ on.rest) ++ (mid ++ seen))
 
@@ -178,7 +178,7 @@ module _ (cells : List (Cell Row)) (out : List Handle) (low : ℕ) (high : Optio
     long-before : length before ≡ place
     long-before = omega (arith, first, third, on.cursor_is, on.rest_is, on.place_is, length-append front ((on.placed ++ on.rest) ++ (mid ++ seen)), length-append (on.placed ++ on.rest) (mid ++ seen), length-append on.placed on.rest, length-append mid seen, length-append on.done on.queue)
 
-    -- once all have gone by, so many go on
+    -- once all have passed, this many go on
     pub counted-end : length handles ≤ place → going ≡ leaving cells out high (drop from handles)
     counted-end over = of on.todo refl
       where
@@ -240,7 +240,7 @@ module _ (cells : List (Cell Row)) (out : List Handle) (low : ℕ) (high : Optio
         sweep_is = so_far ∙ ap (with_more made) (by-step (key_at cells) stops under own n.t n.todo on.placed on.rest on.done on.queue off);
       }
 
-      -- it changes places with the next row of the piece
+      -- it is exchanged with the next row of the piece
       pub IsOn-turn : (more : ℕ) → goes_on stops under n.t ≡ true → cursor < end → more ≡ cond {A = ℕ} (goes_on stops own (get_or (swapped no_handle cursor place handles) place no_handle)) 1 0 → IsOn front rows mid ts start end from (swapped no_handle cursor place handles) (cursor + 1) used (made + 1) (going + more) (place + 1)
       IsOn-turn more goes some on_it = of on.rest refl
         where
@@ -276,14 +276,14 @@ module _ (cells : List (Cell Row)) (out : List Handle) (low : ℕ) (high : Optio
                 sweep_is = so_far ∙ ap (λ vs. with_more made (swept stops under own (n.t ∷ n.todo) on.placed vs on.done on.queue)) is ∙ ap (with_more made) step ∙ more-both made 1 (swept stops under own n.todo (on.placed ++ n.t ∷ []) ys on.done (on.queue ++ y ∷ []));
               }
 
-      -- what stands before the queue
+      -- the rows before the queue
       abbrev ahead : List Handle
       ahead = front ++ ((on.placed ++ on.rest) ++ (mid ++ on.done))
 
       long-ahead : length ahead ≡ used
       long-ahead = omega (arith, first, third, on.cursor_is, on.rest_is, on.used_is, length-append front ((on.placed ++ on.rest) ++ (mid ++ on.done)), length-append (on.placed ++ on.rest) (mid ++ on.done), length-append on.placed on.rest, length-append mid on.done)
 
-      -- the places after the column's last, split behind those that are done
+      -- the places after the column's last, split after those that are finished
       apart : (ds us : List Handle) → front ++ ((on.placed ++ on.rest) ++ (mid ++ (on.done ++ (ds ++ us)))) ≡ ahead ++ (ds ++ us)
       apart ds us =
           ap (λ vs. front ++ ((on.placed ++ on.rest) ++ vs)) (sym (append_assoc mid on.done (ds ++ us))) ∙ ap (λ vs. front ++ vs) (sym (append_assoc (on.placed ++ on.rest) (mid ++ on.done) (ds ++ us))) ∙ sym (append_assoc front ((on.placed ++ on.rest) ++ (mid ++ on.done)) (ds ++ us))
@@ -299,7 +299,7 @@ module _ (cells : List (Cell Row)) (out : List Handle) (low : ℕ) (high : Optio
       swept-one : (r : Round Handle) → goes_on stops under n.t ≡ true → on.rest ≡ [] → round stops own n.t on.done on.queue ≡ r → swept stops under own (n.t ∷ n.todo) on.placed on.rest on.done on.queue ≡ with_more r.made (swept stops under own n.todo on.placed on.rest r.done r.queue)
       swept-one r goes empty same = rw empty (rw (goes, same) refl)
 
-      -- no row of the piece is left: where none has gone on from it, the row stays
+      -- no row of the piece is left: if none has gone on from it, the row stays
       IsOn-last : goes_on stops under n.t ≡ true → goes_on stops own n.t ≡ true → on.rest ≡ [] → All (λ q. goes_on stops own q ≡ false) on.queue → IsOn front rows mid ts start end from handles cursor (place + 1) made (going + 1) (place + 1)
       IsOn-last goes leaves empty all =
           let r : Round Handle = record { done = (on.done ++ on.queue) ++ n.t ∷ []; queue = []; made = 0 } in
@@ -322,7 +322,7 @@ module _ (cells : List (Cell Row)) (out : List Handle) (low : ℕ) (high : Optio
             sweep_is = so_far ∙ ap (with_more made) step ∙ ap (with_more made) (more-none (swept stops under own n.todo on.placed on.rest r.done r.queue));
           }
 
-      -- else it changes places with the first that has
+      -- else it is exchanged with the first that has
       IsOn-found : (q1 q2 : List Handle) (q : Handle) → goes_on stops under n.t ≡ true → goes_on stops own n.t ≡ true → on.rest ≡ [] → on.queue ≡ q1 ++ q ∷ q2 → All (λ p. goes_on stops own p ≡ false) q1 → goes_on stops own q ≡ true → IsOn front rows mid ts start end from (swapped no_handle (used + length q1) place handles) cursor (used + length q1 + 1) (made + 1) (going + 1) (place + 1)
       IsOn-found q1 q2 q goes leaves empty split all there =
           let r : Round Handle = record { done = (on.done ++ q1) ++ n.t ∷ []; queue = q2 ++ q ∷ []; made = 1 } in
@@ -415,9 +415,9 @@ four h s e f one two three =
 pub length-swapped : (i j : ℕ) (h : List Handle) → length (swapped no_handle i j h) ≡ length h
 length-swapped i j h = length-set (set h i (get_or h j no_handle)) j (get_or h i no_handle) ∙ length-set h i (get_or h j no_handle)
 
--- Of the rows that came in the doomed are set apart
+-- The doomed ones among the rows that came in
 
--- the rows before a place are parted: those that stay stand first, and the doomed are listed
+-- the rows before a place are separated: those that stay are first, and the doomed ones are listed
 pub record IsParting (out front ts : List Handle) (from : ℕ) (handles listed : List Handle) (low place : ℕ) : Type 0 where
   pub seen : List Handle
   pub junk : List Handle

@@ -1,4 +1,4 @@
--- What a walk over the bounds from the lowest up leaves of a column, whose pieces the rows that came in turn.
+-- A column after a walk over the bounds from the lowest up, whose pieces the rows that came in turn.
 use Rattle.std.proofs.Common.{◌≡◌, ℕ, zero, suc, ◌+◌, ◌-◌, ◌≤◌, false, cond, min, max, List, [], ◌∷◌, ◌++◌, length, take, drop, Option, Some, None, refl, sym, ap, ◌∙◌, inl, inr, arith}
 use Rattle.std.specs.List.{All, between, filter}
 use Rattle.std.proofs.Math.Nat.{min-eq_left}
@@ -61,7 +61,7 @@ module _ (cells : List (Cell Row)) (out : List Handle) where
   abbrev key : Handle → ℕ
   key = key_at cells
 
-  -- what stands before the next piece, from it on, and after the column's last row
+  -- the rows before the next piece, from it on, and after the column's last row
   pub record At (v : Sweep) (front rows tail : List Handle) : Type 0 where
     pub ready : IsReady v
     pub cells_are : v.arena.now.cells ≡ cells
@@ -187,19 +187,19 @@ module _ (cells : List (Cell Row)) (out : List Handle) where
 
 -- The whole
 
--- what rows are buried doesn't hang on room
+-- the rows that are buried don't depend on the room
 buried-room : (hs : List Handle) (t : State) (a b : ℕ) → buried_all hs (record t { column_room = a; in_room = b }) ≡ record (buried_all hs t) { column_room = a; in_room = b }
 buried-room [] t a b = refl
 buried-room (h ∷ hs) t a b = buried-room hs (buried (record { store = t; hand = h })) a b
 
--- one that differs in room alone
+-- a store that differs only in its room
 same-room : (s u : State) (a b : ℕ) → u ≡ record s { column_room = a; in_room = b } → SameButRoom s u
 same-room s u a b is = rw is (record { same = refl })
 
 sweep-same : (cells cells' : List (Cell Row)) (out out' : List Handle) (low : ℕ) (high : Option InnerBound) (ts ts' rows rows' : List Handle) → cells ≡ cells' → out ≡ out' → ts ≡ ts' → rows ≡ rows' → sweep_of cells out low high ts rows ≡ sweep_of cells' out' low high ts' rows'
 sweep-same cells cells' out out' low high ts ts' rows rows' a b c d = rw (a, b, c, d) refl
 
--- where none is below the floor, none turns a piece that begins at or below it
+-- if none is below the floor, none turns a piece that begins at or below it
 pub none-below : (cells : List (Cell Row)) (out : List Handle) (low floor : ℕ) (ts : List Handle) → low ≤ floor → All (λ h. floor ≤ key_at cells h) ts → going_on cells out low ts ≡ 0
 none-below cells out low floor [] order above = refl
 none-below cells out low floor (t ∷ ts) order above =
@@ -208,7 +208,7 @@ none-below cells out low floor (t ∷ ts) order above =
     let rest = none-below cells out low floor ts order (All-tail (λ h. floor ≤ key_at cells h) t ts above) in
     sum_by-cons (λ y. cond {A = ℕ} (goes_on (ends_in out) (is_lower (key_at cells) (ends_in out) low) y) 1 0) t ts ∙ rw off (omega (arith, rest))
 
--- where none turns the piece, all is as it was
+-- if none turns the piece, nothing changes
 pub Sweeps-off : (cells : List (Cell Row)) (out : List Handle) (low : ℕ) (high : Option InnerBound) (start end from : ℕ) (handles : List Handle) → start ≤ end → end ≤ from → from ≤ length handles → going_on cells out low (drop from handles) ≡ 0 → Sweeps cells out low high start end from handles handles 0
 Sweeps-off cells out low high start end from handles order before within none =
     let parts = four handles start end from order before within in
@@ -218,7 +218,7 @@ Sweeps-off cells out low high start end from handles order before within none =
       made_is = rw off refl;
     }
 
--- where the next piece ends at or below the floor, none turns the one above it
+-- if the next piece ends at or below the floor, none turns the one above it
 pub IsReady-on : (v : Sweep) (low start : ℕ) → IsReady v → start ≤ v.from → v.low ≤ low → low ≤ v.floor.0 → IsReady (record v { low = low; start = start; count = 0 })
 IsReady-on v low start ready order up under =
     let above = ready.above (omega (arith, up, under)) in
@@ -328,7 +328,7 @@ module _ (r : Range) (s : State) (intact : IsIntact s []) where
       tail_long : length sw.tail ≡ length (rows_in r s intact)
       tail_long = length-swept_up (key_at s.cells) (ends_in s.pending_out) 0 (rows_in r s intact) (pieces_of s)
 
-  -- all carries of the range leave this where the rows that end them are buried
+  -- this is the result of all carries of the range once the rows that end them are buried
   pub carried-is : (a b : ℕ) → SameButRoom (carried_in_bulk None r s) (buried_all hands (record (unburied r s intact) { column_room = a; in_room = b }))
   carried-is a b = same-room (carried_in_bulk None r s) (buried_all hands (record (unburied r s intact) { column_room = a; in_room = b })) a b (buried-room hands (unburied r s intact) a b ∙ ap (λ (x : State). record x { column_room = a; in_room = b }) (sym (carried-sweeping r s intact)))
 

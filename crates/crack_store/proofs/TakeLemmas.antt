@@ -1,4 +1,4 @@
--- What is inside a range of a list of pending rows, and what is left if it is taken out row after row.
+-- The rows of a list of pending rows that are inside a range, and the rest if they are taken out one after the other.
 use Rattle.std.proofs.Common.{◌≡◌, ℕ, zero, suc, ◌+◌, ◌-◌, ◌<◌, ◌≤◌, not, List, [], ◌∷◌, ◌++◌, length, map, get_or, take, drop, Some, None, refl, sym, ap, ◌∙◌, inl, inr, arith}
 use Rattle.std.specs.List.{All}
 use Rattle.std.proofs.lemmas.Bool.{cases_Bool}
@@ -167,13 +167,13 @@ inside-few cells r (h ∷ hs) = elim (cases_Bool (is_in r (key_at cells h))) [
       omega (arith, ap length rest, inside-few cells r hs)
 ]
 
--- what follows the first so many, and one more
+-- the rows after the first ones, this many, and one more
 pub drop-push : {X : Type 0} (n : ℕ) (xs : List X) (x : X) → n ≤ length xs → drop n (xs ++ x ∷ []) ≡ drop n xs ++ x ∷ []
 drop-push zero xs x within = refl
 drop-push (suc n) [] x within = absurd (omega (arith, within))
 drop-push (suc n) (y ∷ ys) x within = drop-push n ys x (omega (arith, within))
 
--- what is remembered of the rows after the first so many is what they read
+-- what is remembered of the rows after the first ones, this many, is what they read
 pub behind-read : (cells : List (Cell Row)) (n : ℕ) (c : Column) → length c.remembered ≡ length c.handles → drop n c.remembered ≡ map (memory_at cells) (drop n c.handles) → AreRead cells n (length c.handles) c
 behind-read cells n c beside read =
     let memories : between n (length c.handles) c.remembered ≡ drop n c.remembered = ap (λ k. take (k - n) (drop n c.remembered)) (sym beside) ∙ take_rest c.remembered n in

@@ -1,4 +1,4 @@
--- All carries of a range in bulk under a ceiling, where no row is doomed: what carry after carry leaves.
+-- All carries of a range in bulk under a ceiling, if no row is doomed: the result of one carry after another.
 use Rattle.std.proofs.Common.{◌≡◌, ℕ, suc, ◌+◌, ◌-◌, ◌<◌, ◌≤◌, false, min, List, [], ◌∷◌, ◌++◌, map, length, take, drop, reverse, get_or, Some, refl, sym, ap, ◌∙◌, inl, inr, arith}
 use Rattle.std.specs.Prelude.{All, Contains}
 use Rattle.std.proofs.lemmas.Bool.{lt-leb}
@@ -36,7 +36,7 @@ use Rattle.crack_store.proofs.ExchangeLemmas.{seam}
 use Rattle.crack_store.proofs.EvictLemmas.{around, map-reversed, All-reversed}
 use Rattle.crack_store.proofs.SiftLemmas.{Falls, IsBefore, stood, came, through}
 
--- of the marks in reverse the highest comes first
+-- the marks in reverse, the highest first
 falls_reverse : (xs : List Mark) → Rising xs → Falls (reverse xs)
 falls_reverse xs rising = λ i j d h k.
     let far = length-reverse xs in
@@ -100,7 +100,7 @@ module _ (r : Range) (s : State) (low : List Mark) (m : Mark) (high : List Mark)
     under = inside_under s.pending_in;
   }
 
-  -- what is left where the rows stood from the ceiling's place on, and were sifted through the pieces below it
+  -- the store once the rows were put from the ceiling's place on, and sifted through the pieces below it
   pub record IsWalked (low' : List Mark) (w : Sieve) : Type 0 where
     pub column_is : w.column.handles ≡ column_of (sifted (key_at s.cells) 0 rows lower) ++ drop (length rows) (drop m.position s.column)
     pub marks_are : low' ≡ map (risen (key_at s.cells) rows) low
@@ -141,7 +141,7 @@ module _ (r : Range) (s : State) (low : List Mark) (m : Mark) (high : List Mark)
         remembers = done.remembers;
       }
 
-  -- what is left then is what the carries leave
+  -- this is the result of the carries
   pub record IsCarried (u : State) : Type 0 where
     pub carried : SameButRoom (carried_in_bulk (Some m.bound.0) r s) u
     pub kept : IsKept s u
@@ -164,12 +164,12 @@ carried-room r s edge intact there none top t u made room =
     let under_more : SameButRoom (carried_under r more low edge high) u = rw same at now in
     rw (carried-under r s low edge high intact (goes r s low edge high intact is none top)) (record { same = under_more.same })
 
--- a list without length
+-- a list of length 0
 pub none_left : (hs : List Handle) → length hs ≡ 0 → hs ≡ []
 none_left [] none = refl
 none_left (h ∷ hs) none = absurd (omega (arith, none))
 
--- a store with more room is kept
+-- a store with more room has the invariant, too
 pub KeepsIntact-roomier : (p : Inside) (column : Column) (pending : Pending) → KeepsIntact p [] → column ≡ record p.column { room = column.room } → pending ≡ record p.pending_in { room = pending.room } → p.pending_in.room ≤ pending.room → KeepsIntact (record p { column = column; pending_in = pending }) []
 KeepsIntact-roomier p column pending kept column_is pending_is more =
     let q : Inside = record p { column = column; pending_in = pending } in

@@ -1,4 +1,4 @@
--- What a walk over the bounds leaves of a store with a cell in hand.
+-- A store with a cell in hand, after a walk over the bounds.
 use Rattle.std.proofs.Common.{◌≡◌, ℕ, ◌-◌, ◌<◌, ◌≤◌, ◌∷◌, [], List, map, length, Option, Some, None, refl, sym, ap, subst, ◌∙◌, inl, inr, arith}
 use Rattle.std.proofs.lemmas.Bool.{cases_lt}
 use Rattle.crack_row.specs.declared.Bound.{Bound}
@@ -29,11 +29,11 @@ below_ceiling (Some bound) p known agrees = elim agrees [
   | inr e ↦ let key = ap (λ (m : Memory). m.key) e in omega (arith, known.1, key)
 ]
 
--- the store in the middle of a walk up: its column goes along
+-- the store in the middle of a walk up, with its column
 abbrev climbing : Inside → Ascent → List Mark → Inside
 climbing p v marks = record p { column = v.column; index = record p.index { marks = marks }; tally = record p.tally { moved = v.moved } }
 
--- what a walk up leaves
+-- the store after a walk up
 pub record IsClimbed (p : Inside) (ceiling : Option Bound) (c : Carried) (last : Option Mark) (marks : List Mark) (w : Ascent) : Type 0 where
   pub has : HasHand (climbing p w marks)
   pub next : next_mark (hand_key (carried_of (climbing p w marks))) marks ≡ last
@@ -80,7 +80,7 @@ climbed p ceiling o last marks marks' v w (Climbs.goes_on m l ms ms' x y z takes
       pushes = PushesOn.pushes c (carried_of (climbing p z ms')) up.lasting (rw same at up.below) up.room (subst (λ (d : Carried). PushesOn (ceiling_of ceiling) d (carried_of (climbing p z ms'))) up.is on.pushes);
     }
 
--- the hand comes no farther from where its way ends
+-- the hand never moves away from the end of its way
 pub bounds_above-pushes : (ceiling : Option ℕ) (c d : Carried) → PushesOn ceiling c d → IsIntact c.store (c.hand ∷ []) → bounds_above (hand_key d) d.store.marks ≤ bounds_above (hand_key c) c.store.marks
 bounds_above-pushes ceiling c d (PushesOn.stays e) intact = omega arith
 bounds_above-pushes ceiling c d (PushesOn.pushes e f lasting below room rest) intact =
@@ -96,7 +96,7 @@ index_is i j e =
     let built : ℕ → Index = λ room. record { marks = j.marks; room = room } in
     ap built e
 
--- what the whole walk up leaves
+-- the store after the whole walk up
 pub record IsAscended (p : Inside) (ceiling : Option Bound) (q : Inside) (last : Option Mark) : Type 0 where
   pub pushes : PushesOn (ceiling_of ceiling) (carried_of p) (carried_of q)
   pub kept : KeepsHand q (Above last)
@@ -113,11 +113,11 @@ ascended p v w index last key has column moved out is_key climbs room =
       kept = record { has = on.has; is_near = sym on.next };
     })
 
--- the store in the middle of a walk down: its column and its notes go along
+-- the store in the middle of a walk down, with its column and its notes
 abbrev descending : Inside → Descent → List Mark → Inside
 descending p v marks = record p { column = v.column; index = record p.index { marks = marks }; notes = v.notes; tally = record p.tally { pulled = v.pulled } }
 
--- what a walk down leaves
+-- the store after a walk down
 pub record IsDescended (p : Inside) (place : ℕ) (c : Carried) (last : Option Mark) (marks : List Mark) (w : Descent) : Type 0 where
   pub has : HasHand (descending p w marks)
   pub next : last_mark (hand_key (carried_of (descending p w marks))) marks ≡ last
@@ -174,7 +174,7 @@ descended p place o last marks marks' v w (Descends.goes_on m l ms ms' x y z abo
       ends = on.ends;
     }
 
--- what the whole walk down leaves
+-- the store after the whole walk down
 pub record IsLowest (p : Inside) (place : ℕ) (q : Inside) (last : Option Mark) : Type 0 where
   pub pulls : PullsBack place (carried_of p) (carried_of q)
   pub ends : piece_start (lists_of q) (hand_key (carried_of q)) ≤ place

@@ -1,5 +1,5 @@
 -- What private clauses alone cite.
--- What a walk over the bounds from the lowest up does to a column at a bound, out of whose pieces doomed rows are pulled.
+-- What a walk over the bounds from the lowest up, which pulls doomed rows out of the pieces of a column, does at a bound.
 use Rattle.std.specs.Prelude.{◌≡◌, ⊤, ℕ, ◌+◌, ◌-◌, ◌<◌, ◌≤◌, Some, None, min, map, take, List, [], ◌∷◌, length, slice_set}
 use Rattle.std.specs.List.{All, remove}
 use Rattle.crack_arena.specs.Arena.{Cell, Handle, times, slots, place_in}
@@ -14,7 +14,7 @@ use Rattle.crack_bulk.specs.Pulled.{pulled_from}
 use Rattle.crack_store.specs.declared.draining.Drain.{Drain}
 use Rattle.crack_store.specs.declared.inside.Inside.{Inside}
 
--- a pending deletion, as its pull finds it
+-- a pending deletion, with the key by which its pull finds it
 abbrev pub doomed_of : List (Cell Row) → Handle → Doomed
 doomed_of cells h = record { key = key_at cells h; handle = h }
 
@@ -38,7 +38,7 @@ pub record Passes (v : Drain) (m : Mark) (end : ℕ) (w : Drain) : Type 0 where
   pub room : w.column.room ≡ v.column.room
   pub remembered : StillRemembers v.column w.column
 
--- the bound is after the gap: then the rows were pulled out of the piece below it
+-- if the bound is after the gap, the rows were pulled out of the piece below it
 abbrev pub Empties : Drain → Mark → ℕ → Drain → Type 0
 Empties v m end w = v.from ≤ m.position → m.position ≤ length v.column.handles → Passes v m end w
 
@@ -73,8 +73,8 @@ pub record KeepsKeys (p q : Inside) : Type 0 where
   pub same : q ≡ record p { arena = q.arena; pending_out = q.pending_out; tally = q.tally }
   pub keys : (cells : List (Cell Row)) → Remembers cells p.pending_out.handles p.pending_out.remembered → Remembers cells q.pending_out.handles q.pending_out.remembered
 
--- these doomed rows can be pulled, one after the other: their keys are right, and what is left then is intact, where each bound has fallen by as
--- many as were below it
+-- these doomed rows can be pulled, one after the other: their keys are right, and the store is intact afterwards, with each bound lower by as many as
+-- were below it
 pub record CanBePulled (ds : List Doomed) (s : State) : Type 0 where
   pub are : ds ≡ map (doomed_of s.cells) (map doomed_handle ds)
   pub intact : IsIntact (pulled_from (map doomed_handle ds) s) []

@@ -1,5 +1,5 @@
 -- What private clauses alone cite.
--- What a walk over the bounds up to one does on which doomed rows are pulled, and what fillers leave that take the places before it.
+-- What a walk over the bounds up to one does on which doomed rows are pulled, and the column after fillers take the places before it.
 use Rattle.std.specs.Prelude.{◌≡◌, ℕ, ◌+◌, ◌-◌, ◌<◌, ◌≤◌, Contains, map, List, [], ◌∷◌, ◌++◌, length, take, drop, reverse}
 use Rattle.std.specs.List.{All}
 use Rattle.crack_row.specs.Ranges.{Range}
@@ -41,13 +41,13 @@ pub record IsStocked (cells : List (Cell Row)) (fillers : Range) (place count : 
   pub in_room : p.room ≤ p'.room
   pub covered : p'.covered ≡ p.covered
 
--- what the pulls of doomed rows leave, each by a filler, the first ones, that comes in before a mark
+-- a store after the pulls of doomed rows, each by one of the first fillers, which come in before a mark
 abbrev pub filled_at : List Doomed → Range → List Mark → Mark → List Mark → State → State
 filled_at ds fillers low edge high s =
     filled_from low edge high (map doomed_handle ds) (take (length ds) (inside_of s.cells fillers s.pending_in)) (lacking s.cells fillers (length ds) s.pending_in) s
 
 -- these doomed rows can be pulled, one after the other, each by a filler that comes in before a mark: their keys are right, there are fillers for all of
--- them, and what is left then is intact, where each bound below has fallen by as many as were below it
+-- them, and the store is intact afterwards, with each bound below lower by as many as were below it
 pub record CanBeFilled (ds : List Doomed) (fillers : Range) (edge : Mark) (s : State) : Type 0 where
   pub low : List Mark
   pub high : List Mark
@@ -61,7 +61,7 @@ pub record CanBeFilled (ds : List Doomed) (fillers : Range) (edge : Mark) (s : S
   pub long : length (column_of (pulled (key_at s.cells) itself 0 (map doomed_handle ds) (pieces_under s low edge))) + length ds ≡ edge.position
   pub buried : AreBuried (map doomed_handle ds) s.cells s.pending_out
 
--- they were pulled so
+-- they were pulled in this way
 pub record FillsAs (ds : List Doomed) (fillers : Range) (edge : Mark) (s t : State) : Type 0 where
   pub low : List Mark
   pub high : List Mark

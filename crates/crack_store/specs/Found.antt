@@ -18,6 +18,6 @@ pub record AreRising (rows : List Row) (last : ℕ) : Type 0 where
   pub rise : IsNonDecreasingBy serial_of rows
   pub most : (place : ℕ) (row : Row) → place < length rows → serial_of (slice_index_or rows place row) ≤ last
 
--- where it says that serials rise they do
+-- if the flag says that serials rise, they do
 abbrev pub KeepsOrder : Found → Type 0
 KeepsOrder found = IsTrue found.is_rising → AreRising found.rows.items found.last

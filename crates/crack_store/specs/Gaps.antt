@@ -51,7 +51,7 @@ Misses s r (One gap) = MissesIn s gap.bound.0 gap.piece × ((gap.bound.0 ≡ r.l
 Misses s r (Together low high) = AreEnds r low.bound.0 high.0 × FallTogether s low high
 Misses s r (Apart low high) = AreEnds r low.bound.0 high.bound.0 × FallApart s low high
 
--- where the keys of a piece end, which is at the bound above them, if there is one
+-- where the keys of a piece end: at the bound above them, or at the end of the partition
 abbrev pub above_or : ℕ → Option InnerBound → ℕ
 above_or end None = end
 above_or end (Some bound) = bound.0

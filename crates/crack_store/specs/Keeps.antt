@@ -1,5 +1,5 @@
 -- What private clauses alone cite.
--- What a store keeps, with no hand or one.
+-- The invariant of a store, with no hand or one.
 use Rattle.std.specs.Prelude.{◌≡◌, ⊤, ◌<◌, ℕ, List, [], ◌∷◌, length, ◌≤◌}
 use Rattle.crack_arena.specs.Arena.{Handle}
 use Rattle.crack_arena.specs.Rows.{key_at}
@@ -13,8 +13,8 @@ use Rattle.crack_store.specs.declared.carrying.Near.TheVariants.{Unsought, Above
 use Rattle.crack_store.specs.Inside.{lists_of}
 use Rattle.crack_store.specs.Hand.{hand_of}
 
--- what the inside keeps, with no hand or one: what the column and the pending lists remember is right, there is room for as many
--- pending insertions as are said to be sure to fit, and any cell may become one
+-- the invariant of the inside, with no hand or one: what the column and the pending lists remember is right, there is the promised room for pending
+-- insertions, and any cell may become one
 pub record KeepsIntact (p : Inside) (hand : List Handle) : Type 0 where
   pub intact : IsIntact (lists_of p) hand
   pub remembers : Remembers p.arena.cells p.column.handles p.column.remembered
@@ -29,7 +29,7 @@ IsNear marks key Unsought = ⊤
 IsNear marks key (Above mark) = mark ≡ next_mark key marks
 IsNear marks key (Below mark) = mark ≡ last_mark key marks
 
--- a cell is in hand, aside of the column: what is remembered of its row is right, and the column has room for it
+-- a cell is in hand, aside in the column: what is remembered of its row is right, and the column has room for it
 pub record HasHand (p : Inside) : Type 0 where
   pub kept : KeepsIntact p (hand_of p ∷ [])
   pub aside : 0 < length p.column.aside

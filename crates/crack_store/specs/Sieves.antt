@@ -1,5 +1,5 @@
 -- What private clauses alone cite.
--- What a walk over the bounds from the highest down does to a column at a bound, through whose rows others are sifted.
+-- What a walk over the bounds from the highest down, which sifts rows through the pieces of a column, does at a bound.
 use Rattle.std.specs.Prelude.{◌≡◌, ℕ, ◌+◌, ◌-◌, ◌<◌, ◌≤◌, min, List, length, slice_index_or}
 use Rattle.std.specs.List.{between}
 use Rattle.crack_arena.specs.Arena.{Cell, Handle, IsAbsent, no_handle}
@@ -17,7 +17,7 @@ pub record IsReady (v : Sieve) : Type 0 where
   pub order : v.from ≤ v.to
   pub within : v.to ≤ length v.column.handles
 
--- they were sifted through the piece above a bound, this many of whose rows made way
+-- they were sifted through the piece above a bound, of which this many rows moved
 pub record Passes (v : Sieve) (m : Mark) (rise : ℕ) (w : Sieve) : Type 0 where
   pub made : ℕ
   pub sifts : (cells : List (Cell Row)) → AreRead cells v.from v.to v.column → Sifts cells m.bound.0 m.position v.from v.to v.column w.column rise made
@@ -29,7 +29,7 @@ pub record Passes (v : Sieve) (m : Mark) (rise : ℕ) (w : Sieve) : Type 0 where
   pub room : w.column.room ≡ v.column.room
   pub remembered : StillRemembers v.column w.column
 
--- the bound isn't after the rows that came in: then they were sifted, and it rises by as many as are below it
+-- if the bound isn't after the rows that came in, they were sifted, and it rises by as many as are below it
 abbrev pub Rises : Sieve → Mark → ℕ → Sieve → Type 0
 Rises v m rise w = m.position ≤ v.from → Passes v m rise w
 

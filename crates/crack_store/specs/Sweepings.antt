@@ -1,5 +1,5 @@
 -- What private clauses alone cite.
--- What a walk over the bounds from the lowest up does to a column, after whose last row others stand that turn its pieces.
+-- What a walk over the bounds from the lowest up does to a column, whose pieces rows after its last one turn.
 use Rattle.std.specs.Prelude.{◌≡◌, ℕ, ◌+◌, ◌≤◌, Bool, false, ◌||◌, nat_lt, count_by, min, Option, Some, None, List, ◌++◌, length, take, drop}
 use Rattle.std.specs.List.{All, between}
 use Rattle.crack_arena.specs.Arena.{Cell, Handle, times, slots}
@@ -21,7 +21,7 @@ abbrev pub up_to : List (Cell Row) → List Handle → Option InnerBound → Han
 up_to cells out None = any_lower (key_at cells) (ends_in out)
 up_to cells out (Some bound) = is_lower (key_at cells) (ends_in out) bound.0
 
--- what is left of a piece that begins at this bound, and of the rows that turn it
+-- a piece that begins at this bound afterwards, and the rows that turn it
 abbrev pub sweep_of : List (Cell Row) → List Handle → ℕ → Option InnerBound → List Handle → List Handle → Swept Handle
 sweep_of cells out low high ts rows = swept_by (key_at cells) (ends_in out) low (up_to cells out high) ts rows
 
@@ -33,12 +33,12 @@ going_on cells out low ts = count_by (goes_on (ends_in out) (is_lower (key_at ce
 abbrev pub leaving : List (Cell Row) → List Handle → Option InnerBound → List Handle → ℕ
 leaving cells out high ts = count_by (goes_on (ends_in out) (up_to cells out high)) ts
 
--- the rows from `from` on went by the piece from `start` up to `end`, of whose rows so many made way; all else is as it was
+-- the rows from `from` on passed the piece from `start` up to `end`, of which this many rows moved; all else is as it was
 pub record Sweeps (cells : List (Cell Row)) (out : List Handle) (low : ℕ) (high : Option InnerBound) (start end from : ℕ) (handles handles' : List Handle) (made : ℕ) : Type 0 where
   pub handles_are : handles' ≡ take start handles ++ ((sweep_of cells out low high (drop from handles) (between start end handles)).piece ++ (between end from handles ++ (sweep_of cells out low high (drop from handles) (between start end handles)).tail))
   pub made_is : made ≡ (sweep_of cells out low high (drop from handles) (between start end handles)).made
 
--- the next piece stands before the rows that came in, so many of which turn it; up to the floor they are as they came, and none is below it
+-- the next piece is before the rows that came in, of which this many turn it; up to the floor they are as they came, and none is below it
 pub record IsReady (v : Sweep) : Type 0 where
   pub order : v.start ≤ v.from
   pub within : v.from ≤ length v.column.handles
@@ -47,7 +47,7 @@ pub record IsReady (v : Sweep) : Type 0 where
   pub above : v.low ≤ v.floor.0 → All (λ h. v.floor.0 ≤ key_at v.arena.now.cells h) (drop v.from v.column.handles)
   pub small : v.moved ≤ greatest
 
--- they went by the piece below a bound
+-- they passed the piece below a bound
 pub record Passes (v : Sweep) (m : Mark) (place : ℕ) (w : Sweep) : Type 0 where
   pub made : ℕ
   pub sweeps : Sweeps v.arena.now.cells v.pending_out.now.handles v.low (Some m.bound) v.start m.position v.from v.column.handles w.column.handles made
@@ -60,11 +60,11 @@ pub record Passes (v : Sweep) (m : Mark) (place : ℕ) (w : Sweep) : Type 0 wher
   pub moved_is : w.moved ≡ min (v.moved + made) greatest
   pub ready : IsReady w
 
--- the bound stands before the rows that came in, and after the bound before: then they went by the piece below it
+-- if the bound is before the rows that came in, and after the bound before, they passed the piece below it
 abbrev pub Turns : Sweep → Mark → ℕ → Sweep → Type 0
 Turns v m place w = v.start ≤ m.position → m.position ≤ v.from → v.low ≤ m.bound.0 → Passes v m place w
 
--- they went by the last piece
+-- they passed the last piece
 pub record IsSweptTo (v w : Sweep) : Type 0 where
   pub made : ℕ
   pub sweeps : Sweeps v.arena.now.cells v.pending_out.now.handles v.low None v.start v.from v.from v.column.handles w.column.handles made

@@ -1,5 +1,5 @@
 -- What private clauses alone cite.
--- What goes along on a walk over the bounds keeps of the hand, and does at a place.
+-- What the visitor of a walk over the bounds preserves about the hand, and does at a place.
 use Rattle.std.specs.Prelude.{◌≡◌, ◌≢◌, ⊤, ◌<◌, ◌≤◌, ℕ, Bool, true, false, Option, Some, None, length}
 use Rattle.crack_row.specs.declared.Bound.{Bound}
 use Rattle.crack_arena.specs.Arena.{times, slots}
@@ -36,7 +36,7 @@ pub record TakesDown (v : Descent) (place : ℕ) (w : Descent) : Type 0 where
   pub pulled : w.pulled ≡ more v.pulled
   pub goal : w.place ≡ v.place
 
--- else its way ends, and there is no such place
+-- otherwise its way ends, and there is no such place
 abbrev pub Draws : Descent → ℕ → Bool → Descent → Type 0
 Draws v place true w = TakesDown v place w
 Draws v place false w = (w ≡ v) × (v.place ≤ place → length v.column.handles ≤ place)

@@ -1,4 +1,4 @@
-//! All pending insertions are put after the column's last row at once, if there is no bound.
+//! Appending all pending insertions to the column, if there is no bound.
 ghost use Rattle.std.specs.Prelude.{◌≡◌, ◌↔◌, ◌≤◌, ◌++◌, [], length, All, IsTrue, IfErr, OnOk, OnErr};
 ghost use Rattle.crack_column.specs.Column.{Remembers};
 ghost use Rattle.crack_state.specs.State.{Reads, live_rows};
@@ -19,9 +19,9 @@ impl Store {
         self.inside.index.is_empty()
     }
 
-    /// Puts all pending insertions after the column's last row, in order of arrival: if there is no bound, it
-    /// leaves what carrying them one after the other leaves. Room is made for all of them at once. O(pending
-    /// insertions). Refused with 8 if it finds no memory; then all is as it was.
+    /// Puts all pending insertions after the column's last row, in order of arrival: if there is no bound, this has the
+    /// result of carrying them one after the other. Room is made for all of them at once. O(pending insertions).
+    /// Refused with 8 if it finds no memory; then nothing has changed.
     pub fn append_all(&mut self) -> Result<(), Refusal>
         requires { self.old.marks ≡ [] }
         ensures ok { OnOk result (SameButRoom (all_appended self.old) self.new) }

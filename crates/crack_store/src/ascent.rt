@@ -47,7 +47,7 @@ impl Visitor for Ascent<'_> {
 
     ghost visits = { Ascends };
 
-    /// Pushes the hand on, if it isn't doomed, is known to be below the ceiling, and the place is one of the column.
+    /// Pushes the hand on, if it isn't doomed and is known to be below the ceiling, and the place is in the column.
     #[inline(always)]
     fn visit(&mut self, place: usize) -> bool {
         if self.pending_out.contains(self.column.slot()) {
@@ -107,7 +107,7 @@ impl Visitor for Descent<'_> {
 
     ghost visits = { Draws };
 
-    /// Pulls the hand back to the place, unless its way ends after it. A doomed row has its place noted.
+    /// Pulls the hand back to the place, unless its way ends after it. The new place of a doomed row is noted.
     #[inline(always)]
     fn visit(&mut self, place: usize) -> bool {
         if place < self.place {

@@ -17,7 +17,7 @@ use crack_row::{Key, Row};
 use crack_state::MergeReport;
 use std::marker::Model;
 
-/// The bound next to the row in hand on its way, once it was looked up; each step goes on from there.
+/// The bound next to the row in hand on its way, once it was looked up; each step continues from there.
 #[derive(Clone, Copy)]
 pub(crate) enum Near {
     /// Before the way begins.
@@ -97,7 +97,7 @@ impl Carrying {
         self.inside.pending_out.contains(slot)
     }
 
-    /// The place of the column where the handle is; none if it is nowhere. O(rows of the column).
+    /// The place of the handle in the column; none if it isn't there. O(rows of the column).
     pub fn place_of(&self, handle: Handle<Row>) -> Option<usize>
         ensures { MatchOption result (IsAbsent self.now.store.column handle) (IsFirstAt self.now.store.column handle) }
     {
@@ -146,7 +146,7 @@ impl Carrying {
         }
     }
 
-    /// Where the own piece ends. O(1) on the way up, else O(log bounds).
+    /// Where the hand's own piece ends. O(1) on the way up, else O(log bounds).
     pub fn piece_ends_at(&self) -> usize
         ensures value { result ≡ piece_end self.now.store (hand_key self.now) }
         ensures within { result ≤ length self.now.store.column }
@@ -158,7 +158,7 @@ impl Carrying {
         }
     }
 
-    /// Where the own piece begins. O(1) on the way down, else O(log bounds).
+    /// Where the hand's own piece begins. O(1) on the way down, else O(log bounds).
     pub fn piece_begins_at(&self) -> usize
         ensures value { result ≡ piece_start self.now.store (hand_key self.now) }
         ensures within { result ≤ length self.now.store.column }
@@ -171,7 +171,7 @@ impl Carrying {
     }
 
     /// Puts the hand where its own piece ends; each bound above its key that is there moves up by one, and the row
-    /// that was there is in hand. O(1) on the way up and the bounds at that place; else O(log bounds) more, once.
+    /// that was there is in hand. On the way up O(1) and the bounds at that place; else O(log bounds) more, once.
     pub fn push_on(&mut self)
         requires { piece_end self.old.store (hand_key self.old) < length self.old.store.column }
         ensures after { self.new ≡ pushed_on self.old }
@@ -188,9 +188,9 @@ impl Carrying {
         self.inside.tally.moved = self.inside.tally.moved.saturating_add(1);
     }
 
-    /// Puts the hand at the last place before its own piece; each bound at or below its key that is where that
-    /// piece begins moves down by one, and the row that was there is in hand. O(1) on the way down and the bounds at
-    /// that place; else O(log bounds) more, once.
+    /// Puts the hand at the last place before its own piece; each bound at or below its key that is where that piece
+    /// begins moves down by one, and the row that was there is in hand. On the way down O(1) and the bounds at that
+    /// place; else O(log bounds) more, once.
     pub fn pull_back(&mut self)
         requires { 0 < piece_start self.old.store (hand_key self.old) }
         ensures after { self.new ≡ pulled_back self.old }
@@ -246,8 +246,7 @@ impl Carrying {
         Store { inside }
     }
 
-    /// Puts the hand, which isn't doomed, after the last pending insertion: its row makes way for another. Takes no
-    /// memory. O(1).
+    /// Puts the hand, which isn't doomed, after the last pending insertion: its row is evicted. Takes no memory. O(1).
     pub fn put_back(self) -> Store
         requires room { 0 < self.store.in_room }
         requires kept { times self.hand.slot (slots self.store.pending_out) ≡ 0 }
@@ -263,7 +262,7 @@ impl Carrying {
     }
 
     /// Puts the hand after the column's last row, if its own piece ends there; each bound above its key that is
-    /// there moves up by one. O(1) on the way up and the bounds at that place, else O(log bounds) more.
+    /// there moves up by one. On the way up O(1) and the bounds at that place, else O(log bounds) more.
     pub fn append(self) -> Store
         requires ends { piece_end self.store (hand_key self) ≡ length self.store.column }
         requires room { 0 < self.store.column_room }

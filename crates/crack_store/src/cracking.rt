@@ -1,4 +1,4 @@
-//! A crack by both ends of a range. One look-up of each end shows what is to be divided.
+//! A crack by both ends of a range. One look-up of each end finds the pieces to be divided.
 ghost use Rattle.std.specs.Prelude.{◌≡◌, ◌+◌, ◌≤◌, [], length, IfSome, IfNone};
 ghost use Rattle.crack_index.specs.Marks.{added, piece_at};
 ghost use Rattle.crack_state.specs.Merge.{Refines, Stands};
@@ -25,7 +25,7 @@ pub(crate) enum Missing {
     Neither,
     /// Only this one; if the range is empty, it is both.
     One(Gap),
-    /// Both, and they fall into one piece: the low one with it, and the high one.
+    /// Both, and they fall into one piece: the low one with that piece, and the high one.
     Together(Gap, InnerBound),
     /// Both, the low one and the high one, and they fall into different pieces.
     Apart(Gap, Gap),
@@ -44,8 +44,8 @@ impl Missing {
     }
 }
 
-/// The bound with its own piece, if the bound lies between the partition's ends and isn't in the index. O(log
-/// bounds): a bound is in the index exactly if its piece begins with it.
+/// The bound with its own piece, if the bound lies between the partition's ends and isn't in the index. O(log bounds):
+/// a bound is in the index exactly if its piece begins at it.
 fn gap_at(inside: &Inside, bound: Bound) -> Option<Gap>
     ensures bound { IfSome result (λ gap. gap.bound.0 ≡ bound.0) }
     ensures missing { IfSome result (λ gap. MissesIn (lists_of inside.now) gap.bound.0 gap.piece) }
@@ -65,7 +65,7 @@ fn gap_at(inside: &Inside, bound: Bound) -> Option<Gap>
     }
 }
 
-/// Where the keys of a piece end: at the bound above them, or with the partition's keys.
+/// Where the keys of a piece end: at the bound above them, or at the end of the partition's keys.
 fn end_of(piece: Piece, keys: KeyRange) -> Bound
     ensures { result.0 ≡ above_or keys.high piece.high }
 {
@@ -134,7 +134,7 @@ pub(crate) fn crack_at_ends(inside: &mut Inside, range: KeyRange, missing: Missi
     }
 }
 
-/// Cracks a missing bound's own piece in two by it; returns where the bound is then. Takes no memory. O(size of the
+/// Cracks a missing bound's own piece in two by it; returns the bound's place. Takes no memory. O(size of the
 /// piece + bounds).
 fn crack_in(inside: &mut Inside, gap: Gap) -> usize
     requires intact { KeepsIntact inside.old [] }

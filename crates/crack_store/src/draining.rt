@@ -1,4 +1,4 @@
-//! All pending deletions of a range are pulled in bulk: the doomed rows are taken out of the column's pieces from the
+//! Pulling all pending deletions of a range in bulk: the doomed rows are taken out of the column's pieces from the
 //! lowest up, and then buried in order of arrival.
 ghost use Rattle.std.specs.Prelude.{◌≡◌, ◌<◌, ◌≤◌, [], length, map, All, IfSome, IsTrue, IsFalse};
 ghost use Rattle.crack_arena.specs.Rows.{key_at};
@@ -25,17 +25,17 @@ use std::alloc::Global;
 /// Fewer rows are pulled one at a time if there are many bounds: a walk over all of them isn't worth it.
 const FEWEST: usize = 16;
 
-/// More bounds than these are many.
+/// More bounds than this are many.
 pub(crate) const FEW_BOUNDS: usize = 64;
 
-/// In a piece of more rows than this one pass finds all doomed rows there, which a search for each doesn't.
+/// In a piece with more rows than this, one pass that finds all doomed rows is faster than a search for each.
 const SHORT: usize = 4096;
 
 impl Store {
-    /// Pulls all pending deletions of a range in bulk, each by the column's last row, and leaves what pulling them one
-    /// after the other leaves; returns whether it did so. It doesn't if none or few are in the range, nor if one is in
-    /// a long piece or it finds no memory to list them: then all is as it was. O(pending deletions and holes); for each
-    /// that it pulls O(bounds) without a wait for memory, and one search of its piece, which is short; O(bounds).
+    /// Pulls all pending deletions of a range in bulk, each by the column's last row, with the result of pulling them
+    /// one after the other; returns whether it did so. It doesn't if none or few are in the range, if one is in a long
+    /// piece, or without memory to list them: then nothing has changed. O(pending deletions and holes); for each that
+    /// it pulls O(bounds) without waiting for memory, and one search of its piece, which is short; O(bounds).
     pub fn pull_in_bulk(&mut self, range: KeyRange) -> bool
         ensures pulled { IsTrue result → self.new ≡ pulled_in_bulk range self.old }
         ensures left { IsTrue result → self.new.pending_out ≡ outside_of self.old.cells range self.old.pending_out }

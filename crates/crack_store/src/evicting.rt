@@ -1,4 +1,4 @@
-//! All pending insertions of a range carried in bulk under a ceiling: their rows take the places of the first rows
+//! Carrying all pending insertions of a range in bulk under a ceiling: their rows take the places of the first rows
 //! beyond it, which are evicted, and are sifted through the pieces below it from the highest down.
 ghost use Rattle.std.specs.Prelude.{◌≡◌, ◌+◌, ◌-◌, ◌<◌, ◌≤◌, ◌^◌, [], Some, length, min, drop, vec_capacity};
 ghost use Rattle.std.specs.Prelude.{All, Contains, IsTrue, IsFalse, IfSome};
@@ -23,19 +23,19 @@ use crack_index::{CrackerIndex, Mark, Placer, Raiser};
 use crack_pending::PendingIn;
 use crack_row::{Bound, KeyNumber, KeyRange, Row};
 
-/// So many bounds are walked over in the time in which one row is carried by itself.
+/// The number of bounds that a walk passes in the time in which one row is carried by itself.
 const BOUNDS_A_ROW: usize = 8;
 
-/// So many pending insertions are passed in the time in which one bound is walked over.
+/// The number of pending insertions that are passed in the time in which a walk passes one bound.
 const ROWS_A_BOUND: usize = 256;
 
 impl Store {
-    /// Carries all pending insertions of a range in bulk under a ceiling, of which `first` is the first, and leaves
-    /// what the carry of one after the other leaves; whether it did so. It doesn't for few rows, nor where a row is
-    /// doomed or no bound stands at the ceiling, nor where it finds no memory for all of them and for the rows that
-    /// they evict: all is then as it was. Room is made for all of them at once. Two passes over the pending insertions,
-    /// one where many pend and few bounds stand; for each row that it carries O(pieces below the ceiling) without a
-    /// wait for memory; two walks over the bounds.
+    /// Carries all pending insertions of a range in bulk under a ceiling, of which `first` is the first, with the
+    /// result of carrying them one after the other; returns whether it did so. It doesn't if they are few, if a row is
+    /// doomed, if no bound is at the ceiling, or without memory for all of them and for the rows that they evict: then
+    /// nothing has changed. Room is made for all of them at once. Two passes over the pending insertions, or one if
+    /// many are pending and there are few bounds; for each row that it carries O(pieces below the ceiling) without
+    /// waiting for memory; two walks over the bounds.
     pub fn carry_under(&mut self, range: KeyRange, first: usize, ceiling: Bound) -> bool
         requires high { range.high ≤ ceiling.0 }
         requires first { Finds range (keys_at self.old.cells self.old.pending_in) 0 (Some first) }
@@ -72,7 +72,7 @@ impl Store {
     }
 }
 
-/// The bound at the ceiling, with its place; none where no bound stands there. O(log bounds).
+/// The bound at the ceiling, with its place; none if there is no such bound. O(log bounds).
 fn mark_of(inside: &Inside, ceiling: Bound) -> Option<Mark>
     ensures there { IfSome result (λ m. Contains inside.now.index.marks m) }
     ensures same { IfSome result (λ m. m.bound.0 ≡ ceiling.0) }
@@ -85,14 +85,14 @@ fn mark_of(inside: &Inside, ceiling: Bound) -> Option<Mark>
     Some(mark)
 }
 
-/// Whether so many are pending that to count those of a range is dearer than a walk over all bounds. O(1).
+/// Whether so many insertions are pending that counting those of a range costs more than a walk over all bounds. O(1).
 fn is_counted_late(inside: &Inside) -> bool {
     let pending = inside.pending_in.len();
     MANY_PENDING < pending && inside.index.len() <= pending / ROWS_A_BOUND
 }
 
-/// How many pending insertions of a range there are, of which `first` is the first; where they are counted late, how
-/// many there are of all keys.
+/// How many pending insertions of a range there are, of which `first` is the first; if they are counted late, how many
+/// there are of all keys.
 fn most_in(inside: &mut Inside, range: KeyRange, first: usize) -> usize
     requires intact { KeepsIntact inside.old [] }
     requires first { Finds range (keys_at inside.old.arena.cells inside.old.pending_in.handles) 0 (Some first) }
@@ -106,13 +106,13 @@ fn most_in(inside: &mut Inside, range: KeyRange, first: usize) -> usize
     count_in(&mut inside.pending_in, range, first, &inside.arena)
 }
 
-/// Whether so many rows are too few for walks over all bounds. O(1).
+/// Whether this many rows are too few for walks over all bounds. O(1).
 fn is_few(inside: &Inside, count: usize) -> bool {
     count < FEWEST || count < inside.index.len() / BOUNDS_A_ROW
 }
 
-/// Carries the pending insertions of a range under the ceiling at a bound, the first of which is `first`, where no row
-/// is doomed and there is room for them and for those that they evict.
+/// Carries the pending insertions of a range under the ceiling at a bound, of which `first` is the first. No row is
+/// doomed, and there is room for them and for the rows that they evict.
 fn carry_rows(
     inside: &mut Inside,
     range: KeyRange,
@@ -169,9 +169,8 @@ fn carry_rows(
 }
 
 /// Takes the rows of a range out of a list, and puts them into the column from the place `from` on, in their order,
-/// each with what is to be remembered of it. Each row that stood there makes way for one of them, and goes after the
-/// last of the list. `taken` is a list for their handles, and `known` one for what is remembered of them. How many came
-/// in.
+/// each with what is to be remembered of it. Each row that they replace goes after the last of the list. `taken` is a
+/// list for their handles, and `known` one for what is remembered of them. Returns how many came in.
 fn exchange_rows(
     rows: &mut PendingIn,
     column: &mut CrackerColumn,
@@ -203,7 +202,7 @@ fn exchange_rows(
 }
 
 /// Puts these handles into the column from a place on, in their order, each with what is to be remembered of its row.
-/// Each row that stood there makes way for one of them, and goes after the last of the list. O(1) for each.
+/// Each row that they replace goes after the last of the list. O(1) for each.
 fn put_rows(
     rows: &mut PendingIn,
     column: &mut CrackerColumn,
@@ -228,7 +227,7 @@ fn put_rows(
 }
 
 /// Puts a handle at a place of the column, with what is to be remembered of its row, which is read if it isn't known. A
-/// row that stood there goes after the last of the list; where none did, the handle is the column's last. O(1).
+/// row that was there goes after the last of the list; if there was none, the handle is the column's last. O(1).
 fn put_at(
     rows: &mut PendingIn,
     column: &mut CrackerColumn,
@@ -255,9 +254,9 @@ fn put_at(
     }
 }
 
-/// Sifts the rows of a sieve, so many, which stand from the place of a bound on, through the pieces below it. Each
-/// bound below it moves up by as many as are below that, and those from it on stand after the rows, if they didn't
-/// before. O(bounds).
+/// Sifts the rows of a sieve, which are from the place of a bound on, through the pieces below it. Each bound below it
+/// moves up by as many rows as are below that bound, and the bounds from it on are after the rows afterwards.
+/// O(bounds).
 fn sift_below(index: &mut CrackerIndex, sieve: Sieve, edge: Mark, count: usize) -> Sieve
     requires ready { IsReady sieve }
     requires some { 0 < count }
@@ -284,8 +283,8 @@ fn sift_below(index: &mut CrackerIndex, sieve: Sieve, edge: Mark, count: usize) 
     under.sieve
 }
 
-/// A sieve on a walk over the bounds from the highest down, for those below a ceiling; the others rise by as many as
-/// rows come in.
+/// A sieve on a walk over the bounds from the highest down, for the bounds below a ceiling; the others rise by as many
+/// as rows come in.
 #[derive(Drop)]
 pub(crate) struct CeilingSieve {
     sieve: Sieve,
@@ -310,8 +309,8 @@ impl Raiser for CeilingSieve {
     }
 }
 
-/// On a walk over the bounds from the lowest up, where the bounds from a ceiling on stand, which rose by as many as
-/// rows came in: where they stood before, but not before a place.
+/// A visitor of a walk over the bounds from the lowest up. It moves the bounds from a ceiling on, which rose by as many
+/// as rows came in, back to their places, but not before a given place.
 #[derive(Drop)]
 pub(crate) struct CeilingStop {
     ceiling: KeyNumber,
@@ -327,7 +326,7 @@ impl Placer for CeilingStop {
 
     ghost places = { StandsUnder };
 
-    /// Lets a bound below the ceiling stand where it stands.
+    /// Leaves a bound below the ceiling at its place.
     fn place(&mut self, mark: Mark) -> usize {
         if mark.bound.number() < self.ceiling {
             return mark.position;

@@ -1,5 +1,6 @@
-//! The first pulls of a range in bulk, each by a filler: the doomed rows are taken out of the column's pieces from the
-//! lowest up to a bound, the fillers take the places before it, and the doomed rows are buried in order of arrival.
+//! Making the first pulls of a range in bulk, each by a filler: the doomed rows are taken out of the column's pieces
+//! from the lowest up to a bound, the fillers take the places before it, and the doomed rows are buried in order of
+//! arrival.
 ghost use Rattle.std.specs.Prelude.{◌≡◌, ◌<◌, ◌≤◌, [], Some, length, All, Contains, IfSome, IsTrue, IsFalse};
 ghost use Rattle.crack_arena.specs.Rows.{keys_at};
 ghost use Rattle.crack_bulk.specs.Carried.{inside_of};
@@ -24,12 +25,12 @@ use crack_row::{KeyNumber, KeyRange, Row};
 
 impl Store {
     /// Pulls pending deletions of a range in bulk, each by a filler: a pending insertion whose key is one of `fillers`,
-    /// of which `first` is the first. It takes the first of both, until there are no more of the one or of the other,
-    /// and leaves what pulling them one after the other leaves; returns whether it did so. It doesn't if there are many
-    /// bounds, all of which it would walk over, if no pending deletion is in the range, if one is in a long piece, if
-    /// the keys of the fillers don't begin at a bound, if another bound is among them, or if it finds no memory for a
-    /// list: then all is as it was. O(pending rows and holes); for each row that it pulls O(bounds) without a wait for
-    /// memory, and one search of its piece, which is short; O(bounds).
+    /// of which `first` is the first. It takes the first of both, until one kind is used up, with the result of pulling
+    /// them one after the other; returns whether it did so. It doesn't if there are many bounds, all of which it would
+    /// walk over, if no pending deletion is in the range, if one is in a long piece, if the keys of the fillers don't
+    /// begin at a bound or another bound is among them, or without memory for a list: then nothing has changed.
+    /// O(pending rows and holes); for each row that it pulls O(bounds) without waiting for memory, and one search of
+    /// its piece, which is short; O(bounds).
     pub fn fill_in_bulk(&mut self, range: KeyRange, fillers: KeyRange, first: usize) -> bool
         requires behind { range.high ≤ fillers.low }
         requires first { Finds fillers (keys_at self.old.cells self.old.pending_in) 0 (Some first) }
@@ -82,8 +83,8 @@ fn edge_of(index: &CrackerIndex, fillers: KeyRange) -> Option<Mark>
     Some(mark)
 }
 
-/// Pulls these pending deletions out of the pieces below a bound, puts as many fillers, the first of which is `first`,
-/// before it, and buries the pending deletions.
+/// Pulls these pending deletions out of the pieces below a bound, puts as many fillers before it, of which `first` is
+/// the first, and buries the pending deletions.
 fn fill_rows(inside: &mut Inside, doomed: Vec<Doomed>, fillers: KeyRange, first: usize, edge: Mark)
     requires intact { KeepsIntact inside.old [] }
     requires first { Finds fillers (keys_at inside.old.arena.cells inside.old.pending_in.handles) 0 (Some first) }
@@ -129,8 +130,8 @@ fn fill_rows(inside: &mut Inside, doomed: Vec<Doomed>, fillers: KeyRange, first:
     bury_all(inside, &doomed);
 }
 
-/// Takes the first rows of a range out of a list, so many, of which `first` is the first, and puts them into the column
-/// before a place, the last one first, each with what is to be remembered of it.
+/// Takes the first rows of a range, this many, out of a list, of which `first` is the first, and puts them into the
+/// column before a place, the last one first, each with what is to be remembered of it.
 fn put_fillers(
     rows: &mut PendingIn,
     column: &mut CrackerColumn,

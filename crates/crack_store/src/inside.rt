@@ -1,4 +1,4 @@
-//! What a store and a store with a cell in hand are made of.
+//! The parts of a store, and of a store with a cell in hand.
 
 use crate::notes::Notes;
 use crate::serial_hash::SerialHashing;
@@ -22,7 +22,7 @@ pub(crate) struct Inside {
     pub(crate) index: CrackerIndex,
     pub(crate) pending_in: PendingIn,
     pub(crate) pending_out: PendingOut,
-    /// How many more pending insertions are sure to need no memory.
+    /// How many more pending insertions need no memory.
     pub(crate) in_room: usize,
     /// Where doomed rows were seen last.
     pub(crate) notes: Notes,

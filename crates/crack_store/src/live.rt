@@ -106,8 +106,7 @@ impl Store {
         Ok(())
     }
 
-    /// The row at this place of a stretch, which begins with the cell with this number, if commands see one.
-    /// anything. O(1).
+    /// The row at this place of a stretch, which begins with the cell with this number, if commands see one. O(1).
     #[inline(always)]
     fn live_at(&self, slot: u32, cells: &Stretch<'_, Row>, place: usize) -> Option<Row>
         requires cells { cells.now ≡ take (length cells.now) (drop slot self.now.cells) }

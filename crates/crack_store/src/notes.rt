@@ -20,7 +20,7 @@ impl Notes {
         }
     }
 
-    /// The notes, of which none are left in their place. Takes no memory.
+    /// Takes the notes, and leaves none in their place. Takes no memory.
     pub(crate) fn take(&mut self) -> Notes
         ensures { result ≡ self.old }
     {

@@ -1,5 +1,4 @@
-//! From one row in hand to the next: ends the way of the one and begins that of the other, with the store where it
-//! is.
+//! From one row in hand to the next: ends the way of the one and begins that of the other, without moving the store.
 ghost use Rattle.std.specs.Prelude.{◌≡◌, ◌<◌, ◌≤◌, ◌↔◌, IsTrue, length, OnOk, IfErr};
 ghost use Rattle.crack_arena.specs.Arena.{times, slots, StandsAt};
 ghost use Rattle.crack_arena.specs.Rows.{keys_at};
@@ -15,7 +14,7 @@ use crack_row::{KeyRange, Refusal, Row};
 
 impl Carrying {
     /// Makes room for two more places in the column and two more pending insertions: for the hand and for one more row.
-    /// Refused with 8 if it finds no memory; then all is as it was.
+    /// Refused with 8 if it finds no memory; then nothing has changed.
     pub fn make_room(&mut self) -> Result<(), Refusal>
         ensures same { SameButRoom self.old.store self.new.store }
         ensures hand { self.new.hand ≡ self.old.hand }
@@ -26,7 +25,7 @@ impl Carrying {
         ensures err { IfErr result (λ e. e ≡ Refusal.OutOfMemory) }
     {
         self.inside.column.reserve(2)?;
-        // what was made before stays until a row is evicted
+        // room that was made before stays until a row is evicted
         if self.inside.in_room < 2 {
             self.inside.pending_in.reserve(2)?;
             self.inside.in_room = 2;
@@ -88,8 +87,8 @@ impl Carrying {
     }
 
     /// The first pending insertion at or after the place with its key in the range; O(1) for each that it passes. If
-    /// the range holds all of the partition's keys, it looks at none. It goes on from the place that it finds when one
-    /// is lifted next: finding a row and then lifting it is one pass.
+    /// the range holds all of the partition's keys, it looks at none. The next lift starts from the place that it
+    /// finds: finding a row and then lifting it is one pass.
     pub fn seek_in(&mut self, range: KeyRange, from: usize) -> Option<usize>
         ensures finds { Finds range (keys_at self.old.store.cells self.old.store.pending_in) from result }
         ensures same { self.new ≡ self.old }
@@ -104,7 +103,7 @@ impl Carrying {
         inside.pending_in.seek_in(range, from, &inside.arena)
     }
 
-    /// The first pending deletion at or after the place with its key in the range, from which the next look goes on;
+    /// The first pending deletion at or after the place with its key in the range, from which the next look-up starts;
     /// O(1) for each that it passes.
     pub fn seek_out(&mut self, range: KeyRange, from: usize) -> Option<usize>
         ensures finds { Finds range (keys_at self.old.store.cells self.old.store.pending_out) from result }

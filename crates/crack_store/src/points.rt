@@ -1,4 +1,4 @@
-//! What a serial leads to, and rows that are taken out of a store or replaced.
+//! Rows of a store by their serials: looked up, taken out or replaced.
 ghost use Rattle.std.specs.Prelude.{◌≡◌, ◌+◌, ◌-◌, ◌<◌, ◌∷◌, map, slice_get, Some, None, IsSome, IfSome, IfOk, IfErr};
 ghost use Rattle.std.specs.Prelude.{OnOk, OnErr, IsOk, IfNone, true, false};
 ghost use Rattle.std.specs.Option.{option_map};
@@ -36,9 +36,9 @@ impl Store {
         self.inside.arena.freed()
     }
 
-    /// Takes out the row with this serial, wherever it is: a pending insertion is cancelled, a row of the column
-    /// doomed. Returns it; none if there is no such row. The serial is looked up once. Amortised O(1). Refused
-    /// with 8 if a row of the column finds no memory; then all is as it was.
+    /// Takes out the row with this serial, wherever it is: a pending insertion is cancelled, a row of the column is
+    /// doomed. Returns it; none if there is no such row. The serial is looked up once. Amortised O(1). Refused with 8
+    /// if it finds no memory for a row of the column; then nothing has changed.
     pub fn remove(&mut self, serial: Serial) -> Result<Option<Row>, Refusal>
         requires { MayFree self.old }
         ensures row { IfOk result (λ row. row ≡ row_by self.old serial.0) }
@@ -60,7 +60,7 @@ impl Store {
         Ok(Some(row))
     }
 
-    /// Takes out the row with this serial, a pending insertion: its cell is free at once, and the row is returned.
+    /// Takes out the row with this serial, a pending insertion, and returns it. Its cell is free from then on.
     /// Takes no memory. Amortised O(1).
     pub fn cancel(&mut self, serial: Serial) -> Row
         requires pending { pending_by self.old serial.0 ≡ Some true }
@@ -74,7 +74,7 @@ impl Store {
     }
 
     /// Takes out the row with this serial, which is in the column: it stays there as a pending deletion, and is
-    /// returned. O(1), except for growth. Refused with 8 if it finds no memory; then all is as it was.
+    /// returned. O(1), except for growth. Refused with 8 if it finds no memory; then nothing has changed.
     pub fn doom(&mut self, serial: Serial) -> Result<Row, Refusal>
         requires column { pending_by self.old serial.0 ≡ Some false }
         requires few { MayFree self.old }
@@ -130,9 +130,9 @@ impl Store {
         Ok(row)
     }
 
-    /// Replaces the row with the same serial, if there is one, as `rewrite` does; returns the row as it was,
-    /// and none if there is no such row. The serial is looked up once. O(1), except for growth. Refused with 8
-    /// if a row of the column finds no memory; then all is as it was.
+    /// Replaces the row with the same serial, if there is one, as `rewrite` does; returns the row as it was, and none
+    /// if there is no such row. The serial is looked up once. O(1), except for growth. Refused with 8 if it finds no
+    /// memory for a row of the column; then nothing has changed.
     pub fn replace(&mut self, row: Row) -> Result<Option<Row>, Refusal>
         requires within { IsIn self.old.keys row.key.0 }
         requires anew { pending_by self.old row.serial.0 ≡ Some false → IsRenewable self.old }
@@ -158,8 +158,8 @@ impl Store {
 
     /// Gives the row with this serial another key and another payload. A pending insertion is written in place, which
     /// takes no memory and always succeeds. A row of the column becomes a pending deletion, and a new one of its serial
-    /// is after the last pending insertion. O(1), except for growth. Refused with 8 if it finds no memory; all is
-    /// then as it was.
+    /// is after the last pending insertion. O(1), except for growth. Refused with 8 if it finds no memory; then nothing
+    /// has changed.
     pub fn rewrite(&mut self, serial: Serial, key: Key, payload: Payload) -> Result<(), Refusal>
         requires { IsRewritable (row_with serial key payload) self.old }
         ensures after { OnOk result (Rewrites (pending_by self.old serial.0) (row_with serial key payload)
@@ -179,8 +179,8 @@ impl Store {
         Ok(())
     }
 
-    /// Writes the row into the cell of the pending insertion of its serial, which has this handle; the row as it was.
-    /// O(1).
+    /// Writes the row into the cell of the pending insertion with its serial, which has this handle; returns the row as
+    /// it was. O(1).
     fn write_over(&mut self, handle: Handle<Row>, row: Row) -> Row
         requires found { handle_of self.old.serials row.serial.0 ≡ Some handle }
         requires pending { pending_by self.old row.serial.0 ≡ Some true }
@@ -195,8 +195,8 @@ impl Store {
         before
     }
 
-    /// Dooms the row with this serial, which is in the column and was looked up, and keeps this one in a new cell;
-    /// the row as it was. O(1), except for growth.
+    /// Dooms the row with this serial, which is in the column and was looked up, and stores this one in a new cell;
+    /// returns the row as it was. O(1), except for growth.
     fn renew(&mut self, lead: Lead, row: Row) -> Result<Row, Refusal>
         requires serial { lead.serial ≡ row.serial }
         requires entry { slice_get self.old.serials lead.at ≡ Some (lead.serial.0, lead.handle) }
@@ -247,7 +247,7 @@ pub(crate) fn row_at(arena: &Arena<Row>, handle: Handle<Row>) -> Row
     }
 }
 
-/// Frees the cell that the handle reads; its row. O(1).
+/// Frees the cell that the handle reads, and returns its row. O(1).
 fn free(arena: &mut Arena<Row>, handle: Handle<Row>) -> Row
     requires reads { IsSome (read arena.old.cells handle) }
     requires few { freed arena.old < 18446744073709551615 }
@@ -303,7 +303,7 @@ fn forget_at(serials: &mut Serials, lead: Lead)
     serials.swap_remove_index(lead.at);
 }
 
-/// Lets a serial lead to another handle; the map isn't searched for it. Takes no memory. O(1).
+/// Makes a serial lead to another handle; the map isn't searched for it. Takes no memory. O(1).
 fn lead_to(serials: &mut Serials, lead: Lead, handle: Handle<Row>)
     requires { slice_get serials.old.entries lead.at ≡ Some (lead.serial.0, lead.handle) }
     ensures { Maps lead.serial.0 (Some handle) serials.old.entries serials.new.entries }

@@ -45,7 +45,7 @@ impl Store {
         Ok(rows)
     }
 
-    /// The places from which and up to which the rows of a range stand by which the column was cracked. O(log bounds).
+    /// The places where the rows of a range begin and end, by which the column was cracked. O(log bounds).
     fn places_of(&self, range: KeyRange) -> (usize, usize)
         requires { IsCracked self.now range }
         ensures from { result.0 ≡ edge self.now range.low }

@@ -4,23 +4,21 @@ ghost use Rattle.std.specs.Int.{w64, from_le_bytes};
 
 use std::hash::{BuildHasher, Hasher};
 
-/// How many serials that follow one another share a group of the map's table.
+/// How many consecutive serials share a group of the map's table.
 const NEIGHBOURS: u64 = 4;
 
-/// How many groups side by side are filled one after the other.
+/// How many adjacent groups are filled one after the other.
 const STRETCH: u64 = 8;
 
-/// Odd, so that stretches which follow one another have places of their own, for each power of two, and spread over all
-/// of them.
+/// Odd, so that consecutive stretches have different places for each power of two, and spread over all of them.
 const SPREAD: u64 = 0x9e37_79b9_7f4a_7c15;
 
 /// Hashes serials for `indexmap`: its table has a power of two of groups, of 12 rows each and 9 on average once it is
 /// full. The low bits of a hash choose the group, and the highest eight of its 32 distinguish rows of one group.
 ///
 /// A partition gives its serials in order, so rows that are admitted one after the other go into a group whose line is
-/// in the cache, and a growth copies the table stretch by stretch. A client can't choose serials, so nothing must be
-/// kept from those who would let them collide; and a hash that served worse would cost time alone, since a look-up
-/// compares serials.
+/// in the cache, and a growth copies the table stretch by stretch. A client can't choose serials, so the hash needs no
+/// secret against deliberate collisions; and a worse hash would only cost time, since a look-up compares serials.
 #[derive(Clone, Copy)]
 pub struct SerialHashing;
 
@@ -49,7 +47,7 @@ impl Hasher for SerialHasher {
 
     fn finish(&self) -> u64 {
         let stretch = self.serial / (NEIGHBOURS * STRETCH);
-        // rows that are kept far apart differ in their higher bits, which move down here
+        // serials that are far apart differ in their higher bits, which move down here
         let place = (stretch ^ stretch / 256).wrapping_mul(SPREAD);
         let group = (self.serial / NEIGHBOURS ^ place >> 58) % STRETCH;
         place

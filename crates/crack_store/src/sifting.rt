@@ -1,4 +1,4 @@
-//! All pending insertions of a range carried in bulk: their rows are put after the column's last one, and sifted
+//! Carrying all pending insertions of a range in bulk: their rows are put after the column's last one, and sifted
 //! through its pieces from the highest down.
 ghost use Rattle.std.specs.Prelude.{◌≡◌, ◌≤◌, ◌^◌, [], None, Some, length, vec_capacity, IsTrue, IsFalse};
 ghost use Rattle.crack_arena.specs.Rows.{keys_at};
@@ -25,24 +25,24 @@ use crack_row::{KeyRange, Row};
 /// The fewest rows that are carried in bulk: for one row the walk over all bounds isn't worth it.
 pub(crate) const FEWEST: usize = 2;
 
-/// More bounds than these are many: the walk over them isn't worth it for fewer than `FEWEST_OVER_MANY` rows.
+/// With more bounds than this, the walk over them isn't worth it for fewer than `FEWEST_OVER_MANY` rows.
 const MANY_BOUNDS: usize = 64;
 
-/// The fewest rows that are carried in bulk where many bounds are.
+/// The fewest rows that are carried in bulk if there are many bounds.
 const FEWEST_OVER_MANY: usize = 8;
 
-/// More pending insertions than these are many: those of a range are counted as they are taken.
+/// With more pending insertions than this, those of a range are counted as they are taken.
 pub(crate) const MANY_PENDING: usize = 4096;
 
-/// The most doomed rows that are looked for: of more, one is likely to be in the way.
+/// The most doomed rows that are searched for: of more, one is likely to be in the way.
 const MOST_DOOMED: usize = 64;
 
 impl Store {
-    /// Carries all pending insertions of a range in bulk, of which `first` is the first, and leaves what the carry of
-    /// one after the other leaves; whether it did so. It doesn't for few rows, nor where it finds no memory for all of
-    /// them, nor for a first load of all keys: all is then as it was. Room is made for all of them at once. Two passes
-    /// over the pending insertions, where many pend and none is doomed one; for each row that it carries O(pieces)
-    /// without a wait for memory; O(bounds); for each of a few doomed rows O(rows that it carries + log bounds).
+    /// Carries all pending insertions of a range in bulk, of which `first` is the first, with the result of carrying
+    /// them one after the other; returns whether it did so. It doesn't if they are few, without memory for all of them,
+    /// or for a first load of all keys: then nothing has changed. Room is made for all of them at once. Two passes over
+    /// the pending insertions, or one if many are pending and none is doomed; for each row that it carries O(pieces)
+    /// without waiting for memory; O(bounds); for each of a few doomed rows O(rows that it carries + log bounds).
     pub fn carry_in_bulk(&mut self, range: KeyRange, first: usize) -> bool
         requires { Finds range (keys_at self.old.cells self.old.pending_in) 0 (Some first) }
         ensures carried { IsTrue result → SameButRoom (carried_in_bulk None range self.old) self.new }
@@ -73,8 +73,8 @@ impl Store {
     }
 }
 
-/// Whether a pass over the pending insertions of a range is worth it: not where the range has all keys, and more rows
-/// are pending than the column has. O(1).
+/// Whether a pass over the pending insertions of a range is worth it: not if the range has all keys, and more rows are
+/// pending than the column has. O(1).
 fn is_worth_a_pass(inside: &Inside, range: KeyRange) -> bool {
     let keys = inside.keys;
     let is_whole = range.low() <= keys.low() && keys.high() <= range.high();
@@ -82,7 +82,7 @@ fn is_worth_a_pass(inside: &Inside, range: KeyRange) -> bool {
     fits || !is_whole
 }
 
-/// Whether no row is doomed, and so many are pending that to count those of a range is dearer than a walk over all
+/// Whether no row is doomed, and so many are pending that counting those of a range costs more than a walk over all
 /// bounds. O(1).
 fn is_counted_late(inside: &Inside) -> bool
     ensures { IsTrue result → inside.now.pending_out.handles ≡ [] }
@@ -90,8 +90,8 @@ fn is_counted_late(inside: &Inside) -> bool
     inside.pending_out.is_empty() && MANY_PENDING < inside.pending_in.len()
 }
 
-/// Carries the pending insertions of a range, at most this many, of which `first` is the first, if no doomed row is
-/// in the way; returns whether it found memory for this many. All else is as it was.
+/// Carries the pending insertions of a range, at most this many, of which `first` is the first, if no doomed row is in
+/// the way; returns whether it found memory for this many. Otherwise nothing has changed.
 fn carry_at_most(inside: &mut Inside, range: KeyRange, first: usize, most: usize) -> bool
     requires intact { KeepsIntact inside.old [] }
     requires clear { AreClear (length (inside_of inside.old.arena.cells range inside.old.pending_in.handles))
@@ -153,7 +153,7 @@ fn is_few(inside: &Inside, count: usize) -> bool {
 }
 
 /// Whether no doomed row is where carries of this many rows could meet it: among as many first rows of its piece.
-/// If many rows are doomed, it says no.
+/// False if many rows are doomed.
 fn is_clear(inside: &Inside, count: usize) -> bool
     requires intact { KeepsIntact inside.now [] }
     requires few { count ≤ 2 ^ 32 }
@@ -183,8 +183,8 @@ fn is_in_way(inside: &Inside, handle: Handle<Row>, count: usize) -> bool
     inside.column.place_between(from, met, handle).is_some()
 }
 
-/// Carries the pending insertions of a range, the first of which is `first`, where no doomed row is in the way and
-/// there is room for them, for their handles in a list and for what is remembered of them in another.
+/// Carries the pending insertions of a range, of which `first` is the first. No doomed row is in the way, and there is
+/// room for them, for their handles in a list and for what is remembered of them in another.
 fn carry_rows(
     inside: &mut Inside,
     range: KeyRange,
@@ -242,7 +242,7 @@ pub(crate) struct Sieve {
     pub(crate) column: CrackerColumn,
     pub(crate) from: usize,
     pub(crate) to: usize,
-    /// How many rows made way, as the store counts them.
+    /// How many rows moved, as the store counts them.
     pub(crate) moved: u64,
 }
 

@@ -85,8 +85,8 @@ impl Store {
         let _ = &self.inside;
     }
 
-    /// Keeps a row in a new cell after the last pending insertion. O(1).
-    /// Refused with 8 if it finds no memory; then all is as it was.
+    /// Stores a row in a new cell, after the last pending insertion. O(1). Refused with 8 if it finds no memory; then
+    /// nothing has changed.
     pub fn admit(&mut self, row: Row) -> Result<(), Refusal>
         requires { IsAdmissible row self.old }
         ensures ok { OnOk result (SameButRoom (admitted row self.old) self.new) }
@@ -123,9 +123,9 @@ impl Store {
         }
     }
 
-    /// Cracks the column at both ends of the range: each that isn't an end of the partition then is in the index.
-    /// O(size of their pieces + bounds); O(log bounds) for an end that exists already, which takes no memory.
-    /// Refused with 8 if it finds no memory; then all is as it was.
+    /// Cracks the column at both ends of the range: each that isn't an end of the partition is in the index afterwards.
+    /// O(size of their pieces + bounds); O(log bounds) for an end that is there already, which takes no memory. Refused
+    /// with 8 if it finds no memory; then nothing has changed.
     pub fn crack(&mut self, range: KeyRange) -> Result<(), Refusal>
         ensures ok { OnOk result (Refines self.old self.new range) }
         ensures cracked { OnOk result (IsCracked self.new range) }
@@ -141,8 +141,8 @@ impl Store {
         Ok(())
     }
 
-    /// Makes room for one more place in the column and one more pending insertion.
-    /// Refused with 8 if it finds no memory; then all is as it was.
+    /// Makes room for one more place in the column and one more pending insertion. Refused with 8 if it finds no
+    /// memory; then nothing has changed.
     // inlined, it makes the compiler copy whole stores in a merge
     #[inline(never)]
     pub fn make_room(&mut self) -> Result<(), Refusal>
@@ -339,8 +339,8 @@ impl Store {
         self.inside.pending_out.next_in(range, from, arena)
     }
 
-    /// Goes on from this place when a pending deletion is next searched for, so that those which are taken out at
-    /// rising places are passed over once. Contracts see no change.
+    /// The next search for a pending deletion starts from this place, so that those taken out at rising places are
+    /// passed over once. Contracts see no change.
     pub fn seek_out(&mut self, place: usize)
         requires { place < length self.old.pending_out }
         ensures { self.new ≡ self.old }
@@ -357,7 +357,7 @@ impl Store {
     }
 }
 
-/// For how many more rows a map of this many is to have room.
+/// By how many rows a map of this many grows.
 fn growth(rows: usize) -> usize
     ensures { 1 ≤ result }
 {

@@ -1,5 +1,5 @@
-//! Carries in bulk that meet doomed rows: the rows that come in stand after the column's last one, and turn its pieces
-//! from the lowest up. Each that turns a piece changes places with the row that it turns.
+//! Carries in bulk that meet doomed rows: the rows that come in are after the column's last one, and turn its pieces
+//! from the lowest up. Each that turns a piece is exchanged with the row that it turns.
 ghost use Rattle.std.specs.Prelude.{◌≡◌, ◌+◌, ◌-◌, ◌<◌, ◌≤◌, ◌++◌, ◌↔◌, ℕ, not, true, false, [], Some, None, map};
 ghost use Rattle.std.specs.Prelude.{length, take, drop, filter, vec_capacity, slice_index_or, IsTrue, IsFalse, IfSome};
 ghost use Rattle.crack_arena.specs.Arena.{no_handle};
@@ -25,9 +25,9 @@ use crack_index::{Mark, Placer};
 use crack_pending::PendingOut;
 use crack_row::{Bound, InnerBound, KeyNumber, KeyRange, Row};
 
-/// Carries the pending insertions of a range, of which `first` is the first, wherever doomed rows stand; whether it
-/// found memory for so many, as are in the range. All is else as it was. For each of them O(pieces) without a wait for
-/// memory, and O(bounds).
+/// Carries the pending insertions of a range, this many, of which `first` is the first, wherever doomed rows are;
+/// returns whether it found memory for them. Otherwise nothing has changed. For each of them O(pieces) without waiting
+/// for memory, and O(bounds).
 pub(crate) fn carry_by_sweeping(
     inside: &mut Inside,
     range: KeyRange,
@@ -62,8 +62,8 @@ pub(crate) fn carry_by_sweeping(
     true
 }
 
-/// Carries the pending insertions of a range, the first of which is `first`, where there is room for them, and to list
-/// as many doomed rows.
+/// Carries the pending insertions of a range, of which `first` is the first. There is room for them, and to list as
+/// many doomed rows.
 fn sweep_rows(
     inside: &mut Inside,
     range: KeyRange,
@@ -133,7 +133,7 @@ fn sweep_rows(
     bury_all(inside, &doomed);
 }
 
-/// Lets the rows that came in go by the last piece.
+/// Moves the rows that came in past the last piece.
 fn sweep_last(sweep: &mut Sweep)
     requires { IsReady sweep.old }
     ensures { IsSweptTo sweep.old sweep.new }
@@ -196,7 +196,7 @@ pub(crate) struct Sweep<'a> {
     pub(crate) low: KeyNumber,
     pub(crate) start: usize,
     pub(crate) count: usize,
-    /// How many rows made way, as the store counts them.
+    /// How many rows moved, as the store counts them.
     pub(crate) moved: u64,
 }
 
@@ -207,7 +207,7 @@ impl<'a> Placer for Sweep<'a> {
 
     ghost places = { Turns };
 
-    /// Lets the rows that came in go by the piece below the bound, which rises by as many as go on from it. None of
+    /// Moves the rows that came in past the piece below the bound, which rises by as many as go on from it. None of
     /// them turns a piece that ends at or below the floor.
     fn place(&mut self, mark: Mark) -> usize {
         let Mark { bound, position } = mark;
@@ -244,7 +244,7 @@ fn is_up_to(bound: InnerBound, floor: Bound) -> bool
     bound.bound() <= floor
 }
 
-/// As `sweep_piece`, of a piece that so many of the rows turn: where none does, all is as it was.
+/// Like `sweep_piece`, for a piece that this many of the rows turn: if none does, nothing changes.
 fn sweep_turned(
     column: &mut CrackerColumn,
     count: usize,
@@ -276,8 +276,8 @@ fn sweep_turned(
     sweep_piece(column, bounds, places, from, pending_out, arena)
 }
 
-/// Lets the rows from the place `from` on go by the piece between two bounds, the higher of which may be none, and
-/// between two places. How many of its rows made way, and how many of the rows from `from` on go on from it.
+/// Moves the rows from the place `from` on past the piece between two bounds, the higher of which may be none, and
+/// between two places. Returns how many of its rows moved, and how many of the rows from `from` on go on from it.
 fn sweep_piece(
     column: &mut CrackerColumn,
     bounds: (KeyNumber, Option<InnerBound>),

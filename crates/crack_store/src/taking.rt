@@ -1,4 +1,4 @@
-//! The pending insertions of a range, taken out of their list all at once and put after the column's last row.
+//! Taking the pending insertions of a range out of their list, all at once, and appending them to the column.
 ghost use Rattle.std.specs.Prelude.{◌≡◌, ◌≤◌, ◌++◌, [], length, vec_capacity};
 ghost use Rattle.crack_bulk.specs.Carried.{inside_of};
 ghost use Rattle.crack_column.specs.Column.{Remembers};

@@ -21,8 +21,8 @@ pub enum CarryEnd {
 }
 
 impl Carrying {
-    /// Pushes the hand on until a rule holds that ends its carry, and returns which. It leaves what as many `push_on`
-    /// leave, in one walk over the bounds. O(log bounds) and the bounds at the places on its way; takes no memory.
+    /// Pushes the hand on until a rule holds that ends its carry, and returns which. It has the result of as many
+    /// `push_on`, in one walk over the bounds. O(log bounds) and the bounds at the places on its way; takes no memory.
     pub fn carry_up(&mut self, ceiling: Option<Bound>) -> CarryEnd
         ensures pushes { PushesOn (ceiling_of ceiling) self.old self.new }
         ensures ends { EndsBy (ceiling_of ceiling) result self.new }
@@ -36,12 +36,12 @@ impl Carrying {
             if let Some(end) = self.carry_end(ceiling) {
                 return end;
             }
-            // the key in hand is that of a row that isn't known, or the greatest
+            // the row in hand isn't known, or has the greatest key
             self.push_on();
         }
     }
 
-    /// Pulls the hand back as long as its own piece begins after the place. It leaves what as many `pull_back` leave,
+    /// Pulls the hand back as long as its own piece begins after the place. It has the result of as many `pull_back`,
     /// in one walk over the bounds. O(log bounds) and the bounds at the places on its way; takes no memory.
     pub fn pull_down(&mut self, place: usize)
         ensures pulls { PullsBack place self.old self.new }
@@ -50,8 +50,8 @@ impl Carrying {
         self.near = descend(&mut self.inside, place);
     }
 
-    /// The rule that ends a carry before its first step, if that is known without a look at any bound: if there
-    /// is none. O(1).
+    /// The rule that ends a carry before its first step, if that is known without looking at a bound: if there is none.
+    /// O(1).
     #[inline(always)]
     fn end_at_once(&mut self, ceiling: Option<Bound>) -> Option<CarryEnd>
         ensures ends { IfSome result (λ end. EndsBy (ceiling_of ceiling) end self.old) }
@@ -64,7 +64,7 @@ impl Carrying {
         self.carry_end(ceiling)
     }
 
-    /// Pushes the hand on as long as it is sure by its tag that no rule ends its carry.
+    /// Pushes the hand on as long as its tag shows that no rule ends its carry.
     #[inline(always)]
     fn ascend(&mut self, ceiling: Option<Bound>)
         ensures { PushesOn (ceiling_of ceiling) self.old self.new }
@@ -72,7 +72,7 @@ impl Carrying {
         self.near = ascend(&mut self.inside, ceiling);
     }
 
-    /// The first of the rules that end a carry that holds, if one does. O(1) on the way up, else O(log bounds).
+    /// The first rule that ends the carry, if one does. O(1) on the way up, else O(log bounds).
     #[inline(always)]
     fn carry_end(&self, ceiling: Option<Bound>) -> Option<CarryEnd>
         ensures { MatchOption result (GoesOn (ceiling_of ceiling) self.now) (λ end. EndsBy (ceiling_of ceiling)

@@ -111,7 +111,7 @@ pub fn append_two(rt: &impl Abort, alloc: Global, keys: [u16; 3]) -> Store
     append(rt, lift_first(rt, store))
 }
 
-/// Asserts that three rows are pending insertions, and nothing else is there.
+/// Asserts that three rows are pending insertions, and that there is nothing else.
 fn assert_three_pending(rt: &impl Abort, store: &Store) {
     let rows = [store.pending_in(), store.pending_out(), store.column_len()];
     assert_eq!(rt; rows, [3, 0, 0]);
@@ -119,7 +119,7 @@ fn assert_three_pending(rt: &impl Abort, store: &Store) {
     assert_eq!(rt; cells, [3, 0]);
 }
 
-/// Asserts which pending row is found first, and where the bounds go on.
+/// Asserts which pending row is found first, and the next bounds.
 fn assert_found(rt: &impl Abort, store: &Store) {
     let range = KeyRange::new(20, 50).expect(rt, "a range");
     assert_eq!(rt; store.first_in(range), Some(1));
@@ -149,7 +149,7 @@ fn store_reads_what_was_admitted(rt: HostRuntime) {
     drop(store);
 }
 
-/// Both bounds at a place move up together, when a row is put there whose key is below them.
+/// Both bounds at a place move up together when a row is put there whose key is below them.
 #[test]
 fn two_bounds_at_one_place_move_together(rt: HostRuntime) {
     let mut store = append_two(&rt, rt.alloc(), [10, 40, 15]);

@@ -1,4 +1,4 @@
-//! The commands on one row of a store, and what is read from its column, with ample memory.
+//! The commands on one row of a store, and reads of its column, with ample memory.
 ghost use Rattle.std.specs.Prelude.{◌≡◌};
 
 use crate::store::{admit, admit_three, append_two};
@@ -41,7 +41,7 @@ fn doom(rt: &impl Abort, store: &mut Store, gone: Row) {
     assert_eq!(rt; store.pending_out(), doomed + 1);
 }
 
-/// Removes a row by its serial, and returns what came back.
+/// Removes a row by its serial, and returns it.
 fn remove(rt: &impl Abort, store: &mut Store, serial: u64) -> Option<Row> {
     let freed = store.freed();
     let doomed = store.pending_out();
@@ -116,7 +116,7 @@ fn assert_reads(rt: &impl Abort, store: &mut Store, high: u128, sum: i128, rows:
     assert!(rt; found.as_slice() == rows);
 }
 
-/// A pending row goes at once, and the next row gets its cell; another is written in place.
+/// A pending row is removed immediately, and the next row gets its cell; another is written in place.
 #[test]
 fn pending_rows_go_and_change_at_once(rt: HostRuntime) {
     let mut store = admit_three(&rt, rt.alloc(), [10, 40, 16]);
@@ -176,7 +176,7 @@ fn a_row_is_removed_wherever_it_stands(rt: HostRuntime) {
     drop(store);
 }
 
-/// Rows are listed by rising serial, wherever they stand.
+/// Rows are listed by rising serial, wherever they are.
 #[test]
 fn rows_are_listed_in_rising_serial(rt: HostRuntime) {
     let mut store = append_two(&rt, rt.alloc(), [16, 10, 24]);

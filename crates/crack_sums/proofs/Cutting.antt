@@ -1,4 +1,4 @@
--- What a cut, and a sum that was asked, leave of the pieces.
+-- The pieces after a cut, and after a sum that was asked of the source.
 use Rattle.std.proofs.Common.{◌≡◌, ◌≢◌, ℕ, ◌+◌, ◌<◌, ◌≤◌, List, Some, None, refl, ◌∙◌, arith}
 use Rattle.std.specs.Prelude.{ℤ, Bool, true, false, IsTrue}
 use Rattle.std.proofs.lemmas.Int.{ints}
@@ -100,7 +100,7 @@ module _ (says : ℕ → ℕ → ℤ → Type 0) (range : Range) where
     ends = λ bound there. IsEnd-given bound start sum es there;
   }
 
--- what was told of a wide range was told of a part of it
+-- pieces that extend others for a range extend them for a wider range
 pub Extends-wide : (says : ℕ → ℕ → ℤ → Type 0) (wide narrow : Range) (xs ys : List (ℕ × ℤ)) → wide.low ≤ narrow.low → narrow.high ≤ wide.high → Extends says narrow xs ys → Extends says wide xs ys
 Extends-wide says wide narrow xs ys low high is = record {
   right = λ m adds told right. is.right m adds (λ l h sum a b c said. told l h sum (omega arith) b (omega arith) said) right;

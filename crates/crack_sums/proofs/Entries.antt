@@ -1,4 +1,4 @@
--- The entries of a map as pieces: what its calls say of them, in terms of the list.
+-- The entries of a map as pieces: the contracts of its calls, in terms of the list.
 use Rattle.std.proofs.Common.{◌≡◌, ◌≢◌, ℕ, ◌<◌, ◌≤◌, List, [], ◌∷◌, Some, None, refl, ap, ◌∙◌, inl, inr, arith}
 use Rattle.std.specs.Prelude.{◌⊎◌, ℤ, true, false, ◌++◌, IsSome, Result, Ok, Err, OnOk, OnErr, IsTrue}
 use Rattle.std.specs.Result.{is_ok}
@@ -131,7 +131,7 @@ no_next key (e ∷ es) none = elim (cases_lt key e.0) [
   | inr l ↦ rw (le-ltb key e.0 l) (no_next key es (λ q h. none_later q e es (none q h)))
 ]
 
--- What a range of a map says
+-- The entries of a range of a map
 
 not_gt : (a b : ℕ) → a ≤ b → is_gt (nat_cmp a b) ≡ false
 not_gt a b h = elim (cases_eq a b) [

@@ -1,4 +1,4 @@
--- Pieces whose keys rise: which one has a key, where they begin, and what stays when one is cut or gets a sum.
+-- Pieces whose keys rise: which one has a key, where they begin, and what stays true when one is cut or gets a sum.
 use Rattle.std.proofs.Common.{◌≡◌, ◌≢◌, ℕ, ◌<◌, ◌≤◌, List, [], ◌∷◌, leb, ltb, Some, None, refl, sym, ap, ◌∙◌, inl, inr, arith}
 use Rattle.std.specs.Prelude.{ℤ, true, false}
 use Rattle.std.proofs.lemmas.Bool.{cases_eq, cases_lt, lt-ltb, le-ltb, lt-leb, le-leb, eq-eqb, ne_eqb, and_right}
@@ -221,7 +221,7 @@ IsEnd-given bound key sum (e ∷ es) is = elim (cases_eq key e.0) [
   | inr apart ↦ rw (given_apart key sum e es apart) (elim is [ inl first ↦ inl first | inr later ↦ inr (IsEnd-given bound key sum es later) ])
 ]
 
--- What stays right
+-- What stays true
 
 module _ (m : ℕ → ℕ → ℤ) where
   -- no piece begins at a key below them

@@ -54,7 +54,7 @@ total-right m low high (e ∷ es) adds rises h is_low is_high known right = elim
       ]
 ]
 
--- a sum that is the total of a range whose ends are there, and whose pieces are known
+-- the total of a range whose ends are cut, and whose pieces have known sums
 pub whole-right : (m : ℕ → ℕ → ℤ) (range : Range) (es : List (ℕ × ℤ)) (sum : ℤ) → IsAdditive m → Rises es → range.low ≤ range.high → IsEnd range.low es × IsEnd range.high es → AreKnown range es → AreRight m es → sum ≡ total_in range es → sum ≡ m range.low range.high
 whole-right m range es sum adds rises h ends known right is = is ∙ total-right m range.low range.high es adds rises h ends.0 ends.1 known right
 

@@ -1,4 +1,4 @@
--- A walk over the pieces of a range: what is left of it, and what is added up.
+-- A walk over the pieces of a range: the pieces that are left, and the sum so far.
 use Rattle.std.proofs.Common.{◌≡◌, ℕ, ◌+◌, ◌<◌, ◌≤◌, List, [], ◌∷◌, refl, ap, inl, inr, arith, nat_cmp}
 use Rattle.std.specs.Prelude.{⊤, ℤ, pos, negsuc, ◌+ℤ◌, neg_ℤ, ◌≤ℤ◌, ◌^◌, unsigned_abs, FitsSigned, true, false}
 use Rattle.std.specs.Int.{w128}
@@ -21,7 +21,7 @@ abbrev pub distance_of : List (ℕ × ℤ) → ℕ
 distance_of [] = 0
 distance_of (e ∷ es) = unsigned_abs e.1 + distance_of es
 
--- the number is at most so far from 0
+-- the number is at most this far from 0
 abbrev pub IsNear : ℤ → ℕ → Type 0
 IsNear number distance = (number ≤ℤ pos distance) × (neg_ℤ (pos distance) ≤ℤ number)
 
@@ -35,7 +35,7 @@ near_sum a b m n is_a is_b = (let one = is_a.0 in let two = is_b.0 in omega (ari
 near-wider : (a : ℤ) (m n : ℕ) → IsNear a m → m ≤ n → IsNear a n
 near-wider a m n is h = (let one = is.0 in omega (arith, ints), let one = is.1 in omega (arith, ints))
 
--- a number that is near enough is one of 128 bits
+-- a number that is near enough to 0 fits into 128 bits
 near-fits : (number : ℤ) (n : ℕ) → IsNear number n → n < 2 ^ 127 → FitsSigned w128 number
 near-fits (pos k) n is h = record { sfits = let one = is.0 in omega (arith, ints) }
 near-fits (negsuc k) n is h = record { sfits = let one = is.1 in omega (arith, ints) }
@@ -48,7 +48,7 @@ abbrev pub AllIn : Range → List (ℕ × ℤ) → Type 0
 AllIn range [] = ⊤
 AllIn range (e ∷ es) = IsIn range e.0 × AllIn range es
 
--- so much has been added up, and these pieces are left
+-- this sum has been added up, and these pieces are left
 pub record IsLeft (range : Range) (es : List (ℕ × ℤ)) (sum : ℤ) (left : List (ℕ × ℤ)) : Type 0 where
   pub total : sum +ℤ total_of left ≡ total_in range es
   pub passed : ℕ

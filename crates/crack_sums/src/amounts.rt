@@ -34,7 +34,7 @@ pub(crate) fn rest(whole: i128, part: i128) -> i128
     }
 }
 
-/// What the source says of the keys from `low` on, below `high`.
+/// The source's sum of the keys from `low` on, below `high`.
 pub(crate) fn asked<S: Source>(source: &S, low: BoundNumber, high: BoundNumber) -> i128
     ensures { IsKnown result → S.says source.now low high result }
 {

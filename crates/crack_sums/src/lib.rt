@@ -8,5 +8,5 @@ pub mod sums;
 pub use source::Source;
 pub use sums::PieceSums;
 
-/// What stands for a sum that isn't known. No sum of rows is as low.
+/// The value for a sum that isn't known. No sum of rows is as low.
 pub const UNKNOWN: i128 = -170141183460469231731687303715884105728;

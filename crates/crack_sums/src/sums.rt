@@ -13,9 +13,9 @@ use std::collections::BTreeMap;
 use std::marker::Model;
 use std::ops::Bound;
 
-/// What is known of the sums of pieces. A piece reaches from the key where it begins up to the next one, or over all
-/// keys from there on; no piece has the keys below the first. Contracts see the list of the pieces, each with the key
-/// where it begins, and its sum or `UNKNOWN`.
+/// The known sums of pieces. A piece has the keys from where it begins up to the next piece, or all keys from there on;
+/// no piece has the keys below the first. Contracts see the list of the pieces, each with the key where it begins, and
+/// its sum or `UNKNOWN`.
 #[derive(Drop)]
 pub struct PieceSums {
     sums: BTreeMap<KeyNumber, i128>,
@@ -74,7 +74,7 @@ impl PieceSums {
         self.sums.clear();
     }
 
-    /// Notes that the rows at the key have changed in sum by this amount. Takes no memory. O(log pieces).
+    /// Notes that the sum of the rows at the key has changed by this amount. Takes no memory. O(log pieces).
     pub fn adjust(&mut self, key: Key, change: i128)
         ensures value { self.new ≡ adjusted key.0 change self.old }
         ensures keys { keys_of self.new ≡ keys_of self.old }
@@ -86,10 +86,10 @@ impl PieceSums {
         self.give(start, amounts::later(sum, change));
     }
 
-    /// The sum of a range, by the pieces in it. The pieces that its ends lie in are cut there, and what isn't known is
-    /// asked of the source, only for parts of the range. None if memory, the source or the numbers of 128 bits don't
-    /// suffice; what is known stays right. O(log pieces) besides what the source does, and a step for each piece in
-    /// the range.
+    /// The sum of a range, by the pieces in it. The pieces in which its ends lie are cut there, and the source is asked
+    /// for sums that aren't known, only of parts of the range. None if it finds no memory, the source has no sum, or
+    /// 128 bits aren't enough; the known sums stay right. O(log pieces) besides what the source does, and a step for
+    /// each piece in the range.
     pub fn sum<S: Source>(&mut self, range: KeyRange, source: &S) -> Option<i128>
         requires { range.low < range.high }
         ensures right { (m : ℕ → ℕ → ℤ) → IsAdditive m → AreTold (S.says source.now) range m → AreRight m self.old
@@ -165,7 +165,8 @@ impl PieceSums {
         self.split(start, high, lower, amounts::rest(sum, lower))
     }
 
-    /// The sum of the keys from `first` to `last`, once what isn't known from the piece at `start` on has been asked.
+    /// The sum of the keys from `first` to `last`, once the source was asked for the sums that aren't known from the
+    /// piece at `start` on.
     fn learned<S: Source>(
         &mut self,
         first: KeyNumber,
@@ -189,8 +190,8 @@ impl PieceSums {
         }
     }
 
-    /// Asks for each sum that isn't known, of the pieces that begin at `first` to `last`. False if the source has none
-    /// to give for one of them.
+    /// Asks the source for each sum that isn't known, of the pieces that begin at `first` to `last`. False if it has
+    /// none for one of them.
     fn learn<S: Source>(&mut self, first: KeyNumber, last: KeyNumber, source: &S) -> bool
         requires order { first ≤ last }
         requires cut { IsEnd (span first last).high self.old }

@@ -1,4 +1,4 @@
-//! What is asked of a source, and what isn't; the numbers that don't fit.
+//! Which sums are asked of a source, and which aren't; the numbers that don't fit.
 
 ghost use Rattle.std.specs.Prelude.{◌<◌};
 
@@ -7,7 +7,7 @@ use crack_sums::{PieceSums, Source};
 use std::cell::Cell;
 use std::process::Abort;
 
-/// A row at each key, all with one payload. It counts how often it is asked, and has no sums to give once it is silent.
+/// A row at each key, all with one payload. It counts how often it is asked, and has no sums once it is silent.
 #[derive(Drop)]
 struct Rows {
     payload: i128,

@@ -1,4 +1,4 @@
--- Why a partition refuses a command, as a worker is given it.
+-- Why a partition refuses a command, as its worker sees it.
 use Rattle.std.specs.Prelude.{◌≡◌, ℕ, Bool, true, false, Option, None, Some, Result, Ok, Err, IfErr, IfSome, MatchResult, length, nat_le, if◌then◌else◌}
 use Rattle.std.specs.Option.{option_or}
 use Rattle.std.proofs.Common.{refl, ap, sym, ◌∙◌, inl, inr}
@@ -33,7 +33,7 @@ pub causes-told : (limit : ℕ) (Cause : Refusal → Type 0) (a r : Result Reply
 causes-told limit Cause (Ok reply) r is causes = rw is tt
 causes-told limit Cause (Err e) r is causes = rw is causes
 
--- what a partition refuses a command with isn't a gate's refusal
+-- a partition doesn't refuse a command as a gate does
 not-gate : (own full over lacks : Bool) (entries limit : ℕ) (e : Refusal) → ◌≡◌ {A = Option Refusal} (if own then option_or (if full then Some (HistoryFull entries) else (if over then Some LifeOver else None)) (if lacks then Some NoCell else None) else Some KeyOutside) (Some e) → with_limit limit e ≡ GateGaveUp → ⊥
 not-gate own full over lacks entries limit e is gate = by_tests own full over lacks is
   where
@@ -49,7 +49,7 @@ not-gate own full over lacks entries limit e is gate = by_tests own full over la
     by_tests true false false true is = other NoCell (λ x. cc x) is
     by_tests true false false false is = cc is
 
--- so the outcome of asking a partition isn't either
+-- so the outcome of asking a partition isn't a gate's refusal
 pub told-no-gate : (limit : ℕ) (p q : Part) (command : Command) (a r : Result Reply Refusal) → IfSome (refusal_of p command) (λ e. (a ≡ Err e) × (q ≡ p)) → (refusal_of p command ≡ None → IfErr a (λ e. e ≡ OutOfMemory)) → MatchResult a (λ reply. r ≡ Ok reply) (λ e. r ≡ Err (with_limit limit e)) → r ≡ Err GateGaveUp → ⊥
 told-no-gate limit p q command (Ok reply) r refused memory told gate = cc (told, gate)
 told-no-gate limit p q command (Err e) r refused memory told gate = by_cause (refusal_of p command) refl refused memory

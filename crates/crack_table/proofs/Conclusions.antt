@@ -95,7 +95,7 @@ late_absurd done (x ∷ rs) r is rises =
 gap_absurd : (rs : List Receipt) (p : ℕ) (k : KeptState) (n : ℕ) → IsGap rs p k n → IsSettled rs p k → ⊥
 gap_absurd rs p k n gap settled = ⊎_elim (λ unmet. unmet.2 (settled.met n unmet.0 unmet.1)) (λ miscount. miscount.1 settled.counted) gap
 
--- where a place is at fault the receipts aren't a cover
+-- if a place is at fault the receipts aren't a cover
 pub fault_uncovered : (kept : List KeptState) (rs : List Receipt) (p n : ℕ) → IsFault kept rs p n → Covers kept rs → ⊥
 fault_uncovered kept rs p n fault covers =
     ⊎_elim

@@ -86,7 +86,7 @@ all_cond : (P : Receipt → Type 0) (b : Bool) (r : Receipt) (rs : List Receipt)
 all_cond P true r rs here all = All-cons P r rs (here refl) all
 all_cond P false r rs here all = all
 
--- what a test of an option says
+-- what a test of an option implies
 some_of : {X : Type 0} (o : Option X) → is_some o ≡ true → (x : X) × (o ≡ Some x)
 some_of None is = cc
 some_of (Some x) is = (x, refl)
@@ -103,7 +103,7 @@ sum_from key F rs base (suc n) =
 pub by_key_from : (key : Receipt → ℕ) (F : Receipt → ℕ) (rs : List Receipt) (base n : ℕ) → All (λ r. nat_lt (key r) (base + n) ≡ true) rs → sum_by F rs ≡ sum_by F (filter (λ r. nat_lt (key r) base) rs) + sum_upto (λ k. sum_by F (filter (λ r. key r == base + k) rs)) n
 by_key_from key F rs base n all = ap (λ l. sum_by F l) (sym (filter_always (λ r. nat_lt (key r) (base + n)) rs all)) ∙ sum_from key F rs base n
 
--- what a cover says of the places
+-- what a cover implies for the places
 record AreMet (kept : List KeptState) (rs : List Receipt) : Type 0 where
   settled : (p : ℕ) (k : KeptState) → slice_get kept p ≡ Some k → IsSettled rs p k
   placed : All (λ r. has_place kept r ≡ true) rs
@@ -150,7 +150,7 @@ standing_at k n e is =
 folded_at : (k : KeptState) (n : ℕ) → n < k.folded → place_at k n ≡ Some Folded
 folded_at k n lt = let below : nat_lt n k.folded ≡ true = grind (arith, nat_tests, lt) in rw below refl
 
--- the receipts of a partition come to those of its checkpointed places and the entries that stand
+-- the total of the receipts of a partition is that of its checkpointed places and of the entries since
 part_counted : (f : Entry → ℕ) (kept : List KeptState) (rs : List Receipt) → AreMet kept rs → (p : ℕ) (k : KeptState) → slice_get kept p ≡ Some k
     → sum_by (λ r. f (entry_of r)) (filter (λ r. r.part == p) rs) ≡ sum_by (λ r. f (entry_of r)) (filter (λ r. nat_lt r.position k.folded) (filter (λ r. r.part == p) rs)) + sum_by f k.tail
 part_counted f kept rs are p k k_is =
@@ -180,7 +180,7 @@ folded_sum f rs p folded =
     ap (λ l. sum_by (λ r. f (entry_of r)) l) (filter_filter (λ r. r.part == p) (λ r. nat_lt r.position folded) rs)
     ∙ sum_entries f (filter (λ r. (r.part == p) && nat_lt r.position folded) rs)
 
--- receipts that cover come to what was checkpointed, counted by f, and to the entries that stand
+-- the total of receipts that cover is that of the checkpointed commands, counted by f, and of the entries since
 counted : (f : Entry → ℕ) (base : KeptState → ℕ) (kept : List KeptState) (rs : List Receipt) → AreMet kept rs
     → ((p : ℕ) (k : KeptState) → slice_get kept p ≡ Some k → sum_by (λ r. f (entry_of r)) (filter (λ r. nat_lt r.position k.folded) (filter (λ r. r.part == p) rs)) ≡ base k)
     → sum_by (λ r. f (entry_of r)) rs ≡ sum_by (λ k. base k + sum_by f k.tail) kept

@@ -44,7 +44,7 @@ mark_more Met place (x ∷ xs) r b right is = (no_nil r (x ∷ xs), two_long x r
 mark_more Failed place [] r b right is = absurd (is.0 refl)
 mark_more Failed place (x ∷ xs) r b right is = (no_nil r (x ∷ xs), two_long x r xs place)
 
--- an entry that is at a place is held against the receipt's own
+-- the entry at a place is compared with the receipt's own
 pub right_here : (k : KeptState) (r : Receipt) (e : Entry) (b : Bool) → nat_lt r.position k.folded ≡ false → slice_get k.tail (r.position - k.folded) ≡ Some e → Decides b (entry_of r ≡ e)
     → (place : Place) × (place_at k r.position ≡ Some place) × Decides b (IsRight place (entry_of r))
 right_here k r e b above is right = (Standing e, rw (above, is) refl, right)

@@ -72,7 +72,7 @@ met_up_to : (row : List Naming) (first : Option ℕ) (bound : ℕ) → MatchOpti
 met_up_to row None bound met not_below n k lt is = met n k is
 met_up_to row (Some i) bound first not_below n k lt is = let l : n < i = grind (arith, nat_tests, lt, not_below) in first.3 n k l is
 
--- there is something checkpointed if it isn't counted
+-- something is checkpointed if it isn't counted
 pub some_folded : (kept : KeptState) (row : List Naming) (left : KindsLeft) (p : ℕ) (rs : List Receipt) → IsKept kept → RowNoted kept row left p rs → ¬ ((left.placed ≡ Some 0) × (left.gone ≡ Some 0)) → 0 < kept.folded
 some_folded kept row left p rs few noted not_none = by kept.folded refl
   where
@@ -92,7 +92,7 @@ row_noted kept ms kinds rs p k row left k_is row_is left_is noted = record {
   counted = noted.counted p k left k_is left_is;
 }
 
--- the same by what was read
+-- the same for the values that were read
 pub row_read : (ks : List Kept) (ms : List (List Naming)) (kinds : List KindsLeft) (rs : List Receipt) (p : ℕ) (k : Kept) (row : List Naming) (left : KindsLeft) → p < length ks → k ≡ get_or ks p k → row ≡ get_or ms p row → left ≡ get_or kinds p left → AreNoted (map told ks) ms kinds rs → RowNoted (told k) row left p rs
 row_read ks ms kinds rs p k row left lt k_is row_is left_is noted =
     let long : length (map told ks) ≡ length ks = simp length-map refl in

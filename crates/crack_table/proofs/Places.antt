@@ -1,4 +1,4 @@
--- Places in a list of lists, and in what is kept of partitions.
+-- Places in a list of lists, and in the pasts that partitions keep.
 use Rattle.std.proofs.Common.{◌≡◌, ◌≢◌, ◌<◌, ◌≤◌, ℕ, ◌+◌, ◌-◌, List, [], ◌∷◌, length, get_or, set, zero, suc, Bool, true, false, ◌==◌, ◌&&◌, Option, Some, None, refl, ap, arith, subst, sym, ◌∙◌}
 use Rattle.std.specs.List.{slice_get}
 use Rattle.std.specs.Option.{option_map, option_and_then}
@@ -48,7 +48,7 @@ at_set_other xss p n q m row y row_is other = at_set_by xss p n q m row y row_is
 pub place_in-there : (kept : List KeptState) (p n : ℕ) (k : KeptState) → slice_get kept p ≡ Some k → place_in kept p n ≡ place_at k n
 place_in-there kept p n k is = rw is refl
 
--- there is a place in a partition that there is
+-- an existing partition has a place
 pub part_of : (kept : List KeptState) (p n : ℕ) (place : Place) → place_in kept p n ≡ Some place → (k : KeptState) × (slice_get kept p ≡ Some k) × (place_at k n ≡ Some place)
 part_of kept p n place is = found (slice_get kept p) refl is
   where
@@ -56,7 +56,7 @@ part_of kept p n place is = found (slice_get kept p) refl is
     found None here is = cc
     found (Some k) here is = (k, here, is)
 
--- a partition as its caller gives it
+-- a partition as the caller passes it
 pub read_told : (ks : List Kept) (i : ℕ) (k : Kept) → i < length ks → k ≡ get_or ks i k → slice_get (map told ks) i ≡ Some (told k)
 read_told [] i k lt read = absurd (omega arith)
 read_told (x ∷ xs) zero k lt read = rw read refl

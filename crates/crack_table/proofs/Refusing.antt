@@ -9,7 +9,7 @@ use Rattle.crack_core.specs.Receipts.{BookState}
 use Rattle.crack_table.specs.Cover.{MayNotCover}
 use Rattle.crack_table.specs.Gather.{kept_by, receipts_of, MayNotAgree}
 
--- what is kept that the receipts don't cover
+-- pasts that the receipts don't cover
 pub uncovered : (splits : List Bound) (limits : Limits) (parts : List Part) (workers : List BookState) (e : Refusal) → AreParts splits limits parts → MayNotCover (kept_by parts) (receipts_of workers) e → MayNotAgree splits limits workers e
 uncovered splits limits parts workers e are fault =
     ⊎_elim

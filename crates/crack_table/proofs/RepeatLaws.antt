@@ -1,4 +1,4 @@
--- Replies follow from the base and from the commands, so steps that ask the same are answered the same.
+-- Replies follow from the base and from the commands, so steps with the same commands have the same answers.
 use Rattle.std.specs.Prelude.{◌≡◌, ◌≢◌, ◌⊎◌, ℕ, zero, suc, ◌+◌, ◌<◌, ◌≤◌, ◌==◌, ◌&&◌, not, Bool, true, false, cond, List, [], ◌∷◌, ◌++◌, length, map, take, Option, None, Some, IfSome, IsOk, Result, Ok, Err, slice_get, All, nat_le, nat_lt, if◌then◌else◌}
 use Rattle.std.specs.Option.{option_map, option_or}
 use Rattle.std.proofs.Common.{ap, sym, refl, subst, ◌∙◌, arith, inl, inr, ⊎_elim, get_or, append-nil, append_assoc, length-append}
@@ -37,7 +37,7 @@ middle-reply : (s : PlainState) (xs ys : List Entry) (e : Entry) → AreReplies 
 middle-reply s [] ys e legal = legal.0
 middle-reply s (x ∷ xs) ys e legal = middle-reply (after s x.command) xs ys e legal.1
 
--- and a key of the partition, if it has one
+-- and its key, if it has one, is the partition's
 middle-within : (keys : Range) (xs ys : List Entry) (e : Entry) → BringWithin keys (xs ++ e ∷ ys) → IsWithin keys e.command
 middle-within keys [] ys e bring = bring 0 e (omega arith)
 middle-within keys (x ∷ xs) ys e bring = middle-within keys xs ys e (λ k d within. bring (suc k) d (omega (arith, within)))
@@ -46,7 +46,7 @@ key-tested : (keys : Range) (key : Option Key) → IfSome key (λ (k : Key). IsI
 key-tested keys None is = refl
 key-tested keys (Some key) is = rw (le-leb keys.low key.0 is.0, lt-ltb key.0 keys.high is.1) refl
 
--- if nothing is tested true there is no cause
+-- if no test holds there is no cause
 uncaused : (limits : Limits) (own full over : Bool) → own ≡ true → full ≡ false → over ≡ false → ◌≡◌ {A = Option Refusal} (if own then option_or (if full then Some (HistoryFull limits.history) else (if over then Some LifeOver else None)) None else Some KeyOutside) None
 uncaused limits own full over is goes lives = rw (is, goes, lives) refl
 
@@ -71,7 +71,7 @@ next-answered limits keys past now e rest legal base tails =
     let reply : e.reply ≡ reply_to (state_after now) e.command = rw base (middle-reply past.base.state now.tail rest e (subst (λ (es : List Entry). AreReplies past.base.state es) tails legal.replies)) in
     ap (λ (o : Option Refusal). reply_unless o (reply_to (state_after now) e.command)) none ∙ ap Ok (sym reply)
 
--- the outcome of a step comes as its job's
+-- the outcome of a step is that of its job
 unperformed : (r s : Result Reply Refusal) → performed r ≡ performed s → r ≡ s
 unperformed (Ok x) (Ok y) same = let is : x ≡ y = cc same in ap Ok is
 unperformed (Ok x) (Err e) same = cc same
@@ -82,7 +82,7 @@ unperformed (Err e) (Err f) same = let is : e ≡ f = cc same in ap Err is
 answered-or : {Lacks : Type 0} (reply : Reply) (o r : Result Reply Refusal) → o ≡ Ok reply → (r ≡ o) ⊎ (IsOk o × ((r ≡ Err OutOfMemory) ⊎ ((r ≡ Err NoCell) × Lacks))) → (r ≡ Ok reply) ⊎ ((r ≡ Err OutOfMemory) ⊎ (r ≡ Err NoCell))
 answered-or {Lacks} reply o r is comes = ⊎_elim (λ (same : r ≡ o). inl (same ∙ is)) (λ (wants : IsOk o × ((r ≡ Err OutOfMemory) ⊎ ((r ≡ Err NoCell) × Lacks))). inr (⊎_elim (λ (m : r ≡ Err OutOfMemory). inl m) (λ (c : (r ≡ Err NoCell) × Lacks). inr c.0) wants.1)) comes
 
--- steps come out as those of partitions that have these pasts
+-- the outcomes of steps are those of partitions that have these pasts
 abbrev Outcomes : Limits → List Bound → (ℕ → Option Past) → List Step → List (Result Reply Refusal) → Type 0
 Outcomes limits splits now steps results =
     (k : ℕ) (job : Job) (result : Result Done Refusal) → slice_get (map Perform steps) k ≡ Some job → slice_get (map performed results) k ≡ Some result →
@@ -120,7 +120,7 @@ record Followed (final now : ℕ → Option Past) (steps : List Step) (results :
   pub begun : (part : ℕ) (past cur : Past) → final part ≡ Some past → now part ≡ Some cur → (rest : List Reply) × (map said past.tail ≡ map said cur.tail ++ (replies_at part steps results ++ rest))
   pub refused : IfSome (first_refusal results) (λ e. (e ≡ OutOfMemory) ⊎ (e ≡ NoCell))
 
--- a step of a partition's own comes first of what that is asked
+-- a partition's own step is the first that it is asked
 asked-own : (step : Step) (steps : List Step) → asked_of step.part (step ∷ steps) ≡ (step.worker, step.command) ∷ asked_of step.part steps
 asked-own step steps = ap (λ (b : Bool). cond b ((step.worker, step.command) ∷ asked_of step.part steps) (asked_of step.part steps)) (eq-eqb step.part step.part refl)
 
@@ -137,7 +137,7 @@ replies-other part step steps reply results differs = ap (λ (b : Bool). cond b 
 abbrev made : Step → Reply → Entry
 made step reply = record { worker = step.worker; command = step.command; reply = reply }
 
--- and what it leaves
+-- and the past after it
 after-own : (limits : Limits) (step : Step) (reply : Reply) (past : Past) → length past.tail < limits.history → past_after limits step.part (Perform step) (Ok (Replied reply)) past ≡ with_entry past (made step reply)
 after-own limits step reply past room =
     ap (λ (b : Bool). cond b (with_entry (upkept limits past) (made step reply)) past) (eq-eqb step.part step.part refl)

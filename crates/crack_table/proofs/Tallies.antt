@@ -35,7 +35,7 @@ left_more None wanted came true is = omega (arith, is)
 left_more (Some zero) wanted came true is = omega (arith, is)
 left_more (Some (suc n)) wanted came true is = omega (arith, is)
 
--- what is still to come after one more
+-- the receipts still missing after one more
 abbrev pub noted_left : KindsLeft → Receipt → KindsLeft
 noted_left left r = record { placed = left_after (is_placed r.reply) left.placed; gone = left_after (is_gone r.reply) left.gone }
 
@@ -90,7 +90,7 @@ unnamed_by kept r q j true same j_is not_folded =
     rw (same, f) refl
 unnamed_by kept r q j false same j_is not_folded = rw same refl
 
--- a partition in which a place is checkpointed is there
+-- a partition in which a place is checkpointed exists
 pub folded_within : (ks : List Kept) (p n : ℕ) → in_folded (slice_get (map told ks) p) n ≡ true → p < length ks
 folded_within [] p n is = cc
 folded_within (k ∷ ks) zero n is = omega arith
@@ -100,7 +100,7 @@ folded_within (k ∷ ks) (suc p) n is = let lt = folded_within ks p n is in omeg
 pub counted_still : (kept : List KeptState) (kinds : List KindsLeft) (done : List Receipt) (r : Receipt) → in_folded (slice_get kept r.part) r.position ≡ false → Counted kept kinds done → Counted kept kinds (done ++ r ∷ [])
 counted_still kept kinds done r not_folded counted q j other j_is other_is = still_left other done r q j (unnamed_by kept r q j (r.part == q) refl j_is not_folded) (counted q j other j_is other_is)
 
--- at first all are still to come
+-- at first all are missing
 abbrev pub all_left : KeptState → KindsLeft
 all_left k = record { placed = Some k.placed; gone = Some k.gone }
 
@@ -124,7 +124,7 @@ none_read ks kinds i k lt long read counted =
     let l : length (map told (take i ks)) ≡ length kinds = simp (length-map, length-take) (omega arith) in
     rw (take_more ks i k lt, ← read, map-append) (none_counted (map told (take i ks)) kinds (told k) l counted)
 
--- if none is left, exactly as many came as were given
+-- if none is missing, exactly as many were noted as the partition says
 left_none : (o : Option ℕ) (wanted came : ℕ) → LeftIs o wanted came → o ≡ Some 0 → came ≡ wanted
 left_none None wanted came is none = cc
 left_none (Some n) wanted came is none = let e : n ≡ 0 = cc in omega (arith, e, is)

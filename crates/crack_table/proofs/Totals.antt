@@ -73,7 +73,7 @@ pub deleted_are : (parts : List Part) (workers : List BookState) → Covers (kep
 deleted_are parts workers covers =
     shares_sum (λ (e : Entry). cond (is_gone e.reply) 1 0) workers ∙ (gone_counted (kept_by parts) (receipts_of workers) covers ∙ kept_sum (λ k. k.gone + deleted k.tail) parts)
 
--- the live rows of a partition are those that were placed and didn't go
+-- the live rows of a partition are those that were placed and not removed
 live-count : (p : Part) → IsSound p → length (live_rows p.store) + deleted_in p.past ≡ inserted_in p.past
 live-count p sound =
     let plain = length_rows-after_past p.past sound.legal.base sound.legal.replies in
@@ -87,7 +87,7 @@ held_difference (p ∷ ps) all =
     let rest = held_difference ps (All-tail IsSound p ps all) in
     omega (arith, here, rest, sum_by-cons (λ (p : Part). length (live_rows p.store)) p ps, sum_by-cons (λ (p : Part). deleted_in p.past) p ps, sum_by-cons (λ (p : Part). inserted_in p.past) p ps)
 
--- the live rows are the rows placed minus those gone
+-- the live rows are the rows placed minus those removed
 pub held_are : (placed gone left : ℕ) → left + gone ≡ placed → pos left ≡ pos placed -ℤ pos gone
 held_are placed gone left e = sym (ap (λ (n : ℕ). pos n -ℤ pos gone) (sym e) ∙ +ℤ-neg_ℤ_cancel (pos left) (pos gone))
 
@@ -106,7 +106,7 @@ inserted-bound (p ∷ ps) all =
     let rest = inserted-bound ps (All-tail IsSound p ps all) in
     omega (arith, here, rest, sum_by-cons (λ (p : Part). accepted_in p.past) p ps, sum_by-cons (λ (p : Part). inserted_in p.past) p ps)
 
--- the shares of the workers fit into a word, and no more rows went than were placed
+-- the shares of the workers fit into a word, and no more rows were removed than were placed
 pub record AreSmall (workers : List BookState) : Type 0 where
   pub accepted_fits : sum_by (λ (w : BookState). accepted (entries_of w.receipts)) workers < 2 ^ 64
   pub inserted_fits : sum_by (λ (w : BookState). inserted (entries_of w.receipts)) workers < 2 ^ 64

@@ -11,7 +11,7 @@ use Rattle.crack_core.specs.declared.receipt.Receipt.{Receipt}
 use Rattle.crack_core.specs.Receipts.{entry_of, entries_of}
 use Rattle.crack_table.specs.declared.kept.Kept.{Kept}
 
--- what a cover is given about a partition: how many of its commands are checkpointed, how many of these placed a row and how many removed one, and
+-- what `cover` is given about a partition: how many of its commands are checkpointed, how many of these placed a row and how many removed one, and
 -- the entries since, in order
 pub record KeptState : Type 0 where
   pub folded : ℕ
@@ -19,7 +19,7 @@ pub record KeptState : Type 0 where
   pub gone : ℕ
   pub tail : List Entry
 
--- the same as a caller gives it
+-- the same as a caller passes it
 abbrev pub told : Kept → KeptState
 told kept = record { folded = kept.folded; placed = kept.inserted; gone = kept.deleted; tail = kept.tail.now }
 
@@ -93,14 +93,13 @@ pub record Covers (kept : List KeptState) (receipts : List Receipt) : Type 0 whe
   pub placed : All (λ r. has_place kept r ≡ true) receipts
   pub rising : AllPairs (λ earlier r. is_late earlier r ≡ false) receipts
 
--- the least place of a partition that isn't met, if the checkpointed ones, if they are below it, are counted
+-- the least place of a partition that isn't met; if checkpointed places are below it, only once these are counted
 abbrev pub IsLeastUnmet : List Receipt → ℕ → KeptState → ℕ → Type 0
 IsLeastUnmet receipts part kept position =
     (place : Place) × (place_at kept position ≡ Some place) × (¬ IsMetBy receipts part position place)
     × MetBelow receipts part kept position × (kept.folded ≤ position → IsCounted receipts part kept)
 
--- what first keeps a partition from being settled: its least place that isn't met; or the last checkpointed one, if all of these are met and
--- not counted
+-- the first gap of a partition: its least place that isn't met; or the last checkpointed one, if all of these are met and not counted
 abbrev pub IsGap : List Receipt → ℕ → KeptState → ℕ → Type 0
 IsGap receipts part kept position = IsLeastUnmet receipts part kept position
     ⊎ ((position + 1 ≡ kept.folded) × (¬ IsCounted receipts part kept) × MetBelow receipts part kept kept.folded)
@@ -113,7 +112,7 @@ IsFirstGap kept receipts part position = (k : KeptState) × (slice_get kept part
 abbrev pub first_stranger : List KeptState → List Receipt → Option Receipt
 first_stranger kept receipts = find (λ r. not (has_place kept r)) receipts
 
--- the first receipt that is late, if these went before
+-- the first receipt that is late, after these receipts
 abbrev pub first_late : List Receipt → List Receipt → Option Receipt
 first_late done [] = None
 first_late done (r ∷ rs) = if list_any (λ earlier. is_late earlier r) done then Some r else first_late (done ++ r ∷ []) rs

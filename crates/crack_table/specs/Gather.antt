@@ -15,7 +15,7 @@ use Rattle.crack_core.specs.Routes.{keys_of_part}
 use Rattle.crack_table.specs.Tables.{TableState}
 use Rattle.crack_table.specs.Cover.{KeptState, kept_of, IsFault}
 
--- one bit for each number below the count that no worker has
+-- one bit for each number below the count that no worker of the table has
 abbrev pub missing_below : {W : Type 0} → (W → ℕ) → List W → ℕ → ℕ
 missing_below number_of workers zero = 0
 missing_below number_of workers (suc number) = missing_below number_of workers number + (if list_any (λ worker. number_of worker == number) workers then 0 else 2 ^ number)
@@ -24,7 +24,7 @@ missing_below number_of workers (suc number) = missing_below number_of workers n
 abbrev pub receipts_of : List BookState → List Receipt
 receipts_of workers = flat_map (λ (w : BookState). w.receipts) workers
 
--- what is kept of the partitions' pasts
+-- the pasts that the partitions keep
 abbrev pub kept_by : List Part → List KeptState
 kept_by parts = map (λ (p : Part). kept_of p.past) parts
 
@@ -38,7 +38,7 @@ IsFirstOther splits limits parts part =
     (p : Part) × (slice_get parts part ≡ Some p) × (¬ IsTables splits limits part p)
     × ((q : ℕ) (earlier : Part) → q < part → slice_get parts q ≡ Some earlier → IsTables splits limits q earlier)
 
--- the totals of the partitions' pasts, and the number of live rows, which are the rows placed minus those gone
+-- the totals of the partitions' pasts, and the number of live rows: the rows placed minus those removed
 pub record AreTotals (parts : List Part) (answers placed gone left : ℕ) : Type 0 where
   pub accepted_is : answers ≡ sum_by (λ (p : Part). accepted_in p.past) parts
   pub inserted_is : placed ≡ sum_by (λ (p : Part). inserted_in p.past) parts
@@ -59,7 +59,7 @@ MayNotAgree splits limits workers e =
     (e ≡ OutOfMemory)
     ⊎ ((parts : List Part) × (part : ℕ) × (position : ℕ) × (length parts ≡ length splits + 1) × All IsSound parts × (e ≡ StrangeReceipt part position) × IsWrongAt splits limits parts workers part position)
 
--- why workers may not be gathered: 15 if some are missing, with their bits; if none is, they and the partitions don't agree
+-- why the workers of a table may not be gathered: 15 if some are missing, with their bits; if none is, they and the partitions don't agree
 abbrev pub MayNotGather : TableState → List BookState → Refusal → Type 0
 MayNotGather table workers e =
     ((missing_below (λ (w : BookState). w.worker) workers table.workers ≢ 0) × (e ≡ WorkersMissing (missing_below (λ (w : BookState). w.worker) workers table.workers)))

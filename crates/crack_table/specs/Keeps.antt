@@ -1,5 +1,5 @@
 -- What private clauses alone cite.
--- What a table keeps, and the outcome of asking a partition for a worker.
+-- The invariant of a table, and the outcome of asking a partition for a worker.
 use Rattle.std.specs.Prelude.{◌≡◌, ℕ, ◌+◌, ◌≤◌, List, [], ◌∷◌, ◌++◌, length, None, Result, Err, IfOk, IfErr, IfSome, OnOk, OnErr}
 use Rattle.crack_row.specs.Limits.{AreLimits}
 use Rattle.crack_row.specs.declared.Bound.{Bound}
@@ -18,15 +18,15 @@ use Rattle.crack_core.specs.Receipts.{BookState}
 use Rattle.crack_core.specs.Routes.{AreSplits}
 use Rattle.crack_table.specs.declared.TheConstants.{MOST_WORKERS}
 
--- what holds of each table: there is a lock for each partition
+-- the invariant of each table: there is a lock for each partition
 pub record IsTable (splits : List Bound) (limits : Limits) (workers locks : ℕ) : Type 0 where
   pub rising : AreSplits splits
   pub limited : AreLimits limits
   pub few : workers ≤ MOST_WORKERS
   pub all : locks ≡ length splits + 1
 
--- A partition with this number is asked for the worker of a book, with this outcome: the reply of its plain rows, one more entry in its past and a
--- receipt of that in the book, or a refusal for its cause, which leaves past and receipts.
+-- A partition with this number is asked for the worker of a book, with this outcome: the reply of its plain rows, one more entry in its past and its
+-- receipt in the book, or a refusal for its cause, which changes neither past nor receipts.
 pub record AsksFor (part : ℕ) (command : Command) (policy : Policy) (answered : Result Reply Refusal) (book book' : BookState) (old new : Part) : Type 0 where
   pub receipt : IfOk answered (λ reply. book'.receipts ≡ book.receipts
       ++ record { part = part; position = accepted_in old.past; worker = book.worker; command = command; reply = reply } ∷ [])

@@ -13,7 +13,7 @@ use Rattle.crack_table.specs.declared.marks.Naming.{Naming}
 use Rattle.crack_table.specs.declared.marks.Naming.TheVariants.{Unnamed, Met, Failed}
 use Rattle.crack_table.specs.Cover.{KeptState, Place, IsRight, place_at, place_in, names, folded_entries, is_late}
 
--- what is at a place of a list of lists, if there is such a place
+-- the element at a place of a list of lists, if there is such a place
 abbrev pub at : {X : Type 0} → List (List X) → ℕ → ℕ → Option X
 at lists part position = option_and_then (λ list. slice_get list position) (slice_get lists part)
 
@@ -26,13 +26,13 @@ mark_after _ _ = Failed
 abbrev pub IsSole : Place → List Receipt → Type 0
 IsSole place named = (r : Receipt) × (named ≡ r ∷ []) × IsRight place (entry_of r)
 
--- what a mark says of the receipts that name its place
+-- the meaning of a mark for the receipts that name its place
 abbrev pub MarkIs : Naming → Place → List Receipt → Type 0
 MarkIs Unnamed place named = named ≡ []
 MarkIs Met place named = IsSole place named
 MarkIs Failed place named = (named ≢ []) × (¬ IsSole place named)
 
--- there is a mark if there is a place, and what it says is true
+-- there is a mark if there is a place, and its meaning is true
 abbrev pub MarkIsAt : Option Place → Option Naming → List Receipt → Type 0
 MarkIsAt (Some place) (Some mark) named = MarkIs mark place named
 MarkIsAt None None named = Unit {0}
@@ -42,14 +42,14 @@ MarkIsAt _ _ named = ⊥
 abbrev pub Marked : List KeptState → List (List Naming) → List Receipt → Type 0
 Marked kept marks receipts = (part position : ℕ) → MarkIsAt (place_in kept part position) (at marks part position) (filter (names part position) receipts)
 
--- how many are still missing, after one more that counts or doesn't; nothing if there were more than were given
+-- how many are still missing, after one more that counts or doesn't; nothing if there were too many
 abbrev pub left_after : Bool → Option ℕ → Option ℕ
 left_after false left = left
 left_after true None = None
 left_after true (Some zero) = None
 left_after true (Some (suc left)) = Some left
 
--- this many are still missing of those given, or there were more
+-- this many are still missing of the given number, or there were too many
 abbrev pub LeftIs : Option ℕ → ℕ → ℕ → Type 0
 LeftIs (Some left) told came = left + came ≡ told
 LeftIs None told came = told < came

@@ -12,11 +12,11 @@ use Rattle.crack_core.specs.Jobs.{performed, AreExpectedOutcomes}
 use Rattle.crack_core.specs.declared.step.Step.{Step}
 use Rattle.crack_core.specs.declared.step.Job.TheVariants.{Perform}
 
--- who asked, and what
+-- a worker, and its command
 abbrev pub asked : Entry → ℕ × Command
 asked entry = (entry.worker, entry.command)
 
--- who asks the partition with this number, and what, in a list of steps
+-- the workers and commands at the partition with this number, in a list of steps
 abbrev pub asked_of : ℕ → List Step → List (ℕ × Command)
 asked_of part [] = []
 asked_of part (step ∷ steps) = if step.part == part then (step.worker, step.command) ∷ asked_of part steps else asked_of part steps

@@ -1,4 +1,4 @@
--- What contracts see of a table and of its workers, and the answers to these.
+-- What contracts see of a table and of its workers, and their outcomes.
 use Rattle.std.specs.Prelude.{ℕ, ◌≡◌, ◌+◌, ◌<◌, ◌≤◌, ◌⊎◌, List, [], ◌∷◌, ◌++◌, length, Some, Result, Err, IfOk, IfErr, OnErr, OnOk, slice_get}
 use Rattle.crack_row.specs.Layouts.{IsLayout}
 use Rattle.crack_row.specs.Ranges.{Range}
@@ -26,7 +26,7 @@ pub record TableState : Type 0 where
 abbrev pub AreNew : List BookState → Type 0
 AreNew books = (number : ℕ) (book : BookState) → slice_get books number ≡ Some book → (book.worker ≡ number) × (book.receipts ≡ [])
 
--- a refusal as a worker is given it: a full history with this limit, since nothing outside of the lock knows the partition's own
+-- a refusal as a worker receives it: a full history with this limit, since nothing outside the lock knows the partition's own
 abbrev pub with_limit : ℕ → Refusal → Refusal
 with_limit limit (HistoryFull entries) = HistoryFull limit
 with_limit limit e = e
@@ -45,8 +45,8 @@ pub record AnswersAt {X : Type 0} (table : TableState) (part : ℕ) (Causes : Re
   pub nowhere : length table.splits < part → result ≡ Err NoSuchPartition
   pub causes : part ≤ length table.splits → IfErr result Causes
 
--- A worker asks one partition: it is answered, and its book has a receipt of that, or it is refused for a cause, and its book has the former ones.
--- A gate is asked only if there is room for the receipt.
+-- A worker asks one partition: it is answered, and its book gains the receipt, or it is refused for a cause, and its book has the same receipts. A
+-- gate is asked only if there is room for the receipt.
 pub record AsksTable (table : TableState) (may_refuse : ℕ → Type 0) (part : ℕ) (command : Command) (result : Result Reply Refusal) (old new : BookState) : Type 0 where
   pub receipt : IfOk result (λ reply. (position : ℕ) × (new.receipts ≡ old.receipts ++ record { part = part; position = position; worker = old.worker; command = command; reply = reply } ∷ []))
   pub worker : new.worker ≡ old.worker
@@ -56,7 +56,8 @@ pub record AsksTable (table : TableState) (may_refuse : ℕ → Type 0) (part : 
   pub room : result ≡ Err GateGaveUp → 0 < new.room
   pub nowhere : length table.splits < part → new ≡ old
 
--- A worker looks at one partition: it is given a layout with ends of its own, or refused if there is no such partition, or for lack of memory.
+-- A worker asks for the layout of one partition: it receives a layout between two ends, or is refused if there is no such partition, or for lack of
+-- memory.
 pub record LooksAt (table : TableState) (part : ℕ) (result : Result Layout Refusal) : Type 0 where
   pub equations : IfOk result (λ layout. (ends : Range) × IsLayout ends layout)
   pub at : AnswersAt table part (λ e. e ≡ OutOfMemory) result

@@ -1,4 +1,4 @@
-//! A command after its gate, under a held lock.
+//! A command after its gate, while the lock is held.
 ghost use Rattle.std.specs.Prelude.{◌≡◌, ℕ, ◌+◌, ◌<◌, IfOk, IfErr, OnErr, OnOk};
 ghost use Rattle.crack_table.specs.Keeps.{AsksFor};
 ghost use Rattle.crack_table.specs.declared.TheConstants.{GATE_TURNS};

@@ -31,11 +31,11 @@ pub(crate) struct Notes {
 /// receipt, which has the entry that is there, unless that was checkpointed; as many receipts of checkpointed places
 /// placed a row, and removed one, as the partition says; no receipt names another place; and one worker's receipts in
 /// one partition name rising places in the order of the list. Refused with 16 at the least place (partition first) that
-/// fails. In one partition the checkpointed places go first, then their totals, which fail at the last of these places,
-/// and then the entries that are kept. If all of them are met it is the place that the first stranger in the list
-/// names; if there is no stranger, that of the first receipt whose place isn't above that of an earlier one of its
-/// worker in that partition. Refused with 8 if it finds no memory; it takes a byte for each place. O(places
-/// + receipts), up to a logarithm of the workers and partitions that the receipts name. There are at most as many
+/// fails. In one partition the checkpointed places come first, then their totals, which fail at the last of these
+/// places, and then the entries that are kept. If all of them are met it is the place that the first stranger in the
+/// list names; if there is no stranger, that of the first receipt whose place isn't above that of an earlier one of its
+/// worker in that partition. Refused with 8 if it finds no memory; it takes a byte for each place. O(places +
+/// receipts), up to a logarithm of the workers and partitions that the receipts name. There are at most as many
 /// partitions as 32 bits can number, since a refusal names one of them by its number.
 pub fn cover(alloc: Global, kept: &[Kept<'_>], receipts: &[&[Receipt]]) -> Result<(), Refusal>
     requires few { length kept.now ≤ 2 ^ 32 }

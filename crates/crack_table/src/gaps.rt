@@ -1,4 +1,4 @@
-//! What keeps a partition from being covered.
+//! Gaps, which keep a partition from being covered.
 ghost use Rattle.std.specs.Prelude.{◌≡◌, ℕ, List, IfSome, IfNone};
 ghost use Rattle.crack_core.specs.declared.receipt.Receipt.{Receipt};
 ghost use Rattle.crack_table.specs.Cover.{told, IsKept, IsSettled, IsGap};
@@ -8,7 +8,7 @@ use crate::kept::Kept;
 use crate::kinds::KindsLeft;
 use crate::marks::MarkRow;
 
-/// The first gap of a partition: its least place that isn't met, except that the totals of the checkpointed places go
+/// The first gap of a partition: its least place that isn't met, except that the totals of the checkpointed places come
 /// before the entries that are kept.
 pub(crate) fn gap_in(kept: &Kept<'_>, row: &MarkRow, left: &KindsLeft) -> Option<u64>
     requires kept { IsKept (told kept.now) }

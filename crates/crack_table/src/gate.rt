@@ -1,4 +1,4 @@
-//! What a command waits for under a lock, and what is notified of checkpoints that were due.
+//! Gates, for which a command waits under a lock, and which are notified of checkpoints that were due.
 ghost use Rattle.std.specs.Prelude.{◌≡◌, ◌<◌, ℕ, IfErr};
 ghost use Rattle.std.specs.Bool.{OnFalse};
 ghost use Rattle.crack_table.specs.declared.TheConstants.{GATE_TURNS};
@@ -6,8 +6,7 @@ ghost use Rattle.crack_table.specs.declared.TheConstants.{GATE_TURNS};
 use crate::GATE_TURNS;
 use crack_row::Refusal;
 
-/// Is asked, while a partition's lock is held, whether a command may go on. A server or a test attaches here what it
-/// waits for.
+/// A gate is asked, while a partition's lock is held, whether a command may go on. A server or a test can wait here.
 pub trait Gate {
     /// When it may refuse: at this partition, at this turn.
     ghost may_refuse: { Self → ℕ → ℕ → Type 0 };
@@ -25,7 +24,7 @@ pub trait Gate {
     }
 }
 
-/// A gate that consents at once.
+/// A gate that consents immediately.
 #[derive(Clone, Copy, Drop, Debug)]
 pub struct OpenGate;
 

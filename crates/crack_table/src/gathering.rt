@@ -16,7 +16,7 @@ use crack_row::{Bound, Limits, Refusal};
 use std::alloc::Global;
 use std::sync::Mutex;
 
-/// What all workers did, and the partitions with their histories.
+/// The totals of all workers, and the partitions with their histories.
 #[derive(Drop)]
 pub struct Closed {
     /// How many commands were answered.
@@ -39,12 +39,11 @@ pub struct GatherRefused {
     pub workers: Vec<Worker>,
 }
 
-/// Ends a table whose workers are all handed back: their receipts are found to be the entries of the histories, one by
-/// one, and to name each checkpointed place once, with as many of each kind as the partition says. Refused with 15,
-/// one bit for each missing number, if a worker of the table is missing; then with 16 at the first partition that
-/// isn't the table's; then as `cover` is; and after 15 with 8 wherever it finds no memory. The table and the workers
-/// are then handed back. O(entries + checkpointed places + receipts), up to a logarithm of the workers and
-/// partitions.
+/// Ends a table whose workers are all handed back: checks that their receipts are the entries of the histories, one by
+/// one, and name each checkpointed place once, with as many of each kind as the partition says. Refused with 15, one
+/// bit for each missing number, if a worker of the table is missing; then with 16 at the first partition that isn't the
+/// table's; then as `cover` is; after 15 it may be refused with 8 at any point. The table and the workers are then
+/// handed back. O(entries + checkpointed places + receipts), up to a logarithm of the workers and partitions.
 pub fn gather(alloc: Global, table: Table, workers: Vec<Worker>) -> Result<Closed, GatherRefused>
     ensures all { OnOk result (missing_below (λ (w : BookState). w.worker) workers.items table.workers ≡ 0) }
     ensures parts { IfOk result (λ c. AreParts table.splits table.limits c.parts.items) }
@@ -85,7 +84,7 @@ pub fn gather(alloc: Global, table: Table, workers: Vec<Worker>) -> Result<Close
     }
 }
 
-/// Takes the partitions out of their locks, and finds whether they and the workers agree; otherwise what
+/// Takes the partitions out of their locks, and checks whether they and the workers agree; otherwise the list that
 /// `settle` returns goes into the locks again.
 fn close(
     alloc: Global,
@@ -114,7 +113,7 @@ fn close(
     }
 }
 
-/// Finds whether the partitions that were taken out of the locks, and the workers, agree. The list that
+/// Checks whether the partitions that were taken out of the locks, and the workers, agree. The list that
 /// goes into the locks again is the one that was taken out.
 fn settle(
     alloc: Global,

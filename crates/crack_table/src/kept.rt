@@ -1,4 +1,4 @@
-//! What `cover` is given about a partition.
+//! What a partition keeps of its past, for `cover`.
 ghost use Rattle.std.specs.Prelude.{◌≡◌, ◌+◌, length, None, Some, IfOk, IfErr, IsTrue, ◌↔◌, MatchOption};
 ghost use Rattle.std.specs.Bool.{Decides};
 ghost use Rattle.crack_core.specs.Receipts.{entry_of};

@@ -29,7 +29,7 @@ impl KindsLeft {
         }
     }
 
-    /// Whether there were all, and no more.
+    /// Whether all were noted, and no more.
     pub(crate) fn are_none(&self) -> bool
         ensures { IsTrue result ↔ ((self.now.placed ≡ Some 0) × (self.now.gone ≡ Some 0)) }
     {
@@ -37,7 +37,7 @@ impl KindsLeft {
     }
 }
 
-/// What is left after one more.
+/// The number missing after one more.
 fn one_less(left: Option<u64>) -> Option<u64>
     ensures { result ≡ left_after true left }
 {

@@ -1,4 +1,4 @@
-//! Partitions into locks, and out of them.
+//! Putting partitions into locks, and taking them out.
 ghost use Rattle.std.specs.Prelude.{◌≡◌, ◌≤◌, length, vec_len, vec_capacity};
 
 use crack_part::Partition;

@@ -7,7 +7,7 @@ ghost use Rattle.crack_table.specs.Marks.{IsOpenIn, mark_after};
 use std::alloc::{AllocError, Global};
 use std::marker::Model;
 
-/// What the receipts so far say about a place.
+/// The state of a place by the receipts noted so far.
 #[derive(Clone, Copy, PartialEq, Eq, Debug, Drop)]
 pub(crate) enum Naming {
     /// None names it.

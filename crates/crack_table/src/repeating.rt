@@ -1,4 +1,4 @@
-//! One thread repeats what gathered workers were answered.
+//! One thread repeats the answers to gathered workers.
 ghost use Rattle.std.specs.Prelude.{List};
 ghost use Rattle.crack_row.specs.declared.Bound.{Bound};
 ghost use Rattle.crack_row.specs.declared.limit.Limits.{Limits};

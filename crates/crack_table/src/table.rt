@@ -16,7 +16,7 @@ use std::marker::Model;
 use std::sync::Mutex;
 
 /// Partitions, each with a lock of its own. Many threads may share it, and its workers ask it.
-/// Contracts see what it was opened with; nothing is known of what is in a lock except its partition's own invariant.
+/// Contracts see what it was opened with; of the partition in a lock only its own invariant is known.
 #[derive(Drop)]
 pub struct Table {
     pub(crate) locks: Vec<Mutex<Partition>>,

@@ -43,11 +43,11 @@ impl Worker {
         &self.book
     }
 
-    /// Asks partition `part` of a table, under its lock, which it may wait for. Refused, in this order: with 5 if
-    /// there is no such partition; with 8 if there is no memory for its receipt; under the lock with 7 if the
-    /// gate refuses at each turn; then as `Partition::apply` is, with 4, 6, 10, 9 and 8. After each refusal the book is
-    /// as it was. The gate takes note of a checkpoint that was due. In addition to what `Partition::apply` takes it is
-    /// O(1), amortised, and the gate's turns.
+    /// Asks partition `part` of a table, under its lock, which it may wait for. Refused, in this order: with 5 if there
+    /// is no such partition; with 8 if there is no memory for its receipt; under the lock with 7 if the gate refuses at
+    /// each turn; then as `Partition::apply` is, with 4, 6, 10, 9 and 8. After each refusal the book is as it was. The
+    /// gate is notified of a checkpoint that was due. Costs, beyond `Partition::apply`, amortised O(1) and the gate's
+    /// turns.
     pub fn ask<R: Wait, G: Gate>(
         &mut self,
         rt: &R,
@@ -115,8 +115,8 @@ pub fn note_folded<G: Gate>(gate: &G, part: u32, folded: u64) {
     }
 }
 
-/// The outcome of asking, with the table's limit if it reports a full history: a lock says nothing of its partition's
-/// own.
+/// The outcome of asking, with the table's limit if it reports a full history: a lock reveals nothing of its
+/// partition's own.
 fn with_table_limit(answered: Result<Reply, Refusal>, limit: u64) -> Result<Reply, Refusal>
     ensures { MatchResult answered (λ reply. result ≡ Ok reply) (λ e. result ≡ Err (with_limit limit e)) }
 {
@@ -126,7 +126,7 @@ fn with_table_limit(answered: Result<Reply, Refusal>, limit: u64) -> Result<Repl
     }
 }
 
-/// A refusal with the table's limit if it reports a full history: a lock says nothing of its partition's own.
+/// A refusal with the table's limit if it reports a full history: a lock reveals nothing of its partition's own.
 pub fn with_limit(refusal: Refusal, limit: u64) -> Refusal
     ensures { result ≡ with_limit limit refusal }
 {

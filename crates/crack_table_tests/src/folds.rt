@@ -1,4 +1,4 @@
-//! What one worker is answered under small limits, with checkpoints during its commands.
+//! The answers to one worker under small limits, with checkpoints between its commands.
 use crate::values::{ask, ask_by, insert, splits};
 use crack_commands::{write_folded, write_layout, write_refusal, write_reply};
 use crack_gates::{Due, totals};
@@ -213,7 +213,7 @@ fn a_checkpoint_folds_for_all_workers(rt: HostRuntime) -> Result<(), Fail> {
     Ok(())
 }
 
-/// Has a worker insert this many rows into partition 1, behind a gate; whether all were placed.
+/// Has a worker insert this many rows into partition 1, behind a gate; returns whether all were placed.
 fn fill<R: Wait>(rt: &R, worker: &mut Worker, table: &Table, gate: &Due, count: u32) -> bool {
     let mut fine = true;
     'rows: for _ in 0..count {

@@ -16,7 +16,7 @@ use std::sync::Wait;
 /// A command and the policy by which it is asked.
 type Asked = (Command, Policy);
 
-/// Inserts, changes and reads, with rows that pend in between.
+/// Inserts, changes and reads, with pending rows in between.
 fn commands() -> [Asked; 12] {
     let all = KeyRange::all();
     let serial = Serial(1);
@@ -41,7 +41,7 @@ fn commands() -> [Asked; 12] {
     ]
 }
 
-/// What a plain table replies, which finds memory at the second time.
+/// The reply of a plain table, which finds memory at the second time.
 fn plain_reply(rt: &impl Abort, plain: &mut PlainTable, command: &Command) -> Reply {
     let reply = match plain.apply(command) {
         Ok(reply) => Ok(reply),
@@ -56,7 +56,7 @@ fn shares(book: &Book) -> [u64; 4] {
     [receipts, book.accepted(), book.inserted(), book.deleted()]
 }
 
-/// Asks a worker, and a plain table if the worker finds memory; says whether it didn't.
+/// Asks a worker, and a plain table if the worker finds memory; returns whether it didn't.
 fn ask_beside<R: Abort + Wait>(
     rt: &R,
     worker: &mut Worker,
@@ -80,7 +80,7 @@ fn ask_beside<R: Abort + Wait>(
     }
 }
 
-/// Asks for all, of which at most one is refused; says how many were answered, and how many rows are left.
+/// Asks for all commands, of which at most one is refused; returns how many were answered, and how many rows are left.
 fn ask_all<R: Abort + Wait>(rt: &R, alloc: Global, worker: &mut Worker, table: &Table) -> [u64; 2] {
     let mut plain = PlainTable::new(alloc);
     let mut refused = 0u64;

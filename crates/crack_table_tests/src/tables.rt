@@ -103,7 +103,7 @@ fn a_worker_is_refused_as_its_partition_is(rt: HostRuntime) -> Result<(), Fail> 
     Ok(())
 }
 
-/// What opening a table is refused with.
+/// The refusal of an opening.
 fn refused(alloc: Global, splits: &[Bound], limit: u64, workers: u64) -> Option<Refusal> {
     match Table::open(alloc, splits, limit, workers) {
         Ok(opened) => {
@@ -169,7 +169,7 @@ fn a_stranger_of_the_same_number_is_found(rt: HostRuntime) -> Result<(), Fail> {
     Ok(())
 }
 
-/// What a table and a stranger in the place of its one worker are refused with, and the table again.
+/// The refusal of a table with a stranger in the place of its one worker, and the table again.
 fn refused_with_a_stranger(alloc: Global, table: Table) -> Result<(Refusal, Table), Fail> {
     let (other, strangers) = Table::open(alloc, &[], 10, 1)?;
     drop(other);
@@ -190,7 +190,7 @@ fn refused_with_a_stranger(alloc: Global, table: Table) -> Result<(Refusal, Tabl
     }
 }
 
-/// The locks contain again, in order, what was taken out: the receipts of the table's own worker agree.
+/// The partitions that were taken out are in the locks again, in order: the receipts of the table's own worker agree.
 #[test]
 fn a_table_that_a_stranger_was_refused_is_gathered_by_its_own_worker(
     rt: HostRuntime,
@@ -211,7 +211,7 @@ fn a_table_that_a_stranger_was_refused_is_gathered_by_its_own_worker(
     Ok(())
 }
 
-/// A gathering that is refused makes no checkpoint: each partition has its entries yet, which a checkpoint then counts.
+/// A refused gathering makes no checkpoint: each partition still has its entries, which a checkpoint then counts.
 #[test]
 fn a_refused_gathering_folds_nothing(rt: HostRuntime) -> Result<(), Fail> {
     let alloc: Global = rt.alloc();

@@ -76,8 +76,8 @@ fn one_partition_lets_one_inside(rt: HostRuntime) -> Result<(), Fail> {
     Ok(())
 }
 
-/// Inserts 1000 rows into partition 0 behind a gate that notes the worker, and finds for each row whether the note at
-/// its place in the history, which is its serial, is the worker's.
+/// Inserts 1000 rows into partition 0 behind a gate that notes the worker, and checks for each row that the note at its
+/// place in the history, which is its serial, is the worker's.
 fn enter_noted<R: Wait>(
     rt: &R,
     mut worker: Worker,
@@ -154,8 +154,7 @@ fn four_workers_fill_one_history(rt: HostRuntime) -> Result<(), Fail> {
     Ok(())
 }
 
-/// Inserts the worker's key with this number, into the partitions in turn; of each fourth row it is the last that is
-/// deleted again.
+/// Inserts the worker's key with this number, into the partitions in turn; each fourth row is deleted again.
 fn insert_one<R: Wait>(rt: &R, worker: &mut Worker, table: &Table, own: u16, number: u16) -> bool {
     let part = u32::from(number % 2);
     let key = part * 1000000 + u32::from(own) + u32::from(number);
@@ -205,7 +204,7 @@ fn insert_all<R: Wait>(rt: &R, worker: &mut Worker, table: &Table, own: u16) -> 
     fine
 }
 
-/// 1000 inserts and 250 deletes of one worker, and what it sees then.
+/// 1000 inserts and 250 deletes of one worker, and whether it sees its own rows then.
 fn work<R: Wait>(rt: &R, mut worker: Worker, table: &Table) -> (Worker, bool) {
     let own = (worker.book().worker() % 64) as u16 * 1000;
     let placed = insert_all(rt, &mut worker, table, own);
@@ -248,7 +247,7 @@ fn four_workers_come_to_one_account(rt: HostRuntime) -> Result<(), Fail> {
     Ok(())
 }
 
-/// The same totals, where partitions are checkpointed during the work.
+/// The same totals if partitions are checkpointed during the work.
 #[test]
 fn four_workers_come_to_one_account_over_folded_histories(rt: HostRuntime) -> Result<(), Fail> {
     let alloc: Global = rt.alloc();

@@ -1,4 +1,4 @@
-//! What the tests ask.
+//! The commands of the tests.
 use crack_row::{
     Bound, BoundNumber, Command, Key, KeyNumber, KeyRange, Payload, Policy, Refusal, Reply,
 };

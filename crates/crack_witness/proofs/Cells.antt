@@ -1,4 +1,4 @@
--- Cells that are at home, and the chain of each owner.
+-- Cells that are at home, and the chain of cells of each owner.
 use Rattle.std.proofs.Common.{◌≡◌, ◌⊎◌, ℕ, zero, suc, ◌+◌, ◌≤◌, ◌<◌, ◌==◌, Bool, true, false, List, [], ◌∷◌, ◌++◌, length, refl, ap, sym, subst, ◌∙◌, arith, inl, inr, slice_set}
 use Rattle.std.proofs.lemmas.List.{append-nil}
 use mathlib.Core.List.{IsPrefix}
@@ -29,7 +29,7 @@ set_home [] k x h = absurd (omega (arith, h))
 set_home (c ∷ cs) zero x h = (omega arith, refl)
 set_home (c ∷ cs) (suc k) x h = let r = set_home cs k x (omega (arith, h)) in (omega (arith, r.0), r.1)
 
--- the chain stays where what was at home is
+-- the chain stays if the cells at home stay at home
 pub chain_stays : (cs ds : List Cell) → ((k : ℕ) → Home cs k → Home ds k) → (log : List Event) → Chain cs log → Chain ds log
 chain_stays cs ds f [] c = tt
 chain_stays cs ds f (e ∷ es) c = (every_weaker (λ (d : Event). d.owner ≡ e.owner → Home cs e.next) (λ (d : Event). d.owner ≡ e.owner → Home ds e.next) (λ d h o. f e.next (h o)) es c.0, chain_stays cs ds f es c.1)

@@ -41,7 +41,7 @@ prefix_same (x ∷ xs) (y ∷ ys) p le =
 pub calls_grow : (w : ℕ) (a h : List Entry) → IsPrefix a h → IsPrefix (calls_by w a) (calls_by w h)
 calls_grow w a h p = (calls_by w p.0, sym (filter-append (λ (e : Entry). e.worker == w) a p.0) ∙ ap (calls_by w) p.1)
 
--- if a history has as many of a worker's calls as what it had seen, it has one more afterwards, and no others
+-- if a history has as many entries of a worker as the part that was seen, it has one more afterwards, and no others
 pub mine_exact : (w : ℕ) (a b h new : List Entry) (e : Entry) → IsPrefix a b → IsPrefix b h → length (calls_by w a) ≡ length (calls_by w h) → new ≡ h ++ e ∷ [] → e.worker ≡ w → calls_by w new ≡ calls_by w a ++ e ∷ []
 mine_exact w a b h new e p q same is own =
     let all : calls_by w a ≡ calls_by w h = prefix_same (calls_by w a) (calls_by w h) (calls_grow w a h (prefix_trans a b h p q)) same in
@@ -78,7 +78,7 @@ asker_after own n seen fronts counts part count new w less grows more bound = re
   small = All-set (λ (k : ℕ). k ≤ 2 ^ 41) counts part count bound w.small;
 }
 
--- if a history has as many of a worker's calls as it counted, they are those that it made
+-- if a history has as many entries of a worker as the worker counted, they are those of its calls
 pub agree : (own : ℕ → ℕ) (n : ℕ) (seen : List Event) (fronts : List (List Event)) (counts : List ℕ) (part mine theirs : ℕ) (all log : List Event)
     → IsAsker own n seen fronts counts → part < length counts → mine ≡ slice_index_or counts part 0 → theirs ≡ length (calls_by n (history_of (own part) log)) → mine ≡ theirs
     → IsPrefix seen all → IsPrefix (history_of (own part) all) (history_of (own part) log)
@@ -89,7 +89,7 @@ agree own n seen fronts counts part mine theirs all log w less is are same grows
     let p : IsPrefix (history_of (own part) f) (history_of (own part) log) = prefix_trans (history_of (own part) f) (history_of (own part) all) (history_of (own part) log) (history_grows (own part) f all (prefix_trans f seen all (w.begins part l) grows)) begins in
     sym (prefix_same (calls_by n (history_of (own part) f)) (calls_by n (history_of (own part) log)) (calls_grow n (history_of (own part) f) (history_of (own part) log) p) (omega (arith, w.counted part l, is, are, same)))
 
--- an entry that was written where a history had as many of the worker's as it was given replies
+-- an entry that was written when a history had as many of the worker's entries as it had received replies
 pub given_exact : (own : ℕ → ℕ) (n part number : ℕ) (f seen log new : List Event) (e : Entry) (count : ℕ) → number ≡ part → IsPrefix f seen → IsPrefix (history_of (own number) seen) (history_of (own number) log)
     → history_of (own number) new ≡ history_of (own number) log ++ e ∷ [] → e.worker ≡ n → count ≡ length (calls_at own part n f) → length (calls_by n (history_of (own number) log)) ≡ count
     → calls_at own part n new ≡ calls_at own part n f ++ e ∷ []
@@ -103,6 +103,6 @@ given_exact own n part number f seen log new e count same begins before written 
 pub sum_more : (counts : List ℕ) (part count : ℕ) → part < length counts → count ≡ slice_index_or counts part 0 + 1 → sum_by (λ (n : ℕ). n) (slice_set counts part count) ≡ sum_by (λ (n : ℕ). n) counts + 1
 sum_more counts part count less is = let set = sum_by-set (λ (n : ℕ). n) counts part count 0 less in omega (arith, set, is)
 
--- the replies that a worker was given fit into a word
+-- the number of replies to a worker fits into a word
 pub sum_fits : (counts : List ℕ) → length counts ≤ 64 → All (λ (k : ℕ). k ≤ 2 ^ 41) counts → sum_by (λ (n : ℕ). n) counts < 2 ^ 64
 sum_fits counts few small = let most = sum_by-le (λ (n : ℕ). n) (2 ^ 41) counts small in omega (arith, most, few)

@@ -1,4 +1,4 @@
--- What was seen of a book, a partition with its scribe, and a worker may go to another thread: level by level.
+-- The events seen of a book, a partition with its scribe, and a worker may go to another thread: level by level.
 use base.Fml.{ftrue}
 use denote.RattleType.{RattleType}
 use denote.Param.Send.{IsSend, struct_send, sendable}

@@ -1,4 +1,4 @@
--- What a partition keeps, beside its whole history.
+-- The past that a partition keeps, beside its whole history.
 use Rattle.std.specs.Prelude.{if◌then◌else◌, IfSome}
 use Rattle.std.proofs.Common.{◌≡◌, ◌⊎◌, inl, inr, Option, None, Some, ℕ, Bool, true, false, ◌+◌, ◌≤◌, ◌<◌, ◌==◌, List, [], ◌∷◌, ◌++◌, refl, ap, sym, ◌∙◌, subst, arith, length, length-append, append_assoc, Result, Ok, Err, OnOk, OnErr}
 use Rattle.std.proofs.lemmas.List.{append-nil}
@@ -60,7 +60,7 @@ IsPastOf-folded h past k = record {
   all = sym (append-nil h);
 }
 
--- what a partition has once the checkpoint is made that is due
+-- the partition once the checkpoint that is due is made
 pub IsPastOf-upkept : (h : List Entry) (limits : Limits) (past : Past) → IsPastOf h past → IsPastOf h (upkept limits past)
 IsPastOf-upkept h limits past k = by_test (is_due limits (length past.tail))
   where

@@ -38,7 +38,7 @@ among_right P (x ∷ xs) ys a = inr (among_right P xs ys a)
 pub among_prefix : {X : Type 0} (P : X → Type 0) (xs ys : List X) → IsPrefix xs ys → Among P xs → Among P ys
 among_prefix P xs ys p a = subst (Among P) p.1 (among_left P xs p.0 a)
 
--- what is among events of which each is so, is so
+-- a property of each event holds of any of them
 pub among_every : {X : Type 0} (P Q : X → Type 0) (xs : List X) → Every P xs → Among Q xs → (x : X) × Q x × P x
 among_every P Q [] a b = absurd b
 among_every P Q (x ∷ xs) a (inl b) = (x, b, a.0)
@@ -64,12 +64,12 @@ history_own xs e = let same : (e.owner == e.owner) ≡ true = grind (arith, nat_
 pub history_other : (m : ℕ) (xs : List Event) (e : Event) → (e.owner == m) ≡ false → history_of m (xs ++ e ∷ []) ≡ history_of m xs
 history_other m xs e other = rw (history_append m xs (e ∷ []), other) (append-nil (history_of m xs))
 
--- an event with no entry leaves all histories
+-- an event with no entry changes no history
 pub history_bare : (m : ℕ) (xs : List Event) (e : Event) (b : Bool) → (e.owner == m) ≡ b → e.entry ≡ None → history_of m (xs ++ e ∷ []) ≡ history_of m xs
 history_bare m xs e false is bare = history_other m xs e is
 history_bare m xs e true is bare = rw (history_append m xs (e ∷ []), is, bare) (append-nil (history_of m xs))
 
--- what comes after without the owner leaves its history
+-- later events without the owner don't change its history
 pub history_rest : (m : ℕ) (xs ys : List Event) → NoneOf m ys → history_of m (xs ++ ys) ≡ history_of m xs
 history_rest m xs ys none = rw (history_append m xs ys, history_none m ys none) (append-nil (history_of m xs))
 

@@ -35,7 +35,7 @@ owner_last b own xs x all = subst (IsOwnerAt b own (length xs)) (get_or_push xs 
 pub names_apart : (b : Book) (own : ℕ → ℕ) (opened : OpenedState) → AreNames b own opened → AreDistinct opened.ids → AreApart own (length opened.ids)
 names_apart b own opened names distinct one other less within = rw (names.owner_is one, names.owner_is other) (distinct one other 0 less within)
 
--- the partitions that are left, and those that were witnessed, with the numbers after them
+-- the remaining partitions, and those that were witnessed, with the numbers after them
 abbrev pub AreDone : (ℕ → ℕ) → ℕ → List Part → List Part → List WitnessedState → Type 0
 AreDone own workers all left done = (rest : List Part) × (left ++ rest ≡ all) × AreNewFrom own workers (length left) rest done
 

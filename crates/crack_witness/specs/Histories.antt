@@ -1,4 +1,4 @@
--- The history of each owner in the events of a book, and what a partition keeps of it.
+-- The history of each owner in the events of a book, and the past that a partition keeps of it.
 use Rattle.std.specs.Prelude.{◌≡◌, ◌≢◌, ℕ, ◌==◌, List, [], ◌∷◌, ◌++◌, option_to_list, filter, if◌then◌else◌}
 use Rattle.crack_row.specs.declared.command.Entry.{Entry}
 use Rattle.crack_plain.specs.Plain.{AreReplies, no_rows}
@@ -10,7 +10,7 @@ abbrev pub history_of : ℕ → List Event → List Entry
 history_of owner [] = []
 history_of owner (e ∷ es) = (if e.owner == owner then option_to_list e.entry else []) ++ history_of owner es
 
--- each owner's entries are a history: each has the reply of the plain rows that the entries before it leave
+-- each owner's entries are a history: each has the reply of the plain rows after the entries before it
 abbrev pub AreHistories : List Event → Type 0
 AreHistories log = (owner : ℕ) → AreReplies no_rows (history_of owner log)
 
@@ -22,11 +22,11 @@ AreEmpty log = (owner : ℕ) → history_of owner log ≡ []
 abbrev pub calls_by : ℕ → List Entry → List Entry
 calls_by worker es = filter (λ (e : Entry). e.worker == worker) es
 
--- the entries of one worker in the history of a partition, as far as these events have it
+-- the entries of one worker in the history of a partition, as far as it is in these events
 abbrev pub calls_at : (ℕ → ℕ) → ℕ → ℕ → List Event → List Entry
 calls_at owner part worker log = calls_by worker (history_of (owner part) log)
 
--- what a partition keeps is its whole history: its base is what the first entries left, and its history is the rest
+-- the past that a partition keeps is its whole history: its base is the effect of the first entries, and its history is the rest
 pub record IsPastOf (history : List Entry) (past : Past) : Type 0 where
   pub folded : List Entry
   pub base : past.base ≡ base_after (record { base = no_base; tail = folded })

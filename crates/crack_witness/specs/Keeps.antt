@@ -1,5 +1,5 @@
 -- What private clauses alone cite.
--- What scribes, owners and workers keep.
+-- The invariants of scribes, owners and workers.
 use Rattle.std.specs.Prelude.{ℕ, slice_index_or, ◌≡◌, ◌⊎◌, ◌<◌, ◌≤◌, ◌^◌, All, List, [], ◌∷◌, ◌++◌, length, true}
 use mathlib.Core.List.{IsPrefix}
 use Rattle.logbook.specs.Pages.{Book, Named, Right, may_write}
@@ -25,7 +25,7 @@ HasWord k log = Among (λ (e : Event). e.word ≡ k) log
 abbrev pub named : Book → ℕ → Named
 named b k = record { tracked = true; key = k; book = b }
 
--- what a scribe of this owner knows: the last event seen is the owner's, and names the pen's cell
+-- the invariant of a scribe of this owner: the last event seen is the owner's, and names the pen's cell
 pub record IsScribe (b : Book) (owner : ℕ) (word : Named) (pen : Book) (key : ℕ) (right : Right) (seen : Book) (log : List Event) : Type 0 where
   pub word_is : word ≡ named b word.key
   pub pen_is : pen ≡ b
@@ -57,8 +57,8 @@ AreOwners b owner os = (k : ℕ) (d : OwnerState) → k < length os → IsOwnerA
 abbrev pub AreCounts : List ℕ → List Entry → Type 0
 AreCounts counts es = (worker : ℕ) → worker < length counts → slice_index_or counts worker 0 ≡ length (calls_by worker es)
 
--- a worker counts its entries at each partition, in what it had seen after its last reply there; no table has more than 64 partitions, and
--- none accepts more than 2 ^ 40 commands
+-- a worker counts its entries at each partition, among the events that it had seen after its last reply there; no table has more than 64 partitions,
+-- and none accepts more than 2 ^ 40 commands
 pub record IsAsker (owner : ℕ → ℕ) (worker : ℕ) (seen : List Event) (fronts : List (List Event)) (counts : List ℕ) : Type 0 where
   pub all : length counts ≡ length fronts
   pub few : length counts ≤ 64

@@ -30,7 +30,7 @@ pub record IsKept (cells : List Cell) (log : List Event) : Type 0 where
   pub chain : Chain cells log
   pub legal : AreHistories log
 
--- a word is in its place, and belongs to nobody
+-- a word is in its place, and has no owner
 abbrev pub place : ℕ → Event
 place k = record { owner = 0; next = 0; word = k; entry = None }
 

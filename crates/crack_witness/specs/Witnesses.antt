@@ -20,7 +20,7 @@ pub record OpenedState : Type 0 where
 abbrev pub AreDistinct : List ℕ → Type 0
 AreDistinct ids = AllPairs (λ (one other : ℕ). one ≢ other) ids
 
--- each partition, by its number, is the owner of this book that is at its place
+-- each partition, by its number, is the owner at its place in this book
 pub record AreNames (book : Book) (owner : ℕ → ℕ) (opened : OpenedState) : Type 0 where
   pub book_is : book ≡ opened.book
   pub owner_is : (part : ℕ) → owner part ≡ slice_index_or opened.ids part 0
@@ -29,14 +29,15 @@ pub record AreNames (book : Book) (owner : ℕ → ℕ) (opened : OpenedState) :
 abbrev pub AreApart : (ℕ → ℕ) → ℕ → Type 0
 AreApart owner count = (one other : ℕ) → one < other → other < count → owner one ≢ owner other
 
--- a partition with its number, the events that were seen of its book, and how many workers it counts the entries of
+-- a partition with its number, the events that were seen of its book, and the number of workers whose entries it counts
 pub record WitnessedState : Type 0 where
   pub part : ℕ
   pub log : List Event
   pub held : Part
   pub workers : ℕ
 
--- what a partition keeps is all of its history, each reply in that is the plain rows', and each entry is one of the workers that it counts
+-- the past that a partition keeps is all of its history, each reply in it is that of the plain rows, and each entry is of one of the workers that it
+-- counts
 pub record IsWhole (owner : ℕ → ℕ) (w : WitnessedState) : Type 0 where
   pub legal : AreHistories w.log
   pub kept : IsPastOf (history_of (owner w.part) w.log) w.held.past
@@ -60,15 +61,15 @@ pub record IsInStep (owner : ℕ → ℕ) (w : WitnessedState) (worker count : �
   pub one : worker < w.workers
   pub same : length (calls_by worker (history_of (owner w.part) w.log)) ≡ count
 
--- why a partition may refuse a worker that has been given this many replies there: 16, if its history doesn't have exactly as many entries of the
+-- why a partition may refuse a worker that has received this many replies there: 16, if its history doesn't have exactly as many entries of the
 -- worker; else for lack of memory, or as the partition refuses the command
 abbrev pub MayRefuseIt : (ℕ → ℕ) → WitnessedState → ℕ → ℕ → Command → Refusal → Type 0
 MayRefuseIt owner w worker count command e =
     ((e ≡ StrangeReceipt w.part count) × (IsInStep owner w worker count → ⊥))
     ⊎ ((e ≡ OutOfMemory) ⊎ (refusal_of w.held command ≡ Some e))
 
--- a worker: its number, the events that it has seen, those that it had seen after the last reply that each partition gave it, and how many
--- replies each partition gave it
+-- a worker: its number, the events that it has seen, those that it had seen after its last reply from each partition, and the number of its replies
+-- from each partition
 pub record AskerState : Type 0 where
   pub worker : ℕ
   pub seen : List Event
@@ -81,42 +82,42 @@ pub record IsGiven (owner : ℕ → ℕ) (part : ℕ) (entry : Entry) (old new :
   pub ends : history_of (owner part) new ≡ before ++ entry ∷ []
   pub begins : IsPrefix (history_of (owner part) old) before
 
--- the history of a partition has exactly the entries of a worker that it was given replies for
+-- the history of a partition has exactly the entries of a worker for which it received replies
 abbrev pub HasJustItsOwn : (ℕ → ℕ) → AskerState → WitnessedState → Type 0
 HasJustItsOwn owner a w = calls_at owner w.part a.worker w.log ≡ calls_at owner w.part a.worker (slice_index_or a.fronts w.part [])
 
--- what a worker has seen of a partition's history is a prefix of it, and of its entries that history has exactly those that it was given
--- replies for
+-- the part of a partition's history that a worker has seen is a prefix of it, and the history has exactly the worker's entries for which it received
+-- replies
 pub record IsSettledFor (owner : ℕ → ℕ) (a : AskerState) (w : WitnessedState) : Type 0 where
   pub covered : IsPrefix (history_of (owner w.part) a.seen) (history_of (owner w.part) w.log)
   pub mine : HasJustItsOwn owner a w
 
--- a partition's history has other entries of a worker than it was given replies for, if each knows of the other
+-- a partition's history has other entries of a worker than those for which it received replies, if each knows of the other
 abbrev pub Differs : (ℕ → ℕ) → AskerState → WitnessedState → Type 0
 Differs owner a w = w.part < length a.fronts → a.worker < w.workers → HasJustItsOwn owner a w → ⊥
 
--- how many replies the partition with this number gave a worker
+-- the number of a worker's replies from the partition with this number
 abbrev pub replies_at : AskerState → ℕ → ℕ
 replies_at a part = slice_index_or a.counts part 0
 
--- a partition has this number, and its history as many entries of a worker as that was given replies for there
+-- a partition has this number, and its history has as many entries of a worker as it received replies there
 abbrev pub Knows : (ℕ → ℕ) → AskerState → ℕ → WitnessedState → Type 0
 Knows owner a part w = (w.part ≡ part) × IsInStep owner w a.worker (replies_at a part)
 
--- why a worker that asks for partition `part` may be refused by the partition that it is lent: 5 if it knows of none with this number; 16 with the
--- number and its replies there, if the partition doesn't know it; else for lack of memory, or as the partition refuses the command
+-- why a worker that asks for partition `part` may be refused by the partition that is passed to it: 5 if it knows of none with this number; 16 with
+-- the number and the number of its replies there, if the partition doesn't know it; else for lack of memory, or as the partition refuses the command
 abbrev pub MayRefuseAt : (ℕ → ℕ) → WitnessedState → ℕ → Command → AskerState → Refusal → Type 0
 MayRefuseAt owner w part command a e =
     ((e ≡ NoSuchPartition) × (length a.fronts ≤ part))
     ⊎ (((e ≡ StrangeReceipt part (replies_at a part)) × (Knows owner a part w → ⊥))
     ⊎ ((e ≡ OutOfMemory) ⊎ (refusal_of w.held command ≡ Some e)))
 
--- how many replies a worker was given
+-- the number of a worker's replies
 abbrev pub replies_to : AskerState → ℕ
 replies_to a = sum_by (λ (n : ℕ). n) a.counts
 
--- why workers and partitions may not agree: 16, with the number of the first partition that differs from a worker, and with how
--- many replies it gave such a worker
+-- why workers and partitions may not agree: 16, with the number of the first partition that differs from a worker, and the number of replies that it
+-- gave such a worker
 pub record MayDiffer (owner : ℕ → ℕ) (askers : List AskerState) (parts : List WitnessedState) (e : Refusal) : Type 0 where
   pub place : ℕ
   pub at : WitnessedState

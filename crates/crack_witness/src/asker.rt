@@ -19,9 +19,9 @@ use crack_row::{Command, Policy, Refusal, Reply};
 use std::alloc::{AllocError, Global};
 use std::marker::Model;
 
-/// A worker's side of the witness: its number, what it has seen of the book, and how many replies each partition has
-/// given it, 8 bytes each. Contracts see the number, the events that it has seen, those that it had seen after its last
-/// reply of each partition, and these numbers.
+/// A worker's side of the witness: its number, what it has seen of the book, and the number of its replies from each
+/// partition, 8 bytes each. Contracts see the number, the events that it has seen, those that it had seen after its
+/// last reply from each partition, and these numbers.
 #[derive(Drop)]
 pub struct Asker<J: Naming> {
     number: u32,
@@ -82,7 +82,7 @@ impl<J: Naming> Asker<J> {
         self.number
     }
 
-    /// How many replies it was given, by all partitions: O(partitions).
+    /// The number of its replies from all partitions: O(partitions).
     pub fn replies(&self) -> u64
         ensures { result ≡ replies_to self.now }
     {
@@ -96,10 +96,10 @@ impl<J: Naming> Asker<J> {
         &self.front
     }
 
-    /// Asks a partition, whose number is to be `part`: O(1) beyond `Partition::apply`, and no memory. The reply comes
+    /// Asks a partition, which must have number `part`: O(1) beyond `Partition::apply`, and no memory. The reply comes
     /// with the copy for a receipt that `Partition::apply` makes. Refused with 5 if the worker knows of no such
     /// partition; with 16, with the number and the count of its replies there, if the partition has another number, or
-    /// its history another number of the worker's entries; then as `Partition::apply` is. After each refusal nothing
+    /// its history has another number of the worker's entries; then as `Partition::apply` is. After a refusal nothing
     /// was seen or written.
     pub fn ask(
         &mut self,
@@ -151,8 +151,8 @@ impl<J: Naming> Asker<J> {
         Ok((reply, copy))
     }
 
-    /// Whether a partition's history has exactly the entries of this worker that it was given replies for. What the
-    /// worker has seen of that history is found to be a prefix of it. O(1).
+    /// Whether a partition's history has exactly the entries of this worker for which it received replies. States that
+    /// the part of that history that the worker has seen is a prefix of it. O(1).
     pub fn agrees(&self, witnessed: &mut Witnessed<J>) -> bool
         ensures same { witnessed.new ≡ witnessed.old }
         ensures covered { IsPrefix (history_of (J.owner witnessed.old.part) self.now.seen)
@@ -165,7 +165,7 @@ impl<J: Naming> Asker<J> {
         self.counts_agree(witnessed)
     }
 
-    /// How many replies a partition has given it: O(1). 0 if it knows of no such partition.
+    /// The number of its replies from a partition: O(1). 0 if it knows of no such partition.
     pub(crate) fn replies_of(&self, part: u32) -> u64
         ensures { result ≡ replies_at self.now part }
     {

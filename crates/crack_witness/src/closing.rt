@@ -8,10 +8,10 @@ use crate::opening::Naming;
 use crate::witnessed::Witnessed;
 use crack_row::Refusal;
 
-/// Finds that what each worker has seen of each partition's history is a prefix of it, and that of its entries that
-/// history has exactly those that it was given replies for: by their numbers, pair by pair. Takes no memory.
-/// O(partitions × workers), however many entries there are. Refused with 16 at the first partition that differs from a
-/// worker, with its number, and with how many replies it gave the first such worker.
+/// Checks that each partition's history has exactly the entries of each worker for which it received replies, by their
+/// numbers, pair by pair; then the part of it that the worker has seen is a prefix of it. Takes no memory. O(partitions
+/// × workers), however many entries there are. Refused with 16 at the first partition that differs from a worker, with
+/// its number, and the number of replies that it gave the first such worker.
 pub fn settle<J: Naming>(
     askers: &Vec<Asker<J>>,
     parts: &mut Vec<Witnessed<J>>,

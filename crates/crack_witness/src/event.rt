@@ -35,7 +35,7 @@ impl Rule<Event, u64> for Law {
     ghost moves = { λ ask before after answer. Unit {0} };
 }
 
-/// Callers trade nothing.
+/// Callers exchange nothing.
 pub struct Nothing;
 
 impl Gain<Event, u64> for Nothing {
@@ -44,13 +44,13 @@ impl Gain<Event, u64> for Nothing {
     ghost after = { λ names about answer. ftrue };
 }
 
-/// What a thread has seen of the book.
+/// The events of the book that a thread has seen.
 pub(crate) type Token = Seen<Event, u64, Law>;
 
 /// The word of a partition, which always holds 0.
 pub(crate) type Head = Word<Event, u64, Law>;
 
-/// What a step does.
+/// The kinds of steps.
 pub(crate) type Update = Offer<Event, u64, Law, Nothing>;
 
 /// The words of a new book.

@@ -1,5 +1,5 @@
-//! A witness for each reply: one history of each partition, which every worker sees, and what is under a lock beside
-//! its partition.
+//! A witness for each reply: one history of each partition, which every worker sees, and what a lock holds beside its
+//! partition.
 #![tactic(auto)]
 
 pub mod asker;

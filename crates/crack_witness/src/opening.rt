@@ -16,7 +16,8 @@ use logbook::{Pen, Pens, Start};
 use std::alloc::{AllocError, Global};
 use std::marker::{Brand, Model};
 
-/// Which book it is, and which owner each partition is in it. A program picks it once, for the book that it has opened.
+/// The identity of a book, and the owner of each partition in it. A program chooses it once, for the book that it has
+/// opened.
 pub trait Naming {
     ghost use Rattle.std.specs.Prelude.{ℕ};
     ghost use Rattle.logbook.specs.Pages.{Book};
@@ -54,8 +55,8 @@ impl Model for Owner {
 }
 
 impl Owner {
-    /// Makes a word over to an owner of its own, by one step on it. The owner had no event among those seen before, and
-    /// has one now.
+    /// Gives a word to an owner of its own, by one step on it. The owner had no event among those seen before, and has
+    /// one now.
     fn open(word: Head, seen: &mut Token) -> Owner
         requires { (word.tracked ≡ true) × (seen.old.book ≡ word.book) × HasWord word.key seen.old.log }
         ensures book { (result.book ≡ seen.old.book) × (seen.new.book ≡ seen.old.book) }
@@ -119,8 +120,8 @@ impl Opened {
         Ok(Opened { seen, owners })
     }
 
-    /// The partitions, each with its scribe, by their numbers, and what a worker begins with, once the book has its
-    /// name. Each counts the entries of this many workers. O(partitions × workers).
+    /// The partitions, each with its scribe, by their numbers, and the events that a worker begins with, once the book
+    /// has its name. Each partition counts the entries of this many workers. O(partitions × workers).
     pub fn witness<J: Naming>(
         self,
         alloc: Global,
@@ -140,7 +141,7 @@ impl Opened {
         Ok((front, witnessed))
     }
 
-    /// What a worker begins with, and the owners.
+    /// The events that a worker begins with, and the owners.
     fn named<J: Naming>(self) -> (Front<J>, Vec<Owner>)
         requires { AreNames J.book J.owner self }
         ensures owners { AreOwners J.book J.owner result.1.items }

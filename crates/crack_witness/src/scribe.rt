@@ -1,4 +1,4 @@
-//! What writes the entries of a partition into its history, and what others have seen of it.
+//! Scribes, which write the entries of a partition into its history, and the events that others have seen of it.
 ghost use Rattle.std.specs.Prelude.{◌≡◌, [], ◌∷◌, ◌++◌, true};
 ghost use mathlib.Core.List.{IsPrefix};
 ghost use Rattle.logbook.specs.Pages.{may_write};
@@ -12,7 +12,7 @@ use crack_row::{Command, Reply};
 use logbook::{Pen, Plain};
 use std::marker::{Model, PhantomData};
 
-/// A prefix of the book that was seen, in no bytes. Contracts see its events.
+/// A prefix of the book that was seen. It has no bytes. Contracts see its events.
 #[derive(Drop)]
 pub struct Front<J: Naming> {
     seen: Token,
@@ -32,7 +32,7 @@ impl<J: Naming> Model for Front<J> {
 }
 
 impl<J: Naming> Front<J> {
-    /// What a token has seen of the book.
+    /// The events of the book that a token has seen.
     pub(crate) fn new(seen: Token) -> Front<J>
         requires book { seen.book ≡ J.book }
         requires legal { AreHistories seen.log }
@@ -54,7 +54,7 @@ impl<J: Naming> Front<J> {
         }
     }
 
-    /// Afterwards it has seen what both have.
+    /// Adds the events that the other has seen.
     pub fn learn(&mut self, other: &Front<J>)
         ensures { IsPrefix self.old self.new × IsPrefix other.now self.new }
     {
@@ -62,7 +62,7 @@ impl<J: Naming> Front<J> {
     }
 }
 
-/// What is to be written: an entry of a partition, with the pen for the one that follows it.
+/// An entry to be written: that of a partition, with the pen for the one that follows it.
 #[derive(Drop)]
 pub(crate) struct Asked<'a, J: Naming> {
     part: u32,
@@ -136,8 +136,8 @@ impl<J: Naming> Scribe<J> {
         self.part
     }
 
-    /// Writes an entry after all that the scribe and the asking worker have seen. O(1): two steps on the partition's
-    /// own word.
+    /// Writes an entry after all events that the scribe and the asking worker have seen. O(1): two steps on the
+    /// partition's own word.
     pub(crate) fn write(&mut self, me: &mut Front<J>, worker: u32, command: &Command, reply: &Reply)
         requires { AreReplies no_rows (history_of (J.owner self.old.part) self.old.log ++ record {
           worker = worker;
@@ -173,7 +173,7 @@ impl<J: Naming> Scribe<J> {
         me.seen = token;
     }
 
-    /// Finds that what anyone has seen of its partition's history is a prefix of its own. O(1).
+    /// States that the part of its partition's history that anyone has seen is a prefix of its own. O(1).
     pub(crate) fn covers(&mut self, front: &Front<J>)
         ensures same { self.new ≡ self.old }
         ensures begins { IsPrefix (history_of (J.owner self.old.part) front.now) (history_of (J.owner self.old.part)

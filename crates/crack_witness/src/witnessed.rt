@@ -1,4 +1,4 @@
-//! What is under a lock: a partition, and the scribe of its whole history.
+//! What a lock holds: a partition, and the scribe of its whole history.
 ghost use Rattle.std.specs.Prelude.{◌≡◌, ◌⊎◌, ◌+◌, ◌<◌, ◌≤◌, [], ◌∷◌, ◌++◌, length, vec_len, IfOk, IfErr, IfSome};
 ghost use Rattle.std.specs.Prelude.{IsTrue, OnErr, OnOk, Err, None, ◌≢◌, ◌↔◌, ◌^◌, slice_index_or};
 ghost use mathlib.Core.List.{IsPrefix};
@@ -49,7 +49,7 @@ impl<J: Naming> Model for Witnessed<J> {
 }
 
 impl<J: Naming> Witnessed<J> {
-    /// A partition that has answered nothing, with its scribe.
+    /// A partition that has answered nothing, and its scribe.
     pub(crate) fn new(
         alloc: Global,
         partition: Partition,
@@ -83,15 +83,15 @@ impl<J: Naming> Witnessed<J> {
         &self.partition
     }
 
-    /// How many workers it counts the entries of.
+    /// The number of workers whose entries it counts.
     pub fn workers(&self) -> usize
         ensures { result ≡ self.now.workers }
     {
         self.answered.len()
     }
 
-    /// States the invariants of each, and does nothing: its history is legal, what the partition keeps is all of it,
-    /// and each entry is one of its workers'.
+    /// States the invariants of each, and does nothing: its history is legal, the partition's past is all of it, and
+    /// each entry is one of its workers'.
     pub fn facts(&self)
         ensures whole { IsWhole J.owner self.now }
         ensures sound { IsSound self.now.held }
@@ -100,7 +100,7 @@ impl<J: Naming> Witnessed<J> {
         self.partition.facts();
     }
 
-    /// How many entries of a worker are in its history: O(1). `None` if that isn't a worker of the table.
+    /// How many entries of a worker are in its history: O(1). `None` if it isn't a worker of the table.
     pub fn answered(&self, worker: u32) -> Option<u64>
         ensures some { IfSome result (λ n. (worker < self.now.workers) ×
             (n ≡ length (calls_by worker (history_of (J.owner self.now.part) self.now.log)))) }
@@ -109,7 +109,7 @@ impl<J: Naming> Witnessed<J> {
         count_at(self.answered.as_slice(), worker)
     }
 
-    /// Answers a command of a worker that has been given `count` replies by this partition before, and writes it into
+    /// Answers a command of a worker that has received `count` replies from this partition before, and writes it into
     /// the history: O(1) beyond `Partition::apply`, and no memory. The reply comes with the copy for a receipt that
     /// `Partition::apply` makes. Refused with 16, with the partition's number and that count, if the history doesn't
     /// have exactly as many entries of the worker, or the worker isn't one of the table's; then nothing has changed.
@@ -182,7 +182,7 @@ impl<J: Naming> Witnessed<J> {
         self.partition.checkpoint()
     }
 
-    /// Finds that what anyone has seen of the partition's history is a prefix of it. O(1).
+    /// States that the part of the partition's history that anyone has seen is a prefix of it. O(1).
     pub fn covers(&mut self, front: &Front<J>)
         ensures same { self.new ≡ self.old }
         ensures begins { IsPrefix (history_of (J.owner self.old.part) front.now) (history_of (J.owner self.old.part)

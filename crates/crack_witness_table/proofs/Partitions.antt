@@ -17,12 +17,12 @@ use Rattle.crack_table.specs.Gather.{IsTables, AreTotals}
 use Rattle.crack_table.proofs.Totals.{held_difference, held_are, accepted-bound, inserted-bound}
 use Rattle.crack_witness_table.specs.Gather.{held_by, AreNumbered, IsTablesAt, IsFirstStrange}
 
--- a sum over partitions is one over what is held
+-- a sum over witnessed partitions is one over the partitions that they hold
 pub held_sum : (f : Part → ℕ) (ws : List WitnessedState) → sum_by (λ (w : WitnessedState). f w.held) ws ≡ sum_by f (held_by ws)
 held_sum f [] = refl
 held_sum f (w ∷ ws) = sum_by-cons (λ (v : WitnessedState). f v.held) w ws ∙ (ap (λ (n : ℕ). f w.held + n) (held_sum f ws) ∙ sym (sum_by-cons f w.held (held_by ws)))
 
--- and so is what holds of each
+-- and so is a property of each
 pub held_sound : (ws : List WitnessedState) → All (λ (w : WitnessedState). IsSound w.held) ws → All IsSound (held_by ws)
 held_sound ws all = All-map IsSound (λ (w : WitnessedState). w.held) ws all
 
@@ -91,7 +91,7 @@ are_small parts sound few =
       enough = omega (arith, left);
     }
 
--- the same for what witnessed partitions hold
+-- the same for the partitions that witnessed partitions hold
 pub witnessed_small : (ws : List WitnessedState) → All (λ (w : WitnessedState). IsSound w.held) ws → length ws ≤ 64 → AreSmall (held_by ws)
 witnessed_small ws sound few = are_small (held_by ws) (held_sound ws sound) (omega (arith, few, length-map ws (λ (w : WitnessedState). w.held)))
 

@@ -14,7 +14,7 @@ use Rattle.crack_witness.specs.Histories.{history_of, IsPastOf}
 use Rattle.crack_witness.specs.Witnesses.{WitnessedState}
 use Rattle.crack_witness.proofs.Keeping.{accepted_in-whole}
 
--- the history of a partition that kept an entry is one longer than what it had accepted before
+-- the history of a partition that added an entry is one longer than the number of commands accepted before
 pub placed : (owner : ℕ → ℕ) (part : ℕ) (seen : List Event) (w : WitnessedState) (limits : Limits) (past : Past) (e : Entry) → w.part ≡ part → seen ≡ w.log → IsPastOf (history_of (owner w.part) w.log) w.held.past → w.held.past ≡ with_entry (upkept limits past) e
     → length (history_of (owner part) seen) ≡ accepted_in past + 1
 placed owner part seen w limits past e here whole kept is =
@@ -22,7 +22,7 @@ placed owner part seen w limits past e here whole kept is =
     let more : accepted_in w.held.past ≡ accepted_in past + 1 = ap accepted_in is ∙ (accepted_in-push (upkept limits past) e ∙ ap (λ (n : ℕ). n + 1) (accepted_in-upkept limits past)) in
     ap (λ (q : ℕ). length (history_of (owner q) seen)) (sym here) ∙ (ap (λ (l : List Event). length (history_of (owner w.part) l)) whole ∙ (sym all ∙ more))
 
--- the outcome of asking is what is told, but for the limit of a full history
+-- the outcome of asking is passed on, except for the limit of a full history
 pub answered-ok : {X : Type 0} (a r : Result X Refusal) (limit : ℕ) (x : X) → MatchResult a (λ y. r ≡ Ok y) (λ e. r ≡ Err (with_limit limit e)) → r ≡ Ok x → a ≡ Ok x
 answered-ok (Ok y) r limit x told is = sym told ∙ is
 answered-ok {X} (Err e) r limit x told is = absurd (let no : ◌≡◌ {A = Result X Refusal} (Err (with_limit limit e)) (Ok x) = sym told ∙ is in cc no)

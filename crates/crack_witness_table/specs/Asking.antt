@@ -1,4 +1,4 @@
--- What a table that witnesses its replies answers a worker.
+-- The answers of a table that witnesses its replies to a worker.
 use Rattle.std.specs.Prelude.{◌≡◌, ℕ, ◌+◌, ◌<◌, ◌≤◌, ◌⊎◌, List, [], ◌∷◌, ◌++◌, length, Result, Err, IfOk, IfErr, OnOk, OnErr, slice_index_or, slice_set}
 use mathlib.Core.List.{IsPrefix}
 use Rattle.crack_row.specs.declared.command.Command.{Command}
@@ -10,16 +10,16 @@ use Rattle.crack_witness.specs.Histories.{calls_at, AreHistories}
 use Rattle.crack_witness.specs.Witnesses.{AskerState, IsGiven, replies_at, replies_to}
 use Rattle.crack_table.specs.Tables.{TableState, AnswersAt, MayRefuse}
 
--- why a partition that exists may refuse a worker: as `MayRefuse` says; 16 with the partition and the number of its replies there, or 5 if the
--- worker knows of no such partition, both of them only to workers of other tables
+-- why a partition that exists may refuse a worker: as `MayRefuse` says; 16 with the partition and the number of its replies there, or 5 if the worker
+-- knows of no such partition, both only for workers of other tables
 abbrev pub MayRefuseAsker : TableState → (ℕ → Type 0) → ℕ → Command → AskerState → Refusal → Type 0
 MayRefuseAsker table may_refuse part command asker e =
     MayRefuse table may_refuse command e
     ⊎ ((e ≡ StrangeReceipt part (replies_at asker part)) ⊎ ((e ≡ NoSuchPartition) × (length asker.fronts ≤ part)))
 
--- A worker asks one partition: if it is answered, its entry ends the history of that partition, as far as the worker now sees it; all that it
--- had seen before precedes that, every history is legal, and the worker's entries there are those of its replies. If it is refused,
--- it is for a cause, and the worker has seen nothing new.
+-- A worker asks one partition. If it is answered, its entry ends the history of that partition, as far as the worker now sees it; all that it had
+-- seen before precedes the entry, every history is legal, and the worker's entries there are those of its replies. If it is refused, there is a
+-- cause, and the worker has seen nothing new.
 pub record AsksWitnessed (owner : ℕ → ℕ) (table : TableState) (may_refuse : ℕ → Type 0) (part : ℕ) (command : Command) (result : Result Reply Refusal) (old new : AskerState) : Type 0 where
   pub given : IfOk result (λ reply. IsGiven owner part (record { worker = old.worker; command = command; reply = reply }) old.seen new.seen)
   pub mine : IfOk result (λ reply. calls_at owner part old.worker new.seen ≡ calls_at owner part old.worker (slice_index_or old.fronts part []) ++ record { worker = old.worker; command = command; reply = reply } ∷ [])

@@ -1,4 +1,4 @@
--- What a table that witnesses its replies answers a worker that keeps receipts.
+-- The answers of a table that witnesses its replies to a worker that keeps receipts.
 use Rattle.std.specs.Prelude.{◌≡◌, ℕ, ◌+◌, ◌<◌, [], ◌∷◌, ◌++◌, length, Result, Err, IfOk, OnErr}
 use Rattle.crack_row.specs.declared.command.Command.{Command}
 use Rattle.crack_row.specs.declared.command.Reply.{Reply}

@@ -37,15 +37,16 @@ IsFirstStrange splits limits workers parts place =
     (w : WitnessedState) × (slice_get parts place ≡ Some w) × (IsTablesAt splits limits workers place w → ⊥)
     × ((earlier : ℕ) (v : WitnessedState) → earlier < place → slice_get parts earlier ≡ Some v → IsTablesAt splits limits workers earlier v)
 
--- why workers and the partitions of this many locks may not agree: 8; 16 at the first partition that isn't the table's; if there is
--- none, 16 if one differs from a worker
+-- why workers and the partitions of this many locks may not agree: 8; 16 at the first partition that isn't the table's; if there is none, 16 at one
+-- that differs from a worker
 abbrev pub MayNotMatch : (ℕ → ℕ) → List Bound → Limits → ℕ → List AskerState → Refusal → Type 0
 MayNotMatch owner splits limits workers askers e =
     (e ≡ OutOfMemory)
     ⊎ ((parts : List WitnessedState) × (length parts ≡ length splits + 1)
     × (((place : ℕ) × (e ≡ StrangeReceipt place 0) × IsFirstStrange splits limits workers parts place) ⊎ MayDiffer owner askers parts e))
 
--- why workers may not be gathered: 15 if some are missing, with their bits; if none is, they and the partitions don't agree
+-- why the workers of a table that witnesses its replies may not be gathered: 15 if some are missing, with their bits; if none is, they and the
+-- partitions don't agree
 abbrev pub MayNotGather : (ℕ → ℕ) → TableState → List AskerState → Refusal → Type 0
 MayNotGather owner table askers e =
     ((missing_below (λ (a : AskerState). a.worker) askers table.workers ≢ 0) × (e ≡ WorkersMissing (missing_below (λ (a : AskerState). a.worker) askers table.workers)))

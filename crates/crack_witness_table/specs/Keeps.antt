@@ -1,5 +1,5 @@
 -- What private clauses alone cite.
--- What tables that witness their replies keep.
+-- The invariants of tables that witness their replies.
 use Rattle.std.specs.Prelude.{◌≡◌, ℕ, ◌+◌, ◌≤◌, List, length}
 use Rattle.crack_row.specs.Limits.{AreLimits}
 use Rattle.crack_row.specs.declared.Bound.{Bound}

@@ -1,4 +1,4 @@
-//! A command after its gate, under a held lock.
+//! A command after its gate, while the lock is held.
 ghost use Rattle.std.specs.Prelude.{◌≡◌, ◌⊎◌, ℕ, ◌+◌, ◌<◌, ◌≤◌, [], ◌∷◌, ◌++◌, length, Err, IfOk, IfErr, OnErr, OnOk};
 ghost use Rattle.std.specs.Prelude.{Ok, MatchResult, slice_index_or, slice_set};
 ghost use mathlib.Core.List.{IsPrefix};
@@ -16,7 +16,7 @@ use crack_table::gate::pass;
 use crack_table::worker::with_limit;
 use crack_witness::{Asker, Naming, Witnessed};
 
-/// Asks the gate until it consents, and then the partition, which is to have number `part`, for the worker. The
+/// Asks the gate until it consents, and then the partition, which must have number `part`, for the worker. The
 /// partition stays borrowed from the gate's first turn to the reply, so its lock can't be released in between. The
 /// outcome of asking the partition, which may be a refusal, is the value, and `folded` is set to how many entries the
 /// history had at a checkpoint that was due. Refused with 7 if the gate refuses at each turn: then worker and partition
@@ -76,8 +76,8 @@ pub(crate) fn ask_behind<J: Naming, G: Gate>(
     Ok(answered)
 }
 
-/// The outcome of asking, with the table's limit if it reports a full history: a lock says nothing of its partition's
-/// own.
+/// The outcome of asking, with the table's limit if it reports a full history: a lock reveals nothing of its
+/// partition's own.
 pub(crate) fn with_table_limit(
     answered: Result<(Reply, Reply), Refusal>,
     limit: u64,

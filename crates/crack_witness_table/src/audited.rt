@@ -42,7 +42,7 @@ impl<J: Naming> AuditedAsker<J> {
         AuditedAsker { asker, book }
     }
 
-    /// What it has seen of the histories, and how many replies it was given. Takes no lock and no memory.
+    /// The events that it has seen, and the number of its replies. Takes no lock and no memory.
     pub fn asker(&self) -> &Asker<J>
         ensures { result.now ≡ self.now.asker }
     {
@@ -68,7 +68,7 @@ impl<J: Naming> AuditedAsker<J> {
 
     /// Asks partition `part` of a table, under its lock, which it may wait for, and keeps the receipt: amortised O(1)
     /// beyond `WitnessedTable::ask`. Refused, in this order: with 5 if there is no such partition; with 8 if there is
-    /// no memory for the receipt; then as `WitnessedTable::ask` is. After each refusal nothing was seen or written, and
+    /// no memory for the receipt; then as `WitnessedTable::ask` is. After a refusal nothing was seen or written, and
     /// the book has the same receipts.
     pub fn ask<R: Wait, G: Gate>(
         &mut self,

@@ -16,9 +16,9 @@ use crack_table::kept::Kept;
 use crack_witness::{Naming, Witnessed};
 use std::alloc::{AllocError, Global};
 
-/// Finds whether the receipts of all books, as one list, cover what gathered partitions keep, as `cover` of crack_table
-/// does. Refused as that is, and with 8 if there are more partitions than 32 bits can number. O(entries + checkpointed
-/// places + receipts), up to a logarithm of the workers and partitions.
+/// Checks that the receipts of all books, as one list, cover the pasts of gathered partitions, as `cover` of
+/// crack_table does. Refused as that is, and with 8 if there are more partitions than 32 bits can number. O(entries +
+/// checkpointed places + receipts), up to a logarithm of the workers and partitions.
 pub fn audit<J: Naming>(
     alloc: Global,
     parts: &Vec<Witnessed<J>>,

@@ -20,7 +20,7 @@ use crack_witness::{Asker, Naming, Witnessed, settle};
 use std::alloc::Global;
 use std::sync::Mutex;
 
-/// What all workers did, and the partitions with their whole histories.
+/// The totals of all workers, and the partitions with their whole histories.
 #[derive(Drop)]
 pub struct Gathered<J: Naming> {
     /// How many commands were answered.
@@ -44,10 +44,10 @@ pub struct GatherRefused<J: Naming> {
 }
 
 /// Ends a table whose workers are all handed back: each partition's history since its opening begins with all that the
-/// workers saw of it, and has exactly the entries of each worker that it was given replies for, as both have counted.
-/// Refused with 15, one bit for each missing number, if a worker of the table is missing; then with 8 if it
-/// finds no memory; then with 16 at the first partition that isn't the table's, and then as `settle` of crack_witness
-/// is. The table and the workers are then handed back. O(partitions × workers), however many entries there are.
+/// workers saw of it, and has exactly the entries of each worker for which it received replies, as both have counted.
+/// Refused with 15, one bit for each missing number, if a worker of the table is missing; then with 8 if it finds no
+/// memory; then with 16 at the first partition that isn't the table's, and then as `settle` of crack_witness is. The
+/// table and the workers are then handed back. O(partitions × workers), however many entries there are.
 pub fn gather<J: Naming>(
     alloc: Global,
     table: WitnessedTable<J>,
@@ -91,8 +91,8 @@ pub fn gather<J: Naming>(
     }
 }
 
-/// Takes the partitions out of their locks, and finds whether they and the workers agree; otherwise they go into
-/// the locks again.
+/// Takes the partitions out of their locks, and checks whether they and the workers agree; otherwise they go into the
+/// locks again.
 fn close<J: Naming>(
     alloc: Global,
     locks: &mut Vec<Mutex<Witnessed<J>>>,
@@ -126,7 +126,7 @@ fn close<J: Naming>(
     }
 }
 
-/// Finds whether partitions are the table's, and whether they and the workers agree, and their totals.
+/// Checks whether partitions are the table's, and whether they and the workers agree; returns their totals.
 fn match_all<J: Naming>(
     splits: &[Bound],
     limits: Limits,

@@ -14,8 +14,8 @@ use crack_witness::{Asker, Front, Naming, Opened};
 use std::alloc::{AllocError, Global};
 use std::marker::Model;
 
-/// A table that is to be opened, and the book of its replies, which has no name yet. Contracts see what it is to be
-/// opened with, and the book, with an owner for each partition.
+/// A table to be opened, and the book of its replies, which has no name yet. Contracts see the parts of the table, and
+/// the book, with an owner for each partition.
 #[derive(Drop)]
 pub struct UnnamedTable {
     opened: Opened,
@@ -37,7 +37,7 @@ impl Model for UnnamedTable {
 }
 
 impl UnnamedTable {
-    /// The first step: what a table is to be opened with, and its book. Refused as `Table::open_with` of crack_table
+    /// The first step: the parts of a table, and its book. Refused as `Table::open_with` of crack_table
     /// is, in the same order. O(partitions).
     pub fn open(
         alloc: Global,

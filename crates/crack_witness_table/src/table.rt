@@ -15,7 +15,7 @@ use std::marker::Model;
 use std::sync::{Mutex, Wait};
 
 /// Partitions with the scribes of their histories, each with a lock of its own. Many threads may share it. Contracts
-/// see what it was opened with; the workers' own state says what they have seen of the histories.
+/// see what it was opened with; the workers' own state has the events that they have seen.
 #[derive(Drop)]
 pub struct WitnessedTable<J: Naming> {
     pub(crate) locks: Vec<Mutex<Witnessed<J>>>,
@@ -71,10 +71,10 @@ impl<J: Naming> WitnessedTable<J> {
     }
 
     /// Asks partition `part` for a worker, under its lock, which it may wait for. Refused, in this order: with 5 if
-    /// there is no such partition; under the lock with 7 if the gate refuses at each turn; with 16, with the
-    /// partition and the number of its replies there, if the worker is another table's; then as `Partition::apply`
-    /// is, with 4, 6, 10, 9 and 8. After each refusal nothing was seen or written. Beyond what `Partition::apply`
-    /// takes it is O(1), takes no memory, and the gate's turns.
+    /// there is no such partition; under the lock with 7 if the gate refuses at each turn; with 16, with the partition
+    /// and the number of its replies there, if the worker is another table's; then as `Partition::apply` is, with 4, 6,
+    /// 10, 9 and 8. After a refusal nothing was seen or written. Costs, beyond `Partition::apply`, O(1) and the gate's
+    /// turns, and no memory.
     pub fn ask<R: Wait, G: Gate>(
         &self,
         rt: &R,
@@ -108,7 +108,7 @@ impl<J: Naming> WitnessedTable<J> {
 
     /// Makes a checkpoint of partition `part`, under its lock, which it may wait for, and returns how many
     /// entries its history had. For all workers its rows and its history stay whole. Refused with 5 if there is no such
-    /// partition, and with 8 if it finds no memory; nothing has changed then. It holds this one lock, for the time
+    /// partition, and with 8 if it finds no memory; then nothing has changed. It holds this one lock, for the time
     /// that `Partition::checkpoint` takes.
     pub fn checkpoint<R: Wait>(&self, rt: &R, part: u32) -> Result<u64, Refusal>
         ensures { AnswersAt self.now part (λ e. e ≡ Refusal.OutOfMemory) result }

@@ -51,7 +51,7 @@ fn ask_with_checkpoint<J: Naming, R: Wait + Abort>(
     Ok(())
 }
 
-/// What a worker is answered.
+/// The answer to a worker.
 fn ask<J: Naming, R: Wait>(
     rt: &R,
     table: &WitnessedTable<J>,
@@ -67,7 +67,7 @@ fn place_of(receipt: &Receipt) -> (u32, u64, u32) {
     (receipt.part, receipt.position, receipt.worker)
 }
 
-/// Gathers the only worker of a table, and holds its book and an empty one against the histories.
+/// Gathers the only worker of a table, and compares its book and an empty one with the histories.
 fn hold_against<J: Naming, R: Abort>(
     rt: &R,
     alloc: Global,

@@ -79,7 +79,7 @@ fn ask_with_twin<J: Naming, R: Wait + Abort>(
     asked
 }
 
-/// If one of two workers of one number was given a reply that the other wasn't, the other is refused with its own
+/// If one of two workers with one number received a reply that the other didn't, the other is refused with its own
 /// count, and nothing is applied.
 fn ask_both<J: Naming, R: Wait + Abort>(
     rt: &R,
@@ -98,7 +98,7 @@ fn ask_both<J: Naming, R: Wait + Abort>(
     Ok(())
 }
 
-/// A worker that was given no reply by a partition isn't the one that it knows.
+/// A worker without a reply from a partition isn't the one that the partition knows.
 fn strange_at(part: u32) -> Refusal {
     Refusal::StrangeReceipt { part, position: 0 }
 }

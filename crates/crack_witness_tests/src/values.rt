@@ -1,4 +1,4 @@
-//! What the tests ask.
+//! The commands of the tests.
 use crack_row::{Bound, Command, Key, KeyNumber, Payload, Policy, Refusal, Reply};
 use crack_table::OpenGate;
 use crack_witness::{Asker, Naming};

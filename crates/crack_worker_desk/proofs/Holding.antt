@@ -1,4 +1,4 @@
--- A desk's calls are its worker's, and what is written holds of all that follows from its answers.
+-- A desk's calls are its worker's, and all that follows from its answers holds of the output.
 use Rattle.std.proofs.Common.{◌≡◌, ℕ, ◌+◌, List, [], ◌∷◌, ◌++◌, Option, refl, sym, ap, ◌∙◌, subst, inl, inr}
 use Rattle.crack_commands.specs.Grammar.{Reading}
 use Rattle.crack_session.specs.declared.answer.Answer.{Answer}

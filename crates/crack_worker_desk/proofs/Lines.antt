@@ -11,7 +11,7 @@ use Rattle.crack_worker_desk.specs.Histories.{IsGathered, AreOfHistories, AreLin
 use Rattle.crack_worker_desk.proofs.Holding.{witnessed_leads, audited_leads, IsStep, Lead, Lead-all, AreWritten-follows, AreWrittenThen-follows}
 use Rattle.crack_worker_desk.proofs.Standing.{stands}
 
--- what a call leads to with a book, it leads to without one
+-- a call that has an effect with a book has it without one
 pub without_book : (owner : ℕ → ℕ) (table : TableState) (may_refuse : ℕ → ℕ → Type 0) (old : AuditedState) (call : Call) (new : AuditedState) → audited_leads owner table may_refuse old call new → witnessed_leads owner table may_refuse old.asker call new.asker
 without_book owner table may_refuse old (Asked part command policy outcome) new led = led.asks
 without_book owner table may_refuse old (Checkpointed part outcome) new led = (led.0, ap (λ (a : AuditedState). a.asker) led.1)

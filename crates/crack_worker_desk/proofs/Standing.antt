@@ -33,7 +33,7 @@ either : {X : Type 0} (b : Bool) → (b ≡ true → X) → (b ≡ false → X) 
 either true so not = so refl
 either false so not = not refl
 
--- what a worker has of a history grows with what was seen
+-- the entries of a worker that were seen grow with the events that were seen
 grows : (owner : ℕ → ℕ) (part worker : ℕ) (xs ys : List Event) → IsPrefix xs ys → (more : List Entry) × (calls_at owner part worker ys ≡ calls_at owner part worker xs ++ more)
 grows owner part worker xs ys p = (
   calls_at owner part worker p.0,
@@ -73,7 +73,7 @@ module _ (owner : ℕ → ℕ) (table : TableState) (may : ℕ → ℕ → Type 
   answers-there part worker (Checkpointed p outcome ∷ calls) old new were some = answers-there part worker calls were.0 new were.2 some
   answers-there part worker (Looked p outcome ∷ calls) old new were some = answers-there part worker calls were.0 new were.2 some
 
-  -- what a partition answered is in what was seen of its history
+  -- the answers of a partition are in the part of its history that was seen
   pub answers-seen : (part : ℕ) (calls : List Call) (old new : AskerState) → Led old calls new → 0 < length (entries_at old.worker part calls) → 0 < length (calls_at owner part old.worker new.seen)
   answers-seen part [] old new were some = absurd (omega (arith, some))
   answers-seen part (Asked p command policy (Err e) ∷ calls) old new were some =
@@ -93,7 +93,7 @@ module _ (owner : ℕ → ℕ) (table : TableState) (may : ℕ → ℕ → Type 
   answers-seen part (Looked p outcome ∷ calls) old new were some =
       subst (λ (a : AskerState). 0 < length (calls_at owner part a.worker new.seen)) were.1.1 (answers-seen part calls were.0 new were.2 (subst (λ (a : AskerState). 0 < length (entries_at a.worker part calls)) (sym were.1.1) some))
 
-  -- how much a worker knows of a partition's entries: as after its last reply there
+  -- the entries of a partition that a worker knows: those seen after its last reply there
   abbrev pub at_front : ℕ → AskerState → List Entry
   at_front part a = calls_at owner part a.worker (slice_index_or a.fronts part [])
 
@@ -123,7 +123,7 @@ module _ (owner : ℕ → ℕ) (table : TableState) (may : ℕ → ℕ → Type 
   fronts-stay (Checkpointed p outcome ∷ calls) old new were = fronts-stay calls were.0 new were.2 ∙ ap (λ (a : AskerState). length a.fronts) were.1.1
   fronts-stay (Looked p outcome ∷ calls) old new were = fronts-stay calls were.0 new were.2 ∙ ap (λ (a : AskerState). length a.fronts) were.1.1
 
-  -- a worker's entries there are, after those before, exactly what it was answered
+  -- a worker's entries there are those before, and then exactly its answers
   pub fronts-go : (part : ℕ) (calls : List Call) (old new : AskerState) → Led old calls new → part < length old.fronts → at_front part new ≡ at_front part old ++ entries_at old.worker part calls
   fronts-go part [] old new were known = ap (at_front part) were ∙ sym (append-nil (at_front part old))
   fronts-go part (Asked p command policy (Ok reply) ∷ calls) old new were known =

@@ -1,4 +1,4 @@
--- What a session over a desk of a witnessed table wrote, once its worker is gathered.
+-- The output of a session over a desk of a witnessed table, once its worker is gathered.
 use Rattle.std.specs.Prelude.{◌≡◌, ℕ, ◌==◌, List, [], ◌∷◌, ◌++◌, map, All, Contains, Option, slice_index_or}
 use Rattle.std.specs.List.{filter}
 use Rattle.crack_row.specs.declared.Bound.{Bound}
@@ -26,22 +26,22 @@ IsGathered owner table parts asker = (askers : List AskerState) × Contains aske
 abbrev pub histories : (ℕ → ℕ) → List WitnessedState → List (List Entry)
 histories owner parts = map (λ (w : WitnessedState). history_of (owner w.part) w.log) parts
 
--- the entries of what a partition answered to these calls of a worker
+-- the entries of a partition's answers to these calls of a worker
 abbrev pub entries_at : ℕ → ℕ → List Call → List Entry
 entries_at worker part calls = map (λ (a : ℕ × Command × Reply). record { worker = worker; command = a.1; reply = a.2 }) (filter (λ (a : ℕ × Command × Reply). a.0 == part) (answered calls))
 
--- Each reply in the histories is the plain rows', and the answers to a worker's calls are there: in its partition's, each once and in
+-- Each reply in the histories is that of the plain rows, and the answers to a worker's calls are there: each once in its partition's history, in
 -- order, with no other entry of this worker between them.
 pub record StandIn (owner : ℕ → ℕ) (parts : List WitnessedState) (worker : ℕ) (calls : List Call) : Type 0 where
   pub legal : All (AreReplies no_rows) (histories owner parts)
   pub stand : (part : ℕ) → (before : List Entry) × (after : List Entry) × (calls_by worker (slice_index_or (histories owner parts) part []) ≡ before ++ entries_at worker part calls ++ after)
 
--- the answers to these statements are made of such calls: of each partition that a statement meets, what it answered is a reply in its history
+-- the answers to these statements are made of such calls: the answer of each partition that has a part of a statement is a reply in its history
 abbrev pub AreOfHistories : (ℕ → ℕ) → List WitnessedState → ℕ → List Bound → Policy → List Reading → List Answer → Type 0
 AreOfHistories owner parts worker splits policy readings answers = (calls : List Call) × StandIn owner parts worker calls × AreMadeOf splits policy readings answers calls
 
--- What sessions over a desk wrote whose worker is gathered later: the texts of answers that are made of replies in the histories. The desk is `old`
--- before a session, `new` after it, and `last` when its worker is gathered.
+-- The output of sessions over a desk whose worker is gathered later: the texts of answers that are made of replies in the histories. The desk is
+-- `old` before a session, `new` after it, and `last` when its worker is gathered.
 pub record AreLinesOfHistories {D : Type 0} (leads : D → Call → D → Type 0) (table : D → TableState) (asker : D → AskerState) (owner : ℕ → ℕ) (last : D) : Type 0 where
   pub written : (old new : D) (later : List Call) (parts : List WitnessedState) (policy : Policy) (readings : List Reading) (out : List ℕ) (short : Option ℕ) (whole : Option (List ℕ))
       → Calls leads new later last → IsGathered owner (table last) parts (asker last)

@@ -1,4 +1,4 @@
--- What calls of a worker's desk lead to.
+-- The effects of calls of a worker's desk.
 use Rattle.std.specs.Prelude.{◌≡◌, ℕ, List, [], ◌∷◌, Result, Ok}
 use Rattle.crack_row.specs.declared.command.Command.{Command}
 use Rattle.crack_row.specs.declared.command.Reply.{Reply}
@@ -8,7 +8,7 @@ use Rattle.crack_core.specs.declared.receipt.Receipt.{Receipt}
 use Rattle.crack_session.specs.Calls.{Call, Asked, Checkpointed, Looked}
 use Rattle.crack_table.specs.Tables.{TableState, AnswersAt, LooksAt}
 
--- what a call does to a worker that asks a table's partitions like this: nothing but a command changes the worker
+-- what a call does to a worker that asks a table's partitions in this way: only a command changes the worker
 abbrev pub table_leads : {W : Type 0} → TableState → (ℕ → Command → Result Reply Refusal → W → W → Type 0) → W → Call → W → Type 0
 table_leads table Asks old (Asked part command policy outcome) new = Asks part command outcome old new
 table_leads table Asks old (Checkpointed part outcome) new = AnswersAt table part (λ e. e ≡ OutOfMemory) outcome × (new ≡ old)

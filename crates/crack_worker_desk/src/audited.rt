@@ -40,7 +40,7 @@ impl<'a, R: Wait, G: Gate, J: Naming> AuditedDesk<'a, R, G, J> {
         }
     }
 
-    /// The worker, with what it has seen of the histories and its receipts. Takes no lock and no memory.
+    /// The worker, with the events that it has seen and its receipts. Takes no lock and no memory.
     pub fn into_worker(self) -> AuditedAsker<J>
         ensures { result ≡ self.entry.worker }
     {
@@ -80,7 +80,7 @@ impl<'a, R: Wait, G: Gate, J: Naming> Desk for AuditedDesk<'a, R, G, J> {
     }
 
     fn checkpoint(&mut self, part: u32) -> Result<u64, Refusal>
-        // A checkpoint of a partition of the table is made, for all workers, and its history stays whole.
+        // Makes a checkpoint of a partition of the table, for all workers; its history stays whole.
         ensures folds { AnswersAt self.old.table.now part (λ e. e ≡ Refusal.OutOfMemory) result }
         ensures worker { self.new.worker ≡ self.old.worker }
         ensures table { (self.new.table.now ≡ self.old.table.now) × (self.new.gate.now ≡ self.old.gate.now) }

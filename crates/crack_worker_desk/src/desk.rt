@@ -31,7 +31,7 @@ impl<'a, R: Wait, G: Gate> WorkerDesk<'a, R, G> {
         }
     }
 
-    /// The worker, with the receipts of all that was accepted. Takes no lock and no memory.
+    /// The worker, with the receipts of all accepted commands. Takes no lock and no memory.
     pub fn into_worker(self) -> Worker
         ensures { result ≡ self.entry.worker }
     {

@@ -1,4 +1,4 @@
-//! A worker's receipts are what was answered at its desk.
+//! A worker's receipts are the answers at its desk.
 ghost use Rattle.std.specs.Prelude.{◌≡◌, List, ◌++◌, map};
 ghost use Rattle.crack_core.specs.Receipts.{BookState};
 ghost use Rattle.crack_session.specs.Calls.{Call, Calls};
@@ -9,8 +9,8 @@ ghost use Rattle.crack_worker_desk.specs.Leads.{table_leads, answered, receipted
 use crack_table::Gate;
 use crack_witness::Naming;
 
-/// States that whatever calls are made at a worker's desk with this gate, its book gains receipts of exactly the
-/// commands that were answered, each with its partition and its reply, in their order. Does nothing.
+/// States that by any calls at a worker's desk with this gate its book gains receipts of exactly the commands that were
+/// answered, each with its partition and its reply, in their order. Does nothing.
 pub fn answers_are_receipts<G: Gate>(gate: &G)
     ensures { (table : TableState) (calls : List Call) (old new : BookState) →
         Calls (table_leads table (λ part. AsksTable table (G.may_refuse gate.now part) part)) old calls new →

@@ -41,8 +41,7 @@ impl<'a, R: Wait, G: Gate, J: Naming> WitnessedDesk<'a, R, G, J> {
         }
     }
 
-    /// The worker, with what it has seen of the histories and how many replies it was given. Takes no lock and no
-    /// memory.
+    /// The worker, with the events that it has seen and the number of its replies. Takes no lock and no memory.
     pub fn into_asker(self) -> Asker<J>
         ensures { result ≡ self.entry.asker }
     {
@@ -83,7 +82,7 @@ impl<'a, R: Wait, G: Gate, J: Naming> Desk for WitnessedDesk<'a, R, G, J> {
     }
 
     fn checkpoint(&mut self, part: u32) -> Result<u64, Refusal>
-        // A checkpoint of a partition of the table is made, for all workers, and its history stays whole.
+        // Makes a checkpoint of a partition of the table, for all workers; its history stays whole.
         ensures folds { AnswersAt self.old.table.now part (λ e. e ≡ Refusal.OutOfMemory) result }
         ensures asker { self.new.asker ≡ self.old.asker }
         ensures table { (self.new.table.now ≡ self.old.table.now) × (self.new.gate.now ≡ self.old.gate.now) }

@@ -1,4 +1,4 @@
-//! The program `crackd`: reads its command line, and does what it asks for.
+//! The program `crackd`: reads its command line, and runs the request.
 #![tactic(auto)]
 
 ghost use Rattle.crack_witness.specs.Witnesses.{AreNames};
@@ -23,7 +23,7 @@ use std::thread::Threads;
 use std::time::Duration;
 use std::{env, io, thread};
 
-/// What the command line asks for, and whether it asks for errors in words.
+/// The request of the command line, and whether errors are explained in words.
 fn request(rt: &HostRuntime) -> (Result<Request, ArgumentsError>, bool) {
     match words(rt) {
         Ok(words) => {
@@ -86,7 +86,7 @@ fn copy_csv(rt: &HostRuntime, core: &mut Core, policy: Policy) -> Result<(), Ref
     }
 }
 
-/// Lets workers serve the lines of standard input.
+/// Has workers serve the lines of standard input.
 fn batch<H: Threads + Wait + Sync>(
     handle: &H,
     rt: &HostRuntime,
@@ -109,7 +109,7 @@ fn batch<H: Threads + Wait + Sync>(
     )
 }
 
-/// Lets workers serve connections to a port.
+/// Has workers serve connections to a port.
 fn serve_port<H: Threads + Wait + Net<Listener = TcpListener, Stream = TcpStream> + Sync>(
     handle: &H,
     rt: &HostRuntime,
@@ -121,7 +121,7 @@ fn serve_port<H: Threads + Wait + Net<Listener = TcpListener, Stream = TcpStream
     serve_named::<Brand, H>(handle, rt, service, table)
 }
 
-/// Lets the workers of a table serve connections, once its book has its name. They keep receipts if an audit is asked
+/// Has the workers of a table serve connections, once its book has its name. They keep receipts if an audit is asked
 /// for.
 fn serve_named<
     J: Naming + Send + Sync,
@@ -237,7 +237,7 @@ fn listen<H: Net<Listener = TcpListener, Stream = TcpStream>, W: Write>(
     Ok(listener)
 }
 
-/// Reports the port that is listened on.
+/// Reports the port on which the server listens.
 fn announce<W: Write>(port: u16, writer: &mut W) -> Result<(), Refusal> {
     let line = writeln!(writer, "listening {port}");
     if line.is_err() || writer.flush().is_err() {
@@ -246,7 +246,7 @@ fn announce<W: Write>(port: u16, writer: &mut W) -> Result<(), Refusal> {
     Ok(())
 }
 
-/// Does what was asked for. The handle provides threads, waiting and sockets.
+/// Runs the request. The handle provides threads, waiting and sockets.
 fn run_request<H: Threads + Wait + Net<Listener = TcpListener, Stream = TcpStream> + Sync>(
     handle: &H,
     rt: &HostRuntime,

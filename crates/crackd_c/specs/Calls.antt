@@ -1,4 +1,4 @@
--- What calls from C mean.
+-- The meaning of calls from C.
 use Rattle.std.specs.Prelude.{◌≡◌, ◌⊎◌, ◌<◌, ◌≤◌, ℕ, ◌==◌, Bool, true, false, All, List, [], ◌∷◌, map, length, Option, None, Some, IsSome, MatchOption, Result, MatchResult, slice_get, slice_index_or, if◌then◌else◌}
 use Rattle.std.specs.List.{AllByRecursion}
 use Rattle.std.specs.Option.{option_map_or}
@@ -40,7 +40,7 @@ abbrev pub PiecesIn : List PieceSize → List ℕ → List ℕ → Type 0
 PiecesIn pieces lows sizes = (k : ℕ) (piece : PieceSize) → slice_get pieces k ≡ Some piece → k < length lows →
     (piece.low.0 ≤ GREATEST_KEY → slice_index_or lows k 0 ≡ piece.low.0) × (slice_index_or sizes k 0 ≡ piece.size)
 
--- what a call returns: 0, or the number of the refusal
+-- the return value of a call: 0, or the number of the refusal
 abbrev pub status_of : Option Refusal → ℕ
 status_of refusal = option_map_or code_of refusal 0
 
@@ -82,7 +82,8 @@ ByPolicy number Made old new status unwritten = (policy_at number ≡ None → D
 abbrev pub ComesOut : {X : Type 0} → (Limits → List Bound → Result X Refusal → List PlainView → List PlainView → Type 0) → (X → Type 0) → Handle → Handle → ℕ → Type 0 → Type 0
 ComesOut {X} Asks Writes old new status unwritten = StaysOpen old new × ((outcome : Result X Refusal) × Asks old.core.limits old.core.splits outcome (rows_of old.core) (rows_of new.core) × MatchResult outcome (λ x. (status ≡ 0) × Writes x) (λ e. (status ≡ code_of e) × unwritten))
 
--- the result of a list of this many calls on a table: its status is 0, or the number of the refusal at which it stopped, and this many were done
+-- the result of a list of this many calls on a table: its status is 0, or the number of the refusal at which it stopped, and this many calls were
+-- answered
 abbrev pub GoesOn : (Limits → List Bound → Call) → ℕ → ℕ → Handle → Handle → ℕ → Type 0 → Type 0
 GoesOn call count done old new status unwritten = StaysOpen old new × ((progress : Progress) × (status ≡ status_of progress.refusal) × (done ≡ progress.done) × Went (call old.core.limits old.core.splits) count (rows_of old.core) progress (rows_of new.core))
 
@@ -98,6 +99,6 @@ FoldsOne part folded old new status unwritten = StaysOpen old new × ((outcome :
 abbrev pub IsFresh : Handle → List ℕ → Limits → Type 0
 IsFresh handle splits limits = (handle.is_open ≡ true) × (handle.core.splits ≡ bounds_at splits) × (handle.core.limits ≡ limits) × All (λ (part : Part). part.past ≡ no_past) handle.core.parts × (opening_fault (bounds_at splits) limits ≡ None)
 
--- a table is opened with these splits and limits, without rows, or this is why not
+-- a table is opened with these splits and limits, without rows, or this is the reason why not
 abbrev pub OpensHandle : Handle → Handle → List ℕ → Limits → ℕ → Type 0
 OpensHandle old new splits limits status = (refusal : Option Refusal) × (status ≡ status_of refusal) × MatchOption refusal (IsFresh new splits limits) (λ e. (MayFault (bounds_at splits) limits e ⊎ (e ≡ OutOfMemory)) × (new ≡ old))

@@ -267,8 +267,8 @@ pub extern "C" fn crackd_select(
     }
 }
 
-/// Writes the layout of a partition: the totals, and the least key and the size of each piece, as far as the
-/// lists have room.
+/// Writes the layout of a partition: the totals, and the least key and the size of each piece, as far as there is room
+/// in the lists.
 #[unsafe(no_mangle)]
 pub extern "C" fn crackd_layout(
     handle: &mut Handle,

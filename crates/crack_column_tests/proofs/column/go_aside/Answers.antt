@@ -13,7 +13,7 @@ sum-requires g c =
     let of_aside : Agrees cells (first_aside c.set_aside.new.self).handle (first_aside c.set_aside.new.self).memory = rw c.set_aside.ensures c.memory-3.ensures in
     record { remembered = c.exchange.ensures.remembered cells set of_aside }
 
--- the row that comes aside stood at the first place, where what the column remembers is right
+-- the row that is set aside was at the first place, where the column remembers its row correctly
 pub sum-requires-2 : goal.sum-requires-2
 sum-requires-2 g c =
     let cells = c.put-3.new.arena.cells in

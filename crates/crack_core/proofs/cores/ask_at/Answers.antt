@@ -13,7 +13,7 @@ use Rattle.crack_core.proofs.StepLaws.{Gives, outcome-given, kept-given, small-g
 use Rattle.crack_core.proofs.ShortLaws.{may-lack}
 use Rattle.crack_core.proofs.cores.ask_at.Goals as goal
 
--- what the partition answered, and what is left of it
+-- the partition's answer, and the partition afterwards
 gives : (c : goal.After-without_receipt) → Gives c.apply-answered.result c.without_receipt.result
 gives c = record { ok = c.without_receipt.ensures.ok; err = c.without_receipt.ensures.err }
 

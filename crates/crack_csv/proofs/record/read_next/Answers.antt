@@ -8,7 +8,7 @@ use Rattle.crack_row.specs.declared.refusal.Refusal.{Refusal}
 use Rattle.crack_csv.specs.Inside.{unread_by}
 use Rattle.crack_csv.proofs.record.read_next.Goals as goal
 
--- what follows from a record that was read holds of what is answered
+-- what follows from a record that was read holds of the outcome
 found-from : {P Q : Bool → Type 0} (read : Result Bool Error) (result : Result Bool Refusal) → IfOk read (λ found. result ≡ Ok found) → IfErr read (λ error. result ≡ Err (unread_by (error_kind error))) → IfOk read P → ((found : Bool) → P found → Q found) → IfOk result Q
 found-from (Ok found) result ok err read follows = rw ok (follows found read)
 found-from (Err error) result ok err read follows = rw err tt

@@ -7,7 +7,7 @@ use Rattle.crack_index.proofs.WalkLemmas.{Walked, Walked-some, Walked-none, Near
 use Rattle.crack_index.proofs.walk.+lower_all.Goals as goal
 use Rattle.crack_index.proofs.walk.+lower_all.Goals.{in-Some+else-lower_all, in_default, in-Some-left, in-None, Joined-right}
 
--- what has become of the nearer side, once the walk came back from it
+-- the nearer side after the walk over it
 nearer : (g : _) (t : _) (c : Joined-right g t) (number : ℕ) → All (λ m. m.bound.0 ≤ number) c.args.node.now.marks → Walked (StepsDown g.V.Visitor.visits number) reverse c.node.inside.right c.match-right.node-inside.1.1.1.1.0 c.args.way.now c.match-right.way' c.args.visitor.now c.match-right.visitor
 nearer g t c number all =
     elim c.match-right.branch [

@@ -55,7 +55,7 @@ returns-then-lower_along-clause-goes g t c =
     let near = (Walked-some (StepsDown g.V.Visitor.visits c.args.number) reverse c.node.inside.right c.in-Some-right.right c.deref_mut-in-Some-right.result.now c.lower_along-in-Some-right.new.node c.args.way.now c.lower_along-in-Some-right.new.way c.args.visitor.now c.lower_along-in-Some-right.new.visitor c.in-Some-right.is c.deref_mut-in-Some-right.ensures.value c.lower_along-in-Some-right.ensures.goes c.lower_along-in-Some-right.ensures.height) in
     rw (← ap (λ (n : Grown). n.marks) c.node.view_is) (down-near g.V.Visitor.visits c.args.number c.node.inside.left c.node.inside.left c.node.inside.mark c.node.inside.mark c.node.inside.right _ c.args.way.now c.lower_along-in-Some-right.new.way c.args.visitor.now c.lower_along-in-Some-right.new.visitor near (sym c.lower_along-in-Some-right.ensures.ended ∙ c.if-lower_along.true))
 
--- what has become of the nearer side, once the walk came back from it
+-- the nearer side after the walk over it
 nearer : (g : _) (t : _) (c : Joined-right g t) → Walked (StepsDown g.V.Visitor.visits c.args.number) reverse c.node.inside.right c.match-right.node-inside.1.1.1.1.0 c.args.way.now c.match-right.way' c.args.visitor.now c.match-right.visitor
 nearer g t c =
     elim c.match-right.branch [

@@ -7,7 +7,7 @@ use Rattle.crack_index.proofs.WalkLemmas.{Walked, Walked-some, Walked-none, Near
 use Rattle.crack_index.proofs.walk.+raise_all.Goals as goal
 use Rattle.crack_index.proofs.walk.+raise_all.Goals.{in-Some+else-raise_all, in_default, in-Some-right, in-None, Joined-left}
 
--- what has become of the nearer side, once the walk came back from it
+-- the nearer side after the walk over it
 nearer : (g : _) (t : _) (c : Joined-left g t) (number : ℕ) → All (λ m. number < m.bound.0) c.args.node.now.marks → Walked (StepsUp g.V.Visitor.visits number) ahead c.node.inside.left c.match-left.node-inside.1.1.1.0 c.args.way.now c.match-left.way' c.args.visitor.now c.match-left.visitor
 nearer g t c number all =
     elim c.match-left.branch [

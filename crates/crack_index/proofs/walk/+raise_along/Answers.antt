@@ -55,7 +55,7 @@ returns-then-raise_along-clause-goes g t c =
     let near = (Walked-some (StepsUp g.V.Visitor.visits c.args.number) ahead c.node.inside.left c.in-Some-left.left c.deref_mut-in-Some-left.result.now c.raise_along-in-Some-left.new.node c.args.way.now c.raise_along-in-Some-left.new.way c.args.visitor.now c.raise_along-in-Some-left.new.visitor c.in-Some-left.is c.deref_mut-in-Some-left.ensures.value c.raise_along-in-Some-left.ensures.goes c.raise_along-in-Some-left.ensures.height) in
     rw (← ap (λ (n : Grown). n.marks) c.node.view_is) (up-near g.V.Visitor.visits c.args.number c.node.inside.left _ c.node.inside.mark c.node.inside.mark c.node.inside.right c.node.inside.right c.args.way.now c.raise_along-in-Some-left.new.way c.args.visitor.now c.raise_along-in-Some-left.new.visitor near (sym c.raise_along-in-Some-left.ensures.ended ∙ c.if-raise_along.true))
 
--- what has become of the nearer side, once the walk came back from it
+-- the nearer side after the walk over it
 nearer : (g : _) (t : _) (c : Joined-left g t) → Walked (StepsUp g.V.Visitor.visits c.args.number) ahead c.node.inside.left c.match-left.node-inside.1.1.1.0 c.args.way.now c.match-left.way' c.args.visitor.now c.match-left.visitor
 nearer g t c =
     elim c.match-left.branch [

@@ -26,7 +26,7 @@ insertions-init c =
       room = record { column = room.column; pending_in = room.pending_in };
     })
 
--- the row in hand has come as far as to the rule that ends its carry
+-- the carry of the row in hand has reached the rule that ends it
 arrives : (c : After-facts) → Arrives (ceiling_of c.args.ceiling) c.args.range c.args.store c.insertions.from c.carry-rule.result c.carry-rule.new.carrying
 arrives c =
     Arrives-ended (ceiling_of c.args.ceiling) c.args.range c.requires c.args.store c.insertions.from c.insertions.carrying c.carry-rule.new.carrying c.carry-rule.result c.insertions.invariant c.carry-rule.ensures.carries c.facts.ensures c.carry-rule.ensures.evicts

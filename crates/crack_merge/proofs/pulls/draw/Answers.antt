@@ -25,7 +25,7 @@ stands_before c place doomed before intact ahead = elim ahead [
   | inr at ↦ (at.0, hand_isnt c place doomed intact at.0)
 ]
 
--- what the comparison of two handles says
+-- what the comparison of two handles implies
 same_handle-true : (h g : Handle) → same_handle h g ≡ true → h ≡ g
 same_handle-true h g is =
     let both = and_parts (h.slot == g.slot) (h.generation == g.generation) is in
@@ -49,7 +49,7 @@ returns-in_default-clause-hand c = rw c.find.ensures.same (hand_absent c.args.ca
 pub returns-in_default-clause-pending_out : goal.returns-in_default-clause-pending_out
 returns-in_default-clause-pending_out c = rw c.find.ensures.same refl
 
--- pulls that come to a row whose piece doesn't begin after the place
+-- pulls that reach a row whose piece doesn't begin after the place
 record IsPulled (doomed : Handle) (place : ℕ) (c e : Carried) : Type 0 where
   pub same : e.store.pending_out ≡ c.store.pending_out
   pub ahead : IsAhead e place doomed
@@ -63,11 +63,11 @@ pulled doomed place c e (PullsBack.pulls d f before rest) intact ahead =
     let on = pulled doomed place (pulled_back d) f rest kept (IsAhead-pulled_back d place doomed before intact kept ahead) in
     record { same = on.same; ahead = on.ahead; pulls = λ t more. draws d place t at.1 at.0 before (on.pulls t more) }
 
--- those of a pull whose doomed row was found
+-- the steps of a pull whose doomed row was found
 pulled_from : (doomed : Handle) (place : ℕ) (c d e : Carried) → d ≡ c → PullsBack place d e → IsIntact c.store (c.hand ∷ []) → IsFirstAt c.store.column doomed place → ((k : ℕ) → StandsAt c.store.column k doomed → k < piece_end c.store (hand_key c)) → IsPulled doomed place c e
 pulled_from doomed place c d e same drawn intact first ahead = pulled doomed place c e (rw same at drawn) intact (inr (first.here, ahead place first.here))
 
--- the hand has come to the doomed row's piece
+-- the hand has reached the doomed row's piece
 way : (c : After-pull_down) → IsPulled c.args.doomed c.in-Some.place c.args.carrying.now c.pull_down.new.self
 way c = pulled_from c.args.doomed c.in-Some.place c.args.carrying.now c.find.new.self c.pull_down.new.self c.find.ensures.same c.pull_down.ensures.pulls c.facts.ensures c.in-Some.ensures.value c.requires.ahead
 

@@ -6,7 +6,7 @@ use Rattle.crack_pending.specs.Keeps.{HasRow}
 use Rattle.crack_pending.specs.Passed.{IsPassed}
 use Rattle.crack_pending.proofs.taking.take_candidates.Given as goal
 
--- those of the candidates that were passed and are in the range are taken, and the others stand as they did
+-- those of the candidates that were passed and are in the range are taken, and the others are unchanged
 abbrev pub invariant-candidates : goal.invariant-candidates
 invariant-candidates l = record {
   passed : IsPassed l.arena.cells l.range l.handles l.remembered l.initial.stands.items l.stands.items l.codes l.initial.taken.items l.taken.items l.known.items l.from l.count 0;

@@ -9,7 +9,7 @@ use Rattle.crack_pending.specs.Pending.{rows_inside, rows_outside}
 use Rattle.crack_pending.specs.Spots.{kept}
 use Rattle.crack_pending.proofs.taking.take_hits.Given as goal
 
--- those of the range that were passed are taken, and the others stand as they did
+-- those of the range that were passed are taken, and the others are unchanged
 abbrev pub invariant-hits : goal.invariant-hits
 invariant-hits l = record {
   within : l.start ≤ length l.handles;

@@ -10,7 +10,7 @@ use Rattle.crack_worker_desk.proofs.Holding.{worker_leads, IsStep, Lead-all, Are
 use Rattle.crack_server.proofs.batch.serve_share.Goals as goal
 use Rattle.crack_server.proofs.batch.serve_share.Goals.{in-Ok, in-Err+in-WriteFault, in-Err+in_default}
 
--- what is written over a worker's desk, stated for the worker
+-- the output of a session over a worker's desk, stated for the worker
 share_written : {D G S : Type 0} (stands : TableState → G → S → Call → S → Type 0) (leads : D → Call → D → Type 0) (table : D → TableState) (gate : D → G) (worker : D → S) → IsStep stands leads table gate worker
     → (policy : Policy) (old new : D) (bytes written : List ℕ) (short : Option ℕ) (known out out' : Option (List ℕ)) (t : TableState) (g : G) (w w' : S) → table old ≡ t → gate old ≡ g → worker old ≡ w → worker new ≡ w'
     → known ≡ Some bytes → out ≡ Some [] → out' ≡ Some written

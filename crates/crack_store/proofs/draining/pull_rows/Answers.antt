@@ -10,7 +10,7 @@ use Rattle.crack_store.proofs.DrainLemmas.{IsPulled, pulled-whole, buried-length
 use Rattle.crack_store.proofs.draining.pull_rows.Goals as goal
 use Rattle.crack_store.proofs.draining.pull_rows.Goals.{After-drain_last}
 
--- what the walk leaves
+-- the store after the walk
 done : (c : After-drain_last) → IsPulled (lists_of c.args.inside.now) c.args.doomed.items c.requires.intact.intact c.requires.doomed c.place_each.new.self.marks c.drain_last.new.drain
 done c =
     let p = c.args.inside.now in

@@ -61,7 +61,7 @@ sift_below-column-requires-clause-small c = λ k d h.
     let intact = c.requires.intact.intact in
     omega (arith, positions_within (lists_of p) [] intact k d h, c.exchange_rows-count.ensures.count, inside-few p.arena.cells c.args.range p.pending_in.handles, cells-intact (lists_of p) [] intact, intact.few_cells)
 
--- what the walks leave
+-- the store after the walks
 done : (c : After-saturating_add-inside-3) → IsWalked c.args.range (lists_of c.args.inside.now) c.sift_below-column.ensures.sifts.low c.args.edge c.sift_below-column.ensures.sifts.high c.requires.intact.intact c.sift_below-column.ensures.sifts.before c.requires.none c.requires.high c.sift_below-column.ensures.sifts.low' c.sift_below-column.result
 done c =
     let p = c.args.inside.now in

@@ -9,7 +9,7 @@ use Rattle.crack_store.proofs.ExchangeLemmas.{got, set_parts}
 use Rattle.crack_store.proofs.evicting.put_at.Goals as goal
 use Rattle.crack_store.proofs.evicting.put_at.Goals.{After-swap_in_remembered-evicted}
 
--- the row that stands at the place
+-- the row at the place
 stood : (c : After-swap_in_remembered-evicted) → drop c.args.place c.args.column.now.handles ≡ c.swap_in_remembered-evicted.result.0 ∷ drop (c.args.place + 1) c.args.column.now.handles
 stood c = got c.args.column.now.handles c.args.place c.swap_in_remembered-evicted.result.0 c.swap_in_remembered-evicted.ensures.handle
 

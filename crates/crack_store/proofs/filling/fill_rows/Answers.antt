@@ -21,7 +21,7 @@ use Rattle.crack_store.proofs.FillLemmas.{IsBelow, below-whole}
 use Rattle.crack_store.proofs.filling.fill_rows.Goals as goal
 use Rattle.crack_store.proofs.filling.fill_rows.Goals.{After-place_each, After-put_fillers}
 
--- what the walk leaves
+-- the store after the walk
 done : (c : After-place_each) → IsBelow (lists_of c.args.inside.now) c.args.doomed.items c.args.fillers c.args.edge c.requires.intact.intact c.requires.can c.place_each.new.self.marks c.place_each.new.visitor.drain
 done c =
     let p = c.args.inside.now in

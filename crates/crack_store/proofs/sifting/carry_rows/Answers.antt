@@ -15,7 +15,7 @@ came c =
     let p = c.args.inside.now in
     omega (arith, ap length c.take_rows.ensures.handles, length-append p.column.handles (inside_of p.arena.cells c.args.range p.pending_in.handles), c.len-from.ensures.value, c.len-to.ensures.value)
 
--- what the walk leaves
+-- the store after the walk
 done : (c : After-saturating_add-inside) → IsSifted c.args.range (lists_of c.args.inside.now) c.requires.intact.intact c.raise_each.new.self.marks c.raise_each.new.visitor
 done c =
     let p = c.args.inside.now in

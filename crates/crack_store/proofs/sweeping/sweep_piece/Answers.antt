@@ -11,7 +11,7 @@ use Rattle.crack_store.proofs.SweepLemmas.{IsOn-start, IsOn-by, IsOn-turn, IsOn-
 use Rattle.crack_store.proofs.sweeping.sweep_piece.Goals.{then-not-turns, else-not-turns+then-front-end, else-not-turns+else-front-end}
 use Rattle.crack_store.proofs.sweeping.sweep_piece.Goals as goal
 
--- a truth as a number
+-- a flag as a number
 counts-as : (b : Bool) → bool_byte b ≡ cond {A = ℕ} b 1 0
 counts-as true = refl
 counts-as false = refl

@@ -13,7 +13,7 @@ use Rattle.crack_store.proofs.SweepWalks.{IsDone, ready-begins, done-of, take-do
 use Rattle.crack_store.proofs.sweeping.sweep_rows.Goals as goal
 use Rattle.crack_store.proofs.sweeping.sweep_rows.Goals.{After-sweep_last, After-deref}
 
--- what the walk leaves
+-- the store after the walk
 done : (c : After-sweep_last) → IsDone c.args.range (lists_of c.args.inside.now) c.requires.intact.intact c.place_each.new.self.marks c.sweep_last.new.sweep
 done c =
     let p = c.args.inside.now in

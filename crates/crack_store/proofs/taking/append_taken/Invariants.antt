@@ -2,7 +2,7 @@ use Rattle.std.proofs.Common.{◌≡◌, ◌+◌, ◌≤◌, ◌++◌, length, t
 use Rattle.crack_column.specs.Column.{Remembers, memory_at}
 use Rattle.crack_store.proofs.taking.append_taken.Given as goal
 
--- those that were passed stand after the others in the column, and are remembered
+-- those that were passed are after the others in the column, and are remembered
 abbrev pub invariant-rows : goal.invariant-rows
 invariant-rows l = record {
   handles : l.column.handles ≡ l.initial.column.handles ++ take l.i l.rows;

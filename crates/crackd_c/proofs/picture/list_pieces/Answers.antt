@@ -5,7 +5,7 @@ use Rattle.std.proofs.lemmas.Option.{slice_get_within}
 use Rattle.crackd_c.proofs.PieceLaws.{stands-more}
 use Rattle.crackd_c.proofs.picture.list_pieces.Goals as goal
 
--- what is read past the end of a list of pieces
+-- the default past the end of a list of pieces
 abbrev no_piece : PieceSize
 no_piece = record { low = record { 0 = 0 }; high = record { 0 = 0 }; size = 0 }
 

@@ -7,7 +7,7 @@ use Rattle.crack_store.proofs.UnderLemmas.{KeepsIntact-roomier, none_left, carri
 use Rattle.crack_store.proofs.store.Store.carry_under.Goals as goal
 use Rattle.crack_store.proofs.store.Store.carry_under.Goals.{After-most_in-most}
 
--- all is kept where rows were counted
+-- the invariant holds after rows were counted
 kept : (c : After-most_in-most) → KeepsIntact c.most_in-most.new.inside []
 kept c = rw c.most_in-most.ensures.same c.self.invariant
 

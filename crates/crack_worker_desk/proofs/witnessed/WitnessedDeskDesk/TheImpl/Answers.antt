@@ -1,4 +1,4 @@
--- A desk's clauses about a known table say nothing here: the table isn't known.
+-- A desk's clauses about a known table are empty here: the table isn't known.
 use Rattle.std.proofs.Common.{◌≡◌, Some, None, is_some, ap, refl}
 use Rattle.std.proofs.lemmas.Bool.{false≢true}
 use Rattle.crack_core.specs.Steps.{bounds_of}

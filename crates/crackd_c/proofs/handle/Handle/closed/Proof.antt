@@ -45,7 +45,7 @@ stayed = tt
 abbrev typed : T (has_ty ty_ptr vnull) × WT vnull
 typed = (tt, record { fits = omega arith })
 
--- what a handle without a table says of one
+-- what a handle without a table implies
 nobody : CoreState
 nobody = record { splits = []; limits = record { history = 0; cells = 0; life = 0; upkeep = OnRequest }; parts = [] }
 
