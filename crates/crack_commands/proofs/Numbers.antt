@@ -5,8 +5,8 @@ use Rattle.std.proofs.lemmas.List.{take_more, take_all}
 use Rattle.std.proofs.Math.Nat.{pow-suc, pow-le-pow_right}
 use Rattle.std.specs.List.{list_all}
 use Rattle.std.specs.Option.{option_map}
-use Rattle.crack_commands.specs.Grammar.{words, is_word, is_digit, number_of, whole_number_of, has_sign}
-use Rattle.crack_commands.specs.Inside.{value_on, has_space, IsFirstWord, IsFirstNumber, IsFirstWholeNumber, BeginsWithDigits, BeginsWithWhole}
+use Rattle.crack_commands.specs.Grammar.{words, is_digit, number_of, whole_number_of}
+use Rattle.crack_commands.specs.Inside.{is_word, has_sign, value_on, has_space, IsFirstWord, IsFirstNumber, IsFirstWholeNumber, BeginsWithDigits, BeginsWithWhole}
 use Rattle.crack_commands.proofs.Splitting.{is_word_some, first_word}
 
 -- one more digit

@@ -6,8 +6,8 @@ use Rattle.std.proofs.Math.Seq.{drop-nil}
 use Rattle.std.proofs.lemmas.List.Sums.{position_or_len_is}
 use Rattle.std.specs.Prelude.{slice_index_or}
 use Rattle.std.specs.List.{slice_split, position_or_len}
-use Rattle.crack_commands.specs.Grammar.{words, is_word, named, statement_of}
-use Rattle.crack_commands.specs.Inside.{has_space, IsFirstWord}
+use Rattle.crack_commands.specs.Grammar.{words, named, statement_of}
+use Rattle.crack_commands.specs.Inside.{is_word, has_space, IsFirstWord}
 
 -- a space more at the front
 pub words_space : (xs : List ℕ) (i : ℕ) → i < length xs → get_or xs i 0 ≡ 32 → words (drop i xs) ≡ words xs → words (drop (i + 1) xs) ≡ words xs

@@ -1,5 +1,5 @@
 -- The statements.
-use Rattle.std.specs.Prelude.{ℕ, ◌+◌, ◌-◌, ◌*◌, ℤ, pos, neg_ℤ, int_le, Bool, true, false, List, [], ◌∷◌, length, drop, fold, filter, Option, None, Some, Result, Ok, Err, ◌==◌, ◌&&◌, nat_lt, nat_le, if◌then◌else◌, codes, slice_index_or}
+use Rattle.std.specs.Prelude.{ℕ, ◌+◌, ◌-◌, ◌*◌, ℤ, pos, neg_ℤ, int_le, Bool, true, false, List, [], ◌∷◌, length, drop, fold, filter, Option, None, Some, Result, Ok, Err, ◌==◌, ◌&&◌, not, nat_lt, nat_le, if◌then◌else◌, codes, slice_index, slice_index_or}
 use Rattle.std.specs.Str.{bytes_eq}
 use Rattle.std.specs.List.{list_all, slice_split, before_first, after_first}
 use Rattle.std.specs.Option.{option_zip, option_and_then, option_map, ok_or}
@@ -20,14 +20,9 @@ use Rattle.crack_commands.specs.declared.statement.Statement.TheVariants.{Insert
 abbrev pub Reading : Type 0
 Reading = Result Statement Refusal
 
--- whether it is a word, which has a byte
-abbrev pub is_word : List ℕ → Bool
-is_word [] = false
-is_word (b ∷ bs) = true
-
 -- the words: what is between spaces and isn't empty
 abbrev pub words : List ℕ → List (List ℕ)
-words line = filter is_word (slice_split (λ b. b == 32) line)
+words line = filter (λ word. not (bytes_eq word [])) (slice_split (λ b. b == 32) line)
 
 -- whether the byte is a decimal digit
 abbrev pub is_digit : ℕ → Bool
@@ -35,16 +30,11 @@ is_digit b = nat_le 48 b && nat_lt b 58
 
 -- a NUMBER: 1 to MOST_DIGITS decimal digits, leading zeros included
 abbrev pub number_of : List ℕ → Option ℕ
-number_of word = if is_word word && nat_le (length word) MOST_DIGITS && list_all is_digit word then Some (fold (λ n b. n * 10 + (b - 48)) 0 word) else None
-
--- whether a minus sign is at the front
-abbrev pub has_sign : List ℕ → Bool
-has_sign [] = false
-has_sign (b ∷ bs) = b == 45
+number_of word = if not (bytes_eq word []) && nat_le (length word) MOST_DIGITS && list_all is_digit word then Some (fold (λ n b. n * 10 + (b - 48)) 0 word) else None
 
 -- an integer: a NUMBER, with or without a minus sign directly before it
 abbrev pub whole_number_of : List ℕ → Option ℤ
-whole_number_of word = if has_sign word then option_map (λ n. neg_ℤ (pos n)) (number_of (drop 1 word)) else option_map pos (number_of word)
+whole_number_of word = if slice_index word 0 == 45 then option_map (λ n. neg_ℤ (pos n)) (number_of (drop 1 word)) else option_map pos (number_of word)
 
 -- the two NUMBERs that these words are, if they are exactly that
 abbrev pub two_numbers : List (List ℕ) → Option (ℕ × ℕ)

@@ -1,8 +1,10 @@
 -- What private clauses alone cite.
-use Rattle.std.specs.Prelude.{◌≡◌, ℕ, ◌+◌, ◌-◌, ◌*◌, ◌<◌, ◌≤◌, ℤ, int_le, fold, Bool, true, false, List, [], ◌∷◌, ◌++◌, length, take, drop, Option, Some, None, Result, Ok, Err, nat_le, nat_lt, slice_index, ◌==◌, ◌||◌, ◌&&◌, slice_index_or, codes, decimal, if◌then◌else◌}
+use Rattle.std.specs.Prelude.{◌≡◌, ℕ, ◌+◌, ◌-◌, ◌*◌, ◌<◌, ◌≤◌, ℤ, int_le, fold, Bool, true, false, List, [], ◌∷◌, ◌++◌, length, take, drop, Option, Some, None, Result, Ok, Err, nat_le, nat_lt, slice_index, not, ◌==◌, ◌||◌, ◌&&◌, slice_index_or, codes, decimal, if◌then◌else◌}
 use Rattle.std.specs.Option.{option_map, option_zip}
 use Rattle.std.specs.List.{flat_map, list_all}
 use Rattle.std.specs.Int.{bit_at}
+use Rattle.std.specs.Fmt.{signed_decimal}
+use Rattle.std.specs.Str.{bytes_eq}
 use Rattle.crack_row.specs.declared.Key.{Key}
 use Rattle.crack_row.specs.declared.Payload.{Payload}
 use Rattle.crack_row.specs.declared.Row.{Row}
@@ -15,15 +17,23 @@ use Rattle.crack_row.specs.declared.refusal.Refusal.{Refusal}
 use Rattle.crack_row.specs.declared.refusal.Refusal.TheVariants.{BadStatement, BadRange}
 use Rattle.crack_commands.specs.declared.words.TheConstants.{GREATEST_PART}
 use Rattle.crack_commands.specs.declared.statement.Statement.TheVariants.{Insert, Delete, Update, Layout as AsksLayout, Checkpoint, Policy, Quit}
-use Rattle.crack_commands.specs.Grammar.{Reading, is_word, words, is_digit, number_of, whole_number_of, number_up_to, row_number_of, key_and_payload, only_word, policy_named, made}
-use Rattle.crack_commands.specs.Texts.{key_text, payload_text, head_text, row_text, field_text}
+use Rattle.crack_commands.specs.Grammar.{Reading, words, is_digit, number_of, whole_number_of, number_up_to, row_number_of, key_and_payload, only_word, policy_named, made}
+use Rattle.crack_commands.specs.Texts.{line_text, row_text, field_text}
 
 -- whether there is a space
 abbrev pub has_space : List ℕ → Bool
 has_space [] = false
 has_space (b ∷ bs) = b == 32 || has_space bs
 
--- the first word, and what follows it; an empty word if there is none
+-- whether it is a word: it has a byte
+abbrev pub is_word : List ℕ → Bool
+is_word word = not (bytes_eq word [])
+
+-- whether a minus sign is at the front
+abbrev pub has_sign : List ℕ → Bool
+has_sign word = slice_index word 0 == 45
+
+-- the first of the words, and what follows it: an empty word if there is none
 pub record IsFirstWord (bytes word rest : List ℕ) : Type 0 where
   pub some : is_word word ≡ true → words bytes ≡ word ∷ words rest
   pub none : is_word word ≡ false → (words bytes ≡ []) × (words rest ≡ [])
@@ -66,11 +76,11 @@ placed_text part serial = codes "row " ++ decimal part ++ codes "." ++ decimal s
 
 -- a row that was removed
 abbrev pub gone_text : Row → List ℕ
-gone_text row = codes "gone " ++ key_text row.key ++ codes " " ++ payload_text row.payload ++ codes "\n"
+gone_text row = codes "gone " ++ decimal row.key.0 ++ codes " " ++ signed_decimal row.payload.0 ++ codes "\n"
 
 -- rows of a partition: how many there are, and then each of them
 abbrev pub rows_text : ℕ → List Row → List ℕ
-rows_text part rows = head_text (length rows) ++ flat_map (row_text part) rows
+rows_text part rows = line_text (codes "rows ") (decimal (length rows)) ++ flat_map (row_text part) rows
 
 -- two names, each with its number after it
 abbrev pub two_fields : List ℕ → ℕ → List ℕ → ℕ → List ℕ

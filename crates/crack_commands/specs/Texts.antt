@@ -1,12 +1,9 @@
 -- The texts of replies, layouts and refusals, in lines.
-use Rattle.std.specs.Prelude.{◌≡◌, ℕ, ℤ, ◌<◌, ◌==◌, true, List, [], ◌++◌, length, take, filter, Option, Result, OnOk, IfErr, codes, decimal}
+use Rattle.std.specs.Prelude.{◌≡◌, ℕ, ◌<◌, ◌==◌, true, List, [], ◌++◌, length, take, filter, Option, Result, OnOk, IfErr, codes, decimal}
 use Rattle.std.specs.List.{flat_map, range_with_len}
 use Rattle.std.specs.Int.{bit_at}
 use Rattle.std.specs.Fmt.{signed_decimal}
 use Rattle.std.specs.Io.KnownBytes.{Appends}
-use Rattle.crack_row.specs.declared.Bound.{Bound}
-use Rattle.crack_row.specs.declared.Key.{Key}
-use Rattle.crack_row.specs.declared.Payload.{Payload}
 use Rattle.crack_row.specs.declared.Row.{Row}
 use Rattle.crack_row.specs.declared.command.Policy.{Policy}
 use Rattle.crack_row.specs.declared.command.Policy.TheVariants.{Complete, Gradual, Ripple, Auto}
@@ -19,49 +16,28 @@ use Rattle.crack_row.specs.declared.watched.Watched.{Watched}
 use Rattle.crack_row.specs.declared.refusal.Refusal.TheVariants.{WriteFault, HistoryFull, WorkersMissing, StrangeReceipt, BadRecord}
 use Rattle.crack_row.specs.Devices.{device, has_failed}
 use Rattle.crack_row.specs.Refusals.{code_of}
-use Rattle.crack_row.specs.Rows.{amount}
 
--- a key
-abbrev pub key_text : Key → List ℕ
-key_text key = decimal key.0
-
--- a payload: its digits, with a minus sign before them if it is below 0
-abbrev pub payload_text : Payload → List ℕ
-payload_text payload = signed_decimal (amount payload)
-
--- an end of a range
-abbrev pub bound_text : Bound → List ℕ
-bound_text bound = decimal bound.0
-
--- a number of rows
-abbrev pub count_text : ℕ → List ℕ
-count_text count = codes "count " ++ decimal count ++ codes "\n"
-
--- a sum of payloads
-abbrev pub sum_text : ℤ → List ℕ
-sum_text sum = codes "sum " ++ signed_decimal sum ++ codes "\n"
-
--- the line above rows: how many there are
-abbrev pub head_text : ℕ → List ℕ
-head_text total = codes "rows " ++ decimal total ++ codes "\n"
+-- the line of one value: its name, and the value
+abbrev pub line_text : List ℕ → List ℕ → List ℕ
+line_text name value = name ++ value ++ codes "\n"
 
 -- a row of a partition
 abbrev pub row_text : ℕ → Row → List ℕ
-row_text part row = decimal part ++ codes "." ++ decimal row.serial.0 ++ codes " " ++ key_text row.key ++ codes " " ++ payload_text row.payload ++ codes "\n"
+row_text part row = decimal part ++ codes "." ++ decimal row.serial.0 ++ codes " " ++ decimal row.key.0 ++ codes " " ++ signed_decimal row.payload.0 ++ codes "\n"
 
 -- the reply of a partition
 abbrev pub reply_text : ℕ → Reply → List ℕ
 reply_text part (Placed serial) = codes "row " ++ decimal part ++ codes "." ++ decimal serial.0 ++ codes "\n"
-reply_text part (Gone row) = codes "gone " ++ key_text row.key ++ codes " " ++ payload_text row.payload ++ codes "\n"
+reply_text part (Gone row) = codes "gone " ++ decimal row.key.0 ++ codes " " ++ signed_decimal row.payload.0 ++ codes "\n"
 reply_text part Changed = codes "changed\n"
 reply_text part NoRow = codes "none\n"
-reply_text part (Counted count) = count_text count
-reply_text part (Summed sum) = sum_text sum
-reply_text part (Rows rows) = head_text (length rows) ++ flat_map (row_text part) rows
+reply_text part (Counted count) = line_text (codes "count ") (decimal count)
+reply_text part (Summed sum) = line_text (codes "sum ") (signed_decimal sum)
+reply_text part (Rows rows) = line_text (codes "rows ") (decimal (length rows)) ++ flat_map (row_text part) rows
 
 -- a piece of a column
 abbrev pub piece_text : PieceSize → List ℕ
-piece_text piece = codes "piece " ++ bound_text piece.low ++ codes " " ++ bound_text piece.high ++ codes " " ++ decimal piece.size ++ codes "\n"
+piece_text piece = codes "piece " ++ decimal piece.low.0 ++ codes " " ++ decimal piece.high.0 ++ codes " " ++ decimal piece.size ++ codes "\n"
 
 -- the layout of a partition: its numbers, and a line for each piece
 abbrev pub layout_text : ℕ → Layout → List ℕ
@@ -71,10 +47,6 @@ layout_text part layout = (
     ++ (codes " in " ++ decimal layout.pending_in ++ codes " cells " ++ decimal layout.cells)
     ++ (codes " free " ++ decimal layout.free ++ codes " pieces " ++ decimal (length layout.pieces)) ++ codes "\n"
     ) ++ flat_map piece_text layout.pieces
-
--- the answer to `checkpoint P`: how many entries were checkpointed
-abbrev pub folded_text : ℕ → List ℕ
-folded_text folded = codes "folded " ++ decimal folded ++ codes "\n"
 
 -- the answer to `policy NAME`
 abbrev pub policy_text : Policy → List ℕ

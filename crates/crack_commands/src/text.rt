@@ -2,8 +2,7 @@
 ghost use Rattle.std.specs.Prelude.{◌≡◌, ◌+◌, ◌<◌, ◌≤◌, ◌++◌, length, decimal, codes};
 ghost use Rattle.std.specs.List.{flat_map};
 ghost use Rattle.std.specs.Fmt.{signed_decimal};
-ghost use Rattle.crack_commands.specs.Texts.{key_text, payload_text, bound_text, reply_text, count_text, sum_text};
-ghost use Rattle.crack_commands.specs.Texts.{head_text, row_text, layout_text, piece_text, folded_text, policy_text};
+ghost use Rattle.crack_commands.specs.Texts.{line_text, reply_text, row_text, layout_text, piece_text, policy_text};
 ghost use Rattle.crack_commands.specs.Texts.{refusal_text, field_text, bits_text, Writes};
 ghost use Rattle.crack_commands.specs.Inside.{placed_text, gone_text, rows_text, layout_head, two_fields, refused_text};
 ghost use Rattle.crack_commands.specs.Inside.{has_bit, bit_text};
@@ -95,7 +94,7 @@ fn write_gone<W: Write>(row: &Row, writer: &mut Watched<W>) -> Result<(), Refusa
 
 /// Writes the line of a count.
 pub fn write_count<W: Write>(count: u64, writer: &mut Watched<W>) -> Result<(), Refusal>
-    ensures { Writes W.contents (count_text count) result writer.old writer.new }
+    ensures { Writes W.contents (line_text (codes "count ") (decimal count)) result writer.old writer.new }
 {
     let mut text = Text::new();
     push(&mut text, b"count ");
@@ -106,7 +105,7 @@ pub fn write_count<W: Write>(count: u64, writer: &mut Watched<W>) -> Result<(), 
 
 /// Writes the line of a sum.
 pub fn write_sum<W: Write>(sum: i128, writer: &mut Watched<W>) -> Result<(), Refusal>
-    ensures { Writes W.contents (sum_text sum) result writer.old writer.new }
+    ensures { Writes W.contents (line_text (codes "sum ") (signed_decimal sum)) result writer.old writer.new }
 {
     let mut text = Text::new();
     push(&mut text, b"sum ");
@@ -117,7 +116,7 @@ pub fn write_sum<W: Write>(sum: i128, writer: &mut Watched<W>) -> Result<(), Ref
 
 /// Writes the line of a checkpoint, with the number of entries.
 pub fn write_folded<W: Write>(folded: u64, writer: &mut Watched<W>) -> Result<(), Refusal>
-    ensures { Writes W.contents (folded_text folded) result writer.old writer.new }
+    ensures { Writes W.contents (line_text (codes "folded ") (decimal folded)) result writer.old writer.new }
 {
     let mut text = Text::new();
     push(&mut text, b"folded ");
@@ -150,7 +149,7 @@ pub fn write_each_row<W: Write>(
 
 /// Writes the line above rows, with their number.
 pub fn write_head<W: Write>(total: u64, writer: &mut Watched<W>) -> Result<(), Refusal>
-    ensures { Writes W.contents (head_text total) result writer.old writer.new }
+    ensures { Writes W.contents (line_text (codes "rows ") (decimal total)) result writer.old writer.new }
 {
     let mut text = Text::new();
     push(&mut text, b"rows ");
@@ -383,7 +382,7 @@ fn push_field(text: &mut Text, number: u64)
 #[inline(always)]
 fn push_key(text: &mut Text, key: Key)
     requires { length text.old.items + 20 ≤ TEXT_BYTES }
-    ensures digits { text.new.items ≡ text.old.items ++ key_text key }
+    ensures digits { text.new.items ≡ text.old.items ++ decimal key.0 }
     ensures few { length text.new.items ≤ length text.old.items + 20 }
 {
     push_number(text, key.number());
@@ -393,7 +392,7 @@ fn push_key(text: &mut Text, key: Key)
 #[inline(always)]
 fn push_payload(text: &mut Text, payload: Payload)
     requires { length text.old.items + 20 ≤ TEXT_BYTES }
-    ensures digits { text.new.items ≡ text.old.items ++ payload_text payload }
+    ensures digits { text.new.items ≡ text.old.items ++ signed_decimal payload.0 }
     ensures few { length text.new.items ≤ length text.old.items + 20 }
 {
     let mut digits = itoa::Buffer::new();
@@ -403,7 +402,7 @@ fn push_payload(text: &mut Text, payload: Payload)
 /// Adds the end of a range in decimal: usually one that fits 64 bits.
 fn push_bound(text: &mut Text, bound: Bound)
     requires { length text.old.items + 40 ≤ TEXT_BYTES }
-    ensures digits { text.new.items ≡ text.old.items ++ bound_text bound }
+    ensures digits { text.new.items ≡ text.old.items ++ decimal bound.0 }
     ensures few { length text.new.items ≤ length text.old.items + 40 }
 {
     match u64::try_from(bound.number()) {

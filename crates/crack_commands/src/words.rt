@@ -2,9 +2,9 @@
 ghost use Rattle.std.specs.Prelude.{pos, neg_ℤ, int_le, ◌&&◌, ◌≡◌, ◌+◌, ◌-◌, ◌*◌, ◌^◌, ◌<◌, ◌≤◌, ◌≢◌, ◌↔◌, true, false};
 ghost use Rattle.std.specs.Prelude.{length, IsTrue, Some, take, drop, ◌==◌, if◌then◌else◌, IfSome, slice_index};
 ghost use Rattle.std.specs.List.{list_all, position_or_len};
-ghost use Rattle.crack_commands.specs.Grammar.{words, number_of, whole_number_of, has_sign, number_up_to, two_numbers};
+ghost use Rattle.crack_commands.specs.Grammar.{words, number_of, whole_number_of, number_up_to, two_numbers};
 ghost use Rattle.crack_commands.specs.Grammar.{key_of, payload_of, key_and_payload, only_word, row_number_of, is_digit};
-ghost use Rattle.crack_commands.specs.Inside.{value_on, has_space, row_from, IsFirstWord, IsFirstNumber};
+ghost use Rattle.crack_commands.specs.Inside.{value_on, has_space, has_sign, row_from, IsFirstWord, IsFirstNumber};
 ghost use Rattle.crack_commands.specs.Inside.{IsFirstWholeNumber, BeginsWithDigits};
 
 use crack_row::{

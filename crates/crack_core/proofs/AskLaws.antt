@@ -22,9 +22,9 @@ use Rattle.crack_core.specs.Routes.{keys_of_part}
 use Rattle.crack_part.specs.Refusals.{is_key_in}
 use Rattle.crack_part.specs.Upkeep.{is_automatic, is_due, is_full as shuts}
 use Rattle.crack_part.proofs.UpkeepLaws.{upkept_table}
-use Rattle.crack_core.specs.Steps.{bounds_of, reply_unless, MayLackCell, IsOutcome, IsOutcomeAt, IsFoldOutcome, fresh_table, table_after, tables_after, tables_folded, expected}
+use Rattle.crack_core.specs.Steps.{bounds_of, unless, MayLackCell, IsOutcome, IsOutcomeAt, IsFoldOutcome, fresh_table, table_after, changed_at, tables_after, expected}
 use Rattle.crack_core.specs.Inside.{is_full}
-use Rattle.crack_core.specs.Asking.{lasting_bounds, lasting, lasting_after, Asks, AsksInTurn, replies, refuses, asking, counted, summed}
+use Rattle.crack_core.specs.Asking.{lasting_bounds, lasting, Asks, AsksInTurn, replies, refuses, asking, counted, summed}
 
 -- a table right after a checkpoint
 abbrev folded_table : PlainState → ℕ → PlainView
@@ -57,7 +57,7 @@ get_or-lasting (t ∷ tables) zero = refl
 get_or-lasting (t ∷ tables) (suc part) = get_or-lasting tables part
 
 -- the partitions after an answer, as checkpoints leave them
-after-lasting : (limits : Limits) (tables : List PlainView) (part : ℕ) (command : Command) (r : Result Reply Refusal) → lasting (tables_after (bounds_of limits) tables part command r) ≡ lasting_after (lasting tables) part command r
+after-lasting : (limits : Limits) (tables : List PlainView) (part : ℕ) (command : Command) (r : Result Reply Refusal) → lasting (tables_after (bounds_of limits) tables part command r) ≡ changed_at (λ (t : PlainView). checkpointed (table_after t command)) (lasting tables) part r
 after-lasting limits tables part command (Err e) = refl
 after-lasting limits tables part command (Ok reply) =
     map-set checkpointed tables part (table_after (upkept_table limits (get_or tables part fresh_table)) command)
@@ -81,7 +81,7 @@ refused_with e = Err e
 
 -- the expected answer, by the tests in turn
 abbrev by_tests : Bool → Bool → Bool → ℕ → Reply → Result Reply Refusal
-by_tests is_own is_full is_over limit said = reply_unless (if is_own then option_or (if is_full then Some (HistoryFull limit) else (if is_over then Some LifeOver else None)) None else Some KeyOutside) said
+by_tests is_own is_full is_over limit said = unless (if is_own then option_or (if is_full then Some (HistoryFull limit) else (if is_over then Some LifeOver else None)) None else Some KeyOutside) said
 
 abbrev Comes : Result Reply Refusal → Type 0 → Result Reply Refusal → Type 0
 Comes wanted Lacks r = (r ≡ wanted) ⊎ (IsOk wanted × ((r ≡ Err OutOfMemory) ⊎ ((r ≡ Err NoCell) × Lacks)))
@@ -127,13 +127,13 @@ asked-plain limits splits tables new part command r other outcome left = record 
 }
 
 -- a partition that was checkpointed is asked
-pub asked-folded : (limits : Limits) (splits : List Bound) (tables between new : List PlainView) (part count : ℕ) (command : Command) (r : Result Reply Refusal) → 1 ≤ limits.history → between ≡ tables_folded tables part (Ok count) → IsOutcomeAt (bounds_of limits) splits between part command r → new ≡ tables_after (bounds_of limits) between part command r → Asks limits splits part command r (lasting tables) (lasting new)
+pub asked-folded : (limits : Limits) (splits : List Bound) (tables between new : List PlainView) (part count : ℕ) (command : Command) (r : Result Reply Refusal) → 1 ≤ limits.history → between ≡ changed_at {X = ℕ} checkpointed tables part (Ok count) → IsOutcomeAt (bounds_of limits) splits between part command r → new ≡ tables_after (bounds_of limits) between part command r → Asks limits splits part command r (lasting tables) (lasting new)
 asked-folded limits splits tables between new part count command r some fold outcome left =
     let there : slice_get between part ≡ option_map checkpointed (slice_get tables part) = ap (λ (ts : List PlainView). slice_get ts part) fold ∙ get-folded tables part in
     let keys = keys_of_part splits part in
     let same : lasting between ≡ lasting tables = ap lasting fold ∙ lasting-folded tables part in record {
       comes_out = inl (subst (λ (o : Option PlainView). IsOutcome (lasting_bounds limits) keys o command r) (sym (slice_get-map checkpointed tables part)) (outcome-folded limits keys (slice_get tables part) command r some (subst (λ (o : Option PlainView). IsOutcome (bounds_of limits) keys o command r) there outcome)));
-      leaves = ap lasting left ∙ after-lasting limits between part command r ∙ ap (λ (ts : List PlainView). lasting_after ts part command r) same;
+      leaves = ap lasting left ∙ after-lasting limits between part command r ∙ ap (λ (ts : List PlainView). changed_at (λ (t : PlainView). checkpointed (table_after t command)) ts part r) same;
     }
 
 -- a command that no full history refused, and one that a full history refused
@@ -226,7 +226,7 @@ AsksInTurn-stops {limits} {splits} query old parts i part command said e between
     let whole : take i parts ++ part ∷ drop (i + 1) parts ≡ parts = ap (λ (p : ℕ × Range). take i parts ++ p ∷ drop (i + 1) parts) is ∙ ap (λ (r : List (ℕ × Range)). take i parts ++ r) (sym (drop_more parts i part below)) ∙ take-append-drop i parts in
     subst (λ (ps : List (ℕ × Range)). AsksInTurn limits splits query old ps (Err e) new) whole (refuses (take i parts) part (drop (i + 1) parts) said e between new so_far (rw asked at asks))
 
--- the count of a small reply
+-- what a small reply counts or lists
 pub counted-small : (r : Reply) → IsSmall r → counted r ≤ 4294967295
 counted-small (Placed serial) small = omega arith
 counted-small (Gone row) small = omega arith
@@ -234,7 +234,7 @@ counted-small Changed small = omega arith
 counted-small NoRow small = omega arith
 counted-small (Counted count) small = omega (arith, small)
 counted-small (Summed sum) small = omega arith
-counted-small (Rows rows) small = omega arith
+counted-small (Rows rows) small = omega (arith, small)
 
 -- and its sum
 pub summed-small : (r : Reply) → IsSmall r → (neg_ℤ (pos (2 ^ 96)) ≤ℤ summed r) × (summed r ≤ℤ pos (2 ^ 96))

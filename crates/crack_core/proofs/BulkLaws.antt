@@ -10,8 +10,8 @@ use Rattle.crack_row.specs.declared.RowNo.{RowNo}
 use Rattle.crack_row.specs.declared.limit.Limits.{Limits}
 use Rattle.crack_row.specs.declared.refusal.Refusal.{Refusal}
 use Rattle.crack_plain.specs.Plain.{PlainView}
-use Rattle.crack_core.specs.Asking.{Inserts, Deletes, Updates}
-use Rattle.crack_core.specs.Bulk.{Call, Answered, none, one_more, Went, whole, stopped, flag, key_at, payload_at, row_at, InsertsAt, DeletesAt, UpdatesAt, CountsAt, SumsAt, CountsKeys, SumsKeys, joined}
+use Rattle.crack_core.specs.Asking.{Inserts, Deletes, Updates, Counts, Sums}
+use Rattle.crack_core.specs.Bulk.{Call, Answered, none, one_more, Went, whole, stopped, flag, key_at, payload_at, row_at, InsertsAt, DeletesAt, UpdatesAt, CountsAt, SumsAt, OverKeys, joined}
 
 -- the calls of a list that were answered stay answered if each call before them does
 pub answered-as : (call call' : Call) (old : List PlainView) (done : ℕ) (new : List PlainView) → ((k : ℕ) (before after : List PlainView) → k < done → call k None before after → call' k None before after) → Answered call old done new → Answered call' old done new
@@ -120,7 +120,7 @@ updates-stop limits splits parts serials keys payloads found i row key payload e
 pub counts-more : (limits : Limits) (splits : List Bound) (firsts lasts counts : List ℕ) (i count : ℕ) (old between new : List PlainView)
     → i < length counts
     → Answered (CountsAt limits splits firsts lasts counts) old i between
-    → CountsKeys limits splits (slice_index_or firsts i 0) (slice_index_or lasts i 0) (Ok count) between new
+    → OverKeys (Counts limits splits) (slice_index_or firsts i 0) (slice_index_or lasts i 0) (Ok count) between new
     → Answered (CountsAt limits splits firsts lasts (set counts i count)) old (i + 1) new
 counts-more limits splits firsts lasts counts i count old between new within so_far counted =
     answered-more (CountsAt limits splits firsts lasts counts) (CountsAt limits splits firsts lasts (set counts i count)) old i between new
@@ -131,9 +131,9 @@ counts-more limits splits firsts lasts counts i count old between new within so_
 pub sums-more : (limits : Limits) (splits : List Bound) (firsts lasts lows : List ℕ) (highs : List ℤ) (i low : ℕ) (high sum : ℤ) (old between new : List PlainView)
     → i < length lows → i < length highs → sum ≡ joined low high
     → Answered (SumsAt limits splits firsts lasts lows highs) old i between
-    → SumsKeys limits splits (slice_index_or firsts i 0) (slice_index_or lasts i 0) (Ok sum) between new
+    → OverKeys (Sums limits splits) (slice_index_or firsts i 0) (slice_index_or lasts i 0) (Ok sum) between new
     → Answered (SumsAt limits splits firsts lasts (set lows i low) (set highs i high)) old (i + 1) new
 sums-more limits splits firsts lasts lows highs i low high sum old between new in_lows in_highs is so_far summed =
     answered-more (SumsAt limits splits firsts lasts lows highs) (SumsAt limits splits firsts lasts (set lows i low) (set highs i high)) old i between new
     (λ k before after below was. rw (kept-nat lows i k low below, kept-int highs i k high below) was) so_far
-    (rw (set-nat lows i low in_lows, set-int highs i high in_highs) (subst (λ (s : ℤ). SumsKeys limits splits (slice_index_or firsts i 0) (slice_index_or lasts i 0) (Ok s) between new) is summed))
+    (rw (set-nat lows i low in_lows, set-int highs i high in_highs) (subst (λ (s : ℤ). OverKeys (Sums limits splits) (slice_index_or firsts i 0) (slice_index_or lasts i 0) (Ok s) between new) is summed))

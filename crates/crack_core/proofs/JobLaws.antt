@@ -18,8 +18,9 @@ use Rattle.crack_core.specs.declared.step.Job.TheVariants.{Perform, Fold}
 use Rattle.crack_core.specs.declared.step.Done.{Done}
 use Rattle.crack_core.specs.declared.step.Done.TheVariants.{Folded}
 use Rattle.crack_part.specs.Refusals.{table_of}
-use Rattle.crack_core.specs.Steps.{bounds_of, fresh_table, tables_of, pasts_of, accepted_by, IsFoldOutcome, tables_folded}
-use Rattle.crack_core.specs.Jobs.{part_of, folding, past_after, past_at, KeepsJobs, IsJobOutcome, AreExpectedOutcomes, FoldsAt, Does, DoesAll}
+use Rattle.crack_core.specs.Routes.{keys_of_part}
+use Rattle.crack_core.specs.Steps.{Bounds, bounds_of, mapped, fresh_table, tables_of, pasts_of, accepted_by, IsOutcome, IsFoldOutcome, changed_at}
+use Rattle.crack_core.specs.Jobs.{past_after, past_at, KeepsJobs, IsJobOutcome, AreExpectedOutcomes, IsFoldedAt, Does, DoesAll}
 use Rattle.crack_core.proofs.StepLaws.{tables-pasts, get-last, get-front, get-set_same, get-set_other}
 
 -- one more job
@@ -58,7 +59,7 @@ KeepsJobs-refused limits pasts job e = λ part. by_past part (slice_get pasts pa
     by_past part (Some past) = ap Some (sym (refused-past limits part job e past))
 
 -- a checkpoint: its partition's history moves into its base
-pub KeepsJobs-fold : (limits : Limits) (old new : List Part) (number count : ℕ) → FoldsAt number old new → KeepsJobs limits (pasts_of old) (Fold number ∷ []) (Ok (Folded count) ∷ []) (pasts_of new)
+pub KeepsJobs-fold : (limits : Limits) (old new : List Part) (number count : ℕ) → IsFoldedAt number old new → KeepsJobs limits (pasts_of old) (Fold number ∷ []) (Ok (Folded count) ∷ []) (pasts_of new)
 KeepsJobs-fold limits old new number count folds = λ part.
     slice_get-map (λ (p : Part). p.past) new part ∙ ap (option_map (λ (p : Part). p.past)) (folds part) ∙ by_part part (slice_get old part) ∙ ap (option_map (past_at limits part (Fold number ∷ []) (Ok (Folded count) ∷ []))) (sym (slice_get-map (λ (p : Part). p.past) old part))
   where
@@ -71,8 +72,8 @@ KeepsJobs-fold limits old new number count folds = λ part.
     by_part part (Some p) = ap Some (by_test (number == part) p)
 
 -- the partition that is named is replaced by itself, checkpointed
-pub FoldsAt-set : (parts : List Part) (i : ℕ) (q d : Part) → i < length parts → q ≡ folded_part (get_or parts i d) → FoldsAt i parts (set parts i q)
-FoldsAt-set parts i q d within is = λ k. ⊎_elim
+pub IsFoldedAt-set : (parts : List Part) (i : ℕ) (q d : Part) → i < length parts → q ≡ folded_part (get_or parts i d) → IsFoldedAt i parts (set parts i q)
+IsFoldedAt-set parts i q d within is = λ k. ⊎_elim
     (λ (same : k ≡ i). subst (λ (n : ℕ). slice_get (set parts i q) n ≡ option_map (λ (p : Part). if i == n then folded_part p else p) (slice_get parts n)) (sym same) own)
     (λ (other : k ≢ i).
     get-set_other parts i k q other ∙ same_part (slice_get parts k) (i == k) (ne_eqb i k (λ e. other (sym e))))
@@ -85,7 +86,7 @@ FoldsAt-set parts i q d within is = λ k. ⊎_elim
     own : slice_get (set parts i q) i ≡ option_map (λ (p : Part). if i == i then folded_part p else p) (slice_get parts i)
     own = rw (slice_get-get_or parts i d within, eq-eqb i i refl) (get-set_same parts i q within ∙ ap Some is)
 
-pub tables-folded : (parts : List Part) (i count : ℕ) (q d : Part) → i < length parts → q ≡ folded_part (get_or parts i d) → tables_of (set parts i q) ≡ tables_folded (tables_of parts) i (Ok count)
+pub tables-folded : (parts : List Part) (i count : ℕ) (q d : Part) → i < length parts → q ≡ folded_part (get_or parts i d) → tables_of (set parts i q) ≡ changed_at {X = ℕ} checkpointed (tables_of parts) i (Ok count)
 tables-folded parts i count q d within is =
     let table = λ (p : Part). table_of p.past in
     map-set table parts i q ∙ ap (set (tables_of parts) i) (ap table is ∙ ap checkpointed (sym (get_or-map table parts i d fresh_table within)))
@@ -116,16 +117,16 @@ fold-outcome (Err e) n ok err = inr (ap Err err)
 abbrev pub Refolds : List Part → ℕ → Part → Part → Result ℕ Refusal → Type 0
 Refolds parts i q d r = OnOk r (q ≡ folded_part (get_or parts i d)) × OnErr r (q ≡ get_or parts i d)
 
-pub after-fold : (parts : List Part) (i : ℕ) (q d : Part) (r : Result ℕ Refusal) → i < length parts → Refolds parts i q d r → tables_of (set parts i q) ≡ tables_folded (tables_of parts) i r
+pub after-fold : (parts : List Part) (i : ℕ) (q d : Part) (r : Result ℕ Refusal) → i < length parts → Refolds parts i q d r → tables_of (set parts i q) ≡ changed_at checkpointed (tables_of parts) i r
 after-fold parts i q d (Ok count) within is = tables-folded parts i count q d within is.0
 after-fold parts i q d (Err e) within is = ap tables_of (ap (set parts i) is.1 ∙ set-get_or parts i d)
 
-pub folds-fold : (parts : List Part) (i : ℕ) (q d : Part) (r : Result ℕ Refusal) → i < length parts → Refolds parts i q d r → OnOk r (FoldsAt i parts (set parts i q))
-folds-fold parts i q d (Ok count) within is = FoldsAt-set parts i q d within is.0
+pub folds-fold : (parts : List Part) (i : ℕ) (q d : Part) (r : Result ℕ Refusal) → i < length parts → Refolds parts i q d r → OnOk r (IsFoldedAt i parts (set parts i q))
+folds-fold parts i q d (Ok count) within is = IsFoldedAt-set parts i q d within is.0
 folds-fold parts i q d (Err e) within is = tt
 
-pub kept-fold : (limits : Limits) (parts : List Part) (i : ℕ) (q d : Part) (r : Result ℕ Refusal) → i < length parts → Refolds parts i q d r → KeepsJobs limits (pasts_of parts) (Fold i ∷ []) (folding r ∷ []) (pasts_of (set parts i q))
-kept-fold limits parts i q d (Ok count) within is = KeepsJobs-fold limits parts (set parts i q) i count (FoldsAt-set parts i q d within is.0)
+pub kept-fold : (limits : Limits) (parts : List Part) (i : ℕ) (q d : Part) (r : Result ℕ Refusal) → i < length parts → Refolds parts i q d r → KeepsJobs limits (pasts_of parts) (Fold i ∷ []) (mapped Folded r ∷ []) (pasts_of (set parts i q))
+kept-fold limits parts i q d (Ok count) within is = KeepsJobs-fold limits parts (set parts i q) i count (IsFoldedAt-set parts i q d within is.0)
 kept-fold limits parts i q d (Err e) within is = subst (λ (ps : List Part). KeepsJobs limits (pasts_of parts) (Fold i ∷ []) (Err e ∷ []) (pasts_of ps)) (sym (ap (set parts i) is.1 ∙ set-get_or parts i d)) (KeepsJobs-refused limits (pasts_of parts) (Fold i) e)
 
 pub accepted-fold : (parts : List Part) (i : ℕ) (q d : Part) (r : Result ℕ Refusal) → i < length parts → Refolds parts i q d r → accepted_by (set parts i q) ≡ accepted_by parts
@@ -148,12 +149,17 @@ tables-kept limits old now part jobs results kept = tables-pasts now part ∙ ap
     by_past None = refl
     by_past (Some past) = refl
 
+-- the outcome of a job is the same for equal tables
+pub outcome-alike : (bounds : Bounds) (splits : List Bound) (tables others : ℕ → Option PlainView) (job : Job) (result : Result Done Refusal) → ((part : ℕ) → tables part ≡ others part) → IsJobOutcome bounds splits tables job result → IsJobOutcome bounds splits others job result
+outcome-alike bounds splits tables others (Perform step) result alike comes = (comes.0, comes.1, subst (λ (t : Option PlainView). IsOutcome bounds (keys_of_part splits step.part) t step.command comes.0) (alike step.part) comes.2)
+outcome-alike bounds splits tables others (Fold part) result alike comes = (comes.0, comes.1, subst (λ (t : Option PlainView). IsFoldOutcome t comes.0) (alike part) comes.2)
+
 -- no job
 pub AreExpectedOutcomes-nil : (limits : Limits) (splits : List Bound) (pasts : List Past) → AreExpectedOutcomes limits splits pasts [] []
 AreExpectedOutcomes-nil limits splits pasts = record { each = refl; outcomes = λ k j r at. absurd (omega (arith, slice_get_within {A = Job} [] k j at)) }
 
 -- one more job
-pub AreExpectedOutcomes-push : (limits : Limits) (splits : List Bound) (pasts : List Past) (jobs : List Job) (results : List (Result Done Refusal)) (j : Job) (r : Result Done Refusal) → AreExpectedOutcomes limits splits pasts jobs results → IsJobOutcome (bounds_of limits) splits (option_map (λ (past : Past). table_of (past_at limits (part_of j) jobs results past)) (slice_get pasts (part_of j))) j r → AreExpectedOutcomes limits splits pasts (jobs ++ j ∷ []) (results ++ r ∷ [])
+pub AreExpectedOutcomes-push : (limits : Limits) (splits : List Bound) (pasts : List Past) (jobs : List Job) (results : List (Result Done Refusal)) (j : Job) (r : Result Done Refusal) → AreExpectedOutcomes limits splits pasts jobs results → IsJobOutcome (bounds_of limits) splits (λ part. option_map (λ (past : Past). table_of (past_at limits part jobs results past)) (slice_get pasts part)) j r → AreExpectedOutcomes limits splits pasts (jobs ++ j ∷ []) (results ++ r ∷ [])
 AreExpectedOutcomes-push limits splits pasts jobs results j r before now = record {
   each = omega (arith, before.each, length-append jobs (j ∷ []), length-append results (r ∷ []));
   outcomes = λ k j' r' at_job at_result. ⊎_elim

@@ -1,81 +1,96 @@
 -- What follows from rows that are written into lists.
-use Rattle.std.specs.Prelude.{◌≡◌, ◌≢◌, ℕ, ◌+◌, ◌<◌, ◌≤◌, ℤ, pos, List, [], ◌∷◌, ◌++◌, length, take, drop, ◌^◌, slice_index_or}
+use Rattle.std.specs.Prelude.{◌≡◌, ◌≢◌, ℕ, ◌+◌, ◌<◌, ◌≤◌, ℤ, pos, List, [], ◌∷◌, ◌++◌, length, take, drop, ◌^◌, Some, slice_get}
 use Rattle.std.proofs.Common.{zero, suc, get_or, set, arith, ap, refl, sym, subst, ◌∙◌, ⊎_elim, append_assoc, add-one}
-use Rattle.std.proofs.lemmas.List.{get_or-set_same, get_or-set_other, get_or_append_left, get_or_push, length-append, length-map, length-take-le, take_more, take-append-drop, map-append, append-nil}
+use Rattle.std.proofs.lemmas.List.{get_or-set_same, get_or-set_other, length-append, length-map, length-take-le, take_more, take-append-drop, map-append, append-nil}
 use Rattle.std.proofs.lemmas.Bool.{cases_eq}
+use Rattle.std.proofs.lemmas.Option.{slice_get_within}
 use Rattle.crack_row.specs.Ranges.{Range}
 use Rattle.crack_row.specs.declared.Row.{Row}
 use Rattle.crack_row.specs.declared.command.Reply.{Reply}
 use Rattle.crack_row.specs.declared.command.Reply.TheVariants.{Placed, Gone, Changed, NoRow, Counted, Summed, Rows}
 use Rattle.crack_plain.specs.Plain.{IsSmall}
-use Rattle.crack_core.specs.Listing.{rows_in, of_part, listed, listed_at, no_row, StandIn}
+use Rattle.crack_core.proofs.StepLaws.{get-last, get-front}
+use Rattle.crack_core.specs.Listing.{listed, all_listed, listed_at, StandIn}
+use Rattle.crack_core.specs.Inside.{of_part}
 
 -- the same row as its numbers
 abbrev row_of : ℕ → ℕ → ℕ → ℤ → ℕ × Row
 row_of part serial key payload = (part, record { serial = record { 0 = serial }; key = record { 0 = key }; payload = record { 0 = payload } })
 
--- rows after those that there is room for aren't written
+some_is : {X : Type 0} {x y : X} → Some x ≡ Some y → x ≡ y
+some_is e = cc
+
+-- what is in a list is there with more after it
+slice_get-before : (rows more : List (ℕ × Row)) (k : ℕ) → k < length rows → slice_get (rows ++ more) k ≡ slice_get rows k
+slice_get-before [] more k below = absurd (omega (arith, below))
+slice_get-before (row ∷ rows) more zero below = refl
+slice_get-before (row ∷ rows) more (suc k) below = slice_get-before rows more k (omega (arith, below))
+
+-- rows after those that there is room for are nowhere
 pub stand-longer : (rows more : List (ℕ × Row)) (parts serials keys : List ℕ) (payloads : List ℤ) → length parts ≤ length rows → StandIn rows parts serials keys payloads → StandIn (rows ++ more) parts serials keys payloads
-stand-longer rows more parts serials keys payloads full stand k within there =
-    let below : k < length rows = omega arith in
-    stand k below there ∙ sym (get_or_append_left rows more no_row k below)
+stand-longer rows more parts serials keys payloads full stand k row is there =
+    stand k row (sym (slice_get-before rows more k (omega arith)) ∙ is) there
 
 -- one more row is written after them
 pub stand-more : (rows : List (ℕ × Row)) (row : ℕ × Row) (parts serials keys : List ℕ) (payloads : List ℤ) (at : ℕ)
     → length rows ≡ at → at < length parts → length serials ≡ length parts → length keys ≡ length parts → length payloads ≡ length parts
     → StandIn rows parts serials keys payloads
     → StandIn (rows ++ row ∷ []) (set parts at row.0) (set serials at row.1.serial.0) (set keys at row.1.key.0) (set payloads at row.1.payload.0)
-stand-more rows row parts serials keys payloads at is below s k' p stand k within there = ⊎_elim
-    (λ (same : k ≡ at). subst (λ (n : ℕ). listed_at (set parts at row.0) (set serials at row.1.serial.0) (set keys at row.1.key.0) (set payloads at row.1.payload.0) n ≡ slice_index_or (rows ++ row ∷ []) n no_row) (sym same) last)
+stand-more rows row parts serials keys payloads at is below s k' p stand k found found_is there = ⊎_elim
+    (λ (same : k ≡ at). subst (λ (n : ℕ). listed_at (set parts at row.0) (set serials at row.1.serial.0) (set keys at row.1.key.0) (set payloads at row.1.payload.0) n ≡ found) (sym same) (last ∙ added same))
     (λ (other : k ≢ at). before other)
     (cases_eq k at)
   where
-    last : listed_at (set parts at row.0) (set serials at row.1.serial.0) (set keys at row.1.key.0) (set payloads at row.1.payload.0) at ≡ slice_index_or (rows ++ row ∷ []) at no_row
+    added : k ≡ at → row ≡ found
+    added same = some_is (sym (get-last rows row) ∙ ap (slice_get (rows ++ row ∷ [])) (is ∙ sym same) ∙ found_is)
+
+    last : listed_at (set parts at row.0) (set serials at row.1.serial.0) (set keys at row.1.key.0) (set payloads at row.1.payload.0) at ≡ row
     last =
         let of_part' : get_or (set parts at row.0) at 0 ≡ row.0 = get_or-set_same parts at row.0 0 below in
         let of_serial : get_or (set serials at row.1.serial.0) at 0 ≡ row.1.serial.0 = get_or-set_same serials at row.1.serial.0 0 (omega arith) in
         let of_key : get_or (set keys at row.1.key.0) at 0 ≡ row.1.key.0 = get_or-set_same keys at row.1.key.0 0 (omega arith) in
         let of_payload : get_or (set payloads at row.1.payload.0) at (pos 0) ≡ row.1.payload.0 = get_or-set_same payloads at row.1.payload.0 (pos 0) (omega arith) in
-        rw (of_part', of_serial, of_key, of_payload) (sym (get_or_push rows row no_row at is))
+        rw (of_part', of_serial, of_key, of_payload) refl
 
-    before : k ≢ at → listed_at (set parts at row.0) (set serials at row.1.serial.0) (set keys at row.1.key.0) (set payloads at row.1.payload.0) k ≡ slice_index_or (rows ++ row ∷ []) k no_row
+    before : k ≢ at → listed_at (set parts at row.0) (set serials at row.1.serial.0) (set keys at row.1.key.0) (set payloads at row.1.payload.0) k ≡ found
     before other =
         let long : length (rows ++ row ∷ []) ≡ length rows + 1 = length-append rows (row ∷ []) in
+        let within = slice_get_within (rows ++ row ∷ []) k found found_is in
         let front : k < length rows = omega (arith, within, long, is, other) in
         let in_parts : k < length parts = omega arith in
         let of_part' : get_or (set parts at row.0) k 0 ≡ get_or parts k 0 = get_or-set_other parts at k row.0 0 other in
         let of_serial : get_or (set serials at row.1.serial.0) k 0 ≡ get_or serials k 0 = get_or-set_other serials at k row.1.serial.0 0 other in
         let of_key : get_or (set keys at row.1.key.0) k 0 ≡ get_or keys k 0 = get_or-set_other keys at k row.1.key.0 0 other in
         let of_payload : get_or (set payloads at row.1.payload.0) k (pos 0) ≡ get_or payloads k (pos 0) = get_or-set_other payloads at k row.1.payload.0 (pos 0) other in
-        rw (of_part', of_serial, of_key, of_payload) (stand k front in_parts ∙ sym (get_or_append_left rows (row ∷ []) no_row k front))
+        rw (of_part', of_serial, of_key, of_payload) (stand k found (sym (get-front rows row k front) ∙ found_is) in_parts)
 
 -- one more row of a partition
 pub of_part-more : (part : ℕ) (rows : List Row) (i : ℕ) (d : Row) → i < length rows → of_part part (take (i + 1) rows) ≡ of_part part (take i rows) ++ (part, get_or rows i d) ∷ []
 of_part-more part rows i d below = ap (of_part part) (take_more rows i d below) ∙ map-append (λ (row : Row). (part, row)) (take i rows) (get_or rows i d ∷ [])
 
--- one more partition's reply
-listed-suc : (met : List (ℕ × Range)) (replies : List Reply) (i : ℕ) (d : ℕ × Range) (d' : Reply) → i < length met → i < length replies → listed (take (suc i) met) (take (suc i) replies) ≡ listed (take i met) (take i replies) ++ of_part (get_or met i d).0 (rows_in (get_or replies i d'))
-listed-suc [] replies i d d' in_met in_replies = absurd (omega arith)
-listed-suc (m ∷ met) [] i d d' in_met in_replies = absurd (omega arith)
-listed-suc (m ∷ met) (r ∷ replies) zero d d' in_met in_replies = append-nil (of_part m.0 (rows_in r))
-listed-suc (m ∷ met) (r ∷ replies) (suc i) d d' in_met in_replies =
-    ap (λ (rows : List (ℕ × Row)). of_part m.0 (rows_in r) ++ rows) (listed-suc met replies i d d' (omega arith) (omega arith)) ∙ sym (append_assoc (of_part m.0 (rows_in r)) (listed (take i met) (take i replies)) (of_part (get_or met i d).0 (rows_in (get_or replies i d'))))
+-- a partition's reply more
+all_listed-suc : (met : List (ℕ × Range)) (replies : List Reply) (i : ℕ) (d : ℕ × Range) (d' : Reply) → i < length met → i < length replies → all_listed (take (suc i) met) (take (suc i) replies) ≡ all_listed (take i met) (take i replies) ++ of_part (get_or met i d).0 (listed (get_or replies i d'))
+all_listed-suc [] replies i d d' in_met in_replies = absurd (omega arith)
+all_listed-suc (m ∷ met) [] i d d' in_met in_replies = absurd (omega arith)
+all_listed-suc (m ∷ met) (r ∷ replies) zero d d' in_met in_replies = append-nil (of_part m.0 (listed r))
+all_listed-suc (m ∷ met) (r ∷ replies) (suc i) d d' in_met in_replies =
+    ap (λ (rows : List (ℕ × Row)). of_part m.0 (listed r) ++ rows) (all_listed-suc met replies i d d' (omega arith) (omega arith)) ∙ sym (append_assoc (of_part m.0 (listed r)) (all_listed (take i met) (take i replies)) (of_part (get_or met i d).0 (listed (get_or replies i d'))))
 
-pub listed-more : (met : List (ℕ × Range)) (replies : List Reply) (i : ℕ) (m : ℕ × Range) (r : Reply) (rows : List Row) → i < length met → i < length replies → m ≡ get_or met i m → r ≡ get_or replies i r → rows ≡ rows_in r → listed (take (i + 1) met) (take (i + 1) replies) ≡ listed (take i met) (take i replies) ++ of_part m.0 rows
-listed-more met replies i m r rows in_met in_replies m_is r_is rows_is =
-    let so_far = listed (take i met) (take i replies) in
-    ap (λ (n : ℕ). listed (take n met) (take n replies)) (add-one i)
-    ∙ listed-suc met replies i m r in_met in_replies
-    ∙ ap (λ (x : ℕ × Range). so_far ++ of_part x.0 (rows_in (get_or replies i r))) (sym m_is)
-    ∙ ap (λ (x : Reply). so_far ++ of_part m.0 (rows_in x)) (sym r_is)
+pub all_listed-more : (met : List (ℕ × Range)) (replies : List Reply) (i : ℕ) (m : ℕ × Range) (r : Reply) (rows : List Row) → i < length met → i < length replies → m ≡ get_or met i m → r ≡ get_or replies i r → rows ≡ listed r → all_listed (take (i + 1) met) (take (i + 1) replies) ≡ all_listed (take i met) (take i replies) ++ of_part m.0 rows
+all_listed-more met replies i m r rows in_met in_replies m_is r_is rows_is =
+    let so_far = all_listed (take i met) (take i replies) in
+    ap (λ (n : ℕ). all_listed (take n met) (take n replies)) (add-one i)
+    ∙ all_listed-suc met replies i m r in_met in_replies
+    ∙ ap (λ (x : ℕ × Range). so_far ++ of_part x.0 (listed (get_or replies i r))) (sym m_is)
+    ∙ ap (λ (x : Reply). so_far ++ of_part m.0 (listed x)) (sym r_is)
     ∙ ap (λ (xs : List Row). so_far ++ of_part m.0 xs) (sym rows_is)
 
 -- as many partitions are read as replied
-pub listed-all : (met : List (ℕ × Range)) (replies : List Reply) → length replies ≤ length met → listed (take (length replies) met) (take (length replies) replies) ≡ listed met replies
-listed-all [] [] few = refl
-listed-all (m ∷ met) [] few = refl
-listed-all [] (r ∷ replies) few = absurd (omega arith)
-listed-all (m ∷ met) (r ∷ replies) few = ap (λ (rows : List (ℕ × Row)). of_part m.0 (rows_in r) ++ rows) (listed-all met replies (omega arith))
+pub all_listed-all : (met : List (ℕ × Range)) (replies : List Reply) → length replies ≤ length met → all_listed (take (length replies) met) (take (length replies) replies) ≡ all_listed met replies
+all_listed-all [] [] few = refl
+all_listed-all (m ∷ met) [] few = refl
+all_listed-all [] (r ∷ replies) few = absurd (omega arith)
+all_listed-all (m ∷ met) (r ∷ replies) few = ap (λ (rows : List (ℕ × Row)). of_part m.0 (listed r) ++ rows) (all_listed-all met replies (omega arith))
 
 -- how many rows are written once this many of a partition are
 pub long-so-far : (before : List (ℕ × Row)) (part : ℕ) (rows : List Row) (i from : ℕ) → length before ≡ from → i ≤ length rows → length (before ++ of_part part (take i rows)) ≡ from + i
@@ -91,14 +106,14 @@ rest-behind before part rows i parts serials keys payloads full stand =
     append_assoc before (of_part part (take i rows)) (of_part part (drop i rows)) ∙ ap (λ (more : List (ℕ × Row)). before ++ more) (sym (map-append row (take i rows) (drop i rows)) ∙ ap (of_part part) (take-append-drop i rows)) in
     subst (λ (all : List (ℕ × Row)). StandIn all parts serials keys payloads) cut (stand-longer (before ++ of_part part (take i rows)) (of_part part (drop i rows)) parts serials keys payloads full stand)
 
--- how many rows are listed with one more partition
-pub listed-long : (part : ℕ) (so_far : List (ℕ × Row)) (rows : List Row) → length (so_far ++ of_part part rows) ≡ length so_far + length rows
-listed-long part so_far rows =
+-- how many rows are listed with a partition's more
+pub all_listed-long : (part : ℕ) (so_far : List (ℕ × Row)) (rows : List Row) → length (so_far ++ of_part part rows) ≡ length so_far + length rows
+all_listed-long part so_far rows =
     let with_part : Row → ℕ × Row = λ r. (part, r) in
     length-append so_far (of_part part rows) ∙ ap (λ (n : ℕ). length so_far + n) (length-map rows with_part)
 
 -- a small reply lists few rows
-pub rows-small : (reply : Reply) → IsSmall reply → length (rows_in reply) < 2 ^ 32
+pub rows-small : (reply : Reply) → IsSmall reply → length (listed reply) < 2 ^ 32
 rows-small (Rows rows) small = small
 rows-small (Placed serial) small = omega arith
 rows-small (Gone row) small = omega arith

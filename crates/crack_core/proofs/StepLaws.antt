@@ -30,8 +30,8 @@ use Rattle.crack_part.specs.Refusals.{is_key_in, table_of, stopped_by, refusal_o
 use Rattle.crack_part.specs.Upkeep.{upkept}
 use Rattle.crack_part.proofs.RefusalLaws.{if_refused}
 use Rattle.crack_part.proofs.UpkeepLaws.{upkept_table, table_of-upkept, accepted_in-upkept}
-use Rattle.crack_core.specs.Steps.{Bounds, bounds_of, reply_unless, MayLackCell, IsOutcome, IsOutcomeAt, fresh_table, table_after, tables_after, tables_of, pasts_of, accepted_by}
-use Rattle.crack_core.specs.Jobs.{performed, past_after, past_at, KeepsJobs}
+use Rattle.crack_core.specs.Steps.{Bounds, bounds_of, mapped, unless, MayLackCell, IsOutcome, IsOutcomeAt, fresh_table, table_after, tables_after, tables_of, pasts_of, accepted_by}
+use Rattle.crack_core.specs.Jobs.{past_after, past_at, KeepsJobs}
 
 -- the outcome of an answer once the reply's copy is released
 pub record Gives (answered : Result (Reply × Reply) Refusal) (given : Result Reply Refusal) : Type 0 where
@@ -63,8 +63,8 @@ kept-or-short said (Err e) r gives says short = inr (gives.err ∙ ap Err short)
 abbrev cause : Bool → Option Refusal → Bool → Option Refusal
 cause is_own stop lacks = if is_own then option_or stop (if lacks then Some NoCell else None) else Some KeyOutside
 
--- the outcome, by the first cause to refuse the command
-by_cause : (is_own lacks : Bool) (stop : Option Refusal) (said : Reply) (Lacks : Type 0) (r : Result Reply Refusal) → IfSome (cause is_own stop lacks) (λ e. r ≡ Err e) → (cause is_own stop lacks ≡ None → (r ≡ Ok said) ⊎ (r ≡ Err OutOfMemory)) → (lacks ≡ true → Lacks) → (r ≡ reply_unless (cause is_own stop false) said) ⊎ (IsOk (reply_unless (cause is_own stop false) said) × ((r ≡ Err OutOfMemory) ⊎ ((r ≡ Err NoCell) × Lacks)))
+-- what comes out, by the first cause to refuse it
+by_cause : (is_own lacks : Bool) (stop : Option Refusal) (said : Reply) (Lacks : Type 0) (r : Result Reply Refusal) → IfSome (cause is_own stop lacks) (λ e. r ≡ Err e) → (cause is_own stop lacks ≡ None → (r ≡ Ok said) ⊎ (r ≡ Err OutOfMemory)) → (lacks ≡ true → Lacks) → (r ≡ unless (cause is_own stop false) said) ⊎ (IsOk (unless (cause is_own stop false) said) × ((r ≡ Err OutOfMemory) ⊎ ((r ≡ Err NoCell) × Lacks)))
 by_cause false lacks stop said Lacks r refused rest lack = inl refused
 by_cause true lacks (Some e) said Lacks r refused rest lack = inl refused
 by_cause true true None said Lacks r refused rest lack = inr (refl, inr (refused, lack refl))
@@ -103,12 +103,12 @@ tables-pasts parts part =
 past-own : (limits : Limits) (s : Step) (reply : Reply) (past : Past) → past_after limits s.part (Perform s) (Ok (Replied reply)) past ≡ with_entry (upkept limits past) (record { worker = s.worker; command = s.command; reply = reply })
 past-own limits s reply past = ap (λ (b : Bool). cond b (with_entry (upkept limits past) (record { worker = s.worker; command = s.command; reply = reply })) past) (eq-eqb s.part s.part refl)
 
-past-other : (limits : Limits) (part : ℕ) (s : Step) (r : Result Reply Refusal) (past : Past) → s.part ≢ part → past_after limits part (Perform s) (performed r) past ≡ past
+past-other : (limits : Limits) (part : ℕ) (s : Step) (r : Result Reply Refusal) (past : Past) → s.part ≢ part → past_after limits part (Perform s) (mapped Replied r) past ≡ past
 past-other limits part s (Ok reply) past differs = ap (λ (b : Bool). cond b (with_entry (upkept limits past) (record { worker = s.worker; command = s.command; reply = reply })) past) (ne_eqb s.part part differs)
 past-other limits part s (Err e) past differs = refl
 
 -- the past has the entry of a step that was answered
-pub kept-given : (limits : Limits) (past new : Past) (s : Step) (a : Result (Reply × Reply) Refusal) (r : Result Reply Refusal) → Gives a r → IfOk a (λ (replies : Reply × Reply). new ≡ with_entry (upkept limits past) (record { worker = s.worker; command = s.command; reply = replies.0 })) → OnErr a (new ≡ past) → new ≡ past_after limits s.part (Perform s) (performed r) past
+pub kept-given : (limits : Limits) (past new : Past) (s : Step) (a : Result (Reply × Reply) Refusal) (r : Result Reply Refusal) → Gives a r → IfOk a (λ (replies : Reply × Reply). new ≡ with_entry (upkept limits past) (record { worker = s.worker; command = s.command; reply = replies.0 })) → OnErr a (new ≡ past) → new ≡ past_after limits s.part (Perform s) (mapped Replied r) past
 kept-given limits past new s (Ok replies) r gives kept same = rw gives.ok (kept ∙ sym (past-own limits s replies.0 past))
 kept-given limits past new s (Err e) r gives kept same = rw gives.err same
 
@@ -136,9 +136,9 @@ get-set_other (x ∷ xs) (suc i) zero y differs = refl
 get-set_other (x ∷ xs) (suc i) (suc k) y differs = get-set_other xs i k y (λ e. differs (ap suc e))
 
 -- the partition of a step is replaced by one that keeps its entry
-pub Keeps-set : (limits : Limits) (parts : List Part) (q d : Part) (s : Step) (r : Result Reply Refusal) → s.part < length parts → q.past ≡ past_after limits s.part (Perform s) (performed r) (get_or parts s.part d).past → KeepsJobs limits (pasts_of parts) (Perform s ∷ []) (performed r ∷ []) (pasts_of (set parts s.part q))
+pub Keeps-set : (limits : Limits) (parts : List Part) (q d : Part) (s : Step) (r : Result Reply Refusal) → s.part < length parts → q.past ≡ past_after limits s.part (Perform s) (mapped Replied r) (get_or parts s.part d).past → KeepsJobs limits (pasts_of parts) (Perform s ∷ []) (mapped Replied r ∷ []) (pasts_of (set parts s.part q))
 Keeps-set limits parts q d s r within kept = λ k. ⊎_elim
-    (λ (same : k ≡ s.part). subst (λ (n : ℕ). slice_get (pasts_of (set parts s.part q)) n ≡ option_map (past_at limits n (Perform s ∷ []) (performed r ∷ [])) (slice_get (pasts_of parts) n)) (sym same) own)
+    (λ (same : k ≡ s.part). subst (λ (n : ℕ). slice_get (pasts_of (set parts s.part q)) n ≡ option_map (past_at limits n (Perform s ∷ []) (mapped Replied r ∷ [])) (slice_get (pasts_of parts) n)) (sym same) own)
     (λ (other : k ≢ s.part).
     slice_get-map (λ (p : Part). p.past) (set parts s.part q) k
     ∙ ap (option_map (λ (p : Part). p.past)) (get-set_other parts s.part k q other)
@@ -146,19 +146,19 @@ Keeps-set limits parts q d s r within kept = λ k. ⊎_elim
     ∙ same_past k (slice_get (pasts_of parts) k) (λ e. other (sym e)))
     (cases_eq k s.part)
   where
-    same_past : (k : ℕ) (o : Option Past) → s.part ≢ k → o ≡ option_map (past_at limits k (Perform s ∷ []) (performed r ∷ [])) o
+    same_past : (k : ℕ) (o : Option Past) → s.part ≢ k → o ≡ option_map (past_at limits k (Perform s ∷ []) (mapped Replied r ∷ [])) o
     same_past k None differs = refl
     same_past k (Some past) differs = ap Some (sym (past-other limits k s r past differs))
 
-    own : slice_get (pasts_of (set parts s.part q)) s.part ≡ option_map (past_at limits s.part (Perform s ∷ []) (performed r ∷ [])) (slice_get (pasts_of parts) s.part)
+    own : slice_get (pasts_of (set parts s.part q)) s.part ≡ option_map (past_at limits s.part (Perform s ∷ []) (mapped Replied r ∷ [])) (slice_get (pasts_of parts) s.part)
     own =
         slice_get-map (λ (p : Part). p.past) (set parts s.part q) s.part
         ∙ ap (option_map (λ (p : Part). p.past)) (get-set_same parts s.part q within)
         ∙ ap Some kept
-        ∙ ap (λ (o : Option Part). option_map (past_at limits s.part (Perform s ∷ []) (performed r ∷ [])) (option_map (λ (p : Part). p.past) o)) (sym (slice_get-get_or parts s.part d within))
-        ∙ ap (option_map (past_at limits s.part (Perform s ∷ []) (performed r ∷ []))) (sym (slice_get-map (λ (p : Part). p.past) parts s.part))
+        ∙ ap (λ (o : Option Part). option_map (past_at limits s.part (Perform s ∷ []) (mapped Replied r ∷ [])) (option_map (λ (p : Part). p.past) o)) (sym (slice_get-get_or parts s.part d within))
+        ∙ ap (option_map (past_at limits s.part (Perform s ∷ []) (mapped Replied r ∷ []))) (sym (slice_get-map (λ (p : Part). p.past) parts s.part))
 
-pub tables-set : (limits : Limits) (parts : List Part) (q d : Part) (s : Step) (r : Result Reply Refusal) → s.part < length parts → q.past ≡ past_after limits s.part (Perform s) (performed r) (get_or parts s.part d).past → tables_of (set parts s.part q) ≡ tables_after (bounds_of limits) (tables_of parts) s.part s.command r
+pub tables-set : (limits : Limits) (parts : List Part) (q d : Part) (s : Step) (r : Result Reply Refusal) → s.part < length parts → q.past ≡ past_after limits s.part (Perform s) (mapped Replied r) (get_or parts s.part d).past → tables_of (set parts s.part q) ≡ tables_after (bounds_of limits) (tables_of parts) s.part s.command r
 tables-set limits parts q d s (Ok reply) within kept =
     let table = λ (p : Part). table_of p.past in
     let entry : Entry = record { worker = s.worker; command = s.command; reply = reply } in
@@ -169,7 +169,7 @@ tables-set limits parts q d s (Ok reply) within kept =
 tables-set limits parts q d s (Err e) within kept =
     map-set_same (λ (p : Part). table_of p.past) parts s.part q d (ap table_of kept)
 
-pub accepted-set : (limits : Limits) (parts : List Part) (q d : Part) (s : Step) (r : Result Reply Refusal) → s.part < length parts → q.past ≡ past_after limits s.part (Perform s) (performed r) (get_or parts s.part d).past → accepted_by (set parts s.part q) ≡ (if is_ok r then accepted_by parts + 1 else accepted_by parts)
+pub accepted-set : (limits : Limits) (parts : List Part) (q d : Part) (s : Step) (r : Result Reply Refusal) → s.part < length parts → q.past ≡ past_after limits s.part (Perform s) (mapped Replied r) (get_or parts s.part d).past → accepted_by (set parts s.part q) ≡ (if is_ok r then accepted_by parts + 1 else accepted_by parts)
 accepted-set limits parts q d s (Ok reply) within kept =
     let old = get_or parts s.part d in
     let entry : Entry = record { worker = s.worker; command = s.command; reply = reply } in

@@ -1,5 +1,5 @@
 -- Lists of calls, made one after the other up to the first that is refused; ranges by their first and last keys; sums in two halves.
-use Rattle.std.specs.Prelude.{◌≡◌, ℕ, ◌+◌, ◌<◌, ◌≤◌, ◌^◌, ℤ, pos, ◌+ℤ◌, ◌*ℤ◌, Bool, List, Option, None, Some, Result, Ok, Err, is_some, slice_index_or, if◌then◌else◌}
+use Rattle.std.specs.Prelude.{◌≡◌, ℕ, ◌+◌, ◌<◌, ◌≤◌, ◌^◌, ℤ, pos, ◌+ℤ◌, ◌*ℤ◌, Bool, List, Option, None, Some, Result, Err, is_some, slice_index_or, if◌then◌else◌}
 use Rattle.crack_row.specs.Ranges.{Range}
 use Rattle.crack_row.specs.declared.Bound.{Bound}
 use Rattle.crack_row.specs.declared.Key.{Key}
@@ -11,6 +11,7 @@ use Rattle.crack_row.specs.declared.refusal.Refusal.{Refusal}
 use Rattle.crack_row.specs.declared.refusal.Refusal.TheVariants.{BadRange}
 use Rattle.crack_plain.specs.Plain.{PlainView}
 use Rattle.crack_core.specs.Asking.{Inserts, Deletes, Updates, Counts, Sums}
+use Rattle.crack_core.specs.Steps.{unless}
 use Rattle.crack_core.specs.declared.bulk.Progress.{Progress}
 
 -- a call of a list is made: its number, why it was refused, if it was, and the partitions before and after
@@ -27,12 +28,7 @@ pub data Went (call : Call) (count : ℕ) (old : List PlainView) : Progress → 
   whole : (new : List PlainView) → Answered call old count new → Went call count old (record { done = count; refusal = None }) new
   stopped : (done : ℕ) (e : Refusal) (between new : List PlainView) → done < count → Answered call old done between → call done (Some e) between new → Went call count old (record { done = done; refusal = Some e }) new
 
--- the outcome of a call: this answer, or a refusal, if there is one
-abbrev pub comes_to : {X : Type 0} → X → Option Refusal → Result X Refusal
-comes_to x None = Ok x
-comes_to x (Some e) = Err e
-
--- the key at a place of a list
+-- the key, the payload and the row's number at a place of lists of them
 abbrev pub key_at : List ℕ → ℕ → Key
 key_at keys k = record { 0 = slice_index_or keys k 0 }
 
@@ -50,30 +46,22 @@ flag is = if is then 1 else 0
 
 -- a row is placed, and its number is at its place
 abbrev pub InsertsAt : Limits → List Bound → List ℕ → List ℤ → List ℕ → List ℕ → Call
-InsertsAt limits splits keys payloads parts serials k refusal old new = Inserts limits splits (key_at keys k) (payload_at payloads k) (comes_to (row_at parts serials k) refusal) old new
+InsertsAt limits splits keys payloads parts serials k refusal old new = Inserts limits splits (key_at keys k) (payload_at payloads k) (unless refusal (row_at parts serials k)) old new
 
 -- a row is removed, and 1 is at its place, or 0 if it didn't exist
 abbrev pub DeletesAt : Limits → List Bound → List ℕ → List ℕ → List ℕ → Call
 DeletesAt limits splits parts serials gone k refusal old new =
-    (row : Option Row) × Deletes limits splits (row_at parts serials k) (comes_to row refusal) old new × (refusal ≡ None → slice_index_or gone k 0 ≡ flag (is_some row))
+    (row : Option Row) × Deletes limits splits (row_at parts serials k) (unless refusal row) old new × (refusal ≡ None → slice_index_or gone k 0 ≡ flag (is_some row))
 
 -- a row gets another key and payload, and 1 is at its place, or 0 if it doesn't exist
 abbrev pub UpdatesAt : Limits → List Bound → List ℕ → List ℕ → List ℕ → List ℤ → List ℕ → Call
 UpdatesAt limits splits parts serials keys payloads found k refusal old new =
-    (is : Bool) × Updates limits splits (row_at parts serials k) (key_at keys k) (payload_at payloads k) (comes_to is refusal) old new × (refusal ≡ None → slice_index_or found k 0 ≡ flag is)
+    (is : Bool) × Updates limits splits (row_at parts serials k) (key_at keys k) (payload_at payloads k) (unless refusal is) old new × (refusal ≡ None → slice_index_or found k 0 ≡ flag is)
 
 -- a question about the keys from one to another, both included: if they are out of order it is refused with 2, else it is asked of their range
 pub record OverKeys {X : Type 0} (Asks : Range → Result X Refusal → List PlainView → List PlainView → Type 0) (first last : ℕ) (result : Result X Refusal) (old new : List PlainView) : Type 0 where
   pub asked : first ≤ last + 1 → Asks (record { low = first; high = last + 1 }) result old new
   pub refused : last + 1 < first → (result ≡ Err BadRange) × (new ≡ old)
-
--- the rows whose keys are from one to another are counted
-abbrev pub CountsKeys : Limits → List Bound → ℕ → ℕ → Result ℕ Refusal → List PlainView → List PlainView → Type 0
-CountsKeys limits splits first last result old new = OverKeys (Counts limits splits) first last result old new
-
--- the payloads of the rows whose keys are from one to another are added up
-abbrev pub SumsKeys : Limits → List Bound → ℕ → ℕ → Result ℤ Refusal → List PlainView → List PlainView → Type 0
-SumsKeys limits splits first last result old new = OverKeys (Sums limits splits) first last result old new
 
 -- a sum from its low 64 bits and those above them
 abbrev pub joined : ℕ → ℤ → ℤ
@@ -81,9 +69,9 @@ joined low high = pos low +ℤ (high *ℤ pos (2 ^ 64))
 
 -- the rows of a range are counted, and their count is at its place
 abbrev pub CountsAt : Limits → List Bound → List ℕ → List ℕ → List ℕ → Call
-CountsAt limits splits firsts lasts counts k refusal old new = CountsKeys limits splits (slice_index_or firsts k 0) (slice_index_or lasts k 0) (comes_to (slice_index_or counts k 0) refusal) old new
+CountsAt limits splits firsts lasts counts k refusal old new = OverKeys (Counts limits splits) (slice_index_or firsts k 0) (slice_index_or lasts k 0) (unless refusal (slice_index_or counts k 0)) old new
 
 -- the payloads of a range are added up, and the halves of their sum are at its place
 abbrev pub SumsAt : Limits → List Bound → List ℕ → List ℕ → List ℕ → List ℤ → Call
 SumsAt limits splits firsts lasts lows highs k refusal old new =
-    SumsKeys limits splits (slice_index_or firsts k 0) (slice_index_or lasts k 0) (comes_to (joined (slice_index_or lows k 0) (slice_index_or highs k (pos 0))) refusal) old new
+    OverKeys (Sums limits splits) (slice_index_or firsts k 0) (slice_index_or lasts k 0) (unless refusal (joined (slice_index_or lows k 0) (slice_index_or highs k (pos 0)))) old new

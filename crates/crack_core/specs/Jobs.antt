@@ -1,5 +1,5 @@
--- The expected answers to steps and checkpoints, one after the other, and the partitions after them.
-use Rattle.std.specs.Prelude.{◌≡◌, ◌≢◌, ℕ, ◌==◌, List, [], ◌∷◌, length, take, Option, Some, Result, Ok, Err, OnOk, OnErr, IfErr, slice_get, if◌then◌else◌}
+-- The expected answers to steps and checkpoints, one after the other, and what these leave.
+use Rattle.std.specs.Prelude.{◌≡◌, ◌≢◌, ℕ, ◌==◌, List, [], ◌∷◌, length, take, Option, Some, Result, Ok, OnOk, OnErr, IfErr, slice_get, if◌then◌else◌}
 use Rattle.std.specs.Option.{option_map}
 use Rattle.crack_row.specs.declared.Bound.{Bound}
 use Rattle.crack_row.specs.declared.limit.Limits.{Limits}
@@ -13,27 +13,12 @@ use Rattle.crack_core.specs.Routes.{keys_of_part}
 use Rattle.crack_core.specs.Opening.{AreParts}
 use Rattle.crack_part.specs.Refusals.{table_of}
 use Rattle.crack_part.specs.Upkeep.{upkept}
-use Rattle.crack_core.specs.Steps.{Bounds, bounds_of, IsOutcome, IsFoldOutcome, pasts_of}
+use Rattle.crack_core.specs.Steps.{Bounds, bounds_of, mapped, IsOutcome, IsFoldOutcome, pasts_of}
 use Rattle.crack_core.specs.declared.step.Step.{Step}
 use Rattle.crack_core.specs.declared.step.Job.{Job}
 use Rattle.crack_core.specs.declared.step.Job.TheVariants.{Perform, Fold}
 use Rattle.crack_core.specs.declared.step.Done.{Done}
 use Rattle.crack_core.specs.declared.step.Done.TheVariants.{Replied, Folded}
-
--- the partition that a job names
-abbrev pub part_of : Job → ℕ
-part_of (Perform step) = step.part
-part_of (Fold part) = part
-
--- the outcome of a job with this outcome of its step
-abbrev pub performed : Result Reply Refusal → Result Done Refusal
-performed (Ok reply) = Ok (Replied reply)
-performed (Err e) = Err e
-
--- the outcome of a job with this outcome of its checkpoint
-abbrev pub folding : Result ℕ Refusal → Result Done Refusal
-folding (Ok count) = Ok (Folded count)
-folding (Err e) = Err e
 
 -- the past of one partition with these limits, after a job: a step of its own that was answered is one more entry, after upkeep is done,
 -- and a checkpoint of its own moves its history into its base
@@ -59,39 +44,39 @@ AtPart part Holds old new = (p q : Part) → slice_get old part ≡ Some p → s
 -- policy, the others are unchanged, and so are all after any refusal but 8
 pub record Makes (splits : List Bound) (limits : Limits) (step : Step) (result : Result Reply Refusal) (old new : List Part) : Type 0 where
   pub parts : AreParts splits limits new
-  pub kept : KeepsJobs limits (pasts_of old) (Perform step ∷ []) (performed result ∷ []) (pasts_of new)
+  pub kept : KeepsJobs limits (pasts_of old) (Perform step ∷ []) (mapped Replied result ∷ []) (pasts_of new)
   pub others : (k : ℕ) → k ≢ step.part → slice_get new k ≡ slice_get old k
   pub store : OnOk result (AtPart step.part (λ p q. Serves step.policy p step.command q.store) old new)
   pub spared : OnErr result (AtPart step.part (λ p q. Spares step.policy p step.command q.store) old new)
   pub same : IfErr result (λ e. e ≢ OutOfMemory → new ≡ old)
 
--- the outcome of a job whose partition is this: a step is answered as its partition must, and a checkpoint returns how many commands it
--- accepted since the last one
-abbrev pub IsJobOutcome : Bounds → List Bound → Option PlainView → Job → Result Done Refusal → Type 0
-IsJobOutcome bounds splits table (Perform step) result = (outcome : Result Reply Refusal) × (result ≡ performed outcome) × IsOutcome bounds (keys_of_part splits step.part) table step.command outcome
-IsJobOutcome bounds splits table (Fold part) result = (outcome : Result ℕ Refusal) × (result ≡ folding outcome) × IsFoldOutcome table outcome
+-- the outcome of a job where partitions have these tables: a step is answered as its partition must, and a checkpoint returns how many
+-- commands its partition accepted since the last one
+abbrev pub IsJobOutcome : Bounds → List Bound → (ℕ → Option PlainView) → Job → Result Done Refusal → Type 0
+IsJobOutcome bounds splits table (Perform step) result = (outcome : Result Reply Refusal) × (result ≡ mapped Replied outcome) × IsOutcome bounds (keys_of_part splits step.part) (table step.part) step.command outcome
+IsJobOutcome bounds splits table (Fold part) result = (outcome : Result ℕ Refusal) × (result ≡ mapped Folded outcome) × IsFoldOutcome (table part) outcome
 
 -- the expected replies over jobs: each is answered as its partition must answer, from its past before the first job and its own
 -- jobs done before; neither workers nor policies nor other partitions' jobs matter
 pub record AreExpectedOutcomes (limits : Limits) (splits : List Bound) (pasts : List Past) (jobs : List Job) (results : List (Result Done Refusal)) : Type 0 where
   pub each : length results ≡ length jobs
   pub outcomes : (k : ℕ) (job : Job) (result : Result Done Refusal) → slice_get jobs k ≡ Some job → slice_get results k ≡ Some result →
-      IsJobOutcome (bounds_of limits) splits (option_map (λ (past : Past). table_of (past_at limits (part_of job) (take k jobs) (take k results) past)) (slice_get pasts (part_of job))) job result
+      IsJobOutcome (bounds_of limits) splits (λ part. option_map (λ (past : Past). table_of (past_at limits part (take k jobs) (take k results) past)) (slice_get pasts part)) job result
 
--- the partition with this number makes a checkpoint, and the others are unchanged
-abbrev pub FoldsAt : ℕ → List Part → List Part → Type 0
-FoldsAt number old new = (k : ℕ) → slice_get new k ≡ option_map (λ part. if number == k then folded_part part else part) (slice_get old k)
+-- a checkpoint of the partition with this number is made, and the others are as they were
+abbrev pub IsFoldedAt : ℕ → List Part → List Part → Type 0
+IsFoldedAt number old new = (k : ℕ) → slice_get new k ≡ option_map (λ part. if number == k then folded_part part else part) (slice_get old k)
 
 -- what a checkpoint does to the partitions of these splits: each remains one, the named one makes a checkpoint, and a refusal changes nothing
 pub record Folds (splits : List Bound) (limits : Limits) (number : ℕ) (result : Result ℕ Refusal) (old new : List Part) : Type 0 where
   pub parts : AreParts splits limits new
-  pub folds : OnOk result (FoldsAt number old new)
+  pub folds : OnOk result (IsFoldedAt number old new)
   pub same : OnErr result (new ≡ old)
 
 -- what a job does to the partitions of these splits
 abbrev pub Does : List Bound → Limits → Job → Result Done Refusal → List Part → List Part → Type 0
-Does splits limits (Perform step) result old new = (outcome : Result Reply Refusal) × (result ≡ performed outcome) × Makes splits limits step outcome old new
-Does splits limits (Fold part) result old new = (outcome : Result ℕ Refusal) × (result ≡ folding outcome) × Folds splits limits part outcome old new
+Does splits limits (Perform step) result old new = (outcome : Result Reply Refusal) × (result ≡ mapped Replied outcome) × Makes splits limits step outcome old new
+Does splits limits (Fold part) result old new = (outcome : Result ℕ Refusal) × (result ≡ mapped Folded outcome) × Folds splits limits part outcome old new
 
 -- the jobs are done one after the other, each on the partitions that those before it left
 abbrev pub DoesAll : List Bound → Limits → List Job → List (Result Done Refusal) → List Part → List Part → Type 0

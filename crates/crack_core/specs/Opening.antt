@@ -22,9 +22,9 @@ limits_fault limits = if are_limits limits then None else Some BadLimit
 abbrev pub opening_fault : List Bound → Limits → Option Refusal
 opening_fault splits limits = option_or (splits_fault splits) (limits_fault limits)
 
--- why an opening is refused: for its first fault, or, if there is none, for lack of memory
-abbrev pub MayFault : List Bound → Limits → Refusal → Type 0
-MayFault splits limits e = (opening_fault splits limits ≡ Some e) ⊎ ((opening_fault splits limits ≡ None) × (e ≡ OutOfMemory))
+-- why an opening with this first fault is refused: for the fault, or, if there is none, for lack of memory
+abbrev pub MayFault : Option Refusal → Refusal → Type 0
+MayFault fault e = (fault ≡ Some e) ⊎ ((fault ≡ None) × (e ≡ OutOfMemory))
 
 -- the partitions of these splits: each has the keys between its splits, the limits of all, and is sound
 pub record AreParts (splits : List Bound) (limits : Limits) (parts : List Part) : Type 0 where

@@ -1,5 +1,7 @@
--- The expected answers to a step and to a checkpoint, and the plain rows after them.
-use Rattle.std.specs.Prelude.{◌≡◌, ◌⊎◌, ℕ, ◌+◌, ◌≤◌, Bool, true, false, List, length, map, Option, None, Some, Result, Ok, Err, IsOk, is_some, slice_get, slice_set, slice_index_or, sum_by, if◌then◌else◌}
+-- The expected answers to a step and to a checkpoint, and what they leave of the plain rows.
+use Rattle.std.specs.Prelude.{◌≡◌, ◌⊎◌, ℕ, ◌+◌, ◌≤◌, Bool, true, false, List, length, map, Option, None, Some, Result, Ok, Err, IsOk, IsSomeAnd, is_some, slice_get, slice_set, slice_index_or, sum_by, if◌then◌else◌}
+use Rattle.std.specs.Option.{option_map_or}
+use Rattle.std.specs.Result.{result_map_both}
 use Rattle.crack_row.specs.Ranges.{Range}
 use Rattle.crack_row.specs.Commands.{key_of}
 use Rattle.crack_row.specs.Layouts.{IsLayout}
@@ -33,20 +35,22 @@ taken_where_full limits table = if is_automatic limits.upkeep then length table.
 abbrev pub bounds_of : Limits → Bounds
 bounds_of limits = record { stop = stopped_by limits; cells = limits.cells; taken = taken_where_full limits; due = λ table. is_due limits table.since }
 
--- a reply, unless there is a refusal
-abbrev pub reply_unless : Option Refusal → Reply → Result Reply Refusal
-reply_unless None reply = Ok reply
-reply_unless (Some e) reply = Err e
+-- an outcome with a function applied to its value; a refusal stays as it is
+abbrev pub mapped : {X Y : Type 0} → (X → Y) → Result X Refusal → Result Y Refusal
+mapped f outcome = result_map_both f (λ e. e) outcome
+
+-- a value, unless there is a refusal
+abbrev pub unless : {X : Type 0} → Option Refusal → X → Result X Refusal
+unless refusal x = option_map_or Err refusal (Ok x)
 
 -- the expected answer of a partition with these keys and bounds; there may be none
 abbrev pub expected : Bounds → Range → Option PlainView → Command → Result Reply Refusal
 expected bounds keys None command = Err NoSuchPartition
-expected bounds keys (Some table) command = reply_unless (first_cause keys (bounds.stop table) false command) (reply_to table.state command)
+expected bounds keys (Some table) command = unless (first_cause keys (bounds.stop table) false command) (reply_to table.state command)
 
 -- a partition may lack a cell for a command with a key, once as many may be taken as its rows may take
 abbrev pub MayLackCell : Bounds → Option PlainView → Command → Type 0
-MayLackCell bounds None command = ⊥
-MayLackCell bounds (Some table) command = (is_some (key_of command) ≡ true) × (bounds.cells ≤ bounds.taken table)
+MayLackCell bounds table command = IsSomeAnd table (λ (t : PlainView). (is_some (key_of command) ≡ true) × (bounds.cells ≤ bounds.taken t))
 
 -- the outcome of asking a partition is the expected one or, in place of a reply, a lack of memory, or of a cell if one may be missing
 abbrev pub IsOutcome : Bounds → Range → Option PlainView → Command → Result Reply Refusal → Type 0
@@ -68,10 +72,14 @@ table_after table command = record { state = after table.state command; folded =
 abbrev pub upkept_by : Bounds → PlainView → PlainView
 upkept_by bounds table = if bounds.due table then checkpointed table else table
 
--- the partitions after the outcome of asking one of them: an answer is added after the checkpoint that is due, and a refusal leaves all unchanged
+-- the partitions after an outcome of one of them, which has changed in this way; a refusal leaves all as they were
+abbrev pub changed_at : {X : Type 0} → (PlainView → PlainView) → List PlainView → ℕ → Result X Refusal → List PlainView
+changed_at change tables part (Ok x) = slice_set tables part (change (slice_index_or tables part fresh_table))
+changed_at change tables part (Err e) = tables
+
+-- the partitions after the outcome of asking one of them: an answer is added after the checkpoint that is due
 abbrev pub tables_after : Bounds → List PlainView → ℕ → Command → Result Reply Refusal → List PlainView
-tables_after bounds tables part command (Ok reply) = slice_set tables part (table_after (upkept_by bounds (slice_index_or tables part fresh_table)) command)
-tables_after bounds tables part command (Err e) = tables
+tables_after bounds tables part command outcome = changed_at (λ table. table_after (upkept_by bounds table) command) tables part outcome
 
 -- the outcome of asking for a layout: 5 if there is no such partition, else any layout between the partition's ends
 -- that has as many rows as there are plain rows, or a lack of memory
@@ -85,11 +93,6 @@ IsLayoutOutcome keys (Some table) (Err e) = e ≡ OutOfMemory
 abbrev pub IsFoldOutcome : Option PlainView → Result ℕ Refusal → Type 0
 IsFoldOutcome None outcome = outcome ≡ Err NoSuchPartition
 IsFoldOutcome (Some table) outcome = (outcome ≡ Ok table.since) ⊎ (outcome ≡ Err OutOfMemory)
-
--- the partitions after the outcome of a checkpoint of one of them: a refusal leaves all unchanged
-abbrev pub tables_folded : List PlainView → ℕ → Result ℕ Refusal → List PlainView
-tables_folded tables part (Ok count) = slice_set tables part (checkpointed (slice_index_or tables part fresh_table))
-tables_folded tables part (Err e) = tables
 
 -- the tables of partitions
 abbrev pub tables_of : List Part → List PlainView

@@ -1,6 +1,7 @@
 //! Commands before which a full history is emptied, and ranges over all partitions.
 ghost use Rattle.std.specs.Prelude.{◌≡◌, ◌⊎◌, ℕ, ℤ, ◌<◌, ◌≤◌, ◌≤ℤ◌, ◌^◌, neg_ℤ, pos, [], All, length, vec_capacity};
-ghost use Rattle.std.specs.Prelude.{sum_by, Ok, Err, IfOk, IfErr};
+ghost use Rattle.std.specs.Prelude.{sum_by, Ok, Err, IfOk, IfErr, if◌then◌else◌};
+ghost use Rattle.std.specs.Option.{option_map_or};
 ghost use Rattle.crack_row.specs.Rows.{total_by};
 ghost use Rattle.crack_row.specs.declared.Key.{Key};
 ghost use Rattle.crack_row.specs.declared.Payload.{Payload};
@@ -9,7 +10,7 @@ ghost use Rattle.crack_row.specs.declared.command.Command.TheVariants.{Insert, D
 ghost use Rattle.crack_plain.specs.Plain.{PlainState, IsSmall, reply_to};
 ghost use Rattle.crack_core.specs.Steps.{tables_of};
 ghost use Rattle.crack_core.specs.Asking.{Asks, lasting, Inserts, Deletes, Updates, Counts, Sums, asking};
-ghost use Rattle.crack_core.specs.Asking.{AsksInTurn, counted, summed, gone_reply, changed_reply};
+ghost use Rattle.crack_core.specs.Asking.{AsksInTurn, counted, summed};
 ghost use Rattle.crack_core.specs.Inside.{is_full};
 
 use crate::{Core, Step};
@@ -258,7 +259,7 @@ fn serial_in(reply: &Reply) -> Serial
 /// The row that a reply to a deletion gives.
 fn gone_in(reply: &Reply) -> Option<Row>
     ensures { (s : PlainState) (serial : Serial) → reply.now ≡ reply_to s (Delete serial) →
-        reply.now ≡ gone_reply result }
+        reply.now ≡ option_map_or Reply.Gone result Reply.NoRow }
 {
     match reply {
         Reply::Gone(row) => Some(*row),
@@ -269,17 +270,19 @@ fn gone_in(reply: &Reply) -> Option<Row>
 /// Whether a reply to an update says that the row exists.
 fn is_changed(reply: &Reply) -> bool
     ensures { (s : PlainState) (serial : Serial) (key : Key) (payload : Payload) →
-        reply.now ≡ reply_to s (Update serial key payload) → reply.now ≡ changed_reply result }
+        reply.now ≡ reply_to s (Update serial key payload) →
+        reply.now ≡ (if result then Reply.Changed else Reply.NoRow) }
 {
     matches!(reply, Reply::Changed)
 }
 
-/// How many rows a reply counts.
+/// How many rows a reply counts or lists.
 fn counted(reply: &Reply) -> u64
     ensures { result ≡ counted reply.now }
 {
     match reply {
         Reply::Counted(count) => *count,
+        Reply::Rows(rows) => rows.as_slice().len() as u64,
         _ => 0,
     }
 }

@@ -1,8 +1,8 @@
 //! Many calls in one, over lists that the caller gives.
 ghost use Rattle.std.specs.Prelude.{◌≡◌, ◌<◌, ◌≤◌, ◌≤ℤ◌, ◌^◌, neg_ℤ, pos, length, IfOk};
 ghost use Rattle.crack_core.specs.Steps.{tables_of};
-ghost use Rattle.crack_core.specs.Asking.{lasting};
-ghost use Rattle.crack_core.specs.Bulk.{Went, InsertsAt, DeletesAt, UpdatesAt, CountsAt, SumsAt, CountsKeys, SumsKeys};
+ghost use Rattle.crack_core.specs.Asking.{lasting, Counts, Sums};
+ghost use Rattle.crack_core.specs.Bulk.{Went, InsertsAt, DeletesAt, UpdatesAt, CountsAt, SumsAt, OverKeys};
 ghost use Rattle.crack_core.specs.Bulk.{joined, flag};
 
 use crate::Core;
@@ -58,7 +58,7 @@ impl Core {
         last: KeyNumber,
         policy: Policy,
     ) -> Result<u64, Refusal>
-        ensures counts { CountsKeys self.old.limits self.old.splits first last result
+        ensures counts { OverKeys (Counts self.old.limits self.old.splits) first last result
             (lasting (tables_of self.old.parts)) (lasting (tables_of self.new.parts)) }
         ensures opened { (self.new.splits ≡ self.old.splits) × (self.new.limits ≡ self.old.limits) }
     {
@@ -76,7 +76,7 @@ impl Core {
         last: KeyNumber,
         policy: Policy,
     ) -> Result<i128, Refusal>
-        ensures sums { SumsKeys self.old.limits self.old.splits first last result
+        ensures sums { OverKeys (Sums self.old.limits self.old.splits) first last result
             (lasting (tables_of self.old.parts)) (lasting (tables_of self.new.parts)) }
         ensures small { IfOk result (λ sum. (neg_ℤ (pos (2 ^ 102)) ≤ℤ sum) × (sum ≤ℤ pos (2 ^ 102))) }
         ensures opened { (self.new.splits ≡ self.old.splits) × (self.new.limits ≡ self.old.limits) }

@@ -5,16 +5,16 @@ ghost use Rattle.crack_row.specs.Limits.{of_history};
 ghost use Rattle.crack_row.specs.declared.Bound.{Bound};
 ghost use Rattle.crack_row.specs.declared.limit.Limits.{Limits};
 ghost use Rattle.crack_plain.specs.Past.{no_past};
-ghost use Rattle.crack_plain.specs.Plain.{PlainView, IsNumbered, IsSmall};
+ghost use Rattle.crack_plain.specs.Plain.{PlainView, IsNumbered, IsSmall, checkpointed};
 ghost use Rattle.crack_part.specs.Parts.{Part, Serves, Spares};
 ghost use Rattle.crack_core.specs.Routes.{AreSplits, keys_of_part, route, parts_of};
 ghost use Rattle.crack_core.specs.Opening.{opening_fault, MayFault, AreParts};
 ghost use Rattle.crack_core.specs.Steps.{bounds_of, IsOutcomeAt, IsLayoutOutcome, IsFoldOutcome, tables_of};
-ghost use Rattle.crack_core.specs.Steps.{tables_after, tables_folded, pasts_of, accepted_by};
+ghost use Rattle.crack_core.specs.Steps.{mapped, tables_after, changed_at, pasts_of, accepted_by};
 ghost use Rattle.crack_store.specs.Inside.{no_cells, IsLayoutOf};
 ghost use Rattle.crack_core.specs.Cores.{IsCore};
-ghost use Rattle.crack_core.specs.Jobs.{performed, folding, KeepsJobs, AtPart, AreExpectedOutcomes, IsJobOutcome};
-ghost use Rattle.crack_core.specs.Jobs.{part_of, FoldsAt, Does, DoesAll};
+ghost use Rattle.crack_core.specs.Jobs.{KeepsJobs, AtPart, AreExpectedOutcomes, IsJobOutcome};
+ghost use Rattle.crack_core.specs.Jobs.{IsFoldedAt, Does, DoesAll};
 
 use crate::opening::{limits_fault, open_partitions, splits_fault};
 use crate::routes;
@@ -58,7 +58,7 @@ impl Core {
             All (λ (part : Part). part.store ≡
             no_cells part.keys part.store.column_room part.store.in_room) core.parts) }
         ensures none { OnOk result (opening_fault splits.now (of_history limit) ≡ None) }
-        ensures fault { IfErr result (λ e. MayFault splits.now (of_history limit) e) }
+        ensures fault { IfErr result (MayFault (opening_fault splits.now (of_history limit))) }
     {
         Core::open_with(alloc, splits, Limits::of_history(limit))
     }
@@ -73,7 +73,7 @@ impl Core {
             All (λ (part : Part). part.store ≡
             no_cells part.keys part.store.column_room part.store.in_room) core.parts) }
         ensures none { OnOk result (opening_fault splits.now limits ≡ None) }
-        ensures fault { IfErr result (λ e. MayFault splits.now limits e) }
+        ensures fault { IfErr result (MayFault (opening_fault splits.now limits)) }
     {
         if let Some(fault) = splits_fault(splits) {
             return Err(fault);
@@ -154,7 +154,7 @@ impl Core {
         ensures after { tables_of self.new.parts ≡
             tables_after (bounds_of self.old.limits) (tables_of self.old.parts) step.part step.command result }
         ensures kept { KeepsJobs self.old.limits (pasts_of self.old.parts) (Job.Perform step ∷ [])
-            (performed result ∷ []) (pasts_of self.new.parts) }
+            (mapped Done.Replied result ∷ []) (pasts_of self.new.parts) }
         ensures accepted { accepted_by self.new.parts ≡
             (if is_ok result then accepted_by self.old.parts + 1 else accepted_by self.old.parts) }
         ensures small { IfOk result IsSmall }
@@ -176,14 +176,14 @@ impl Core {
     pub fn run_steps(&mut self, steps: &[Step]) -> Result<Vec<Result<Reply, Refusal>>, Refusal>
         ensures replies { IfOk result (λ results.
             AreExpectedOutcomes self.old.limits self.old.splits (pasts_of self.old.parts) (map Job.Perform steps.now)
-            (map performed results.items)) }
+            (map (mapped Done.Replied) results.items)) }
         ensures kept { IfOk result (λ results.
             KeepsJobs self.old.limits (pasts_of self.old.parts) (map Job.Perform steps.now)
-            (map performed results.items) (pasts_of self.new.parts)) }
-        // Each store is read by the policies of its own steps, in their order, and by nothing else.
+            (map (mapped Done.Replied) results.items) (pasts_of self.new.parts)) }
+        // Each store is served by the policy of its own steps, in their order, and by nothing else.
         ensures stores { IfOk result (λ results.
             DoesAll self.old.splits self.old.limits (map Job.Perform steps.now)
-            (map performed results.items) self.old.parts self.new.parts) }
+            (map (mapped Done.Replied) results.items) self.old.parts self.new.parts) }
         ensures opened { (self.new.splits ≡ self.old.splits) × (self.new.limits ≡ self.old.limits) }
         ensures same { OnErr result (self.new ≡ self.old) }
         ensures err { IfErr result (λ e. e ≡ Refusal.OutOfMemory) }
@@ -199,8 +199,8 @@ impl Core {
     /// found; then nothing has changed. Its costs are those of `Partition::checkpoint`.
     pub fn checkpoint(&mut self, part: u32) -> Result<u64, Refusal>
         ensures outcome { IsFoldOutcome (slice_get (tables_of self.old.parts) part) result }
-        ensures after { tables_of self.new.parts ≡ tables_folded (tables_of self.old.parts) part result }
-        ensures folds { OnOk result (FoldsAt part self.old.parts self.new.parts) }
+        ensures after { tables_of self.new.parts ≡ changed_at checkpointed (tables_of self.old.parts) part result }
+        ensures folds { OnOk result (IsFoldedAt part self.old.parts self.new.parts) }
         ensures accepted { accepted_by self.new.parts ≡ accepted_by self.old.parts }
         ensures opened { (self.new.splits ≡ self.old.splits) × (self.new.limits ≡ self.old.limits) }
         ensures same { OnErr result (self.new ≡ self.old) }
@@ -251,7 +251,7 @@ fn ask_at(partitions: &mut [Partition], step: Step) -> Result<Reply, Refusal>
         tables_of partitions.new ≡ tables_after (bounds_of limits)
         (tables_of partitions.old) step.part step.command result }
     ensures kept { (splits : List Bound) (limits : Limits) → AreParts splits limits partitions.old →
-        KeepsJobs limits (pasts_of partitions.old) (Job.Perform step ∷ []) (performed result ∷ [])
+        KeepsJobs limits (pasts_of partitions.old) (Job.Perform step ∷ []) (mapped Done.Replied result ∷ [])
         (pasts_of partitions.new) }
     ensures accepted { accepted_by partitions.new ≡
         (if is_ok result then accepted_by partitions.old + 1 else accepted_by partitions.old) }
@@ -293,13 +293,13 @@ fn run_all(partitions: &mut [Partition], steps: &[Step], results: &mut Vec<Resul
     requires room { length steps.now ≤ vec_capacity results.old }
     ensures replies { (splits : List Bound) (limits : Limits) → AreParts splits limits partitions.old →
         AreExpectedOutcomes limits splits (pasts_of partitions.old) (map Job.Perform steps.now)
-        (map performed results.new.items) }
-    ensures kept { (splits : List Bound) (limits : Limits) → AreParts splits limits partitions.old →
-        KeepsJobs limits (pasts_of partitions.old) (map Job.Perform steps.now) (map performed results.new.items)
-        (pasts_of partitions.new) }
+        (map (mapped Done.Replied) results.new.items) }
+    ensures kept { (splits : List Bound) (limits : Limits) → AreParts splits limits partitions.old → KeepsJobs limits
+        (pasts_of partitions.old) (map Job.Perform steps.now) (map (mapped Done.Replied) results.new.items) (pasts_of
+        partitions.new) }
     ensures stores { (splits : List Bound) (limits : Limits) → AreParts splits limits partitions.old →
         DoesAll splits limits (map Job.Perform steps.now)
-        (map performed results.new.items) partitions.old partitions.new }
+        (map (mapped Done.Replied) results.new.items) partitions.old partitions.new }
     ensures parts { (splits : List Bound) (limits : Limits) → AreParts splits limits partitions.old →
         AreParts splits limits partitions.new }
 {
@@ -312,10 +312,10 @@ fn run_all(partitions: &mut [Partition], steps: &[Step], results: &mut Vec<Resul
 /// Makes a checkpoint of one partition, if there is one with this number.
 fn fold_at(partitions: &mut [Partition], part: u32) -> Result<u64, Refusal>
     ensures outcome { IsFoldOutcome (slice_get (tables_of partitions.old) part) result }
-    ensures after { tables_of partitions.new ≡ tables_folded (tables_of partitions.old) part result }
-    ensures folds { OnOk result (FoldsAt part partitions.old partitions.new) }
+    ensures after { tables_of partitions.new ≡ changed_at checkpointed (tables_of partitions.old) part result }
+    ensures folds { OnOk result (IsFoldedAt part partitions.old partitions.new) }
     ensures kept { (limits : Limits) →
-        KeepsJobs limits (pasts_of partitions.old) (Job.Fold part ∷ []) (folding result ∷ [])
+        KeepsJobs limits (pasts_of partitions.old) (Job.Fold part ∷ []) (mapped Done.Folded result ∷ [])
         (pasts_of partitions.new) }
     ensures accepted { accepted_by partitions.new ≡ accepted_by partitions.old }
     ensures parts { (splits : List Bound) (limits : Limits) → AreParts splits limits partitions.old →
@@ -335,7 +335,7 @@ fn fold_at(partitions: &mut [Partition], part: u32) -> Result<u64, Refusal>
 /// Does one job.
 fn do_job(partitions: &mut [Partition], job: Job) -> Result<Done, Refusal>
     ensures outcome { (splits : List Bound) (limits : Limits) → AreParts splits limits partitions.old →
-        IsJobOutcome (bounds_of limits) splits (slice_get (tables_of partitions.old) (part_of job)) job result }
+        IsJobOutcome (bounds_of limits) splits (slice_get (tables_of partitions.old)) job result }
     ensures kept { (splits : List Bound) (limits : Limits) → AreParts splits limits partitions.old →
         KeepsJobs limits (pasts_of partitions.old) (job ∷ []) (result ∷ []) (pasts_of partitions.new) }
     ensures does { (splits : List Bound) (limits : Limits) → AreParts splits limits partitions.old →
@@ -351,7 +351,7 @@ fn do_job(partitions: &mut [Partition], job: Job) -> Result<Done, Refusal>
 
 /// The outcome of a job with this outcome of its step.
 fn performed(answered: Result<Reply, Refusal>) -> Result<Done, Refusal>
-    ensures { result ≡ performed answered }
+    ensures { result ≡ mapped Done.Replied answered }
 {
     match answered {
         Ok(reply) => Ok(Done::Replied(reply)),
@@ -361,7 +361,7 @@ fn performed(answered: Result<Reply, Refusal>) -> Result<Done, Refusal>
 
 /// The outcome of a job with this outcome of its checkpoint.
 fn folding(folded: Result<u64, Refusal>) -> Result<Done, Refusal>
-    ensures { result ≡ folding folded }
+    ensures { result ≡ mapped Done.Folded folded }
 {
     match folded {
         Ok(count) => Ok(Done::Folded(count)),

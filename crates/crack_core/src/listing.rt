@@ -4,7 +4,9 @@ ghost use Rattle.crack_row.specs.declared.Row.{Row};
 ghost use Rattle.crack_plain.specs.Plain.{IsSmall};
 ghost use Rattle.crack_core.specs.Steps.{tables_of};
 ghost use Rattle.crack_core.specs.Asking.{lasting};
-ghost use Rattle.crack_core.specs.Listing.{SelectsKeys, Selects, StandIn, listed, of_part, rows_in};
+ghost use Rattle.crack_core.specs.Bulk.{OverKeys};
+ghost use Rattle.crack_core.specs.Listing.{Selects, StandIn, all_listed, listed};
+ghost use Rattle.crack_core.specs.Inside.{of_part};
 
 use crate::{Core, Query};
 use crack_row::{BoundNumber, KeyNumber, KeyRange, PayloadNumber, Policy, Refusal, Reply, Row};
@@ -26,8 +28,8 @@ impl Core {
         requires serials { length serials.old ≡ length parts.old }
         requires keys { length keys.old ≡ length parts.old }
         requires payloads { length payloads.old ≡ length parts.old }
-        ensures selects { SelectsKeys self.old.limits self.old.splits parts.new serials.new keys.new payloads.new first
-            last result (lasting (tables_of self.old.parts)) (lasting (tables_of self.new.parts)) }
+        ensures selects { OverKeys (Selects self.old.limits self.old.splits parts.new serials.new keys.new payloads.new)
+            first last result (lasting (tables_of self.old.parts)) (lasting (tables_of self.new.parts)) }
         ensures unwritten { OnErr result ((parts.new ≡ parts.old) × (serials.new ≡ serials.old) ×
             (keys.new ≡ keys.old) × (payloads.new ≡ payloads.old)) }
         ensures opened { (self.new.splits ≡ self.old.splits) × (self.new.limits ≡ self.old.limits) }
@@ -95,12 +97,12 @@ fn list_all(
     requires serials { length serials.old ≡ length parts.old }
     requires keys { length keys.old ≡ length parts.old }
     requires payloads { length payloads.old ≡ length parts.old }
-    ensures found { result ≡ length (listed met.now replies.now) }
-    ensures stand { StandIn (listed met.now replies.now) parts.new serials.new keys.new payloads.new }
+    ensures found { result ≡ length (all_listed met.now replies.now) }
+    ensures stand { StandIn (all_listed met.now replies.now) parts.new serials.new keys.new payloads.new }
 {
     let mut found = 0;
     'replies: for i in 0..replies.len() {
-        let rows = rows_in(&replies[i]);
+        let rows = listed(&replies[i]);
         list_rows(met[i].0, rows, found, parts, serials, keys, payloads);
         found += rows.len();
     }
@@ -108,8 +110,8 @@ fn list_all(
 }
 
 /// The rows that a reply lists.
-fn rows_in(reply: &Reply) -> &[Row]
-    ensures { result.now ≡ rows_in reply.now }
+fn listed(reply: &Reply) -> &[Row]
+    ensures { result.now ≡ listed reply.now }
 {
     match reply {
         Reply::Rows(rows) => rows.as_slice(),

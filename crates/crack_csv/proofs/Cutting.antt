@@ -16,7 +16,7 @@ use Rattle.crack_row.specs.declared.refusal.Refusal.TheVariants.{WriteFault}
 use Rattle.crack_plain.specs.Plain.{PlainView, rows_in}
 use Rattle.crack_core.specs.Routes.{keys_of_part}
 use Rattle.crack_core.specs.Steps.{Bounds, IsOutcome, IsOutcomeAt, tables_after, table_after, upkept_by, fresh_table}
-use Rattle.crack_session.specs.Queries.{listed}
+use Rattle.crack_core.specs.Listing.{listed}
 use Rattle.crack_commands.specs.Texts.{AppendsFront}
 use Rattle.crack_commands.proofs.Sending.{Appends-then, front_first, front_then}
 use Rattle.crack_csv.specs.Exports.{header_text, record_text, rows_from, asked, lines_of, AreUnsent, IsExportCut}

@@ -15,8 +15,8 @@ use Rattle.crack_row.specs.declared.refusal.Refusal.TheVariants.{OutOfMemory, No
 use Rattle.crack_plain.specs.Plain.{PlainView, checkpointed, rows_in}
 use Rattle.crack_core.specs.Routes.{keys_of_part}
 use Rattle.crack_part.specs.Refusals.{first_cause}
-use Rattle.crack_core.specs.Steps.{Bounds, reply_unless, MayLackCell, IsOutcome, IsOutcomeAt, tables_after, table_after, upkept_by, fresh_table}
-use Rattle.crack_session.specs.Queries.{listed}
+use Rattle.crack_core.specs.Steps.{Bounds, unless, MayLackCell, IsOutcome, IsOutcomeAt, tables_after, table_after, upkept_by, fresh_table}
+use Rattle.crack_core.specs.Listing.{listed}
 use Rattle.crack_commands.proofs.Sending.{Appends-then}
 use Rattle.crack_csv.specs.Exports.{header_text, record_text, rows_from, asked, IsExported}
 use Rattle.crack_csv.specs.Inside.{rows_at, IsPartExported}
@@ -134,8 +134,8 @@ keeps_appends None b h = tt
 keeps_appends (Some x) None h = absurd h
 keeps_appends (Some x) (Some y) h = h ∙ sym (append-nil x)
 
--- a reply is the expected one
-reply_is : (stop : Option Refusal) (said reply : Reply) (Lacks : Type 0) → (◌≡◌ {A = Result Reply Refusal} (Ok reply) (reply_unless stop said)) ⊎ (IsOk (reply_unless stop said) × ((◌≡◌ {A = Result Reply Refusal} (Ok reply) (Err OutOfMemory)) ⊎ ((◌≡◌ {A = Result Reply Refusal} (Ok reply) (Err NoCell)) × Lacks))) → reply ≡ said
+-- a reply that comes out is the one that is expected
+reply_is : (stop : Option Refusal) (said reply : Reply) (Lacks : Type 0) → (◌≡◌ {A = Result Reply Refusal} (Ok reply) (unless stop said)) ⊎ (IsOk (unless stop said) × ((◌≡◌ {A = Result Reply Refusal} (Ok reply) (Err OutOfMemory)) ⊎ ((◌≡◌ {A = Result Reply Refusal} (Ok reply) (Err NoCell)) × Lacks))) → reply ≡ said
 reply_is None said reply Lacks (inl same) = cc same
 reply_is (Some e) said reply Lacks (inl same) = cc same
 reply_is stop said reply Lacks (inr (ok, inl short)) = cc short

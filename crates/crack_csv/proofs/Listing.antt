@@ -13,7 +13,7 @@ use Rattle.crack_row.specs.declared.refusal.Refusal.{Refusal}
 use Rattle.crack_row.specs.declared.refusal.Refusal.TheVariants.{WriteFault}
 use Rattle.crack_commands.proofs.Sending.{Appends-then}
 use Rattle.crack_session.specs.Calls.{Call, Calls}
-use Rattle.crack_session.specs.Queries.{listed}
+use Rattle.crack_core.specs.Listing.{listed}
 use Rattle.crack_session.proofs.Calling.{Calls-push}
 use Rattle.crack_csv.specs.Asked.{listing, listings, lines_in, IsListed, IsListedFirst}
 use Rattle.crack_csv.specs.Exports.{header_text, record_text, AreUnsent}

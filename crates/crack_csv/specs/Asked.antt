@@ -12,7 +12,7 @@ use Rattle.crack_row.specs.declared.refusal.Refusal.{Refusal}
 use Rattle.crack_row.specs.declared.refusal.Refusal.TheVariants.{OutOfMemory, WriteFault, ReadFault, BadRecord}
 use Rattle.crack_core.specs.Routes.{route, keys_of_part}
 use Rattle.crack_session.specs.Calls.{Call, Asked, Calls}
-use Rattle.crack_session.specs.Queries.{listed}
+use Rattle.crack_core.specs.Listing.{listed}
 use Rattle.crack_csv.specs.declared.load.LoadFault.{LoadFault}
 use Rattle.crack_csv.specs.declared.record.NewRow.{NewRow}
 use Rattle.crack_csv.specs.Exports.{header_text, record_text, AreUnsent}

@@ -1,6 +1,7 @@
--- The result of `export_csv`.
-use Rattle.std.specs.Prelude.{◌≡◌, ℕ, ◌+◌, ◌<◌, ◌⊎◌, List, [], ◌∷◌, ◌++◌, length, map, take, slice_get, Option, Some, Err, codes, Bool, true}
+-- What `export_csv` leaves.
+use Rattle.std.specs.Prelude.{◌≡◌, ℕ, ◌+◌, ◌<◌, ◌⊎◌, List, [], ◌∷◌, ◌++◌, length, map, take, slice_get, Option, Some, Err, codes, decimal, Bool, true}
 use Rattle.std.specs.List.{concat, flat_map}
+use Rattle.std.specs.Fmt.{signed_decimal}
 use Rattle.std.specs.Io.KnownBytes.{Appends}
 use Rattle.csv.specs.Writing.{default_writer, row_text}
 use Rattle.crack_row.specs.declared.Bound.{Bound}
@@ -11,7 +12,7 @@ use Rattle.crack_row.specs.declared.refusal.Refusal.TheVariants.{OutOfMemory, Wr
 use Rattle.crack_plain.specs.Plain.{PlainView, rows_in}
 use Rattle.crack_core.specs.Routes.{keys_of_part}
 use Rattle.crack_core.specs.Steps.{Bounds, IsOutcome, upkept_by}
-use Rattle.crack_commands.specs.Texts.{AppendsFront, key_text, payload_text}
+use Rattle.crack_commands.specs.Texts.{AppendsFront}
 
 -- the text of the header
 abbrev pub header_text : List ℕ
@@ -19,7 +20,7 @@ header_text = row_text default_writer (codes "key" ∷ codes "payload" ∷ [])
 
 -- the text of a row's record: its key and its payload
 abbrev pub record_text : Row → List ℕ
-record_text row = row_text default_writer (key_text row.key ∷ payload_text row.payload ∷ [])
+record_text row = row_text default_writer (decimal row.key.0 ∷ signed_decimal row.payload.0 ∷ [])
 
 -- the rows of these partitions, whose numbers rise from this one on: those of each in turn, by rising serial
 abbrev pub rows_from : List Bound → ℕ → List PlainView → List Row

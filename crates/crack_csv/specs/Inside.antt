@@ -18,7 +18,7 @@ use Rattle.crack_row.specs.declared.command.Command.TheVariants.{Select}
 use Rattle.crack_row.specs.declared.command.Policy.{Policy}
 use Rattle.crack_row.specs.declared.command.Reply.{Reply}
 use Rattle.crack_session.specs.Calls.{Call, Calls}
-use Rattle.crack_session.specs.Queries.{listed}
+use Rattle.crack_core.specs.Listing.{listed}
 use Rattle.crack_core.specs.Routes.{keys_of_part}
 use Rattle.crack_core.specs.Steps.{Bounds, IsOutcome}
 use Rattle.crack_csv.specs.declared.record.NewRow.{NewRow}

@@ -5,7 +5,7 @@ ghost use Rattle.std.specs.Io.KnownBytes.{Appends, Keeps};
 ghost use Rattle.crack_row.specs.Devices.{device, has_failed};
 ghost use Rattle.crack_plain.specs.Plain.{PlainView};
 ghost use Rattle.crack_core.specs.Steps.{tables_of};
-ghost use Rattle.crack_session.specs.Queries.{listed};
+ghost use Rattle.crack_core.specs.Listing.{listed};
 ghost use Rattle.crack_csv.specs.Exports.{header_text, record_text, rows_from, IsExported, AreUnsent, IsExportCut};
 ghost use Rattle.crack_csv.specs.Asked.{IsListed, IsListedFirst};
 ghost use Rattle.crack_csv.specs.Inside.{IsPartExported, IsUnsent, IsPartCut, AsksAndWrites, AsksAndCuts};

@@ -9,9 +9,9 @@ use Rattle.crack_row.specs.declared.command.Reply.{Reply}
 use Rattle.crack_row.specs.declared.refusal.Refusal.{Refusal}
 use Rattle.crack_session.specs.declared.answer.Answer.{Answer}
 use Rattle.crack_session.specs.declared.query.PartReply.{PartReply}
-use Rattle.crack_session.specs.declared.query.Query.{Query}
-use Rattle.crack_session.specs.Queries.{asking}
-use Rattle.crack_session.specs.Calls.{Call, Asked, Calls, AreAskedInTurn, one_replies, one_refuses, AreSeveralAsked, ArePartsAsked}
+use Rattle.crack_core.specs.Asking.{asking, replies, refuses}
+use Rattle.crack_core.specs.declared.asking.Query.{Query}
+use Rattle.crack_session.specs.Calls.{Call, Asked, Calls, AreAskedInTurn, AreSeveralAsked, ArePartsAsked}
 
 -- one call
 pub Calls-one : {D : Type 0} (leads : D → Call → D → Type 0) (old : D) (call : Call) (new : D) → leads old call new → Calls leads old (call ∷ []) new
@@ -30,13 +30,13 @@ Calls-push leads old calls between call new were led = Calls-then leads old call
 pub AreAskedInTurn-more : (policy : Policy) (query : Query) (parts : List (ℕ × Range)) (i : ℕ) (part : ℕ × Range) (command : Command) (said said' : List PartReply) (reply : Reply) (calls : List Call) → i < length parts → part ≡ get_or parts i part → command ≡ asking query part.1 → said' ≡ said ++ record { part = part.0; reply = reply } ∷ [] → AreAskedInTurn policy query (take i parts) (Ok said) calls → AreAskedInTurn policy query (take (i + 1) parts) (Ok said') (calls ++ Asked part.0 command policy (Ok reply) ∷ [])
 AreAskedInTurn-more policy query parts i part command said said' reply calls below at asked grown so_far =
     let more : take (i + 1) parts ≡ take i parts ++ part ∷ [] = take_more parts i part below ∙ ap (λ p. take i parts ++ p ∷ []) (sym at) in
-    rw (more, grown, asked) (one_replies (take i parts) part said reply calls so_far)
+    rw (more, grown, asked) (replies (take i parts) part said reply calls (calls ++ Asked part.0 (asking query part.1) policy (Ok reply) ∷ []) so_far refl)
 
 -- the next partition refuses
 pub AreAskedInTurn-stops : (policy : Policy) (query : Query) (parts : List (ℕ × Range)) (i : ℕ) (part : ℕ × Range) (command : Command) (said : List PartReply) (e : Refusal) (calls : List Call) → i < length parts → part ≡ get_or parts i part → command ≡ asking query part.1 → AreAskedInTurn policy query (take i parts) (Ok said) calls → AreAskedInTurn policy query parts (Err e) (calls ++ Asked part.0 command policy (Err e) ∷ [])
 AreAskedInTurn-stops policy query parts i part command said e calls below at asked so_far =
     let whole : take i parts ++ part ∷ drop (i + 1) parts ≡ parts = ap (λ p. take i parts ++ p ∷ drop (i + 1) parts) at ∙ ap (λ r. take i parts ++ r) (sym (drop_more parts i part below)) ∙ take-append-drop i parts in
-    rw asked (subst (λ (ps : List (ℕ × Range)). AreAskedInTurn policy query ps (Err e) (calls ++ Asked part.0 (asking query part.1) policy (Err e) ∷ [])) whole (one_refuses (take i parts) part (drop (i + 1) parts) said e calls so_far))
+    rw asked (subst (λ (ps : List (ℕ × Range)). AreAskedInTurn policy query ps (Err e) (calls ++ Asked part.0 (asking query part.1) policy (Err e) ∷ [])) whole (refuses (take i parts) part (drop (i + 1) parts) said e calls (calls ++ Asked part.0 (asking query part.1) policy (Err e) ∷ []) so_far refl))
 
 -- more than one part
 pub ArePartsAsked-several : (policy : Policy) (query : Query) (parts : List (ℕ × Range)) (answer : Answer) (calls : List Call) → 1 < length parts → AreSeveralAsked policy query parts answer calls → ArePartsAsked policy query parts answer calls

@@ -1,8 +1,8 @@
 -- How a session goes on, one statement after another.
 use Rattle.std.proofs.Common.{◌≡◌, ℕ, ◌+◌, ◌<◌, Bool, true, false, cond, Option, Some, None, Ok, Err, List, [], ◌∷◌, ◌++◌, length, take, refl, sym, ap, ◌∙◌, subst, inl, inr, arith, append_assoc, append-nil, length-append}
-use Rattle.std.specs.Prelude.{option_map}
+use Rattle.std.specs.Prelude.{◌||◌, option_map, if◌then◌else◌}
 use Rattle.std.proofs.lemmas.List.{take_at, map-append}
-use Rattle.std.specs.List.{concat}
+use Rattle.std.specs.List.{concat, list_any}
 use Rattle.std.specs.Io.KnownBytes.{Appends, Keeps}
 use Rattle.crack_row.specs.Devices.{device}
 use Rattle.crack_row.specs.declared.Bound.{Bound}
@@ -21,7 +21,7 @@ use Rattle.crack_session.specs.Readings.{statements, is_quit, reading_of}
 use Rattle.crack_session.specs.Input.{first_line, after_line, kept_of}
 use Rattle.crack_session.specs.Answers.{IsAnswer, is_short_answer, answer_text}
 use Rattle.crack_session.specs.Telling.{Tells, marked}
-use Rattle.crack_session.specs.Sessions.{AreAnswers, first_short, ending}
+use Rattle.crack_session.specs.Sessions.{AreAnswers, first_short}
 use Rattle.crack_session.specs.Served.{AreAnswered, AreTold, CountsStatements, IsDone, IsCutOff}
 use Rattle.crack_session.proofs.Following.{next_some}
 use Rattle.crack_core.specs.Steps.{Bounds}
@@ -75,10 +75,21 @@ pub concat-push : (xs : List (List ℕ)) (y : List ℕ) → concat (xs ++ y ∷ 
 concat-push [] y = append-nil y
 concat-push (x ∷ xs) y = ap (λ z. x ++ z) (concat-push xs y) ∙ sym (append_assoc x (concat xs) y)
 
-ending-push : (rs : List Reading) (r : Reading) → ending (rs ++ r ∷ []) ≡ cond (is_quit r) Quit InputEnded
-ending-push [] r = refl
-ending-push (q ∷ []) r = refl
-ending-push (q ∷ p ∷ rs) r = ending-push (p ∷ rs) r
+-- how statements end: by a quit if there is one
+abbrev ending : List Reading → How
+ending rs = if list_any is_quit rs then Quit else InputEnded
+
+ending-push : (rs : List Reading) (r : Reading) → ending rs ≡ InputEnded → ending (rs ++ r ∷ []) ≡ cond (is_quit r) Quit InputEnded
+ending-push [] r none = by_test (is_quit r)
+  where
+    by_test : (b : Bool) → cond (b || false) Quit InputEnded ≡ cond b Quit InputEnded
+    by_test true = refl
+    by_test false = refl
+ending-push (q ∷ rs) r none = by_test (is_quit q) none (ending-push rs r)
+  where
+    by_test : (b : Bool) → cond (b || list_any is_quit rs) Quit InputEnded ≡ InputEnded → (ending rs ≡ InputEnded → ending (rs ++ r ∷ []) ≡ cond (is_quit r) Quit InputEnded) → cond (b || list_any is_quit (rs ++ r ∷ [])) Quit InputEnded ≡ cond (is_quit r) Quit InputEnded
+    by_test true is later = absurd (cc is)
+    by_test false is later = later is
 
 -- the known bytes after more were read
 pub appended : (out : Option (List ℕ)) (o : List ℕ) (out' : Option (List ℕ)) (t : List ℕ) → out ≡ Some o → Appends out out' t → out' ≡ Some (o ++ t)
@@ -140,7 +151,7 @@ Going-more contents {bounds} {splits} {all} {left} {s0} {s} {out0} r a old new s
   done = g.done ++ r ∷ [];
   split = g.split ∙ sym (append_assoc g.done (r ∷ []) left);
   count = let l = length-append g.done (r ∷ []) in let c = g.count in let n = tells.count in omega (arith, l, c, n);
-  ends = ending-push g.done r;
+  ends = ending-push g.done r g.ends;
   told = λ x o e f.
       let was = g.told x o e f in
       let now = answered was.answered.new was.answered.left_is in

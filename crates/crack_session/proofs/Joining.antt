@@ -1,38 +1,16 @@
 -- Replies that are joined.
-use Rattle.std.proofs.Common.{◌≡◌, ℕ, ◌+◌, ◌<◌, ◌≤◌, ◌≤ℤ◌, neg_ℤ, pos, ◌^◌, List, ◌++◌, Option, length, take, get_or, subst, sym, ap, ◌∙◌, arith}
+use Rattle.std.proofs.Common.{◌≡◌, ℕ, ◌+◌, ◌<◌, ◌≤◌, ◌^◌, List, ◌++◌, Option, length, take, get_or, subst, sym, ap, ◌∙◌, arith}
 use Rattle.std.specs.Prelude.{All}
 use Rattle.std.specs.List.{flat_map}
 use Rattle.std.specs.Io.KnownBytes.{Appends}
 use Rattle.std.proofs.lemmas.List.Sums.{sum_by-le}
-use Rattle.std.proofs.lemmas.Int.{ints}
-use Rattle.crack_row.specs.declared.command.Reply.{Reply}
-use Rattle.crack_row.specs.declared.command.Reply.TheVariants.{Placed, Gone, Changed, NoRow, Counted, Summed, Rows}
 use Rattle.crack_commands.specs.Texts.{AppendsFront}
 use Rattle.crack_commands.proofs.Sending.{front_within, texts_more}
 use Rattle.crack_session.specs.declared.query.PartReply.{PartReply}
 use Rattle.crack_plain.specs.Plain.{IsSmall}
-use Rattle.crack_session.specs.Queries.{counted, summed}
+use Rattle.crack_core.specs.Asking.{counted}
+use Rattle.crack_core.proofs.AskLaws.{counted-small}
 use Rattle.crack_session.specs.Telling.{rows_told, list_text}
-
--- the count of a small reply
-counted-small : (r : Reply) → IsSmall r → counted r ≤ 4294967295
-counted-small (Placed serial) small = omega arith
-counted-small (Gone row) small = omega arith
-counted-small Changed small = omega arith
-counted-small NoRow small = omega arith
-counted-small (Counted count) small = omega (arith, small)
-counted-small (Summed sum) small = omega arith
-counted-small (Rows rows) small = omega (arith, small)
-
--- the sum of a small reply
-pub summed-small : (r : Reply) → IsSmall r → (neg_ℤ (pos (2 ^ 96)) ≤ℤ summed r) × (summed r ≤ℤ pos (2 ^ 96))
-summed-small (Placed serial) small = (omega (arith, ints), omega (arith, ints))
-summed-small (Gone row) small = (omega (arith, ints), omega (arith, ints))
-summed-small Changed small = (omega (arith, ints), omega (arith, ints))
-summed-small NoRow small = (omega (arith, ints), omega (arith, ints))
-summed-small (Counted count) small = (omega (arith, ints), omega (arith, ints))
-summed-small (Summed sum) small = (omega (arith, ints, small.0), omega (arith, ints, small.1))
-summed-small (Rows rows) small = (omega (arith, ints), omega (arith, ints))
 
 -- few small replies fit together
 pub rows_told-fit : (replies : List PartReply) → All (λ (r : PartReply). IsSmall r.reply) replies → length replies ≤ 64 → rows_told replies < 2 ^ 64

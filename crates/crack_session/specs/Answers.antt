@@ -1,6 +1,7 @@
--- The answers of a session to a statement, and their texts.
+-- What a session answers to a statement, and how it writes that.
+use Rattle.std.specs.Fmt.{signed_decimal}
 use Rattle.std.specs.List.{flat_map}
-use Rattle.std.specs.Prelude.{◌≡◌, ℕ, Bool, true, false, List, [], ◌∷◌, ◌++◌, ◌⊎◌, Result, Ok, Err, codes, slice_get}
+use Rattle.std.specs.Prelude.{◌≡◌, ℕ, Bool, true, false, List, [], ◌∷◌, ◌++◌, ◌⊎◌, Result, Ok, Err, codes, decimal, slice_get}
 use Rattle.crack_row.specs.Ranges.{Range}
 use Rattle.crack_row.specs.declared.Bound.{Bound}
 use Rattle.crack_row.specs.declared.command.Command.{Command}
@@ -9,19 +10,21 @@ use Rattle.crack_row.specs.declared.command.Reply.{Reply}
 use Rattle.crack_row.specs.declared.layout.Layout.{Layout as PartLayout}
 use Rattle.crack_row.specs.declared.refusal.Refusal.{Refusal}
 use Rattle.crack_row.specs.declared.refusal.Refusal.TheVariants.{HistoryFull, OutOfMemory, NoCell, LifeOver}
-use Rattle.crack_plain.specs.Plain.{PlainView}
+use Rattle.crack_plain.specs.Plain.{PlainView, checkpointed}
 use Rattle.crack_commands.specs.Grammar.{Reading}
-use Rattle.crack_commands.specs.Texts.{reply_text, head_text, row_text, count_text, sum_text, layout_text, folded_text, policy_text, refusal_text}
+use Rattle.crack_commands.specs.Texts.{line_text, reply_text, row_text, layout_text, policy_text, refusal_text}
 use Rattle.crack_commands.specs.declared.statement.Statement.{Statement}
 use Rattle.crack_commands.specs.declared.statement.Statement.TheVariants.{Insert, Delete, Update, Count, Sum, Select, Layout, Checkpoint, Policy, Quit}
 use Rattle.crack_session.specs.declared.answer.Answer.{Answer}
 use Rattle.crack_session.specs.declared.answer.Answer.TheVariants.{Replied, Counted, Summed, Listed, Laid, Folded, Set, Refused, Bye}
 use Rattle.crack_session.specs.declared.query.PartReply.{PartReply}
-use Rattle.crack_session.specs.declared.query.Query.{Query}
-use Rattle.crack_session.specs.declared.query.Query.TheVariants.{Count as AsksCount, Sum as AsksSum, Select as AsksSelect}
-use Rattle.crack_session.specs.Queries.{asking, joined, listed}
+use Rattle.crack_core.specs.Asking.{InTurn, asking}
+use Rattle.crack_core.specs.Listing.{listed}
+use Rattle.crack_core.specs.declared.asking.Query.{Query}
+use Rattle.crack_core.specs.declared.asking.Query.TheVariants.{CountRows, SumPayloads, SelectRows}
+use Rattle.crack_session.specs.Queries.{reply_of, joined}
 use Rattle.crack_core.specs.Routes.{keys_of_part, route, parts_of}
-use Rattle.crack_core.specs.Steps.{Bounds, IsOutcomeAt, IsLayoutOutcome, IsFoldOutcome, tables_after, tables_folded}
+use Rattle.crack_core.specs.Steps.{Bounds, IsOutcomeAt, IsLayoutOutcome, IsFoldOutcome, tables_after, changed_at}
 
 -- the answer if there is an outcome, or why there is none
 abbrev pub told : {X : Type 0} → (X → Answer) → Result X Refusal → Answer
@@ -35,20 +38,9 @@ pub record IsAsked (bounds : Bounds) (splits : List Bound) (tables : List PlainV
   pub answer_is : answer ≡ told (Replied part) outcome
   pub new_is : new ≡ tables_after bounds tables part command outcome
 
--- Several partitions are asked in turn, each for its part of a range: their replies, or the first refusal, and the partitions afterwards.
-pub data AsksInTurn (bounds : Bounds) (splits : List Bound) (query : Query) (tables : List PlainView) : List (ℕ × Range) → Result (List PartReply) Refusal → List PlainView → Type 0 where
-  -- none is asked yet
-  begins : AsksInTurn bounds splits query tables [] (Ok []) tables
-  -- after those that replied, the next one replies
-  replies : (parts : List (ℕ × Range)) (part : ℕ × Range) (said : List PartReply) (reply : Reply) (between : List PlainView)
-      → AsksInTurn bounds splits query tables parts (Ok said) between
-      → IsOutcomeAt bounds splits between part.0 (asking query part.1) (Ok reply)
-      → AsksInTurn bounds splits query tables (parts ++ part ∷ []) (Ok (said ++ record { part = part.0; reply = reply } ∷ [])) (tables_after bounds between part.0 (asking query part.1) (Ok reply))
-  -- after those that replied, the next one refuses, and those after it aren't asked
-  refuses : (parts : List (ℕ × Range)) (part : ℕ × Range) (behind : List (ℕ × Range)) (said : List PartReply) (e : Refusal) (between : List PlainView)
-      → AsksInTurn bounds splits query tables parts (Ok said) between
-      → IsOutcomeAt bounds splits between part.0 (asking query part.1) (Err e)
-      → AsksInTurn bounds splits query tables (parts ++ part ∷ behind) (Err e) between
+-- several partitions are asked in turn, each for its part of a range: their replies, or the first refusal, and the partitions afterwards
+abbrev pub AsksInTurn : Bounds → List Bound → Query → List PlainView → List (ℕ × Range) → Result (List PartReply) Refusal → List PlainView → Type 0
+AsksInTurn bounds splits query tables parts outcome new = InTurn (λ (part : ℕ × Range) (reply : Result Reply Refusal) (before after : List PlainView). IsOutcomeAt bounds splits before part.0 (asking query part.1) reply × (after ≡ tables_after bounds before part.0 (asking query part.1) reply)) reply_of tables parts outcome new
 
 -- Several partitions are asked in turn, and their replies are joined.
 pub record IsJoined (bounds : Bounds) (splits : List Bound) (tables : List PlainView) (query : Query) (parts : List (ℕ × Range)) (answer : Answer) (new : List PlainView) : Type 0 where
@@ -72,7 +64,7 @@ pub record IsFolded (tables : List PlainView) (part : ℕ) (answer : Answer) (ne
   pub outcome : Result ℕ Refusal
   pub comes_out : IsFoldOutcome (slice_get tables part) outcome
   pub answer_is : answer ≡ told Folded outcome
-  pub new_is : new ≡ tables_folded tables part outcome
+  pub new_is : new ≡ changed_at checkpointed tables part outcome
 
 -- an answer to a statement, and the partitions afterwards: the partition that holds a row's key or that its number names is asked, and for
 -- a range those that hold a part of it
@@ -80,9 +72,9 @@ abbrev pub IsAnswerTo : Bounds → List Bound → List PlainView → Statement �
 IsAnswerTo bounds splits tables (Insert key payload) answer new = IsAsked bounds splits tables (route splits key.0) (AskInsert key payload) answer new
 IsAnswerTo bounds splits tables (Delete row) answer new = IsAsked bounds splits tables row.part (AskDelete row.serial) answer new
 IsAnswerTo bounds splits tables (Update row key payload) answer new = IsAsked bounds splits tables row.part (AskUpdate row.serial key payload) answer new
-IsAnswerTo bounds splits tables (Count range) answer new = AsksParts bounds splits tables AsksCount (parts_of splits range) answer new
-IsAnswerTo bounds splits tables (Sum range) answer new = AsksParts bounds splits tables AsksSum (parts_of splits range) answer new
-IsAnswerTo bounds splits tables (Select range) answer new = AsksParts bounds splits tables AsksSelect (parts_of splits range) answer new
+IsAnswerTo bounds splits tables (Count range) answer new = AsksParts bounds splits tables CountRows (parts_of splits range) answer new
+IsAnswerTo bounds splits tables (Sum range) answer new = AsksParts bounds splits tables SumPayloads (parts_of splits range) answer new
+IsAnswerTo bounds splits tables (Select range) answer new = AsksParts bounds splits tables SelectRows (parts_of splits range) answer new
 IsAnswerTo bounds splits tables (Layout part) answer new = IsLaidOut splits tables part answer × (new ≡ tables)
 IsAnswerTo bounds splits tables (Checkpoint part) answer new = IsFolded tables part answer new
 IsAnswerTo bounds splits tables (Policy policy) answer new = (answer ≡ Set policy) × (new ≡ tables)
@@ -109,11 +101,11 @@ is_short_answer _ = false
 -- the text of an answer
 unfoldable pub answer_text : Answer → List ℕ
 answer_text (Replied part reply) = reply_text part reply
-answer_text (Counted total) = count_text total
-answer_text (Summed total) = sum_text total
-answer_text (Listed total lists) = head_text total ++ flat_map (λ (r : PartReply). flat_map (row_text r.part) (listed r.reply)) lists
+answer_text (Counted total) = line_text (codes "count ") (decimal total)
+answer_text (Summed total) = line_text (codes "sum ") (signed_decimal total)
+answer_text (Listed total lists) = line_text (codes "rows ") (decimal total) ++ flat_map (λ (r : PartReply). flat_map (row_text r.part) (listed r.reply)) lists
 answer_text (Laid part layout) = layout_text part layout
-answer_text (Folded count) = folded_text count
+answer_text (Folded count) = line_text (codes "folded ") (decimal count)
 answer_text (Set policy) = policy_text policy
 answer_text (Refused e) = refusal_text e
 answer_text Bye = codes "bye\n"

@@ -16,9 +16,10 @@ use Rattle.crack_core.specs.Routes.{route, parts_of}
 use Rattle.crack_session.specs.declared.answer.Answer.{Answer}
 use Rattle.crack_session.specs.declared.answer.Answer.TheVariants.{Replied, Laid, Folded, Set, Refused, Bye}
 use Rattle.crack_session.specs.declared.query.PartReply.{PartReply}
-use Rattle.crack_session.specs.declared.query.Query.{Query}
-use Rattle.crack_session.specs.declared.query.Query.TheVariants.{Count as AsksCount, Sum as AsksSum, Select as AsksSelect}
-use Rattle.crack_session.specs.Queries.{asking, joined}
+use Rattle.crack_core.specs.Asking.{InTurn, asking}
+use Rattle.crack_core.specs.declared.asking.Query.{Query}
+use Rattle.crack_core.specs.declared.asking.Query.TheVariants.{CountRows, SumPayloads, SelectRows}
+use Rattle.crack_session.specs.Queries.{reply_of, joined}
 use Rattle.crack_session.specs.Answers.{told}
 
 -- a call of a desk, and its outcome: a partition was asked a command by a policy, was told to make a checkpoint, or was asked for its layout
@@ -36,28 +37,13 @@ Calls {D} leads old (call ∷ calls) new = (between : D) × leads old call betwe
 abbrev pub IsOneAsked : MergePolicy → ℕ → Command → Answer → List Call → Type 0
 IsOneAsked policy part command answer calls = (outcome : Result Reply Refusal) × (calls ≡ Asked part command policy outcome ∷ []) × (answer ≡ told (Replied part) outcome)
 
--- Several partitions are asked in turn, each once and for its part of a range: their replies, or the first refusal.
-pub data AreAskedInTurn (policy : MergePolicy) (query : Query) : List (ℕ × Range) → Result (List PartReply) Refusal → List Call → Type 0 where
-  -- none is asked yet
-  none_yet : AreAskedInTurn policy query [] (Ok []) []
-  -- after those that replied, the next one replies
-  one_replies : (parts : List (ℕ × Range)) (part : ℕ × Range) (said : List PartReply) (reply : Reply) (calls : List Call)
-      → AreAskedInTurn policy query parts (Ok said) calls
-      → AreAskedInTurn policy query (parts ++ part ∷ []) (Ok (said ++ record { part = part.0; reply = reply } ∷ [])) (calls ++ Asked part.0 (asking query part.1) policy (Ok reply) ∷ [])
-  -- after those that replied, the next one refuses, and those after it aren't asked
-  one_refuses : (parts : List (ℕ × Range)) (part : ℕ × Range) (rest : List (ℕ × Range)) (said : List PartReply) (e : Refusal) (calls : List Call)
-      → AreAskedInTurn policy query parts (Ok said) calls
-      → AreAskedInTurn policy query (parts ++ part ∷ rest) (Err e) (calls ++ Asked part.0 (asking query part.1) policy (Err e) ∷ [])
+-- several partitions are asked in turn, each once and for its part of a range: their replies, or the first refusal
+abbrev pub AreAskedInTurn : MergePolicy → Query → List (ℕ × Range) → Result (List PartReply) Refusal → List Call → Type 0
+AreAskedInTurn policy query parts outcome calls = InTurn (λ (part : ℕ × Range) (reply : Result Reply Refusal) (before after : List Call). after ≡ before ++ Asked part.0 (asking query part.1) policy reply ∷ []) reply_of [] parts outcome calls
 
--- several partitions are asked in turn, and their replies are joined
-pub record IsJoinedFrom (policy : MergePolicy) (query : Query) (parts : List (ℕ × Range)) (answer : Answer) (calls : List Call) : Type 0 where
-  pub outcome : Result (List PartReply) Refusal
-  pub asked : AreAskedInTurn policy query parts outcome calls
-  pub answer_is : answer ≡ told (joined query) outcome
-
--- the same, or none of them is asked, if no memory is found for their replies
+-- several partitions are asked in turn, and their replies are joined; or none of them, if no memory is found for their replies
 abbrev pub AreSeveralAsked : MergePolicy → Query → List (ℕ × Range) → Answer → List Call → Type 0
-AreSeveralAsked policy query parts answer calls = IsJoinedFrom policy query parts answer calls ⊎ ((answer ≡ Refused OutOfMemory) × (calls ≡ []))
+AreSeveralAsked policy query parts answer calls = ((outcome : Result (List PartReply) Refusal) × AreAskedInTurn policy query parts outcome calls × (answer ≡ told (joined query) outcome)) ⊎ ((answer ≡ Refused OutOfMemory) × (calls ≡ []))
 
 -- these parts of a range are asked: a single one as for any command, or several in turn
 abbrev pub ArePartsAsked : MergePolicy → Query → List (ℕ × Range) → Answer → List Call → Type 0
@@ -70,9 +56,9 @@ abbrev pub IsMadeOf : List Bound → MergePolicy → Statement → Answer → Li
 IsMadeOf splits policy (Insert key payload) answer calls = IsOneAsked policy (route splits key.0) (AskInsert key payload) answer calls
 IsMadeOf splits policy (Delete row) answer calls = IsOneAsked policy row.part (AskDelete row.serial) answer calls
 IsMadeOf splits policy (Update row key payload) answer calls = IsOneAsked policy row.part (AskUpdate row.serial key payload) answer calls
-IsMadeOf splits policy (Count range) answer calls = ArePartsAsked policy AsksCount (parts_of splits range) answer calls
-IsMadeOf splits policy (Sum range) answer calls = ArePartsAsked policy AsksSum (parts_of splits range) answer calls
-IsMadeOf splits policy (Select range) answer calls = ArePartsAsked policy AsksSelect (parts_of splits range) answer calls
+IsMadeOf splits policy (Count range) answer calls = ArePartsAsked policy CountRows (parts_of splits range) answer calls
+IsMadeOf splits policy (Sum range) answer calls = ArePartsAsked policy SumPayloads (parts_of splits range) answer calls
+IsMadeOf splits policy (Select range) answer calls = ArePartsAsked policy SelectRows (parts_of splits range) answer calls
 IsMadeOf splits policy (Layout part) answer calls = (outcome : Result PartLayout Refusal) × (calls ≡ Looked part outcome ∷ []) × (answer ≡ told (Laid part) outcome)
 IsMadeOf splits policy (Checkpoint part) answer calls = (outcome : Result ℕ Refusal) × (calls ≡ Checkpointed part outcome ∷ []) × (answer ≡ told Folded outcome)
 IsMadeOf splits policy (Policy other) answer calls = (answer ≡ Set other) × (calls ≡ [])

@@ -5,18 +5,18 @@ use Rattle.crack_row.specs.declared.command.Command.{Command}
 use Rattle.crack_row.specs.declared.command.Policy.{Policy}
 use Rattle.crack_row.specs.declared.command.Reply.{Reply}
 use Rattle.crack_row.specs.declared.refusal.Refusal.{Refusal}
-use Rattle.crack_plain.specs.Plain.{PlainView}
+use Rattle.crack_plain.specs.Plain.{PlainView, checkpointed}
 use Rattle.crack_part.specs.Parts.{Part, Serves, Spares}
 use Rattle.crack_core.specs.Cores.{CoreState}
 use Rattle.crack_core.specs.Routes.{keys_of_part}
-use Rattle.crack_core.specs.Steps.{Bounds, bounds_of, IsOutcomeAt, IsLayoutOutcome, IsFoldOutcome, tables_of, tables_after, tables_folded}
+use Rattle.crack_core.specs.Steps.{Bounds, bounds_of, IsOutcomeAt, IsLayoutOutcome, IsFoldOutcome, tables_of, tables_after, changed_at}
 use Rattle.crack_core.specs.Jobs.{AtPart}
 use Rattle.crack_session.specs.Calls.{Call, Asked, Checkpointed, Looked}
 
 -- the outcome of a call of partitions whose rows are known, and their rows afterwards
 abbrev pub rows_lead : Bounds → List Bound → List PlainView → Call → List PlainView → Type 0
 rows_lead bounds splits old (Asked part command policy outcome) new = IsOutcomeAt bounds splits old part command outcome × (new ≡ tables_after bounds old part command outcome)
-rows_lead bounds splits old (Checkpointed part outcome) new = IsFoldOutcome (slice_get old part) outcome × (new ≡ tables_folded old part outcome)
+rows_lead bounds splits old (Checkpointed part outcome) new = IsFoldOutcome (slice_get old part) outcome × (new ≡ changed_at checkpointed old part outcome)
 rows_lead bounds splits old (Looked part outcome) new = IsLayoutOutcome (keys_of_part splits part) (slice_get old part) outcome × (new ≡ old)
 
 -- what a call does to the stores of a core's partitions: that of the partition that is asked changes by the policy, or doesn't change

@@ -1,16 +1,17 @@
--- The result of `serve`.
-use Rattle.std.specs.Prelude.{◌≡◌, ℕ, ◌+◌, ◌<◌, ◌≤◌, List, [], ◌∷◌, ◌++◌, length, take, map, Option, Some, ◌⊎◌}
-use Rattle.std.specs.List.{concat}
+-- What `serve` leaves.
+use Rattle.std.specs.Prelude.{◌≡◌, ℕ, ◌+◌, ◌<◌, ◌≤◌, List, [], ◌∷◌, ◌++◌, length, take, map, Option, Some, ◌⊎◌, if◌then◌else◌}
+use Rattle.std.specs.List.{concat, list_any}
 use Rattle.crack_row.specs.declared.Bound.{Bound}
 use Rattle.crack_row.specs.declared.refusal.Refusal.TheVariants.{ReadFault, WriteFault}
 use Rattle.crack_plain.specs.Plain.{PlainView}
 use Rattle.crack_session.specs.declared.answer.Answer.{Answer}
 use Rattle.crack_session.specs.declared.session.End.{End}
 use Rattle.crack_session.specs.declared.session.Fault.{Fault}
+use Rattle.crack_session.specs.declared.session.How.TheVariants.{Quit, InputEnded}
 use Rattle.crack_commands.specs.Grammar.{Reading}
-use Rattle.crack_session.specs.Readings.{statements}
+use Rattle.crack_session.specs.Readings.{statements, is_quit}
 use Rattle.crack_session.specs.Answers.{answer_text}
-use Rattle.crack_session.specs.Sessions.{AreAnswers, first_short, ending, whole_lines}
+use Rattle.crack_session.specs.Sessions.{AreAnswers, first_short, whole_lines}
 use Rattle.crack_core.specs.Steps.{Bounds}
 
 -- These statements are answered in order: the texts of the answers, the first lack of room, and the partitions afterwards.
@@ -28,10 +29,10 @@ pub record AreTold (bounds : Bounds) (splits : List Bound) (tables : List PlainV
   pub answered : AreAnswered bounds splits tables readings texts short left
   pub written_is : written ≡ Some (out ++ concat texts)
 
--- on Ok all statements are counted
+-- on Ok all statements are counted, and a session ends by a quit if there is one
 pub record CountsStatements (bytes : List ℕ) (end : End) : Type 0 where
   pub statements_are : end.statements ≡ length (statements bytes)
-  pub how_is : end.how ≡ ending (statements bytes)
+  pub how_is : end.how ≡ (if list_any is_quit (statements bytes) then Quit else InputEnded)
 
 -- on a fault this many of them are done; on one of the reader, exactly those in the whole lines of the bytes that were taken
 pub record IsDone (bytes : List ℕ) (fault : Fault) (remaining : Option (List ℕ)) : Type 0 where

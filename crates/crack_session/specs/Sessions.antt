@@ -4,10 +4,7 @@ use Rattle.std.specs.List.{list_any}
 use Rattle.crack_row.specs.declared.Bound.{Bound}
 use Rattle.crack_plain.specs.Plain.{PlainView}
 use Rattle.crack_session.specs.declared.answer.Answer.{Answer}
-use Rattle.crack_session.specs.declared.session.How.{How}
-use Rattle.crack_session.specs.declared.session.How.TheVariants.{Quit, InputEnded}
 use Rattle.crack_commands.specs.Grammar.{Reading}
-use Rattle.crack_session.specs.Readings.{is_quit}
 use Rattle.crack_session.specs.Answers.{IsAnswer, is_short_answer}
 use Rattle.crack_core.specs.Steps.{Bounds}
 
@@ -21,12 +18,6 @@ AreAnswers bounds splits tables _ _ new = ⊥
 abbrev pub first_short : List Answer → Option ℕ
 first_short [] = None
 first_short (answer ∷ answers) = if is_short_answer answer then Some 1 else option_map (λ k. k + 1) (first_short answers)
-
--- how statements end: by a quit if the last of them is one
-abbrev pub ending : List Reading → How
-ending [] = InputEnded
-ending (r ∷ []) = if is_quit r then Quit else InputEnded
-ending (r ∷ q ∷ rs) = ending (q ∷ rs)
 
 -- the lines that end in a line feed: the bytes up to and including the last one
 abbrev pub whole_lines : List ℕ → List ℕ

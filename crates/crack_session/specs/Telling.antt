@@ -1,6 +1,6 @@
 -- What private clauses alone cite.
 use Rattle.std.specs.List.{flat_map}
-use Rattle.std.specs.Prelude.{◌≡◌, ℕ, ℤ, ◌+◌, ◌⊎◌, ◌++◌, sum_by, Bool, true, false, List, Option, None, Some, Result, is_ok, if◌then◌else◌}
+use Rattle.std.specs.Prelude.{◌≡◌, ℕ, ℤ, ◌+◌, ◌⊎◌, ◌++◌, codes, decimal, sum_by, Bool, true, false, List, Option, None, Some, Result, is_ok, if◌then◌else◌}
 use Rattle.crack_row.specs.Rows.{total_by}
 use Rattle.crack_row.specs.declared.Bound.{Bound}
 use Rattle.crack_row.specs.declared.command.Policy.{Policy as MergePolicy}
@@ -12,11 +12,12 @@ use Rattle.crack_session.specs.declared.answer.Answer.{Answer}
 use Rattle.crack_session.specs.declared.session.Progress.{Progress}
 use Rattle.crack_row.specs.Ranges.{Range}
 use Rattle.crack_row.specs.declared.refusal.Refusal.TheVariants.{OutOfMemory}
-use Rattle.crack_commands.specs.Texts.{head_text, row_text, Writes}
+use Rattle.crack_commands.specs.Texts.{line_text, row_text, Writes}
 use Rattle.crack_session.specs.declared.answer.Answer.TheVariants.{Refused}
 use Rattle.crack_session.specs.declared.query.PartReply.{PartReply}
-use Rattle.crack_session.specs.declared.query.Query.{Query}
-use Rattle.crack_session.specs.Queries.{counted, summed, listed}
+use Rattle.crack_core.specs.declared.asking.Query.{Query}
+use Rattle.crack_core.specs.Asking.{counted, summed}
+use Rattle.crack_core.specs.Listing.{listed}
 use Rattle.crack_session.specs.Answers.{IsJoined, IsAnswer, is_short_answer, answer_text}
 use Rattle.crack_session.specs.Calls.{Call, Calls, IsReadingMadeOf, policy_after}
 use Rattle.crack_core.specs.Steps.{Bounds}
@@ -64,7 +65,7 @@ list_text r = flat_map (row_text r.part) (listed r.reply)
 
 -- the lists of several partitions: how many rows there are in total, and then each row
 abbrev pub lists_text : ℕ → List PartReply → List ℕ
-lists_text total replies = head_text total ++ flat_map list_text replies
+lists_text total replies = line_text (codes "rows ") (decimal total) ++ flat_map list_text replies
 
 -- Several partitions are asked: in turn, or none of them, if no memory is found for their replies.
 abbrev pub AsksSeveral : Bounds → List Bound → List PlainView → Query → List (ℕ × Range) → Answer → List PlainView → Type 0

@@ -14,12 +14,12 @@ ghost use Rattle.crack_session.specs.Calls.{Checkpointed, Looked, IsOneAsked, Ar
 ghost use Rattle.crack_session.specs.Calls.{ArePartsAsked, IsMadeOf, IsReadingMadeOf};
 
 use crate::desk::Desk;
-use crate::query::{PartReply, Query, ReplyList, joined};
+use crate::query::{PartReply, ReplyList, joined};
 use crack_commands::{
     Statement, policy_line, write_count, write_each_row, write_folded, write_head, write_layout,
     write_refusal, write_reply, write_sum, write_text,
 };
-use crack_core::{only_part, parts_of, route};
+use crack_core::{Query, only_part, parts_of, route};
 use crack_row::{Command, Key, KeyRange, Layout, Policy, Refusal, Reply, Watched};
 use std::alloc::Global;
 use std::io::Write;
@@ -156,9 +156,9 @@ fn answer_statement<D: Desk>(
             };
             (row.part, command)
         }
-        Statement::Count(range) => return ask_range(alloc, desk, policy, Query::Count, range),
-        Statement::Sum(range) => return ask_range(alloc, desk, policy, Query::Sum, range),
-        Statement::Select(range) => return ask_range(alloc, desk, policy, Query::Select, range),
+        Statement::Count(range) => return ask_range(alloc, desk, policy, Query::CountRows, range),
+        Statement::Sum(range) => return ask_range(alloc, desk, policy, Query::SumPayloads, range),
+        Statement::Select(range) => return ask_range(alloc, desk, policy, Query::SelectRows, range),
         Statement::Layout(part) => return lay_out(desk, part),
         Statement::Checkpoint(part) => return fold_part(desk, part),
         Statement::Policy(next) => return Answer::Set(next),

@@ -1,10 +1,11 @@
 //! A core as a desk, asked by worker 0.
 ghost use Rattle.std.specs.Prelude.{◌≡◌, ◌+◌, [], ◌∷◌, is_ok, IfOk, OnOk, slice_get, if◌then◌else◌};
-ghost use Rattle.crack_plain.specs.Plain.{IsSmall};
-ghost use Rattle.crack_core.specs.Steps.{bounds_of, IsOutcomeAt, IsFoldOutcome, tables_of, tables_after, tables_folded};
-ghost use Rattle.crack_core.specs.Steps.{pasts_of, accepted_by};
-ghost use Rattle.crack_core.specs.Jobs.{performed, KeepsJobs, FoldsAt};
+ghost use Rattle.crack_plain.specs.Plain.{IsSmall, checkpointed};
+ghost use Rattle.crack_core.specs.Steps.{bounds_of, IsOutcomeAt, IsFoldOutcome, tables_of, tables_after, changed_at};
+ghost use Rattle.crack_core.specs.Steps.{mapped, pasts_of, accepted_by};
+ghost use Rattle.crack_core.specs.Jobs.{KeepsJobs, IsFoldedAt};
 ghost use Rattle.crack_core.specs.declared.step.Job.TheVariants.{Perform};
+ghost use Rattle.crack_core.specs.declared.step.Done.TheVariants.{Replied};
 ghost use Rattle.crack_session.specs.Calls.{Asked, Checkpointed};
 ghost use Rattle.crack_session.specs.Leads.{core_leads};
 
@@ -35,7 +36,7 @@ impl Desk for Core {
           part = part;
           command = command;
           policy = policy;
-        }) ∷ []) (performed result ∷ []) (pasts_of self.new.parts) }
+        }) ∷ []) (mapped Replied result ∷ []) (pasts_of self.new.parts) }
         ensures outcome { IsOutcomeAt (bounds_of self.old.limits) self.old.splits (tables_of self.old.parts) part
             command result }
         ensures after { tables_of self.new.parts ≡ tables_after (bounds_of self.old.limits) (tables_of self.old.parts)
@@ -56,9 +57,9 @@ impl Desk for Core {
 
     fn checkpoint(&mut self, part: u32) -> Result<u64, Refusal>
         ensures outcome { IsFoldOutcome (slice_get (tables_of self.old.parts) part) result }
-        ensures after { tables_of self.new.parts ≡ tables_folded (tables_of self.old.parts) part result }
-        // The named partition makes a checkpoint, and nothing else changes.
-        ensures folds { OnOk result (FoldsAt part self.old.parts self.new.parts) }
+        ensures after { tables_of self.new.parts ≡ changed_at checkpointed (tables_of self.old.parts) part result }
+        // A checkpoint of the named partition is made, and nothing else is changed.
+        ensures folds { OnOk result (IsFoldedAt part self.old.parts self.new.parts) }
         ensures opened { (self.new.splits ≡ self.old.splits) × (self.new.limits ≡ self.old.limits) }
         ensures accepted { accepted_by self.new.parts ≡ accepted_by self.old.parts }
         ensures leads { core_leads self.old (Checkpointed part result) self.new }

@@ -1,8 +1,8 @@
 //! Desks, which answer commands.
 ghost use Rattle.std.specs.Prelude.{◌≡◌, ℕ, ◌+◌, List, length, All, is_ok, Some, IfOk, slice_get, if◌then◌else◌};
-ghost use Rattle.crack_plain.specs.Plain.{PlainView, IsNumbered, IsSmall};
+ghost use Rattle.crack_plain.specs.Plain.{PlainView, IsNumbered, IsSmall, checkpointed};
 ghost use Rattle.crack_core.specs.Routes.{AreSplits, keys_of_part};
-ghost use Rattle.crack_core.specs.Steps.{IsOutcomeAt, IsLayoutOutcome, IsFoldOutcome, tables_after, tables_folded};
+ghost use Rattle.crack_core.specs.Steps.{IsOutcomeAt, IsLayoutOutcome, IsFoldOutcome, tables_after, changed_at};
 ghost use Rattle.crack_session.specs.Calls.{Asked, Checkpointed, Looked};
 
 use crack_row::{Bound, Command, Layout, Policy, Refusal, Reply};
@@ -59,7 +59,7 @@ pub trait Desk {
             IsFoldOutcome (slice_get known part) result }
         // The plain rows stay, and a refusal leaves everything as it was.
         ensures after { (known : List PlainView) → tables self.old ≡ Some known →
-            tables self.new ≡ Some (tables_folded known part result) }
+            tables self.new ≡ Some (changed_at checkpointed known part result) }
 
         ensures splits { splits self.new ≡ splits self.old }
         ensures bounds { bounds self.new ≡ bounds self.old }

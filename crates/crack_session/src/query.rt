@@ -1,35 +1,17 @@
-//! Questions about a range, and the replies of several partitions to them.
+//! What several partitions reply to a question about a range.
 ghost use Rattle.std.specs.Prelude.{◌≡◌, ◌<◌, ◌≤◌, ◌^◌, List, All, length, sum_by, vec_len, vec_capacity};
 ghost use Rattle.crack_plain.specs.Plain.{IsSmall};
-ghost use Rattle.crack_session.specs.Queries.{asking, counted, summed, listed, joined};
+ghost use Rattle.crack_core.specs.Asking.{counted, summed};
+ghost use Rattle.crack_core.specs.Listing.{listed};
+ghost use Rattle.crack_session.specs.Queries.{joined};
 ghost use Rattle.crack_session.specs.Telling.{rows_told, sum_told};
 
 use crate::answer::Answer;
-use crack_row::{Command, KeyRange, Reply, Row};
+use crack_core::Query;
+use crack_row::{Reply, Row};
 use std::marker::Model;
 
-/// A question about a range.
-#[derive(Clone, Copy, PartialEq, Eq, Debug)]
-pub enum Query {
-    Count,
-    Sum,
-    Select,
-}
-
-impl Query {
-    /// The command that asks one partition for it.
-    pub fn over(self, range: KeyRange) -> Command
-        ensures { result ≡ asking self range }
-    {
-        match self {
-            Query::Count => Command::Count(range),
-            Query::Sum => Command::Sum(range),
-            Query::Select => Command::Select(range),
-        }
-    }
-}
-
-/// The reply of one of several partitions.
+/// What one of several partitions replied.
 #[derive(Drop, Debug)]
 pub struct PartReply {
     pub part: u32,
@@ -107,9 +89,9 @@ pub fn joined(query: Query, replies: Vec<PartReply>) -> Answer
     ensures { result ≡ joined query replies.items }
 {
     match query {
-        Query::Count => Answer::Counted(rows_told(replies.as_slice())),
-        Query::Sum => Answer::Summed(sum_told(replies.as_slice())),
-        Query::Select => {
+        Query::CountRows => Answer::Counted(rows_told(replies.as_slice())),
+        Query::SumPayloads => Answer::Summed(sum_told(replies.as_slice())),
+        Query::SelectRows => {
             let total = rows_told(replies.as_slice());
             let lists = ReplyList::from_vec(replies);
             Answer::Listed { total, lists }

@@ -23,8 +23,9 @@ use Rattle.crack_part.specs.Upkeep.{is_automatic, upkept}
 use Rattle.crack_part.proofs.UpkeepLaws.{upkept-room}
 use Rattle.crack_core.specs.Opening.{AreParts}
 use Rattle.crack_core.specs.Routes.{keys_of_part}
-use Rattle.crack_core.specs.Steps.{bounds_of, reply_unless, expected, MayLackCell, IsOutcome, pasts_of}
-use Rattle.crack_core.specs.Jobs.{part_of, performed, past_after, past_at, IsJobOutcome, AreExpectedOutcomes}
+use Rattle.crack_core.specs.Steps.{bounds_of, mapped, unless, expected, MayLackCell, IsOutcome, pasts_of}
+use Rattle.crack_core.specs.Jobs.{past_after, past_at, IsJobOutcome, AreExpectedOutcomes}
+use Rattle.crack_core.proofs.JobLaws.{outcome-alike}
 use Rattle.crack_core.specs.declared.step.Step.{Step}
 use Rattle.crack_core.specs.declared.step.Job.{Job}
 use Rattle.crack_core.specs.declared.step.Job.TheVariants.{Perform}
@@ -69,10 +70,10 @@ next-answered limits keys past now e rest legal base tails =
     let within : IsWithin keys e.command = middle-within keys now.tail rest e (subst (λ (es : List Entry). BringWithin keys es) tails legal.within) in
     let none = uncaused limits (is_key_in keys (key_of e.command)) (nat_le limits.history (length now.tail) && not (is_automatic limits.upkeep)) (nat_le limits.life (accepted_in now)) (key-tested keys (key_of e.command) within) full (lt-leb limits.life (accepted_in now) lives) in
     let reply : e.reply ≡ reply_to (state_after now) e.command = rw base (middle-reply past.base.state now.tail rest e (subst (λ (es : List Entry). AreReplies past.base.state es) tails legal.replies)) in
-    ap (λ (o : Option Refusal). reply_unless o (reply_to (state_after now) e.command)) none ∙ ap Ok (sym reply)
+    ap (λ (o : Option Refusal). unless o (reply_to (state_after now) e.command)) none ∙ ap Ok (sym reply)
 
--- the outcome of a step is that of its job
-unperformed : (r s : Result Reply Refusal) → performed r ≡ performed s → r ≡ s
+-- the outcome of a step comes as its job's
+unperformed : (r s : Result Reply Refusal) → mapped Replied r ≡ mapped Replied s → r ≡ s
 unperformed (Ok x) (Ok y) same = let is : x ≡ y = cc same in ap Ok is
 unperformed (Ok x) (Err e) same = cc same
 unperformed (Err e) (Ok x) same = cc same
@@ -85,12 +86,12 @@ answered-or {Lacks} reply o r is comes = ⊎_elim (λ (same : r ≡ o). inl (sam
 -- the outcomes of steps are those of partitions that have these pasts
 abbrev Outcomes : Limits → List Bound → (ℕ → Option Past) → List Step → List (Result Reply Refusal) → Type 0
 Outcomes limits splits now steps results =
-    (k : ℕ) (job : Job) (result : Result Done Refusal) → slice_get (map Perform steps) k ≡ Some job → slice_get (map performed results) k ≡ Some result →
-    IsJobOutcome (bounds_of limits) splits (option_map (λ (past : Past). table_of (past_at limits (part_of job) (take k (map Perform steps)) (take k (map performed results)) past)) (now (part_of job))) job result
+    (k : ℕ) (job : Job) (result : Result Done Refusal) → slice_get (map Perform steps) k ≡ Some job → slice_get (map (mapped Replied) results) k ≡ Some result →
+    IsJobOutcome (bounds_of limits) splits (λ part. option_map (λ (past : Past). table_of (past_at limits part (take k (map Perform steps)) (take k (map (mapped Replied) results)) past)) (now part)) job result
 
 -- the partitions after one step
 abbrev stepped : Limits → Step → Result Reply Refusal → (ℕ → Option Past) → ℕ → Option Past
-stepped limits step result now part = option_map (past_after limits part (Perform step) (performed result)) (now part)
+stepped limits step result now part = option_map (past_after limits part (Perform step) (mapped Replied result)) (now part)
 
 mapped-twice : {A B C : Type 0} (f : A → B) (g : B → C) (o : Option A) → option_map g (option_map f o) ≡ option_map (λ x. g (f x)) o
 mapped-twice f g None = refl
@@ -98,8 +99,11 @@ mapped-twice f g (Some x) = refl
 
 outcomes-rest : (limits : Limits) (splits : List Bound) (now : ℕ → Option Past) (step : Step) (steps : List Step) (result : Result Reply Refusal) (results : List (Result Reply Refusal)) → Outcomes limits splits now (step ∷ steps) (result ∷ results) → Outcomes limits splits (stepped limits step result now) steps results
 outcomes-rest limits splits now step steps result results outcomes = λ k job r at there.
-    subst (λ (o : Option PlainView). IsJobOutcome (bounds_of limits) splits o job r)
-    (sym (mapped-twice (past_after limits (part_of job) (Perform step) (performed result)) (λ (past : Past). table_of (past_at limits (part_of job) (take k (map Perform steps)) (take k (map performed results)) past)) (now (part_of job))))
+    outcome-alike (bounds_of limits) splits
+    (λ part. option_map (λ (past : Past). table_of (past_at limits part (take (suc k) (map Perform (step ∷ steps))) (take (suc k) (map (mapped Replied) (result ∷ results))) past)) (now part))
+    (λ part. option_map (λ (past : Past). table_of (past_at limits part (take k (map Perform steps)) (take k (map (mapped Replied) results)) past)) (stepped limits step result now part))
+    job r
+    (λ part. sym (mapped-twice (past_after limits part (Perform step) (mapped Replied result)) (λ (past : Past). table_of (past_at limits part (take k (map Perform steps)) (take k (map (mapped Replied) results)) past)) (now part)))
     (outcomes (suc k) job r at there)
 
 -- each partition is on the way to its past
@@ -185,7 +189,7 @@ module _ (limits : Limits) (splits : List Bound) (final : ℕ → Option Past) (
   comes : (now : ℕ → Option Past) (step : Step) (steps : List Step) (result : Result Reply Refusal) (results : List (Result Reply Refusal)) (n : Next final now step steps) → Outcomes limits splits now (step ∷ steps) (result ∷ results) → (result ≡ Ok n.entry.reply) ⊎ ((result ≡ Err OutOfMemory) ⊎ (result ≡ Err NoCell))
   comes now step steps result results n outcomes =
       let keys = keys_of_part splits step.part in
-      let job : IsJobOutcome (bounds_of limits) splits (option_map (λ (past : Past). table_of past) (now step.part)) (Perform step) (performed result) = outcomes 0 (Perform step) (performed result) refl refl in
+      let job : IsJobOutcome (bounds_of limits) splits (λ part. option_map (λ (past : Past). table_of past) (now part)) (Perform step) (mapped Replied result) = outcomes 0 (Perform step) (mapped Replied result) refl refl in
       let mine : IsOutcome (bounds_of limits) keys (Some (table_of n.cur)) step.command job.0 = subst (λ (o : Option Past). IsOutcome (bounds_of limits) keys (option_map (λ (past : Past). table_of past) o) step.command job.0) n.now_is job.2 in
       let same : expected (bounds_of limits) keys (Some (table_of n.cur)) step.command ≡ Ok n.entry.reply = subst (λ (c : Command). expected (bounds_of limits) keys (Some (table_of n.cur)) c ≡ Ok n.entry.reply) n.command (next-answered limits keys n.past n.cur n.entry n.rest (legal step.part n.past n.final_is) n.base n.tails) in
       rw (unperformed result job.0 job.1) (answered-or n.entry.reply (expected (bounds_of limits) keys (Some (table_of n.cur)) step.command) job.0 same mine)
@@ -323,13 +327,13 @@ repeats splits limits parts are steps results asks outcomes = record {
     legal : AreLegal limits splits final
     legal part past is = by_part (slice_get parts part) refl
       where
-        mapped : slice_get pasts part ≡ option_map (λ (p : Part). p.past) (slice_get parts part)
-        mapped = slice_get-map (λ (p : Part). p.past) parts part
+        there : slice_get pasts part ≡ option_map (λ (p : Part). p.past) (slice_get parts part)
+        there = slice_get-map (λ (p : Part). p.past) parts part
 
         by_part : (o : Option Part) → slice_get parts part ≡ o → IsLegal (keys_of_part splits part) limits past
-        by_part None at = absurd (cc (is, mapped, at))
+        by_part None at = absurd (cc (is, there, at))
         by_part (Some p) at =
-            let same : p.past ≡ past = cc (is, mapped, at) in
+            let same : p.past ≡ past = cc (is, there, at) in
             let within = slice_get_within parts part p at in
             let here : get_or parts part p ≡ p = get_or_from_slice_get parts part p p at in
             let sound : IsSound p = subst IsSound here (are.sound part p within) in
@@ -352,7 +356,7 @@ repeats splits limits parts are steps results asks outcomes = record {
             by_past None is = absurd (cc (is, slice_get-get_or pasts s.part (record { base = record { state = record { rows = []; next = 0 }; folded = 0; placed = 0; gone = 0 }; tail = [] }) within))
 
     same : length results ≡ length steps
-    same = sym (length-map results performed) ∙ outcomes.each ∙ length-map steps Perform
+    same = sym (length-map results (mapped Replied)) ∙ outcomes.each ∙ length-map steps Perform
 
     f : Followed final now steps results
     f = follow limits splits final legal now steps results same outcomes.outcomes going (there-all steps asks.there)

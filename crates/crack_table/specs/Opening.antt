@@ -1,12 +1,12 @@
 -- When a table opens.
-use Rattle.std.specs.Prelude.{ℕ, List, length, ◌≡◌, ◌+◌, ◌⊎◌, ◌&&◌, nat_le, Option, Some, None, Result, vec_len, IfOk, IfErr, OnOk, if◌then◌else◌}
+use Rattle.std.specs.Prelude.{ℕ, List, length, ◌≡◌, ◌+◌, ◌&&◌, nat_le, Option, Some, None, Result, vec_len, IfOk, IfErr, OnOk, if◌then◌else◌}
 use Rattle.std.specs.Global.{Vec}
 use Rattle.std.specs.Option.{option_or}
 use Rattle.crack_row.specs.declared.Bound.{Bound}
 use Rattle.crack_row.specs.declared.limit.Limits.{Limits}
 use Rattle.crack_row.specs.declared.refusal.Refusal.{Refusal}
-use Rattle.crack_row.specs.declared.refusal.Refusal.TheVariants.{BadWorkerCount, OutOfMemory}
-use Rattle.crack_core.specs.Opening.{splits_fault, limits_fault}
+use Rattle.crack_row.specs.declared.refusal.Refusal.TheVariants.{BadWorkerCount}
+use Rattle.crack_core.specs.Opening.{splits_fault, limits_fault, MayFault}
 use Rattle.crack_core.specs.Receipts.{BookState}
 use Rattle.crack_table.specs.Tables.{TableState, AreNew}
 use Rattle.crack_table.specs.declared.TheConstants.{MOST_WORKERS}
@@ -14,11 +14,6 @@ use Rattle.crack_table.specs.declared.TheConstants.{MOST_WORKERS}
 -- the first fault of a table's opening, if there is one: of its splits, of its number of workers, of its limits
 abbrev pub table_fault : List Bound → Limits → ℕ → Option Refusal
 table_fault splits limits workers = option_or (splits_fault splits) (option_or (if nat_le 1 workers && nat_le workers MOST_WORKERS then None else Some BadWorkerCount) (limits_fault limits))
-
--- why a table may not open: for its first fault, or, if there is none, for lack of memory
-abbrev pub MayNotOpen : List Bound → Limits → ℕ → Refusal → Type 0
-MayNotOpen splits limits workers e =
-    (table_fault splits limits workers ≡ Some e) ⊎ ((table_fault splits limits workers ≡ None) × (e ≡ OutOfMemory))
 
 -- a table with what was requested, and a lock for each partition
 abbrev pub opened_table : List Bound → Limits → ℕ → TableState
@@ -31,4 +26,4 @@ pub record Opens (splits : List Bound) (limits : Limits) (workers : ℕ) (result
   pub count : IfOk result (λ opened. vec_len opened.1 ≡ workers)
   pub new : IfOk result (λ opened. AreNew opened.1.items)
   pub none : OnOk result (table_fault splits limits workers ≡ None)
-  pub fault : IfErr result (MayNotOpen splits limits workers)
+  pub fault : IfErr result (MayFault (table_fault splits limits workers))

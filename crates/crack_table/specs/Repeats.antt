@@ -8,9 +8,11 @@ use Rattle.crack_row.specs.declared.limit.Limits.{Limits}
 use Rattle.crack_row.specs.declared.refusal.Refusal.{Refusal}
 use Rattle.crack_row.specs.declared.refusal.Refusal.TheVariants.{OutOfMemory, NoCell}
 use Rattle.crack_plain.specs.Past.{Past}
-use Rattle.crack_core.specs.Jobs.{performed, AreExpectedOutcomes}
+use Rattle.crack_core.specs.Steps.{mapped}
+use Rattle.crack_core.specs.Jobs.{AreExpectedOutcomes}
 use Rattle.crack_core.specs.declared.step.Step.{Step}
 use Rattle.crack_core.specs.declared.step.Job.TheVariants.{Perform}
+use Rattle.crack_core.specs.declared.step.Done.TheVariants.{Replied}
 
 -- a worker, and its command
 abbrev pub asked : Entry → ℕ × Command
@@ -55,4 +57,4 @@ pub record AreRepeated (pasts : List Past) (steps : List Step) (results : List (
 -- Steps that ask the commands of these pasts, however those of several partitions are interleaved, repeat the replies, if their outcomes are those of
 -- a core at the bases of these pasts.
 abbrev pub Repeats : List Bound → Limits → List Past → Type 0
-Repeats splits limits pasts = (steps : List Step) (results : List (Result Reply Refusal)) → AreAsked pasts steps → AreExpectedOutcomes limits splits (map at_base pasts) (map Perform steps) (map performed results) → AreRepeated pasts steps results
+Repeats splits limits pasts = (steps : List Step) (results : List (Result Reply Refusal)) → AreAsked pasts steps → AreExpectedOutcomes limits splits (map at_base pasts) (map Perform steps) (map (mapped Replied) results) → AreRepeated pasts steps results

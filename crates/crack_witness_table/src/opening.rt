@@ -2,7 +2,8 @@
 ghost use Rattle.std.specs.Prelude.{◌≡◌, ◌+◌, ◌≤◌, length, IfOk, IfErr, OnOk, None};
 ghost use Rattle.crack_witness.specs.Histories.{AreEmpty};
 ghost use Rattle.crack_witness.specs.Witnesses.{AreNames, AreApart, AreDistinct};
-ghost use Rattle.crack_table.specs.Opening.{table_fault, opened_table, MayNotOpen};
+ghost use Rattle.crack_core.specs.Opening.{MayFault};
+ghost use Rattle.crack_table.specs.Opening.{table_fault, opened_table};
 ghost use Rattle.crack_witness_table.specs.Opening.{AreNewAskers};
 
 use crate::locks::lock;
@@ -49,7 +50,7 @@ impl UnnamedTable {
         ensures owners { IfOk result (λ t. length t.opened.ids ≡ length splits.now + 1) }
         ensures distinct { IfOk result (λ t. AreDistinct t.opened.ids) }
         ensures none { OnOk result (table_fault splits.now limits workers ≡ None) }
-        ensures fault { IfErr result (MayNotOpen splits.now limits workers) }
+        ensures fault { IfErr result (MayFault (table_fault splits.now limits workers)) }
     {
         if let Some(refusal) = fault(splits, limits, workers) {
             return Err(refusal);

@@ -14,13 +14,13 @@ use Rattle.crack_row.specs.declared.limit.Limits.{Limits}
 use Rattle.crack_row.specs.declared.refusal.Refusal.{Refusal}
 use Rattle.crack_row.specs.declared.refusal.Refusal.TheVariants.{OutOfMemory}
 use Rattle.crack_plain.specs.Past.{no_past}
-use Rattle.crack_plain.specs.Plain.{PlainView}
+use Rattle.crack_plain.specs.Plain.{PlainView, checkpointed}
 use Rattle.crack_part.specs.Parts.{Part}
 use Rattle.crack_core.specs.Asking.{lasting}
 use Rattle.crack_core.specs.Bulk.{Call, Went}
 use Rattle.crack_core.specs.Opening.{opening_fault, MayFault}
 use Rattle.crack_core.specs.Routes.{keys_of_part}
-use Rattle.crack_core.specs.Steps.{tables_of, tables_folded, IsLayoutOutcome, IsFoldOutcome}
+use Rattle.crack_core.specs.Steps.{tables_of, changed_at, IsLayoutOutcome, IsFoldOutcome}
 use Rattle.crack_core.specs.declared.bulk.Progress.{Progress}
 use Rattle.crackd_c.specs.Handles.{CoreState}
 use Rattle.crackd_c.specs.declared.handle.Handle.{Handle}
@@ -93,7 +93,7 @@ Shows part totals lows sizes old new status unwritten = (new.is_open ≡ true) �
 
 -- a checkpoint of a partition is made, and how many entries its history had is written
 abbrev pub FoldsOne : ℕ → ℕ → Handle → Handle → ℕ → Type 0 → Type 0
-FoldsOne part folded old new status unwritten = StaysOpen old new × ((outcome : Result ℕ Refusal) × IsFoldOutcome (slice_get (tables_of old.core.parts) part) outcome × (tables_of new.core.parts ≡ tables_folded (tables_of old.core.parts) part outcome) × MatchResult outcome (λ count. (status ≡ 0) × (folded ≡ count)) (λ e. (status ≡ code_of e) × unwritten))
+FoldsOne part folded old new status unwritten = StaysOpen old new × ((outcome : Result ℕ Refusal) × IsFoldOutcome (slice_get (tables_of old.core.parts) part) outcome × (tables_of new.core.parts ≡ changed_at checkpointed (tables_of old.core.parts) part outcome) × MatchResult outcome (λ count. (status ≡ 0) × (folded ≡ count)) (λ e. (status ≡ code_of e) × unwritten))
 
 -- a handle holds a table that was just opened
 abbrev pub IsFresh : Handle → List ℕ → Limits → Type 0
@@ -101,4 +101,4 @@ IsFresh handle splits limits = (handle.is_open ≡ true) × (handle.core.splits 
 
 -- a table is opened with these splits and limits, without rows, or this is the reason why not
 abbrev pub OpensHandle : Handle → Handle → List ℕ → Limits → ℕ → Type 0
-OpensHandle old new splits limits status = (refusal : Option Refusal) × (status ≡ status_of refusal) × MatchOption refusal (IsFresh new splits limits) (λ e. (MayFault (bounds_at splits) limits e ⊎ (e ≡ OutOfMemory)) × (new ≡ old))
+OpensHandle old new splits limits status = (refusal : Option Refusal) × (status ≡ status_of refusal) × MatchOption refusal (IsFresh new splits limits) (λ e. (MayFault (opening_fault (bounds_at splits) limits) e ⊎ (e ≡ OutOfMemory)) × (new ≡ old))

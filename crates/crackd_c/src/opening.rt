@@ -16,7 +16,8 @@ pub fn open(alloc: Global, splits: &[u64], limits: Limits) -> Result<Box<Core>, 
     ensures opened { IfOk result (λ core. (core.value.splits ≡ bounds_at splits.now) × (core.value.limits ≡ limits)) }
     ensures fresh { IfOk result (λ core. All (λ (part : Part). part.past ≡ no_past) core.value.parts) }
     ensures none { OnOk result (opening_fault (bounds_at splits.now) limits ≡ None) }
-    ensures fault { IfErr result (λ e. MayFault (bounds_at splits.now) limits e ⊎ (e ≡ Refusal.OutOfMemory)) }
+    ensures fault { IfErr result (λ e. MayFault (opening_fault (bounds_at splits.now) limits) e ⊎
+        (e ≡ Refusal.OutOfMemory)) }
 {
     let bounds = bounds_of(alloc, splits)?;
     let core = Core::open_with(alloc, &bounds, limits)?;

@@ -6,9 +6,10 @@ use Rattle.crack_row.specs.declared.refusal.Refusal.TheVariants.{OutOfMemory}
 use Rattle.crack_part.specs.Parts.{Part, IsSound, Serves, Spares}
 use Rattle.crack_part.specs.Refusals.{refusal_of}
 use Rattle.crack_row.specs.declared.limit.Limits.{Limits}
-use Rattle.crack_core.specs.Steps.{bounds_of, tables_of, tables_after, pasts_of}
-use Rattle.crack_core.specs.Jobs.{performed, past_after, KeepsJobs}
+use Rattle.crack_core.specs.Steps.{bounds_of, mapped, tables_of, tables_after, pasts_of}
+use Rattle.crack_core.specs.Jobs.{past_after, KeepsJobs}
 use Rattle.crack_core.specs.declared.step.Job.TheVariants.{Perform}
+use Rattle.crack_core.specs.declared.step.Done.TheVariants.{Replied}
 use Rattle.crack_core.proofs.StepLaws.{Gives, outcome-given, kept-given, small-given, same-given, ok_given, err_given, outcome-at, Keeps-set, tables-set, accepted-set, AreParts-set, get-set_other, replaced-at}
 use Rattle.crack_core.proofs.ShortLaws.{may-lack}
 use Rattle.crack_core.proofs.cores.ask_at.Goals as goal
@@ -22,7 +23,7 @@ abbrev asked : (c : goal.After-without_receipt) → Part
 asked c = get_or c.args.partitions.now c.args.step.part c.index-partitions-part.result
 
 -- its past has the step's entry, if it was answered
-kept : (c : goal.After-without_receipt) → c.apply-answered.new.self.past ≡ past_after (asked c).limits c.args.step.part (Perform c.args.step) (performed c.without_receipt.result) (asked c).past
+kept : (c : goal.After-without_receipt) → c.apply-answered.new.self.past ≡ past_after (asked c).limits c.args.step.part (Perform c.args.step) (mapped Replied c.without_receipt.result) (asked c).past
 kept c = kept-given (asked c).limits (asked c).past c.apply-answered.new.self.past c.args.step c.apply-answered.result c.without_receipt.result (gives c) c.apply-answered.ensures.kept c.apply-answered.ensures.err
 
 if_err : (r : Result Reply Refusal) (P Q : Refusal → Type 0) → ((e : Refusal) → P e → Q e) → IfErr r P → IfErr r Q
@@ -48,7 +49,7 @@ pub returns-clause-kept : goal.returns-clause-kept
 returns-clause-kept c = λ splits limits are.
     let within : c.args.step.part < length c.args.partitions.now = omega arith in
     let own : (asked c).limits ≡ limits = are.alike c.args.step.part c.index-partitions-part.result within in
-    subst (λ (l : Limits). KeepsJobs l (pasts_of c.args.partitions.now) (Perform c.args.step ∷ []) (performed c.without_receipt.result ∷ []) (pasts_of (set c.args.partitions.now c.args.step.part c.apply-answered.new.self))) own
+    subst (λ (l : Limits). KeepsJobs l (pasts_of c.args.partitions.now) (Perform c.args.step ∷ []) (mapped Replied c.without_receipt.result ∷ []) (pasts_of (set c.args.partitions.now c.args.step.part c.apply-answered.new.self))) own
     (Keeps-set (asked c).limits c.args.partitions.now c.apply-answered.new.self c.index-partitions-part.result c.args.step c.without_receipt.result within (kept c))
 
 pub returns-clause-accepted : goal.returns-clause-accepted

@@ -1,10 +1,13 @@
-use Rattle.std.proofs.Common.{◌≡◌, ◌+◌, ◌<◌, ◌++◌, [], ◌∷◌, length, take, Option, arith, ap, sym, subst, ◌∙◌, length-append, length-take-le, take_all}
+use Rattle.std.proofs.Common.{◌≡◌, ◌+◌, ◌<◌, ◌++◌, [], ◌∷◌, length, take, arith, ap, sym, ◌∙◌, length-append, length-take-le, take_all}
 use Rattle.std.proofs.lemmas.List.{take_more}
-use Rattle.crack_plain.specs.Plain.{PlainView}
+use Rattle.std.specs.Prelude.{slice_get}
+use Rattle.std.specs.Option.{option_map}
+use Rattle.crack_plain.specs.Past.{Past}
+use Rattle.crack_part.specs.Refusals.{table_of}
 use Rattle.crack_core.specs.declared.step.Job.{Job}
-use Rattle.crack_core.specs.Steps.{bounds_of, pasts_of}
-use Rattle.crack_core.specs.Jobs.{part_of, IsJobOutcome}
-use Rattle.crack_core.proofs.JobLaws.{KeepsJobs-push, AreExpectedOutcomes-push, DoesAll-push, tables-kept}
+use Rattle.crack_core.specs.Steps.{bounds_of, tables_of, pasts_of}
+use Rattle.crack_core.specs.Jobs.{past_at}
+use Rattle.crack_core.proofs.JobLaws.{KeepsJobs-push, AreExpectedOutcomes-push, DoesAll-push, tables-kept, outcome-alike}
 use Rattle.crack_core.proofs.cores.do_all.Goals as goal
 
 pub jobs-preserved : goal.jobs-preserved
@@ -25,7 +28,7 @@ jobs-preserved c =
       room = omega (arith, before.room, c.push_reserved.ensures.capacity);
       count = omega (arith, before.count, ap length c.push_reserved.ensures.items, length-append results (r ∷ []));
       replies = λ splits limits are. rw (grown, c.push_reserved.ensures.items) (AreExpectedOutcomes-push limits splits (pasts_of old) front results j r (before.replies splits limits are)
-          (subst (λ (t : Option PlainView). IsJobOutcome (bounds_of limits) splits t j r) (tables-kept limits old now (part_of j) front results (before.kept splits limits are)) (c.do_job-result.ensures.outcome splits limits (before.parts splits limits are))));
+          (outcome-alike (bounds_of limits) splits (slice_get (tables_of now)) (λ part. option_map (λ (past : Past). table_of (past_at limits part front results past)) (slice_get (pasts_of old) part)) j r (λ part. tables-kept limits old now part front results (before.kept splits limits are)) (c.do_job-result.ensures.outcome splits limits (before.parts splits limits are))));
       kept = λ splits limits are. rw (grown, c.push_reserved.ensures.items) (KeepsJobs-push limits (pasts_of old) (pasts_of now) (pasts_of c.do_job-result.new.partitions) front results j r long (before.kept splits limits are) (c.do_job-result.ensures.kept splits limits (before.parts splits limits are)));
       stores = λ splits limits are. rw (grown, c.push_reserved.ensures.items) (DoesAll-push splits limits front results j r old now c.do_job-result.new.partitions (before.stores splits limits are) (c.do_job-result.ensures.does splits limits (before.parts splits limits are)));
       parts = λ splits limits are. c.do_job-result.ensures.parts splits limits (before.parts splits limits are);

@@ -34,3 +34,6 @@ returns-in-Perform-clause-kept c = λ splits limits are. rw (c.in-Perform.is, c.
 
 pub returns-in-Fold-clause-kept : goal.returns-in-Fold-clause-kept
 returns-in-Fold-clause-kept c = λ splits limits are. rw (c.in-Fold.is, c.folding.ensures) (c.fold_at.ensures.kept limits)
+
+pub returns-in-Perform-clause-outcome : goal.returns-in-Perform-clause-outcome
+returns-in-Perform-clause-outcome c = λ splits limits are. rw c.in-Perform.is (c.ask_at.result, c.performed.ensures, c.ask_at.ensures.outcome splits limits are)

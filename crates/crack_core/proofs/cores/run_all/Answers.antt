@@ -3,8 +3,9 @@ use Rattle.std.proofs.lemmas.List.{length-map, map-append, take_more}
 use Rattle.crack_plain.specs.Plain.{PlainView}
 use Rattle.crack_core.specs.declared.step.Step.{Step}
 use Rattle.crack_core.specs.declared.step.Job.TheVariants.{Perform}
-use Rattle.crack_core.specs.Steps.{bounds_of, pasts_of}
-use Rattle.crack_core.specs.Jobs.{performed, IsJobOutcome}
+use Rattle.crack_core.specs.declared.step.Done.TheVariants.{Replied}
+use Rattle.crack_core.specs.Routes.{keys_of_part}
+use Rattle.crack_core.specs.Steps.{bounds_of, mapped, IsOutcome, pasts_of}
 use Rattle.crack_core.proofs.JobLaws.{KeepsJobs-push, AreExpectedOutcomes-push, DoesAll-push, tables-kept}
 use Rattle.crack_core.proofs.cores.run_all.Goals as goal
 
@@ -22,17 +23,17 @@ steps-preserved c =
     let front = take i steps in
     let after = c.ask_at-result.new.partitions in
     let jobs = map Perform front in
-    let done = map performed results in
+    let done = map (mapped Replied) results in
     let grown : map Perform (take (i + 1) steps) ≡ jobs ++ Perform s ∷ [] = ap (map Perform) (take_more steps i s within ∙ ap (λ (x : Step). front ++ x ∷ []) (sym c.step-item.is)) ∙ map-append Perform front (s ∷ []) in
-    let more : map performed c.push_reserved.new.self.items ≡ done ++ performed r ∷ [] = ap (map performed) c.push_reserved.ensures.items ∙ map-append performed results (r ∷ []) in
-    let long : length done ≡ length jobs = omega (arith, length-map results performed, length-map front Perform, before.count, length-take-le i steps (omega (arith, within))) in
+    let more : map (mapped Replied) c.push_reserved.new.self.items ≡ done ++ mapped Replied r ∷ [] = ap (map (mapped Replied)) c.push_reserved.ensures.items ∙ map-append (mapped Replied) results (r ∷ []) in
+    let long : length done ≡ length jobs = omega (arith, length-map results (mapped Replied), length-map front Perform, before.count, length-take-le i steps (omega (arith, within))) in
     record {
       room = omega (arith, before.room, c.push_reserved.ensures.capacity);
       count = omega (arith, before.count, ap length c.push_reserved.ensures.items, length-append results (r ∷ []));
-      replies = λ splits limits are. rw (grown, more) (AreExpectedOutcomes-push limits splits (pasts_of old) jobs done (Perform s) (performed r) (before.replies splits limits are)
-          (subst (λ (t : Option PlainView). IsJobOutcome (bounds_of limits) splits t (Perform s) (performed r)) (tables-kept limits old now s.part jobs done (before.kept splits limits are)) (r, refl, c.ask_at-result.ensures.outcome splits limits (before.parts splits limits are))));
-      kept = λ splits limits are. rw (grown, more) (KeepsJobs-push limits (pasts_of old) (pasts_of now) (pasts_of after) jobs done (Perform s) (performed r) long (before.kept splits limits are) (c.ask_at-result.ensures.kept splits limits (before.parts splits limits are)));
-      stores = λ splits limits are. rw (grown, more) (DoesAll-push splits limits jobs done (Perform s) (performed r) old now after (before.stores splits limits are) (
+      replies = λ splits limits are. rw (grown, more) (AreExpectedOutcomes-push limits splits (pasts_of old) jobs done (Perform s) (mapped Replied r) (before.replies splits limits are)
+          (r, refl, subst (λ (t : Option PlainView). IsOutcome (bounds_of limits) (keys_of_part splits s.part) t s.command r) (tables-kept limits old now s.part jobs done (before.kept splits limits are)) (c.ask_at-result.ensures.outcome splits limits (before.parts splits limits are))));
+      kept = λ splits limits are. rw (grown, more) (KeepsJobs-push limits (pasts_of old) (pasts_of now) (pasts_of after) jobs done (Perform s) (mapped Replied r) long (before.kept splits limits are) (c.ask_at-result.ensures.kept splits limits (before.parts splits limits are)));
+      stores = λ splits limits are. rw (grown, more) (DoesAll-push splits limits jobs done (Perform s) (mapped Replied r) old now after (before.stores splits limits are) (
         r,
         refl,
         record {

@@ -1,6 +1,7 @@
 use Rattle.std.specs.Prelude.{◌≡◌, ℕ, List, ◌++◌, length, take}
 use Rattle.crack_row.specs.declared.Row.{Row}
-use Rattle.crack_core.specs.Listing.{of_part, StandIn}
+use Rattle.crack_core.specs.Listing.{StandIn}
+use Rattle.crack_core.specs.Inside.{of_part}
 use Rattle.crack_core.proofs.listing.list_rows.Given as goal
 
 abbrev pub invariant-rows : goal.invariant-rows

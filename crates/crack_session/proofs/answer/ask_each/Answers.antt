@@ -1,9 +1,9 @@
 use Rattle.std.proofs.Common.{◌∙◌, Ok, Err, [], ◌∷◌, ◌++◌, length, arith, ap, refl}
 use Rattle.std.proofs.lemmas.List.Elements.{All-nil, All-push}
-use Rattle.crack_session.specs.Answers.{begins}
+use Rattle.crack_core.specs.Asking.{begins}
 use Rattle.crack_plain.specs.Plain.{IsSmall}
 use Rattle.crack_session.specs.declared.query.PartReply.{PartReply}
-use Rattle.crack_session.specs.Calls.{Asked, none_yet}
+use Rattle.crack_session.specs.Calls.{Asked}
 use Rattle.crack_session.proofs.Asking.{AsksInTurn-more, AsksInTurn-stops}
 use Rattle.crack_session.proofs.Calling.{Calls-push, AreAskedInTurn-more, AreAskedInTurn-stops}
 use Rattle.crack_session.proofs.answer.ask_each.Goals as goal
@@ -11,7 +11,7 @@ use Rattle.crack_session.proofs.answer.ask_each.Goals as goal
 pub parts-init : goal.parts-init
 parts-init g c = record {
   asked = λ tables e. (tables, rw c.requires.none begins, e);
-  called = ([], refl, rw c.requires.none none_yet);
+  called = ([], refl, rw c.requires.none begins);
   small = rw c.requires.none (All-nil _);
   count = let none = ap length c.requires.none in omega (arith, none);
   room = c.requires.room;
@@ -24,7 +24,7 @@ returns-in-Err-clause-asks g c = record {
   is = λ tables e.
       let was = c.parts.invariant.asked tables e in (
         was.0,
-        AsksInTurn-stops c.args.query tables c.args.parts.now c.parts.part-index c.part-item.result c.over.result c.parts.replies.items c.in-Err.refusal was.0
+        AsksInTurn-stops (g.D.Desk.bounds c.args.desk.now) (g.D.Desk.splits c.args.desk.now) c.args.query tables c.args.parts.now c.parts.part-index c.part-item.result c.over.result c.parts.replies.items c.in-Err.refusal was.0
             c.parts-test.true c.part-item.is c.over.ensures was.1 (rw (c.parts.invariant.bounds, c.parts.invariant.splits) at c.in-Err.ensures.outcome was.0 was.2),
         c.in-Err.ensures.after was.0 was.2,
       );
@@ -41,7 +41,7 @@ parts-preserved g c = record {
   asked = λ tables e.
       let was = c.parts.invariant.asked tables e in (
         _,
-        AsksInTurn-more c.args.query tables c.args.parts.now c.parts.part-index c.part-item.result c.over.result c.parts.replies.items _ c.in-Ok.reply was.0
+        AsksInTurn-more (g.D.Desk.bounds c.args.desk.now) (g.D.Desk.splits c.args.desk.now) c.args.query tables c.args.parts.now c.parts.part-index c.part-item.result c.over.result c.parts.replies.items _ c.in-Ok.reply was.0
             c.parts-test.true c.part-item.is c.over.ensures c.push_reserved.ensures.items was.1 (rw (c.parts.invariant.bounds, c.parts.invariant.splits) at c.in-Ok.ensures.outcome was.0 was.2),
         rw c.parts.invariant.bounds at c.in-Ok.ensures.after was.0 was.2,
       );

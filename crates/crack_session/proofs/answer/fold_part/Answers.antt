@@ -1,5 +1,6 @@
-use Rattle.std.proofs.Common.{Ok, Err, [], ◌∷◌, refl}
-use Rattle.crack_core.specs.Steps.{tables_folded}
+use Rattle.std.proofs.Common.{ℕ, Ok, Err, [], ◌∷◌, refl}
+use Rattle.crack_plain.specs.Plain.{checkpointed}
+use Rattle.crack_core.specs.Steps.{changed_at}
 use Rattle.crack_session.specs.Calls.{Checkpointed}
 use Rattle.crack_session.proofs.Calling.{Calls-one}
 use Rattle.crack_session.proofs.answer.fold_part.Goals as goal
@@ -7,7 +8,7 @@ use Rattle.crack_session.proofs.answer.fold_part.Goals as goal
 pub returns-in-Ok : goal.returns-in-Ok
 returns-in-Ok g c = record {
   is = λ tables e. (
-    tables_folded tables c.args.part (Ok c.in-Ok.count),
+    changed_at {X = ℕ} checkpointed tables c.args.part (Ok c.in-Ok.count),
     record { outcome = Ok c.in-Ok.count; comes_out = c.in-Ok.ensures.outcome tables e; answer_is = refl; new_is = refl },
     c.in-Ok.ensures.after tables e,
   );

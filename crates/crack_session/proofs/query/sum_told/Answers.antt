@@ -2,7 +2,7 @@ use Rattle.std.proofs.Common.{arith}
 use Rattle.std.proofs.lemmas.Int.{ints, to_z-of_z}
 use Rattle.std.proofs.lemmas.List.Sums.{fold_more}
 use Rattle.crack_plain.specs.Plain.{IsSmall}
-use Rattle.crack_session.proofs.Joining.{summed-small}
+use Rattle.crack_core.proofs.AskLaws.{summed-small}
 use Rattle.crack_session.proofs.query.sum_told.Goals as goal
 
 pub replies-preserved : goal.replies-preserved
