@@ -1,10 +1,9 @@
 """The gate: proves every crate from nothing, runs the tests, and runs each program as both compilers build it.
 
 `rt ci` has no option for leaving out the must-fail edits, so it runs on a copy of this checkout that has none, and what
-it built is moved back: `make run` and `make edits` don't prove that again. A second run proves the longest chain of
-crates beside it. Its output is passed on as it comes. The processor time of each crate, for its proof and its tests, is
-taken from the system's list of processes (/proc) four times a second; what a process used after it was last observed is
-missing.
+it built is moved back: `make run` and `make edits` don't prove that again. Its output is passed on as it comes. The
+processor time of each crate, for its proof and its tests, is taken from the system's list of processes (/proc) four
+times a second; what a process used after it was last observed is missing.
 """
 
 import collections
@@ -13,25 +12,18 @@ import os
 import pathlib
 import re
 import shutil
-import signal
 import subprocess
 import sys
 import tempfile
 import threading
-import time
 import typing
 
 import crates
-import lanes
 import prove
 import rooms
 from crates import TOP
 
 CRATES = TOP / "crates"
-# the top of the longest chain of crates, and from how many processors on it is proved by a run of its own
-CHAIN, LEAST_PROCESSORS = "crackd", 4
-# how many seconds that run gets to copy the crates, before the gate sets aside what was built of them
-HEAD_START = 5
 SUM = re.compile(r"(\d+) passed, (\d+) failed")
 # what a copy leaves out everywhere, and what it leaves out of each crate
 LEFT_OUT, LEFT_OUT_OF_CRATES = {".git", "__pycache__"}, {"out", "must-fail"}
@@ -72,11 +64,11 @@ def task_of(process: int) -> Task | None:
 
 
 class Sampler(threading.Thread):
-    """Samples the processes below some until it is stopped."""
+    """Samples the processes below one until it is stopped."""
 
-    def __init__(self, *roots: int) -> None:
+    def __init__(self, root: int) -> None:
         super().__init__(daemon=True)
-        self.roots, self.ended = roots, threading.Event()
+        self.root, self.ended = root, threading.Event()
         # by process and start: the task, and the processor time that was observed last
         self.seen: dict[tuple[int, str], tuple[Task | None, float]] = {}
 
@@ -86,7 +78,7 @@ class Sampler(threading.Thread):
             below = collections.defaultdict(list)
             for process, (parent, _, _) in now.items():
                 below[parent].append(process)
-            waiting = [it for it in self.roots if it in now]
+            waiting = [self.root] if self.root in now else []
             while waiting:
                 process = waiting.pop()
                 waiting += below[process]
@@ -161,38 +153,15 @@ def bring_tests_back(top: pathlib.Path) -> None:
         shutil.move(str(made), str(target))
 
 
-@contextlib.contextmanager
-def chain_ahead(top: pathlib.Path) -> typing.Iterator[list[int]]:
-    """Proves the crates below the program in a run of its own, and yields its process, if there is one.
-
-    The gate gives a crate of the chain one processor while crates of tests are ready, and this run gives it two. It
-    keeps each crate as soon as it is proved. The gate waits for a crate that this run is proving, takes what is kept,
-    and proves the others by itself.
-    """
-    if lanes.processors() < LEAST_PROCESSORS:
-        yield []
-        return
-    pipes = dict.fromkeys(["stdin", "stdout", "stderr"], subprocess.DEVNULL)
-    started = subprocess.Popen(["rt", "ci", CHAIN], cwd=top, start_new_session=True, **pipes)
-    # (it copies the crates before it proves any)
-    time.sleep(HEAD_START)
-    try:
-        yield [started.pid]
-    finally:
-        with contextlib.suppress(ProcessLookupError):
-            os.killpg(started.pid, signal.SIGTERM)
-        started.wait()
-
-
 def run() -> tuple[int, int, list[str]]:
     """Runs the gate on a copy. Returns how many passed, how many failed (at least one if the gate fails), and its
     times."""
     before = sums()
-    with copied() as top, chain_ahead(top) as ahead:
+    with copied() as top:
         unchanged = {name for name, it in sums().items() if before[name] == it}
         pipes = {"stdin": subprocess.DEVNULL, "stdout": subprocess.PIPE, "stderr": subprocess.STDOUT}
-        started = subprocess.Popen(["nice", "-n", "5", "rt", "ci"], cwd=top, errors="replace", **pipes)
-        sampler = Sampler(started.pid, *ahead)
+        started = subprocess.Popen(["rt", "ci"], cwd=top, errors="replace", **pipes)
+        sampler = Sampler(started.pid)
         sampler.start()
         last = None
         for line in started.stdout:
