@@ -1,9 +1,10 @@
 """The gate: proves every crate from nothing, runs the tests, and runs each program as both compilers build it.
 
 `rt ci` has no option for leaving out the must-fail edits, so it runs on a copy of this checkout that has none, and what
-it built is moved back: `make run` and `make edits` don't prove that again. Its output is passed on as it comes. The
-processor time of each crate, for its proof and its tests, is taken from the system's list of processes (/proc) four
-times a second; what a process used after it was last observed is missing.
+it built is moved back: `make run` and `make edits` don't prove that again. It runs its tasks in an order of our own
+(`step.py gate`). Its output is passed on as it comes. The processor time of each crate, for its proof and its tests, is
+taken from the system's list of processes (/proc) four times a second; what a process used after it was last observed is
+missing.
 """
 
 import collections
@@ -160,7 +161,8 @@ def run() -> tuple[int, int, list[str]]:
     with copied() as top:
         unchanged = {name for name, it in sums().items() if before[name] == it}
         pipes = {"stdin": subprocess.DEVNULL, "stdout": subprocess.PIPE, "stderr": subprocess.STDOUT}
-        started = subprocess.Popen(["rt", "ci"], cwd=top, errors="replace", **pipes)
+        words = [sys.executable, "-u", "-B", str(rooms.STEP), "gate"]
+        started = subprocess.Popen(words, cwd=top, errors="replace", **pipes)
         sampler = Sampler(started.pid)
         sampler.start()
         last = None

@@ -7,6 +7,7 @@ import re
 import sys
 import tempfile
 import unittest
+import unittest.mock
 
 sys.path.insert(0, str(pathlib.Path(__file__).resolve().parent))
 
@@ -389,6 +390,15 @@ class Lanes(unittest.TestCase):
     def test_no_task_is_begun_once_it_is_over(self):
         tasks = {key: lanes.Task([], 1, 1, lambda jobs: None) for key in "ab"}
         self.assertEqual(list(lanes.run(tasks, lambda: True)), [])
+
+    def test_the_longest_chain_gets_half_of_the_processors_and_others_one(self):
+        chain = {"a": [], "b": ["a"], "c": ["b"]}
+        waits = {**chain, **{it: [] for it in "uvwxyz"}}
+        with unittest.mock.patch.object(lanes, "processors", return_value=4):
+            tasks = {key: lanes.Task(it, 1, 1, lambda jobs: jobs) for key, it in waits.items()}
+            jobs = dict(lanes.run(tasks, most_of_others=1))
+        self.assertEqual([jobs[it] for it in "ab"], [2, 2])
+        self.assertEqual({jobs[it] for it in "uvw"}, {1})
 
 
 class Numbers(unittest.TestCase):
