@@ -1,4 +1,4 @@
-"""Runs the checks that unittest finds, in parallel, and then those that need the machine to themselves, one by one."""
+"""Runs the checks that unittest finds in parallel: first those that take one processor, then those that take several."""
 
 import collections
 import concurrent.futures
@@ -28,12 +28,14 @@ def outcome(name: str) -> tuple[str, str, str]:
 
 
 def outcomes(checks: list[unittest.TestCase]) -> typing.Iterator[tuple[str, str, str]]:
-    """The outcomes of these checks."""
-    alone = [it.id() for it in checks if getattr(it, "alone", False)]
-    others = sorted({it.id() for it in checks} - set(alone), key=lambda it: (not it.startswith(LONGEST), it))
-    with concurrent.futures.ProcessPoolExecutor(os.cpu_count()) as pool:
-        yield from pool.map(outcome, others)
-    yield from map(outcome, alone)
+    """The outcomes of these checks: of those that aren't heavy, one at a time for each processor, and then of those
+    that are, one for each two."""
+    heavy = sorted(it.id() for it in checks if getattr(it, "is_heavy", False))
+    others = sorted({it.id() for it in checks} - set(heavy), key=lambda it: (not it.startswith(LONGEST), it))
+    processors = os.cpu_count() or 1
+    for names, at_once in (others, processors), (heavy, max(processors // 2, 1)):
+        with concurrent.futures.ProcessPoolExecutor(at_once) as pool:
+            yield from pool.map(outcome, names)
 
 
 def run_all() -> tuple[int, int]:

@@ -68,8 +68,8 @@ def sections(name: str) -> dict[str, str]:
 class Case(unittest.TestCase):
     """Checks of the program."""
 
-    # whether it needs the machine to itself
-    alone = False
+    # whether it takes more than one processor
+    is_heavy = False
     needs = "crackd"
 
     def setUp(self) -> None:

@@ -25,12 +25,13 @@ PROGRAM, HISTORIES = (CRATES / name / "out" / name for name in ("crackd", "crack
 def test_all() -> tuple[int, int]:
     """Runs everything. Returns how many passed, and how many failed."""
     passed, failed, times = gate.run()
-    # (the gate proves the library for C and Python, and doesn't build it)
+    # (of the static library that the gate built it makes the one for C and Python)
     library = [sys.executable, str(TOP / "tools" / "library.py")]
     failed += subprocess.run(library, check=False).returncode != 0
     os.environ["CRACKD"] = str(PROGRAM)
     if PROGRAM.exists():
-        sums_of_all = [(passed, failed), run.run_all(PROGRAM), checks.run_all(), package.run(PROGRAM)]
+        of_package = package.Running(PROGRAM)
+        sums_of_all = [(passed, failed), run.run_all(PROGRAM), checks.run_all(), of_package.sums()]
         passed, failed = (sum(it) for it in zip(*sums_of_all))
     else:
         print("acceptance: the gate left no program, so no case was run")

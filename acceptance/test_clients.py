@@ -572,7 +572,7 @@ def check_small(program: str, seed: int) -> None:
 class Clients(fixtures.Case):
     """Servers with 64 workers."""
 
-    alone = True
+    is_heavy = True
 
     def report(self, what: str, figures: dict[str, object]) -> None:
         print(f"{what}: " + ", ".join(f"{name} {it}" for name, it in figures.items()), flush=True)
