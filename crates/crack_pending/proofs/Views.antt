@@ -8,7 +8,7 @@ use Rattle.crack_row.specs.declared.Row.{Row}
 use Rattle.crack_arena.specs.Arena.{Cell, Handle, StandsAt, IsFirstAt, IsAbsent, no_handle, times, slots, place_in}
 use Rattle.crack_arena.specs.Rows.{key_at, keys_at}
 use Rattle.crack_arena.proofs.Times.{times_map_at}
-use Rattle.crack_pending.proofs.Remembering.{Remembers-anew}
+use Rattle.crack_pending.proofs.Remembering.{Remembers-anew, Remembers-remove}
 use Rattle.crack_arena.proofs.Places.{place_in-within, place_in-slot, place_in-is, times_apart_once}
 use Rattle.crack_column.specs.Column.{Memory, nothing, memory_at, Agrees, Remembers}
 use Rattle.std.specs.Prelude.{Result, Ok, Err, OnOk, min}
@@ -119,26 +119,42 @@ module _ (handles : List Handle) (stands : List Bool) (spots : List ℕ) (slot :
     | inr m ↦ behind spot m with
   ]
 
-module _ (handles : List Handle) (remembered : List Memory) (stands : List Bool) (beside : length stands ≡ length handles) (remembered_beside : length remembered ≡ length handles) (apart : StandApart handles stands) (slot spot : ℕ) (with : IsSpotWith handles stands slot spot) where
-  -- something else remembered of a row
-  pub other_memory : (m : Memory) → kept stands (set remembered spot m) ≡ set (kept stands remembered) (place_in (kept stands handles) slot) m
-  other_memory m =
-      kept-set stands remembered spot m (omega (arith, beside, remembered_beside)) with.stands_there ∙ ap (λ p. set (kept stands remembered) p m) (sym (spot-place_in handles stands beside apart slot spot with))
+module _ {handles : List Handle} {remembered : List Memory} {stands : List Bool} {spots : List ℕ} {rows noted hint_place hint_spot : ℕ} (are : AreKept handles remembered stands spots rows noted hint_place hint_spot) where
+  -- a mark beside what is remembered
+  pub memories-beside : length stands ≡ length remembered
+  memories-beside = are.stands_beside ∙ sym are.remembered_beside
 
-  pub anew : (cells cells' : List (Cell Row)) (m : Memory) → Agrees cells' (get_or (kept stands handles) (place_in (kept stands handles) slot) no_handle) m → ((h : Handle) → h.slot ≢ slot → memory_at cells' h ≡ memory_at cells h) → Remembers cells (kept stands handles) (kept stands remembered) → Remembers cells' (kept stands handles) (kept stands (set remembered spot m))
-  anew cells cells' m is others r =
-      let rows = kept stands handles in
-      let place = place_in rows slot in
-      let within : place < length rows = place_in-within rows slot (spot-times handles stands beside slot spot with) in
-      rw (other_memory m) (Remembers-anew cells cells' rows (kept stands remembered) place m is (λ k d k_within ne.
-      others (get_or rows k d) (λ same.
-      let at_k : (get_or rows k no_handle).slot ≡ slot = ap (λ (h : Handle). h.slot) (get_or_default rows k no_handle d k_within) ∙ same in
-      ne (kept-apart handles stands beside apart k place k_within within (at_k ∙ sym (place_in-slot rows slot no_handle within))))) r)
+  pub length-rows : length (kept stands handles) ≡ rows
+  length-rows = length-kept stands handles are.stands_beside ∙ sym are.counted
 
-  -- a hole where it was
-  pub struck : {X : Type 0} (xs : List X) → length stands ≡ length xs → kept (set stands spot false) xs ≡ remove (kept stands xs) (place_in (kept stands handles) slot)
-  struck xs xs_beside =
-      kept-hole stands xs spot xs_beside with.stands_there ∙ ap (λ p. remove (kept stands xs) p) (sym (spot-place_in handles stands beside apart slot spot with))
+  pub few-rows : rows ≤ length handles
+  few-rows = omega (arith, are.counted, are.stands_beside, place_at-few stands (length stands))
+
+  -- a row goes: the others are remembered as before
+  pub remembers-others : (spot : ℕ) → HasRow stands spot → (cells : List (Cell Row)) → Remembers cells (kept stands handles) (kept stands remembered) → Remembers cells (kept (set stands spot false) handles) (kept (set stands spot false) remembered)
+  remembers-others spot at cells r =
+      rw (kept-hole stands handles spot are.stands_beside at, kept-hole stands remembered spot memories-beside at) (Remembers-remove cells (kept stands handles) (kept stands remembered) (place_at stands spot) (place-within handles stands are.stands_beside spot at) r)
+
+  module _ {slot spot : ℕ} (with : IsSpotWith handles stands slot spot) where
+    -- something else remembered of a row
+    pub other_memory : (m : Memory) → kept stands (set remembered spot m) ≡ set (kept stands remembered) (place_in (kept stands handles) slot) m
+    other_memory m =
+        kept-set stands remembered spot m memories-beside with.stands_there ∙ ap (λ p. set (kept stands remembered) p m) (sym (spot-place_in handles stands are.stands_beside are.apart slot spot with))
+
+    pub anew : (cells cells' : List (Cell Row)) (m : Memory) → Agrees cells' (get_or (kept stands handles) (place_in (kept stands handles) slot) no_handle) m → ((h : Handle) → h.slot ≢ slot → memory_at cells' h ≡ memory_at cells h) → Remembers cells (kept stands handles) (kept stands remembered) → Remembers cells' (kept stands handles) (kept stands (set remembered spot m))
+    anew cells cells' m is others r =
+        let all = kept stands handles in
+        let place = place_in all slot in
+        let within : place < length all = place_in-within all slot (spot-times handles stands are.stands_beside slot spot with) in
+        rw (other_memory m) (Remembers-anew cells cells' all (kept stands remembered) place m is (λ k d k_within ne.
+        others (get_or all k d) (λ same.
+        let at_k : (get_or all k no_handle).slot ≡ slot = ap (λ (h : Handle). h.slot) (get_or_default all k no_handle d k_within) ∙ same in
+        ne (kept-apart handles stands are.stands_beside are.apart k place k_within within (at_k ∙ sym (place_in-slot all slot no_handle within))))) r)
+
+    -- a hole where it was
+    pub struck : {X : Type 0} (xs : List X) → length stands ≡ length xs → kept (set stands spot false) xs ≡ remove (kept stands xs) (place_in (kept stands handles) slot)
+    struck xs beside =
+        kept-hole stands xs spot beside with.stands_there ∙ ap (λ p. remove (kept stands xs) p) (sym (spot-place_in handles stands are.stands_beside are.apart slot spot with))
 
 -- what is remembered beside a row is right at its spot
 pub KnowRows-kept : (cells : List (Cell Row)) (handles : List Handle) (remembered : List Memory) (stands : List Bool) → length stands ≡ length handles → length remembered ≡ length handles → Remembers cells (kept stands handles) (kept stands remembered) → KnowRows cells handles remembered stands

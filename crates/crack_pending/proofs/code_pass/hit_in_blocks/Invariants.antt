@@ -1,4 +1,4 @@
-use Rattle.std.proofs.Common.{◌-◌, ◌≤◌, length}
+use Rattle.std.proofs.Common.{◌-◌, ◌≤◌}
 use Rattle.crack_pending.specs.Inside.{IsMissed}
 use Rattle.crack_pending.proofs.code_pass.hit_in_blocks.Given as goal
 

@@ -1,5 +1,4 @@
-use Rattle.std.proofs.Common.{◌≡◌, ◌<◌, List, [], sym, rules, arith}
-use Rattle.crack_arena.specs.Arena.{times, slots}
+use Rattle.std.proofs.Common.{[], sym}
 use Rattle.crack_arena.specs.Rows.{unknown}
 use Rattle.crack_arena.proofs.Times.{times-nil}
 use Rattle.crack_pending.proofs.Coded.{coded_none}

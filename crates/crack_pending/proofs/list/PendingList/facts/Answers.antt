@@ -1,7 +1,7 @@
-use Rattle.std.proofs.Common.{length, sym, ◌∙◌, arith}
+use Rattle.std.proofs.Common.{length, sym, ◌∙◌}
 use Rattle.crack_pending.proofs.Kept.{length-kept}
 use Rattle.crack_pending.proofs.Moves.{kept-covered}
-use Rattle.crack_pending.proofs.Views.{once}
+use Rattle.crack_pending.proofs.Views.{once, memories-beside}
 use Rattle.crack_pending.proofs.list.PendingList.facts.Goals as goal
 
 pub returns-clause-once : goal.returns-clause-once
@@ -17,4 +17,4 @@ returns-clause-covered g c =
 pub returns-clause-beside : goal.returns-clause-beside
 returns-clause-beside g c =
     let a = c.self.invariant.0 in
-    rw (← c.self.view_is) (length-kept c.self.inside.stands.items c.self.inside.remembered.items (omega (arith, a.stands_beside, a.remembered_beside)) ∙ sym (length-kept c.self.inside.stands.items c.self.inside.handles.items a.stands_beside))
+    rw (← c.self.view_is) (length-kept c.self.inside.stands.items c.self.inside.remembered.items (memories-beside a) ∙ sym (length-kept c.self.inside.stands.items c.self.inside.handles.items a.stands_beside))

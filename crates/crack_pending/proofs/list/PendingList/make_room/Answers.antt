@@ -1,13 +1,11 @@
 use Rattle.std.proofs.Common.{◌≡◌, ◌≤◌, length, vec_len, vec_capacity, refl, ap, ◌∙◌, arith}
-use Rattle.crack_pending.proofs.Kept.{length-kept}
 use Rattle.crack_pending.proofs.Coded.{coded_none}
-use Rattle.crack_pending.proofs.Views.{same_view, closed-kept, closed-handles, closed-remembered, closed-fewer, closed-rows, room-more, room-enough, OnOk_three}
+use Rattle.crack_pending.proofs.Views.{same_view, closed-kept, closed-handles, closed-remembered, closed-fewer, closed-rows, room-more, room-enough, OnOk_three, length-rows}
 use Rattle.crack_pending.proofs.list.PendingList.make_room.Goals as goal
 
 pub invariant_of-self : goal.invariant_of-self
 invariant_of-self g c =
     let a = c.self.invariant.0 in
-    let i = c.self.inside in
     let closed = c.close_up.ensures.closed in
     rw (c.grow.ensures.handles, c.grow.ensures.remembered, c.grow.ensures.stands) (
       closed-kept a closed,
@@ -19,7 +17,6 @@ invariant_of-self g c =
 pub returns-clause-same : goal.returns-clause-same
 returns-clause-same g c =
     let a = c.self.invariant.0 in
-    let i = c.self.inside in
     let closed = c.close_up.ensures.closed in
     let handles = closed-handles a closed in
     let remembered = closed-remembered a closed in
@@ -33,13 +30,13 @@ returns-clause-room g c =
     let rows = closed-rows a closed in
     let few = rw (← c.self.view_is) at c.requires in
     let long : length c.grow.new.handles.items ≡ i.rows = ap length c.grow.ensures.handles ∙ rows in
-    let kept_rows = length-kept i.stands.items i.handles.items a.stands_beside in
+    let all = closed-kept a closed in
     let more : c.args.additional ≤ c.max-wanted.result = omega (arith, c.max-wanted.ensures) in
     let h : vec_len c.close_up.new.handles ≡ i.rows = omega (arith, rows) in
-    let k : vec_len c.close_up.new.remembered ≡ i.rows = omega (arith, ap length closed.remembered_are, length-kept i.stands.items i.remembered.items (omega (arith, a.stands_beside, a.remembered_beside)), a.counted) in
+    let k : vec_len c.close_up.new.remembered ≡ i.rows = omega (arith, all.remembered_beside, rows) in
     let s : vec_len c.close_up.new.stands ≡ i.rows = omega (arith, closed.long) in
     OnOk_three c.grow.result _ _ _ _ c.grow.ensures.handle_room c.grow.ensures.remembered_room c.grow.ensures.stand_room (λ handle_room remembered_room stand_room.
-    rw long (room-enough i.rows c.args.additional (vec_capacity c.grow.new.handles) (vec_capacity c.grow.new.remembered) (vec_capacity c.grow.new.stands) (omega (arith, few, kept_rows, a.counted)) (omega (arith, handle_room, h, more)) (omega (arith, remembered_room, k, more)) (omega (arith, stand_room, s, more))))
+    rw long (room-enough i.rows c.args.additional (vec_capacity c.grow.new.handles) (vec_capacity c.grow.new.remembered) (vec_capacity c.grow.new.stands) (omega (arith, few, length-rows a)) (omega (arith, handle_room, h, more)) (omega (arith, remembered_room, k, more)) (omega (arith, stand_room, s, more))))
 
 pub returns-clause-kept : goal.returns-clause-kept
 returns-clause-kept g c =
@@ -53,7 +50,6 @@ returns-clause-kept g c =
 pub returns-clause-remembered : goal.returns-clause-remembered
 returns-clause-remembered g c = λ cells r.
     let a = c.self.invariant.0 in
-    let i = c.self.inside in
     let closed = c.close_up.ensures.closed in
     let known = rw (← c.self.view_is) at r in
     rw (c.grow.ensures.handles, c.grow.ensures.remembered, c.grow.ensures.stands, closed-handles a closed, closed-remembered a closed) known

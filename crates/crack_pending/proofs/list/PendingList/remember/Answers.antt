@@ -2,7 +2,7 @@ use Rattle.std.proofs.Common.{◌≡◌, ◌∷◌, [], length, refl, ap, ◌∙
 use Rattle.crack_arena.specs.Arena.{times}
 use Rattle.crack_arena.specs.Rows.{unknown}
 use Rattle.crack_pending.proofs.Coded.{coded_key}
-use Rattle.crack_pending.proofs.Views.{other_memory, anew, same_view, nowhere-times, kept_memory, kept_noted}
+use Rattle.crack_pending.proofs.Views.{other_memory, anew, same_view, nowhere-times, kept_memory, kept_noted, memories-beside}
 use Rattle.crack_pending.proofs.Unknown.{counted_one, counted_set, counted_some, counted_few, byte_few}
 use Rattle.crack_pending.proofs.list.PendingList.remember.Goals as goal
 
@@ -11,14 +11,14 @@ unknowns_without-requires-clause-counted g c = λ is.
     let a = c.self.invariant.0 in
     let i = c.self.inside in
     let with = rw (c.deref.ensures.value, c.deref-2.ensures.value, c.slot.ensures) at c.in-Some.ensures.found in
-    omega (arith, c.self.invariant.1, counted_some i.remembered.items i.stands.items (omega (arith, a.stands_beside, a.remembered_beside)) c.in-Some.spot with.stands_there (rw (c.deref-in-Some.ensures.value) at is))
+    omega (arith, c.self.invariant.1, counted_some i.remembered.items i.stands.items (memories-beside a) c.in-Some.spot with.stands_there (rw (c.deref-in-Some.ensures.value) at is))
 
 pub overflow_add-self : goal.overflow_add-self
 overflow_add-self g c =
     let a = c.self.invariant.0 in
     let i = c.self.inside in
     let less = rw (c.deref-in-Some.ensures.value) at c.unknowns_without.ensures in
-    omega (arith, c.self.invariant.1, less, counted_few i.remembered.items i.stands.items (omega (arith, a.stands_beside, a.remembered_beside)), a.few, a.remembered_beside, byte_few (nat_eq c.key.result unknown))
+    omega (arith, c.self.invariant.1, less, counted_few i.remembered.items i.stands.items (memories-beside a), a.few, a.remembered_beside, byte_few (nat_eq c.key.result unknown))
 
 pub invariant_of-self : goal.invariant_of-self
 invariant_of-self g c =
@@ -32,7 +32,7 @@ invariant_of-self g c =
     let noted = kept_noted a c.spot_noted.new.spots.items (omega (arith, c.spot_noted.ensures.covered)) led in
     rw all (
       kept_memory noted c.in-Some.spot c.args.remembered,
-      omega (arith, c.self.invariant.1, less, counted_one c.key.result ∙ ap (λ k. times unknown (k ∷ [])) c.key.ensures, counted_set i.remembered.items i.stands.items (omega (arith, a.stands_beside, a.remembered_beside)) c.in-Some.spot c.args.remembered with.stands_there),
+      omega (arith, c.self.invariant.1, less, counted_one c.key.result ∙ ap (λ k. times unknown (k ∷ [])) c.key.ensures, counted_set i.remembered.items i.stands.items (memories-beside a) c.in-Some.spot c.args.remembered with.stands_there),
       rw (c.recode.ensures, c.key-in-Some.ensures) (coded_key i.remembered.items i.stands.items i.codes c.self.invariant.2 c.in-Some.spot c.args.remembered with.stands_there),
       rw covered c.self.invariant.3,
     )
@@ -40,18 +40,16 @@ invariant_of-self g c =
 pub returns-in-Some-clause-after : goal.returns-in-Some-clause-after
 returns-in-Some-clause-after g c =
     let a = c.self.invariant.0 in
-    let i = c.self.inside in
     let with = rw (c.deref.ensures.value, c.deref-2.ensures.value, c.slot.ensures) at c.in-Some.ensures.found in
-    rw (← c.self.view_is) (same_view _ _ _ _ _ _ _ refl (other_memory i.handles.items i.remembered.items i.stands.items a.stands_beside a.remembered_beside a.apart c.args.handle.slot c.in-Some.spot with c.args.remembered) (omega (arith, c.spot_noted.ensures.covered)))
+    rw (← c.self.view_is) (same_view _ _ _ _ _ _ _ refl (other_memory a with c.args.remembered) (omega (arith, c.spot_noted.ensures.covered)))
 
 pub returns-in-Some-clause-remembered : goal.returns-in-Some-clause-remembered
 returns-in-Some-clause-remembered g c = λ cells cells' is others r.
     let a = c.self.invariant.0 in
-    let i = c.self.inside in
     let with = rw (c.deref.ensures.value, c.deref-2.ensures.value, c.slot.ensures) at c.in-Some.ensures.found in
     let right = rw (← c.self.view_is) at is in
     let known = rw (← c.self.view_is) at r in
-    anew i.handles.items i.remembered.items i.stands.items a.stands_beside a.remembered_beside a.apart c.args.handle.slot c.in-Some.spot with cells cells' c.args.remembered right others known
+    anew a with cells cells' c.args.remembered right others known
 
 pub returns-in_default-clause-after : goal.returns-in_default-clause-after
 returns-in_default-clause-after g c =

@@ -1,7 +1,7 @@
 use Rattle.std.proofs.Common.{◌≡◌, arith, ltb-false}
-use Rattle.crack_pending.proofs.Kept.{length-kept, place_at-few}
+use Rattle.crack_pending.proofs.Kept.{place_at-few}
 use Rattle.crack_pending.proofs.Searches.{length-keys_at}
-use Rattle.crack_pending.proofs.Views.{KnowRows-kept, finds-none, finds-some}
+use Rattle.crack_pending.proofs.Views.{KnowRows-kept, finds-none, finds-some, memories-beside, length-rows}
 use Rattle.crack_pending.specs.Spots.{kept}
 use Rattle.crack_pending.proofs.Unknown.{counted_none}
 use Rattle.crack_pending.proofs.list.PendingList.seek_in.Goals as goal
@@ -11,7 +11,7 @@ returns-then-self-from-clause-finds g c =
     let a = c.self.invariant.0 in
     let rows = kept c.self.inside.stands.items c.self.inside.handles.items in
     rw (← c.self.view_is) (λ k after before inside.
-    absurd (omega (arith, after, before, length-keys_at c.args.arena.now.cells rows, length-kept c.self.inside.stands.items c.self.inside.handles.items a.stands_beside, a.counted, c.if-self-from.true)))
+    absurd (omega (arith, after, before, length-keys_at c.args.arena.now.cells rows, length-rows a, c.if-self-from.true)))
 
 pub next_hit-requires-clause-known : goal.next_hit-requires-clause-known
 next_hit-requires-clause-known g c =
@@ -24,7 +24,7 @@ next_hit-requires-clause-all_known g c = λ none.
     let a = c.self.invariant.0 in
     let i = c.self.inside in
     let zero : i.unknowns ≡ 0 = omega (arith, ltb-false 0 i.unknowns none) in
-    rw (c.deref-5.ensures.value, c.deref-6.ensures.value) (counted_none i.remembered.items i.stands.items (omega (arith, a.stands_beside, a.remembered_beside)) (omega (arith, c.self.invariant.1, zero)))
+    rw (c.deref-5.ensures.value, c.deref-6.ensures.value) (counted_none i.remembered.items i.stands.items (memories-beside a) (omega (arith, c.self.invariant.1, zero)))
 
 pub overflow_add-self : goal.overflow_add-self
 overflow_add-self g c =

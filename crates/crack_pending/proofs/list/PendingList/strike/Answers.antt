@@ -1,14 +1,9 @@
 use Rattle.std.proofs.Common.{◌≡◌, length, ap, ◌∙◌, arith}
-use Rattle.std.specs.List.{remove}
-use Rattle.crack_arena.specs.Arena.{place_in}
-use Rattle.crack_arena.proofs.Places.{place_in-within}
-use Rattle.crack_pending.proofs.Remembering.{Remembers-remove}
 use Rattle.crack_pending.specs.Pending.{Pending}
-use Rattle.crack_pending.specs.Spots.{kept}
 use Rattle.crack_pending.proofs.Kept.{place_at-before, Stands-within}
 use Rattle.crack_pending.proofs.Coded.{coded_hole}
 use Rattle.crack_pending.proofs.Marked.{marked_hole}
-use Rattle.crack_pending.proofs.Views.{kept_hole, kept_noted, struck, nowhere-times, spot-times}
+use Rattle.crack_pending.proofs.Views.{kept_hole, kept_noted, struck, nowhere-times, memories-beside, remembers-others}
 use Rattle.crack_pending.proofs.Unknown.{counted_hole, counted_some}
 use Rattle.crack_pending.proofs.list.PendingList.strike.Goals as goal
 
@@ -43,7 +38,7 @@ unknowns_without-self-inside-requires-clause-counted g c = λ is.
     let a = c.self.invariant.0 in
     let i = c.self.inside in
     let with = rw (c.deref.ensures.value, c.deref-2.ensures.value, c.slot-slot.ensures) at c.in-Some.ensures.found in
-    omega (arith, c.self.invariant.1, counted_some i.remembered.items i.stands.items (omega (arith, a.stands_beside, a.remembered_beside)) c.in-Some.spot with.stands_there (rw (c.deref-4.ensures.value) at is))
+    omega (arith, c.self.invariant.1, counted_some i.remembered.items i.stands.items (memories-beside a) c.in-Some.spot with.stands_there (rw (c.deref-4.ensures.value) at is))
 
 pub invariant_of-self : goal.invariant_of-self
 invariant_of-self g c =
@@ -72,9 +67,9 @@ invariant_of-self-2 g c =
     let noted = kept_noted a c.spot_noted.new.spots.items (omega (arith, c.spot_noted.ensures.covered)) led in
     rw all (
       kept_hole noted c.in-Some.spot c.hint_without-self-inside.result i.hint_spot with.stands_there a.near hint,
-      omega (arith, c.self.invariant.1, less, counted_hole i.remembered.items i.stands.items (omega (arith, a.stands_beside, a.remembered_beside)) c.in-Some.spot with.stands_there),
+      omega (arith, c.self.invariant.1, less, counted_hole i.remembered.items i.stands.items (memories-beside a) c.in-Some.spot with.stands_there),
       rw (c.leave_hole.ensures) (coded_hole i.remembered.items i.stands.items i.codes c.self.invariant.2 c.in-Some.spot with.stands_there),
-      rw covered (marked_hole i.handles.items i.stands.items c.self.invariant.3 c.strike.new.self a.stands_beside c.strike.ensures.long a.apart c.args.handle.slot c.in-Some.spot with (rw c.slot-slot.ensures at c.strike.ensures.gone) (rw c.slot-slot.ensures at c.strike.ensures.others)),
+      rw covered (marked_hole a c.self.invariant.3 c.strike.new.self c.strike.ensures.long with (rw c.slot-slot.ensures at c.strike.ensures.gone) (rw c.slot-slot.ensures at c.strike.ensures.others)),
     )
 
 pub returns-clause-handles : goal.returns-clause-handles
@@ -82,24 +77,16 @@ returns-clause-handles g c =
     let a = c.self.invariant.0 in
     let i = c.self.inside in
     let with = rw (c.deref.ensures.value, c.deref-2.ensures.value, c.slot-slot.ensures) at c.in-Some.ensures.found in
-    rw (← c.self.view_is) (ap (λ (p : Pending). p.handles) c.close_up_if_sparse.ensures.same ∙ struck i.handles.items i.remembered.items i.stands.items a.stands_beside a.remembered_beside a.apart c.args.handle.slot c.in-Some.spot with i.handles.items a.stands_beside)
+    rw (← c.self.view_is) (ap (λ (p : Pending). p.handles) c.close_up_if_sparse.ensures.same ∙ struck a with i.handles.items a.stands_beside)
 
 pub returns-clause-keys : goal.returns-clause-keys
 returns-clause-keys g c =
     let a = c.self.invariant.0 in
     let i = c.self.inside in
     let with = rw (c.deref.ensures.value, c.deref-2.ensures.value, c.slot-slot.ensures) at c.in-Some.ensures.found in
-    rw (← c.self.view_is) (ap (λ (p : Pending). p.remembered) c.close_up_if_sparse.ensures.same ∙ struck i.handles.items i.remembered.items i.stands.items a.stands_beside a.remembered_beside a.apart c.args.handle.slot c.in-Some.spot with i.remembered.items (omega (arith, a.stands_beside, a.remembered_beside)))
+    rw (← c.self.view_is) (ap (λ (p : Pending). p.remembered) c.close_up_if_sparse.ensures.same ∙ struck a with i.remembered.items (memories-beside a))
 
 pub returns-clause-remembered : goal.returns-clause-remembered
 returns-clause-remembered g c = λ cells r.
-    let a = c.self.invariant.0 in
-    let i = c.self.inside in
-    let with = rw (c.deref.ensures.value, c.deref-2.ensures.value, c.slot-slot.ensures) at c.in-Some.ensures.found in
-    let known = rw (← c.self.view_is) at r in
-    let rows = kept i.stands.items i.handles.items in
-    let handles : c.close_up_if_sparse.new.self.handles ≡ remove rows (place_in rows c.args.handle.slot) =
-    ap (λ (p : Pending). p.handles) c.close_up_if_sparse.ensures.same ∙ struck i.handles.items i.remembered.items i.stands.items a.stands_beside a.remembered_beside a.apart c.args.handle.slot c.in-Some.spot with i.handles.items a.stands_beside in
-    let remembered : c.close_up_if_sparse.new.self.remembered ≡ remove (kept i.stands.items i.remembered.items) (place_in rows c.args.handle.slot) =
-    ap (λ (p : Pending). p.remembered) c.close_up_if_sparse.ensures.same ∙ struck i.handles.items i.remembered.items i.stands.items a.stands_beside a.remembered_beside a.apart c.args.handle.slot c.in-Some.spot with i.remembered.items (omega (arith, a.stands_beside, a.remembered_beside)) in
-    rw (handles, remembered) (Remembers-remove cells rows (kept i.stands.items i.remembered.items) (place_in rows c.args.handle.slot) (place_in-within rows c.args.handle.slot (spot-times i.handles.items i.stands.items a.stands_beside c.args.handle.slot c.in-Some.spot with)) known)
+    let with = rw (c.deref.ensures.value, c.deref-2.ensures.value) at c.in-Some.ensures.found in
+    rw c.close_up_if_sparse.ensures.same (remembers-others c.self.invariant.0 c.in-Some.spot with.stands_there cells (rw (← c.self.view_is) at r))

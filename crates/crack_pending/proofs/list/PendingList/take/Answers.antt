@@ -1,13 +1,10 @@
-use Rattle.std.proofs.Common.{◌≡◌, sym, ap, ◌∙◌, arith}
-use Rattle.std.specs.List.{remove}
-use Rattle.crack_pending.proofs.Remembering.{Remembers-remove}
+use Rattle.std.proofs.Common.{sym, ap, ◌∙◌, arith}
 use Rattle.crack_pending.specs.Inside.{IsSpotWith}
 use Rattle.crack_pending.specs.Pending.{Pending}
-use Rattle.crack_pending.specs.Spots.{kept}
-use Rattle.crack_pending.proofs.Kept.{place_at-hole_behind, Stands-within, kept-hole, length-kept}
+use Rattle.crack_pending.proofs.Kept.{place_at-hole_behind, Stands-within, kept-hole}
 use Rattle.crack_pending.proofs.Coded.{coded_hole}
 use Rattle.crack_pending.proofs.Marked.{marked_hole}
-use Rattle.crack_pending.proofs.Views.{kept_hole, place-StandsAt, spot-with}
+use Rattle.crack_pending.proofs.Views.{kept_hole, place-StandsAt, spot-with, memories-beside, length-rows, remembers-others}
 use Rattle.crack_pending.proofs.Unknown.{counted_hole, counted_some}
 use Rattle.crack_pending.proofs.list.PendingList.take.Goals as goal
 use Rattle.crack_pending.proofs.list.PendingList.take.Goals.{After-slot}
@@ -17,7 +14,7 @@ pub spot_of-spot-requires-clause-within : goal.spot_of-spot-requires-clause-with
 spot_of-spot-requires-clause-within g c =
     let a = c.self.invariant.0 in
     let within = rw (← c.self.view_is) at c.requires in
-    omega (arith, within, length-kept c.self.inside.stands.items c.self.inside.handles.items a.stands_beside, a.counted)
+    omega (arith, within, length-rows a)
 
 -- the cell that is struck is that of the row at the spot
 spot_with : (g : Over) (c : After-slot g) → IsSpotWith c.self.inside.handles.items c.self.inside.stands.items c.slot.result c.spot_of-spot.result
@@ -36,14 +33,14 @@ pub overflow_sub-self : goal.overflow_sub-self
 overflow_sub-self g c =
     let a = c.self.invariant.0 in
     let within = rw (← c.self.view_is) at c.requires in
-    omega (arith, within, length-kept c.self.inside.stands.items c.self.inside.handles.items a.stands_beside, a.counted)
+    omega (arith, within, length-rows a)
 
 pub unknowns_without-self-inside-requires-clause-counted : goal.unknowns_without-self-inside-requires-clause-counted
 unknowns_without-self-inside-requires-clause-counted g c = λ is.
     let a = c.self.invariant.0 in
     let i = c.self.inside in
     let stands = rw (c.deref.ensures.value) at c.spot_of-spot.ensures.stands in
-    omega (arith, c.self.invariant.1, counted_some i.remembered.items i.stands.items (omega (arith, a.stands_beside, a.remembered_beside)) c.spot_of-spot.result stands (rw (c.deref-2.ensures.value) at is))
+    omega (arith, c.self.invariant.1, counted_some i.remembered.items i.stands.items (memories-beside a) c.spot_of-spot.result stands (rw (c.deref-2.ensures.value) at is))
 
 pub invariant_of-self : goal.invariant_of-self
 invariant_of-self g c =
@@ -54,9 +51,9 @@ invariant_of-self g c =
     let place = rw (c.deref.ensures.value) at c.spot_of-spot.ensures.place in
     let less = rw (c.deref-2.ensures.value) at c.unknowns_without-self-inside.ensures in (
       kept_hole a spot c.args.place spot stands (omega (arith, Stands-within i.stands.items spot stands, a.stands_beside)) (sym place ∙ sym (place_at-hole_behind i.stands.items spot spot (omega arith))),
-      omega (arith, c.self.invariant.1, less, counted_hole i.remembered.items i.stands.items (omega (arith, a.stands_beside, a.remembered_beside)) spot stands),
+      omega (arith, c.self.invariant.1, less, counted_hole i.remembered.items i.stands.items (memories-beside a) spot stands),
       rw (c.leave_hole.ensures) (coded_hole i.remembered.items i.stands.items i.codes c.self.invariant.2 spot stands),
-      marked_hole i.handles.items i.stands.items c.self.invariant.3 c.strike.new.self a.stands_beside c.strike.ensures.long a.apart c.slot.result spot (spot_with g (goal.at.invariant_of-self g c).After-slot) c.strike.ensures.gone c.strike.ensures.others,
+      marked_hole a c.self.invariant.3 c.strike.new.self c.strike.ensures.long (spot_with g (goal.at.invariant_of-self g c).After-slot) c.strike.ensures.gone c.strike.ensures.others,
     )
 
 pub returns-clause-value : goal.returns-clause-value
@@ -82,19 +79,9 @@ returns-clause-keys g c =
     let i = c.self.inside in
     let stands = rw (c.deref.ensures.value) at c.spot_of-spot.ensures.stands in
     let place = rw (c.deref.ensures.value) at c.spot_of-spot.ensures.place in
-    let hole = kept-hole i.stands.items i.remembered.items c.spot_of-spot.result (omega (arith, a.stands_beside, a.remembered_beside)) stands in
+    let hole = kept-hole i.stands.items i.remembered.items c.spot_of-spot.result (memories-beside a) stands in
     rw (← c.self.view_is) (ap (λ (p : Pending). p.remembered) c.close_up_if_sparse.ensures.same ∙ (rw place at hole))
 
 pub returns-clause-remembered : goal.returns-clause-remembered
 returns-clause-remembered g c = λ cells r.
-    let a = c.self.invariant.0 in
-    let i = c.self.inside in
-    let known = rw (← c.self.view_is) at r in
-    let within = rw (← c.self.view_is) at c.requires in
-    let stands = rw (c.deref.ensures.value) at c.spot_of-spot.ensures.stands in
-    let place = rw (c.deref.ensures.value) at c.spot_of-spot.ensures.place in
-    let hole = kept-hole i.stands.items i.handles.items c.spot_of-spot.result a.stands_beside stands in
-    let key_hole = kept-hole i.stands.items i.remembered.items c.spot_of-spot.result (omega (arith, a.stands_beside, a.remembered_beside)) stands in
-    let handles : c.close_up_if_sparse.new.self.handles ≡ remove (kept i.stands.items i.handles.items) c.args.place = ap (λ (p : Pending). p.handles) c.close_up_if_sparse.ensures.same ∙ (rw place at hole) in
-    let remembered : c.close_up_if_sparse.new.self.remembered ≡ remove (kept i.stands.items i.remembered.items) c.args.place = ap (λ (p : Pending). p.remembered) c.close_up_if_sparse.ensures.same ∙ (rw place at key_hole) in
-    rw (handles, remembered) (Remembers-remove cells (kept i.stands.items i.handles.items) (kept i.stands.items i.remembered.items) c.args.place within known)
+    rw c.close_up_if_sparse.ensures.same (remembers-others c.self.invariant.0 c.spot_of-spot.result (rw (c.deref.ensures.value) at c.spot_of-spot.ensures.stands) cells (rw (← c.self.view_is) at r))
