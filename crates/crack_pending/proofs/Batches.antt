@@ -104,7 +104,7 @@ module _ (cells : List (Cell Row)) (range : Range) (handles : List Handle) (reme
     counted = one.counted;
   }
 
-  module _ (before stands : List Bool) (codes : Coding) (came taken : List Handle) (known : List Memory) (start count spot : ℕ) (one : IsPassed cells range handles remembered before stands codes came taken known start count 0) (beside : length before ≡ length handles) (keys_beside : length remembered ≡ length handles) (at : HasRow stands spot) (holds : IsIn range (key_at cells (get_or handles spot no_handle))) (missed : IsMissed range cells handles stands 0 spot) where
+  module _ (before stands : List Bool) (codes : Coding) (came taken : List Handle) (known : List Memory) (start count spot : ℕ) (one : IsPassed cells range handles remembered before stands codes came taken known start count 0) (beside : length before ≡ length handles) (remembered_beside : length remembered ≡ length handles) (at : HasRow stands spot) (holds : IsIn range (key_at cells (get_or handles spot no_handle))) (missed : IsMissed range cells handles stands 0 spot) where
     long : length stands ≡ length handles
     long = omega (arith, one.long, beside)
 
@@ -120,15 +120,15 @@ module _ (cells : List (Cell Row)) (range : Range) (handles : List Handle) (reme
         let h = get_or handles spot no_handle in
         let left = kept (set stands spot false) handles in
         let hole = kept-hole stands handles spot long at in
-        let key_hole = kept-hole stands remembered spot (omega (arith, long, keys_beside)) at in
+        let key_hole = kept-hole stands remembered spot (omega (arith, long, remembered_beside)) at in
         record {
           within = one.within;
           missed = λ k after less there. one.missed k after less (stood stands spot k at there).1;
           taken_are = append_assoc taken (h ∷ []) (rows_inside cells range left) ∙ ap (λ xs. taken ++ xs) (sym inside_is) ∙ one.taken_are;
           outside = outside-hole (λ g. is_in range (key_at cells g)) stands handles spot no_handle long at is ∙ one.outside;
-          gone_are = Remembers-append cells taken known h (get_or remembered spot nothing) (KnowRows-kept cells handles remembered stands long keys_beside one.known spot at) one.gone_are;
+          gone_are = Remembers-append cells taken known h (get_or remembered spot nothing) (KnowRows-kept cells handles remembered stands long remembered_beside one.known spot at) one.gone_are;
           known = rw (hole, key_hole) (Remembers-remove cells (kept stands handles) (kept stands remembered) (place_at stands spot) (place-within handles stands long spot at) one.known);
-          unknowns_are = omega (arith, counted_hole remembered stands (omega (arith, long, keys_beside)) spot at, one.unknowns_are);
+          unknowns_are = omega (arith, counted_hole remembered stands (omega (arith, long, remembered_beside)) spot at, one.unknowns_are);
           coded = coded_hole remembered stands codes one.coded spot at;
           stood = λ k there. one.stood k (stood stands spot k at there).1;
           long = length-set stands spot false ∙ one.long;

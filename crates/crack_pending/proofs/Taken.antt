@@ -74,11 +74,11 @@ times-parted p n (h ∷ hs) =
       | inr out ↦ rw out (omega (arith, rest, times-cons n h.slot (slots hs), times-cons n h.slot (slots (filter (λ x. not (p x)) hs))))
     ]
 
-module _ (handles : List Handle) (remembered : List Memory) (stands : List Bool) (spots : List ℕ) (rows noted hint_place hint_spot : ℕ) (are : AreKept handles remembered stands spots rows noted hint_place hint_spot) where
+module _ {handles : List Handle} {remembered : List Memory} {stands : List Bool} {spots : List ℕ} {rows noted hint_place hint_spot : ℕ} (are : AreKept handles remembered stands spots rows noted hint_place hint_spot) where
   -- some rows less, and no hint
   pub kept_taken : (stands' : List Bool) (rows' : ℕ) → length stands' ≡ length stands → ((spot : ℕ) → HasRow stands' spot → HasRow stands spot) → rows' ≡ place_at stands' (length stands') → AreKept handles remembered stands' spots rows' noted 0 0
   kept_taken stands' rows' long stood counted = record {
-    keys_beside = are.keys_beside;
+    remembered_beside = are.remembered_beside;
     stands_beside = long ∙ are.stands_beside;
     counted = counted;
     few = are.few;

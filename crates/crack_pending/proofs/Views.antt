@@ -8,13 +8,13 @@ use Rattle.crack_row.specs.declared.Row.{Row}
 use Rattle.crack_arena.specs.Arena.{Cell, Handle, StandsAt, IsFirstAt, IsAbsent, no_handle, times, slots, place_in}
 use Rattle.crack_arena.specs.Rows.{key_at, keys_at}
 use Rattle.crack_arena.proofs.Times.{times_map_at}
-use Rattle.crack_pending.proofs.Remembering.{Remembers-anew}
+use Rattle.crack_pending.proofs.Remembering.{Remembers-anew, Remembers-remove}
 use Rattle.crack_arena.proofs.Places.{place_in-within, place_in-slot, place_in-is, times_apart_once}
 use Rattle.crack_column.specs.Column.{Memory, nothing, memory_at, Agrees, Remembers}
 use Rattle.std.specs.Prelude.{Result, Ok, Err, OnOk, min}
 use Rattle.crack_pending.specs.Pending.{Pending, NoneIn, IsFirstIn}
 use Rattle.crack_pending.specs.Spots.{kept, spot_room}
-use Rattle.crack_pending.specs.Keeps.{place_at, HasRow, LeadBack, StandApart, AreCovered, AreKept}
+use Rattle.crack_pending.specs.Keeps.{place_at, HasRow, LeadBack, StandApart, AreCovered, AreKept, IsClosed}
 use Rattle.crack_pending.specs.Inside.{KnowRows, IsMissed, IsHit, IsSpotWith, IsNowhere, IsUnnoted, IsNotBehind}
 use Rattle.crack_pending.proofs.Kept.{place_at-le, place_at-more, place_at-before, place_at-hole_before, place_at-push, place_at-few, kept-full, Stands-within, length-kept, kept-at, kept-hole, kept-set, kept-at_place, spot_of}
 use Rattle.crack_pending.proofs.Moves.{kept-apart, kept-covered}
@@ -30,6 +30,12 @@ module _ (handles : List Handle) (stands : List Bool) (beside : length stands �
   -- and it is there
   pub place-StandsAt : (spot : ℕ) (h : Handle) → HasRow stands spot → h ≡ get_or handles spot h → StandsAt (kept stands handles) (place_at stands spot) h
   place-StandsAt spot h at is = record { within = place-within spot at; is = is ∙ sym (kept-at stands handles spot h beside at) }
+
+  pub spot-with : (spot : ℕ) (h : Handle) → HasRow stands spot → h ≡ get_or handles spot h → IsSpotWith handles stands h.slot spot
+  spot-with spot h at is = record {
+    stands_there = at;
+    of = ap (λ (x : Handle). x.slot) (get_or_default handles spot no_handle h (omega (arith, Stands-within stands spot at, beside)) ∙ sym is);
+  }
 
   pub spot-times : (slot spot : ℕ) → IsSpotWith handles stands slot spot → 0 < times slot (slots (kept stands handles))
   spot-times slot spot with =
@@ -113,31 +119,47 @@ module _ (handles : List Handle) (stands : List Bool) (spots : List ℕ) (slot :
     | inr m ↦ behind spot m with
   ]
 
-module _ (handles : List Handle) (remembered : List Memory) (stands : List Bool) (beside : length stands ≡ length handles) (keys_beside : length remembered ≡ length handles) (apart : StandApart handles stands) (slot spot : ℕ) (with : IsSpotWith handles stands slot spot) where
-  -- another key beside a row
-  pub other_key : (m : Memory) → kept stands (set remembered spot m) ≡ set (kept stands remembered) (place_in (kept stands handles) slot) m
-  other_key m =
-      kept-set stands remembered spot m (omega (arith, beside, keys_beside)) with.stands_there ∙ ap (λ p. set (kept stands remembered) p m) (sym (spot-place_in handles stands beside apart slot spot with))
+module _ {handles : List Handle} {remembered : List Memory} {stands : List Bool} {spots : List ℕ} {rows noted hint_place hint_spot : ℕ} (are : AreKept handles remembered stands spots rows noted hint_place hint_spot) where
+  -- a mark beside what is remembered
+  pub memories-beside : length stands ≡ length remembered
+  memories-beside = are.stands_beside ∙ sym are.remembered_beside
 
-  pub anew : (cells cells' : List (Cell Row)) (m : Memory) → Agrees cells' (get_or (kept stands handles) (place_in (kept stands handles) slot) no_handle) m → ((h : Handle) → h.slot ≢ slot → memory_at cells' h ≡ memory_at cells h) → Remembers cells (kept stands handles) (kept stands remembered) → Remembers cells' (kept stands handles) (kept stands (set remembered spot m))
-  anew cells cells' m is others r =
-      let rows = kept stands handles in
-      let place = place_in rows slot in
-      let within : place < length rows = place_in-within rows slot (spot-times handles stands beside slot spot with) in
-      rw (other_key m) (Remembers-anew cells cells' rows (kept stands remembered) place m is (λ k d k_within ne.
-      others (get_or rows k d) (λ same.
-      let at_k : (get_or rows k no_handle).slot ≡ slot = ap (λ (h : Handle). h.slot) (get_or_default rows k no_handle d k_within) ∙ same in
-      ne (kept-apart handles stands beside apart k place k_within within (at_k ∙ sym (place_in-slot rows slot no_handle within))))) r)
+  pub length-rows : length (kept stands handles) ≡ rows
+  length-rows = length-kept stands handles are.stands_beside ∙ sym are.counted
 
-  -- a hole where it was
-  pub struck : {X : Type 0} (xs : List X) → length stands ≡ length xs → kept (set stands spot false) xs ≡ remove (kept stands xs) (place_in (kept stands handles) slot)
-  struck xs xs_beside =
-      kept-hole stands xs spot xs_beside with.stands_there ∙ ap (λ p. remove (kept stands xs) p) (sym (spot-place_in handles stands beside apart slot spot with))
+  pub few-rows : rows ≤ length handles
+  few-rows = omega (arith, are.counted, are.stands_beside, place_at-few stands (length stands))
+
+  -- a row goes: the others are remembered as before
+  pub remembers-others : (spot : ℕ) → HasRow stands spot → (cells : List (Cell Row)) → Remembers cells (kept stands handles) (kept stands remembered) → Remembers cells (kept (set stands spot false) handles) (kept (set stands spot false) remembered)
+  remembers-others spot at cells r =
+      rw (kept-hole stands handles spot are.stands_beside at, kept-hole stands remembered spot memories-beside at) (Remembers-remove cells (kept stands handles) (kept stands remembered) (place_at stands spot) (place-within handles stands are.stands_beside spot at) r)
+
+  module _ {slot spot : ℕ} (with : IsSpotWith handles stands slot spot) where
+    -- something else remembered of a row
+    pub other_memory : (m : Memory) → kept stands (set remembered spot m) ≡ set (kept stands remembered) (place_in (kept stands handles) slot) m
+    other_memory m =
+        kept-set stands remembered spot m memories-beside with.stands_there ∙ ap (λ p. set (kept stands remembered) p m) (sym (spot-place_in handles stands are.stands_beside are.apart slot spot with))
+
+    pub anew : (cells cells' : List (Cell Row)) (m : Memory) → Agrees cells' (get_or (kept stands handles) (place_in (kept stands handles) slot) no_handle) m → ((h : Handle) → h.slot ≢ slot → memory_at cells' h ≡ memory_at cells h) → Remembers cells (kept stands handles) (kept stands remembered) → Remembers cells' (kept stands handles) (kept stands (set remembered spot m))
+    anew cells cells' m is others r =
+        let all = kept stands handles in
+        let place = place_in all slot in
+        let within : place < length all = place_in-within all slot (spot-times handles stands are.stands_beside slot spot with) in
+        rw (other_memory m) (Remembers-anew cells cells' all (kept stands remembered) place m is (λ k d k_within ne.
+        others (get_or all k d) (λ same.
+        let at_k : (get_or all k no_handle).slot ≡ slot = ap (λ (h : Handle). h.slot) (get_or_default all k no_handle d k_within) ∙ same in
+        ne (kept-apart handles stands are.stands_beside are.apart k place k_within within (at_k ∙ sym (place_in-slot all slot no_handle within))))) r)
+
+    -- a hole where it was
+    pub struck : {X : Type 0} (xs : List X) → length stands ≡ length xs → kept (set stands spot false) xs ≡ remove (kept stands xs) (place_in (kept stands handles) slot)
+    struck xs beside =
+        kept-hole stands xs spot beside with.stands_there ∙ ap (λ p. remove (kept stands xs) p) (sym (spot-place_in handles stands are.stands_beside are.apart slot spot with))
 
 -- what is remembered beside a row is right at its spot
 pub KnowRows-kept : (cells : List (Cell Row)) (handles : List Handle) (remembered : List Memory) (stands : List Bool) → length stands ≡ length handles → length remembered ≡ length handles → Remembers cells (kept stands handles) (kept stands remembered) → KnowRows cells handles remembered stands
-KnowRows-kept cells handles remembered stands beside keys_beside r spot at =
-    rw (kept-at stands handles spot no_handle beside at, kept-at stands remembered spot nothing (omega (arith, beside, keys_beside)) at) at (r.right (place_at stands spot) no_handle (place-within handles stands beside spot at))
+KnowRows-kept cells handles remembered stands beside remembered_beside r spot at =
+    rw (kept-at stands handles spot no_handle beside at, kept-at stands remembered spot nothing (omega (arith, beside, remembered_beside)) at) at (r.right (place_at stands spot) no_handle (place-within handles stands beside spot at))
 
 module _ (range : Range) (cells : List (Cell Row)) (handles : List Handle) (stands : List Bool) (beside : length stands ≡ length handles) where
   -- a property that no row between two spots has, none between their places has
@@ -177,7 +199,7 @@ module _ (range : Range) (cells : List (Cell Row)) (handles : List Handle) (stan
 
 pub kept_none : (spots : List ℕ) → AreKept [] [] [] spots 0 0 0 0
 kept_none spots = record {
-  keys_beside = refl;
+  remembered_beside = refl;
   stands_beside = refl;
   counted = refl;
   few = omega arith;
@@ -189,7 +211,7 @@ kept_none spots = record {
   hinted = refl;
 }
 
-module _ (handles : List Handle) (remembered : List Memory) (stands : List Bool) (spots : List ℕ) (rows noted hint_place hint_spot : ℕ) (are : AreKept handles remembered stands spots rows noted hint_place hint_spot) where
+module _ {handles : List Handle} {remembered : List Memory} {stands : List Bool} {spots : List ℕ} {rows noted hint_place hint_spot : ℕ} (are : AreKept handles remembered stands spots rows noted hint_place hint_spot) where
   -- one more hole
   pub kept_hole : (spot hint_place' hint_spot' : ℕ) → HasRow stands spot → hint_spot' ≤ length handles → hint_place' ≡ place_at (set stands spot false) hint_spot' → AreKept handles remembered (set stands spot false) spots (rows - 1) noted hint_place' hint_spot'
   kept_hole spot hint_place' hint_spot' at near hinted =
@@ -202,7 +224,7 @@ module _ (handles : List Handle) (remembered : List Memory) (stands : List Bool)
         | inr ne ↦ sym (get_or-set_other stands spot other false false ne) ∙ there
       ] in
       record {
-        keys_beside = are.keys_beside;
+        remembered_beside = are.remembered_beside;
         stands_beside = long ∙ are.stands_beside;
         counted = omega (arith, are.counted, less');
         few = are.few;
@@ -236,7 +258,7 @@ module _ (handles : List Handle) (remembered : List Memory) (stands : List Bool)
       let slot_same : (spot : ℕ) → spot < length handles → (get_or (handles ++ h ∷ []) spot no_handle).slot ≡ (get_or handles spot no_handle).slot = λ spot within.
       ap (λ (x : Handle). x.slot) (same spot within) in
       record {
-        keys_beside = omega (arith, are.keys_beside, long, length-append remembered (m ∷ []));
+        remembered_beside = omega (arith, are.remembered_beside, long, length-append remembered (m ∷ []));
         stands_beside = omega (arith, are.stands_beside, long, stands_long);
         counted = rw whole (omega (arith, are.counted, more, before));
         few = omega (arith, few, long);
@@ -268,10 +290,10 @@ module _ (handles : List Handle) (remembered : List Memory) (stands : List Bool)
         hinted = are.hinted ∙ sym (place_at-push stands true hint_spot (omega (arith, are.near, are.stands_beside)));
       }
 
-  -- another key beside
-  pub kept_key : (spot : ℕ) (m : Memory) → AreKept handles (set remembered spot m) stands spots rows noted hint_place hint_spot
-  kept_key spot m = record {
-    keys_beside = length-set remembered spot m ∙ are.keys_beside;
+  -- something else remembered
+  pub kept_memory : (spot : ℕ) (m : Memory) → AreKept handles (set remembered spot m) stands spots rows noted hint_place hint_spot
+  kept_memory spot m = record {
+    remembered_beside = length-set remembered spot m ∙ are.remembered_beside;
     stands_beside = are.stands_beside;
     counted = are.counted;
     few = are.few;
@@ -286,7 +308,7 @@ module _ (handles : List Handle) (remembered : List Memory) (stands : List Bool)
   -- more cells covered
   pub kept_covered : (spots' : List ℕ) → length spots ≤ length spots' → ((k : ℕ) → k < length spots → get_or spots' k 0 ≡ get_or spots k 0) → AreKept handles remembered stands spots' rows noted hint_place hint_spot
   kept_covered spots' longer same = record {
-    keys_beside = are.keys_beside;
+    remembered_beside = are.remembered_beside;
     stands_beside = are.stands_beside;
     counted = are.counted;
     few = are.few;
@@ -304,7 +326,7 @@ module _ (handles : List Handle) (remembered : List Memory) (stands : List Bool)
   -- all spots noted
   pub kept_noted : (spots' : List ℕ) → length spots' ≡ length spots → LeadBack handles stands spots' (length handles) → AreKept handles remembered stands spots' rows (length handles) hint_place hint_spot
   kept_noted spots' long led = record {
-    keys_beside = are.keys_beside;
+    remembered_beside = are.remembered_beside;
     stands_beside = are.stands_beside;
     counted = are.counted;
     few = are.few;
@@ -361,19 +383,13 @@ pub handle-is : (h k : Handle) → h.slot ≡ k.slot → h.generation ≡ k.gene
 handle-is h k e f = rw (e, f) refl
 
 -- where holes are closed up
-pub record IsClosed (handles : List Handle) (remembered : List Memory) (stands : List Bool) (rows : ℕ) (handles' : List Handle) (remembered' : List Memory) (stands' : List Bool) : Type 0 where
-  pub handles_are : handles' ≡ kept stands handles
-  pub keys_are : remembered' ≡ kept stands remembered
-  pub long : length stands' ≡ rows
-  pub full : place_at stands' rows ≡ rows
-
-module _ (handles : List Handle) (remembered : List Memory) (stands : List Bool) (spots : List ℕ) (rows noted hint_place hint_spot : ℕ) (are : AreKept handles remembered stands spots rows noted hint_place hint_spot) (handles' : List Handle) (remembered' : List Memory) (stands' : List Bool) (closed : IsClosed handles remembered stands rows handles' remembered' stands') where
+module _ {handles : List Handle} {remembered : List Memory} {stands : List Bool} {spots : List ℕ} {rows noted hint_place hint_spot : ℕ} (are : AreKept handles remembered stands spots rows noted hint_place hint_spot) {handles' : List Handle} {remembered' : List Memory} {stands' : List Bool} (closed : IsClosed handles remembered stands rows handles' remembered' stands') where
   closed-beside : length stands' ≡ length handles'
   closed-beside = closed.long ∙ are.counted ∙ sym (length-kept stands handles are.stands_beside) ∙ ap length (sym closed.handles_are)
 
-  closed-keys_beside : length remembered' ≡ length handles'
-  closed-keys_beside =
-      ap length closed.keys_are ∙ length-kept stands remembered (omega (arith, are.stands_beside, are.keys_beside)) ∙ sym (length-kept stands handles are.stands_beside) ∙ ap length (sym closed.handles_are)
+  closed-remembered_beside : length remembered' ≡ length handles'
+  closed-remembered_beside =
+      ap length closed.remembered_are ∙ length-kept stands remembered (omega (arith, are.stands_beside, are.remembered_beside)) ∙ sym (length-kept stands handles are.stands_beside) ∙ ap length (sym closed.handles_are)
 
   closed-full : place_at stands' (length stands') ≡ length stands'
   closed-full = rw (closed.long) closed.full
@@ -398,7 +414,7 @@ module _ (handles : List Handle) (remembered : List Memory) (stands : List Bool)
 
   pub closed-kept : AreKept handles' remembered' stands' spots rows 0 0 0
   closed-kept = record {
-    keys_beside = closed-keys_beside;
+    remembered_beside = closed-remembered_beside;
     stands_beside = closed-beside;
     counted = sym closed.long ∙ sym closed-full;
     few = omega (arith, closed-fewer, are.few);
@@ -413,5 +429,5 @@ module _ (handles : List Handle) (remembered : List Memory) (stands : List Bool)
   pub closed-handles : kept stands' handles' ≡ kept stands handles
   closed-handles = kept-full stands' handles' closed-beside closed-full ∙ closed.handles_are
 
-  pub closed-keys : kept stands' remembered' ≡ kept stands remembered
-  closed-keys = kept-full stands' remembered' (closed-beside ∙ sym closed-keys_beside) closed-full ∙ closed.keys_are
+  pub closed-remembered : kept stands' remembered' ≡ kept stands remembered
+  closed-remembered = kept-full stands' remembered' (closed-beside ∙ sym closed-remembered_beside) closed-full ∙ closed.remembered_are

@@ -4,6 +4,7 @@ use Rattle.std.specs.Prelude.{◌≡◌, ℕ, ◌/◌, ◌%◌, ◌*◌, ◌<◌
 use Rattle.std.specs.Int.{bit_at}
 use Rattle.crack_arena.specs.Arena.{Handle, times, slots, no_handle}
 use Rattle.crack_column.specs.Column.{Memory}
+use Rattle.crack_pending.specs.Spots.{kept}
 
 -- the bit of the number is set
 unfoldable pub Has : List ℕ → ℕ → Type 0
@@ -49,7 +50,7 @@ AreCovered handles stands cells = (spot : ℕ) → HasRow stands spot → (slice
 -- each handle has what is remembered and a mark beside it, the rows are counted, no two are of one cell, the cells of those at the first spots lead to
 -- their spots, and this many rows are before the spot at which the last row was taken
 pub record AreKept (handles : List Handle) (remembered : List Memory) (stands : List Bool) (spots : List ℕ) (rows noted hint_place hint_spot : ℕ) : Type 0 where
-  pub keys_beside : length remembered ≡ length handles
+  pub remembered_beside : length remembered ≡ length handles
   pub stands_beside : length stands ≡ length handles
   pub counted : rows ≡ place_at stands (length stands)
   pub few : length handles ≤ 2 ^ 32
@@ -59,3 +60,10 @@ pub record AreKept (handles : List Handle) (remembered : List Memory) (stands : 
   pub led : LeadBack handles stands spots noted
   pub near : hint_spot ≤ length handles
   pub hinted : hint_place ≡ place_at stands hint_spot
+
+-- after holes were closed up, the lists have what was kept, in its order, and a row is at each of this many spots
+pub record IsClosed (handles : List Handle) (remembered : List Memory) (stands : List Bool) (rows : ℕ) (handles' : List Handle) (remembered' : List Memory) (stands' : List Bool) : Type 0 where
+  pub handles_are : handles' ≡ kept stands handles
+  pub remembered_are : remembered' ≡ kept stands remembered
+  pub long : length stands' ≡ rows
+  pub full : place_at stands' rows ≡ rows

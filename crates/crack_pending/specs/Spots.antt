@@ -8,4 +8,4 @@ kept _ _ = []
 
 -- how many more spots need no memory, of 2^32 that there can be
 abbrev pub spot_room : ℕ → ℕ → ℕ → ℕ → ℕ
-spot_room spots handle_capacity key_capacity stand_capacity = min (2 ^ 32) (min handle_capacity (min key_capacity stand_capacity)) - spots
+spot_room spots handle_capacity remembered_capacity stand_capacity = min (2 ^ 32) (min handle_capacity (min remembered_capacity stand_capacity)) - spots

@@ -1,6 +1,6 @@
 //! Closing holes up.
 ghost use Rattle.std.specs.Prelude.{◌≡◌, ◌≤◌, length, vec_len, vec_capacity};
-ghost use Rattle.crack_pending.specs.Keeps.{place_at};
+ghost use Rattle.crack_pending.specs.Keeps.{place_at, IsClosed};
 ghost use Rattle.crack_pending.specs.Spots.{kept};
 
 use crack_arena::Handle;
@@ -15,15 +15,13 @@ pub(crate) fn close_up(
     stands: &mut Vec<bool>,
     rows: usize,
 )
-    requires keys { vec_len remembered.old ≡ vec_len handles.old }
+    requires remembered { vec_len remembered.old ≡ vec_len handles.old }
     requires stands { vec_len stands.old ≡ vec_len handles.old }
     requires rows { rows ≡ place_at stands.old.items (vec_len stands.old) }
-    ensures handles { handles.new.items ≡ kept stands.old.items handles.old.items }
-    ensures keys { remembered.new.items ≡ kept stands.old.items remembered.old.items }
-    ensures rows { vec_len stands.new ≡ rows }
-    ensures full { place_at stands.new.items rows ≡ rows }
+    ensures closed { IsClosed handles.old.items remembered.old.items stands.old.items rows
+        handles.new.items remembered.new.items stands.new.items }
     ensures handle_capacity { vec_capacity handles.new ≡ vec_capacity handles.old }
-    ensures key_capacity { vec_capacity remembered.new ≡ vec_capacity remembered.old }
+    ensures remembered_capacity { vec_capacity remembered.new ≡ vec_capacity remembered.old }
     ensures stand_capacity { vec_capacity stands.new ≡ vec_capacity stands.old }
 {
     if rows == stands.len() {
@@ -50,7 +48,7 @@ fn close_up_handles(handles: &mut Vec<Handle<Row>>, stands: &[bool])
     handles.truncate(low);
 }
 
-/// Moves the keys beside rows to the front, in order.
+/// Moves what is remembered of rows to the front, in order.
 fn close_up_remembered(remembered: &mut Vec<Remembered>, stands: &[bool])
     requires { length stands.now ≡ vec_len remembered.old }
     ensures kept { remembered.new.items ≡ kept stands.now remembered.old.items }

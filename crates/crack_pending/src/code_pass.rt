@@ -9,9 +9,8 @@ ghost use Rattle.crack_pending.specs.Keeps.{HasRow};
 ghost use Rattle.crack_pending.specs.Codes.{AreCoded, IsWindow};
 ghost use Rattle.crack_pending.specs.Inside.{Lies, AreKnown, IsMissed, IsHit, KnowRows};
 
-use crate::codes::Codes;
+use crate::codes::{Codes, UNKNOWN};
 use crate::pass::Wanted;
-use crate::spots::UNKNOWN;
 use crack_arena::{Arena, Handle};
 use crack_column::Remembered;
 use crack_row::{KeyRange, Row};
@@ -141,7 +140,7 @@ pub(crate) fn is_hit(
     window: Window,
     arena: &Arena<Row>,
 ) -> bool
-    requires keys { length remembered.now ≡ length handles.now }
+    requires remembered_beside { length remembered.now ≡ length handles.now }
     requires stands { length stands.now ≡ length handles.now }
     requires within { spot < length codes.now.codes }
     requires coded { AreCoded remembered.now stands.now codes.now }
@@ -175,7 +174,7 @@ fn hit_between(
     window: Window,
     arena: &Arena<Row>,
 ) -> Option<usize>
-    requires keys { length remembered.now ≡ length handles.now }
+    requires remembered_beside { length remembered.now ≡ length handles.now }
     requires stands { length stands.now ≡ length handles.now }
     requires within { to ≤ length codes.now.codes }
     requires coded { AreCoded remembered.now stands.now codes.now }
@@ -208,7 +207,7 @@ fn hit_in_block(
     window: Window,
     arena: &Arena<Row>,
 ) -> Option<usize>
-    requires keys { length remembered.now ≡ length handles.now }
+    requires remembered_beside { length remembered.now ≡ length handles.now }
     requires stands { length stands.now ≡ length handles.now }
     requires within { from + 32 ≤ length codes.now.codes }
     requires coded { AreCoded remembered.now stands.now codes.now }
@@ -235,6 +234,44 @@ fn hit_in_block(
     )
 }
 
+/// The first spot, from one up to another, whose row has its key in the range. Passes over blocks of codes.
+fn hit_in_blocks(
+    handles: &[Handle<Row>],
+    remembered: &[Remembered],
+    stands: &[bool],
+    codes: &Codes,
+    from: usize,
+    to: usize,
+    range: KeyRange,
+    window: Window,
+    arena: &Arena<Row>,
+) -> Option<usize>
+    requires remembered_beside { length remembered.now ≡ length handles.now }
+    requires stands { length stands.now ≡ length handles.now }
+    requires order { from ≤ to }
+    requires within { to ≤ length codes.now.codes }
+    requires coded { AreCoded remembered.now stands.now codes.now }
+    requires window { IsWindow codes.now.base codes.now.shift range window.first window.last window.beyond }
+    requires known { KnowRows arena.now.cells handles.now remembered.now stands.now }
+    requires all_known { IsFalse window.some_unknown → AreKnown remembered.now stands.now }
+    ensures { MatchOption result
+        (IsMissed range arena.now.cells handles.now stands.now from to)
+        (λ spot. IsHit range arena.now.cells handles.now stands.now from to spot) }
+{
+    let mut spot = from;
+    'far: while BLOCK <= to - spot {
+        if let Some(hit) = hit_in_block(
+            handles, remembered, stands, codes, spot, range, window, arena,
+        ) {
+            return Some(hit);
+        }
+        spot += BLOCK;
+    }
+    hit_between(
+        handles, remembered, stands, codes, spot, to, range, window, arena,
+    )
+}
+
 /// The first spot at or after `from`, among those that have a code, whose row has its key in a non-empty range.
 pub(crate) fn hit_in_codes(
     handles: &[Handle<Row>],
@@ -246,7 +283,7 @@ pub(crate) fn hit_in_codes(
     window: Window,
     arena: &Arena<Row>,
 ) -> Option<usize>
-    requires keys { length remembered.now ≡ length handles.now }
+    requires remembered_beside { length remembered.now ≡ length handles.now }
     requires stands { length stands.now ≡ length handles.now }
     requires within { from ≤ length codes.now.codes }
     requires coded { AreCoded remembered.now stands.now codes.now }
@@ -258,19 +295,27 @@ pub(crate) fn hit_in_codes(
         (λ spot. IsHit range arena.now.cells handles.now stands.now from (length codes.now.codes) spot) }
 {
     let mut spot = from;
-    'far: while BLOCK <= codes.len() - spot {
-        if MANY <= codes.len() - spot && !many_may_hit(&codes.list()[spot..spot + MANY], window) {
+    'far: while MANY <= codes.len() - spot {
+        if !many_may_hit(&codes.list()[spot..spot + MANY], window) {
             spot += MANY;
             continue;
         }
-        if let Some(hit) = hit_in_block(
-            handles, remembered, stands, codes, spot, range, window, arena,
+        if let Some(hit) = hit_in_blocks(
+            handles,
+            remembered,
+            stands,
+            codes,
+            spot,
+            spot + MANY,
+            range,
+            window,
+            arena,
         ) {
             return Some(hit);
         }
-        spot += BLOCK;
+        spot += MANY;
     }
-    hit_between(
+    hit_in_blocks(
         handles,
         remembered,
         stands,

@@ -4,18 +4,26 @@ ghost use Rattle.crack_pending.specs.Ahead.{IsNext};
 ghost use Rattle.crack_pending.specs.Codes.{AreCoded, code_of};
 
 use crate::ahead::Ahead;
-use crate::spots::{StoredKey, UNKNOWN};
 use crack_arena::{Arena, Handle};
 use crack_column::Remembered;
-use crack_row::Row;
+use crack_row::{GREATEST_KEY, KeyNumber, Row};
 use std::alloc::Global;
 use std::marker::Model;
+
+/// What a pass looks for.
+pub(crate) type StoredKey = KeyNumber;
+
+/// Marks a key that isn't remembered. A row with this very key is always looked up.
+pub(crate) const UNKNOWN: StoredKey = GREATEST_KEY;
 
 /// The code of a spot without a row. It is above all codes.
 pub(crate) const HOLE: u16 = 65535;
 
 /// The code of all keys that are too high for one of their own.
 const GREATEST_CODE: u64 = 65534;
+
+/// For up to this many spots a pass reads keys, since making codes for so few gains nothing.
+const MOST_UNCODED: usize = 64;
 
 /// How many bits a code has.
 const CODE_BITS: u32 = 16;
@@ -149,9 +157,22 @@ impl Codes {
         self.ahead.warm(handles, arena);
     }
 
+    /// As `catch_up` if many spots have no code yet; else it does nothing. Amortised O(1) for each spot.
+    #[inline]
+    pub(crate) fn catch_up_if_many(&mut self, remembered: &[Remembered], stands: &[bool])
+        requires beside { length stands.now ≡ length remembered.now }
+        requires coded { AreCoded remembered.now stands.now self.old }
+        ensures { AreCoded remembered.now stands.now self.new }
+    {
+        if remembered.len() - self.codes.len() <= MOST_UNCODED {
+            return;
+        }
+        self.catch_up(remembered, stands);
+    }
+
     /// Codes the rows at all spots that have no code yet. O(1) for each of them. Without memory it codes none.
     #[inline(never)]
-    pub(crate) fn catch_up(&mut self, remembered: &[Remembered], stands: &[bool])
+    fn catch_up(&mut self, remembered: &[Remembered], stands: &[bool])
         requires beside { length stands.now ≡ length remembered.now }
         requires coded { AreCoded remembered.now stands.now self.old }
         ensures { AreCoded remembered.now stands.now self.new }

@@ -9,8 +9,10 @@ mod codes;
 pub mod list;
 mod noting;
 mod pass;
+mod removing;
+mod room;
 mod rows;
-mod spots;
+mod searching;
 mod taking;
 
 pub use list::{PendingIn, PendingList, PendingOut};

@@ -7,8 +7,7 @@ ghost use Rattle.crack_pending.specs.Codes.{AreCoded};
 ghost use Rattle.crack_pending.specs.Inside.{Lies, AreKnown, IsMissed, IsHit, KnowRows};
 
 use crate::code_pass::{Window, hit_in_codes, is_hit};
-use crate::codes::Codes;
-use crate::spots::{StoredKey, UNKNOWN};
+use crate::codes::{Codes, StoredKey, UNKNOWN};
 use crack_arena::{Arena, Handle};
 use crack_column::Remembered;
 use crack_row::{KeyRange, Row};
@@ -75,7 +74,7 @@ fn hit_between(
     range: KeyRange,
     arena: &Arena<Row>,
 ) -> Option<usize>
-    requires keys { length remembered.now ≡ length handles.now }
+    requires remembered_beside { length remembered.now ≡ length handles.now }
     requires stands { length stands.now ≡ length handles.now }
     requires within { to ≤ length handles.now }
     requires known { KnowRows arena.now.cells handles.now remembered.now stands.now }
@@ -102,7 +101,7 @@ fn hit_in_block(
     wanted: Wanted,
     arena: &Arena<Row>,
 ) -> Option<usize>
-    requires keys { length remembered.now ≡ length handles.now }
+    requires remembered_beside { length remembered.now ≡ length handles.now }
     requires stands { length stands.now ≡ length handles.now }
     requires within { from + 16 ≤ length handles.now }
     requires known { KnowRows arena.now.cells handles.now remembered.now stands.now }
@@ -138,7 +137,7 @@ fn hit_in_blocks(
     wanted: Wanted,
     arena: &Arena<Row>,
 ) -> Option<usize>
-    requires keys { length remembered.now ≡ length handles.now }
+    requires remembered_beside { length remembered.now ≡ length handles.now }
     requires stands { length stands.now ≡ length handles.now }
     requires within { from ≤ length handles.now }
     requires known { KnowRows arena.now.cells handles.now remembered.now stands.now }
@@ -180,7 +179,7 @@ pub(crate) fn first_hit(
     arena: &Arena<Row>,
     some_unknown: bool,
 ) -> Option<usize>
-    requires keys { length remembered.now ≡ length handles.now }
+    requires remembered_beside { length remembered.now ≡ length handles.now }
     requires stands { length stands.now ≡ length handles.now }
     requires within { from ≤ length handles.now }
     requires coded { AreCoded remembered.now stands.now codes.now }
@@ -223,7 +222,7 @@ pub(crate) fn next_hit(
     arena: &Arena<Row>,
     some_unknown: bool,
 ) -> Option<usize>
-    requires keys { length remembered.now ≡ length handles.now }
+    requires remembered_beside { length remembered.now ≡ length handles.now }
     requires stands { length stands.now ≡ length handles.now }
     requires within { from ≤ length handles.now }
     requires coded { AreCoded remembered.now stands.now codes.old }

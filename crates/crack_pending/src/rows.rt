@@ -1,6 +1,12 @@
 //! Counts of rows at spots: the place of a row is the number of rows before it.
-ghost use Rattle.std.specs.Prelude.{◌≡◌, ◌+◌, ◌<◌, ◌≤◌, length};
+ghost use Rattle.std.specs.Prelude.{◌≡◌, ◌+◌, ◌<◌, ◌≤◌, ◌∷◌, [], length, false, slice_set, slice_index_or};
+ghost use Rattle.crack_arena.specs.Arena.{times};
+ghost use Rattle.crack_arena.specs.Rows.{unknown};
+ghost use Rattle.crack_column.specs.Column.{nothing};
 ghost use Rattle.crack_pending.specs.Keeps.{place_at, HasRow};
+
+use crate::codes::UNKNOWN;
+use crack_column::Remembered;
 
 /// How many are counted at once, in 8 bits.
 const BLOCK: usize = 64;
@@ -124,4 +130,51 @@ pub(crate) fn spot_before(
         return spot_of(stands, rows, before, from, place);
     }
     from
+}
+
+/// The place of the row at the spot.
+pub(crate) fn place_of_spot(stands: &[bool], rows: usize, spot: usize) -> usize
+    requires rows { rows ≡ place_at stands.now (length stands.now) }
+    requires within { spot ≤ length stands.now }
+    ensures { result ≡ place_at stands.now spot }
+{
+    if rows == stands.len() {
+        spot
+    } else {
+        rows_between(stands, 0, spot)
+    }
+}
+
+/// How many rows are before the hint after the row at the spot is removed.
+pub(crate) fn hint_without(
+    stands: &[bool],
+    hint_place: usize,
+    hint_spot: usize,
+    spot: usize,
+) -> usize
+    requires hinted { hint_place ≡ place_at stands.now hint_spot }
+    requires stands { HasRow stands.now spot }
+    ensures { result ≡ place_at (slice_set stands.now spot false) hint_spot }
+{
+    if spot < hint_spot {
+        hint_place - 1
+    } else {
+        hint_place
+    }
+}
+
+/// How many rows have no known key after the row at the spot is removed. If all are known, no key is read.
+pub(crate) fn unknowns_without(remembered: &[Remembered], unknowns: usize, spot: usize) -> usize
+    requires within { spot < length remembered.now }
+    requires counted { (slice_index_or remembered.now spot nothing).key ≡ unknown → 0 < unknowns }
+    ensures { result + times unknown ((slice_index_or remembered.now spot nothing).key ∷ []) ≡ unknowns }
+{
+    if unknowns == 0 {
+        return 0;
+    }
+    if remembered[spot].key() == UNKNOWN {
+        unknowns - 1
+    } else {
+        unknowns
+    }
 }

@@ -15,7 +15,7 @@ use crate::ahead::{MOST_AHEAD, gather};
 use crate::code_pass::{Window, is_hit};
 use crate::codes::Codes;
 use crate::pass::{Wanted, next_hit};
-use crate::spots::unknowns_without;
+use crate::rows::unknowns_without;
 use crack_arena::{Arena, Handle};
 use crack_column::Remembered;
 use crack_row::{KeyRange, Row};
@@ -42,7 +42,7 @@ pub(crate) fn take_hits(
     taken: &mut Vec<Handle<Row>>,
     known: &mut Vec<Remembered>,
 ) -> Left
-    requires keys { length remembered.now ≡ length handles.now }
+    requires remembered_beside { length remembered.now ≡ length handles.now }
     requires stands { vec_len stands.old ≡ length handles.now }
     requires few { length handles.now ≤ 2 ^ 32 }
     requires coded { AreCoded remembered.now stands.old.items codes.old }
@@ -111,7 +111,7 @@ fn take_coded(
     taken: &mut Vec<Handle<Row>>,
     known: &mut Vec<Remembered>,
 ) -> (usize, usize)
-    requires keys { length remembered.now ≡ length handles.now }
+    requires remembered_beside { length remembered.now ≡ length handles.now }
     requires stands { vec_len stands.old ≡ length handles.now }
     requires few { length handles.now ≤ 2 ^ 32 }
     requires coded { AreCoded remembered.now stands.old.items codes.old }
@@ -172,7 +172,7 @@ fn take_blocks(
     taken: &mut Vec<Handle<Row>>,
     known: &mut Vec<Remembered>,
 ) -> (usize, usize)
-    requires keys { length remembered.now ≡ length handles.now }
+    requires remembered_beside { length remembered.now ≡ length handles.now }
     requires stands { vec_len stands.old ≡ length handles.now }
     requires few { length handles.now ≤ 2 ^ 32 }
     requires coded { AreCoded remembered.now stands.old.items codes.old }
@@ -225,7 +225,7 @@ fn take_candidates(
     taken: &mut Vec<Handle<Row>>,
     known: &mut Vec<Remembered>,
 ) -> usize
-    requires keys { length remembered.now ≡ length handles.now }
+    requires remembered_beside { length remembered.now ≡ length handles.now }
     requires stands { vec_len stands.old ≡ length handles.now }
     requires few { length handles.now ≤ 2 ^ 32 }
     requires coded { AreCoded remembered.now stands.old.items codes.old }

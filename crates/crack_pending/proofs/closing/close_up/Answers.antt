@@ -7,16 +7,23 @@ pub close_up_marks-requires : goal.close_up_marks-requires
 close_up_marks-requires c =
     omega (arith, c.requires.rows, place_at-few c.args.stands.now.items (vec_len c.args.stands.now))
 
-pub returns-then-rows-len-clause-handles : goal.returns-then-rows-len-clause-handles
-returns-then-rows-len-clause-handles c =
+pub returns-then-rows-len-clause-closed : goal.returns-then-rows-len-clause-closed
+returns-then-rows-len-clause-closed c =
     let stands = c.args.stands.now.items in
     let same : vec_len c.args.stands.now ≡ length stands = omega arith in
-    let full : place_at stands (length stands) ≡ length stands = sym (rw same at c.requires.rows) ∙ omega (arith, c.if-rows-len.true, c.len.ensures) in
-    sym (kept-full stands c.args.handles.now.items (omega (arith, c.requires.stands)) full)
+    let long : length stands ≡ c.args.rows = omega (arith, c.if-rows-len.true, c.len.ensures) in
+    let full : place_at stands (length stands) ≡ length stands = sym (rw same at c.requires.rows) ∙ sym long in
+    record {
+      handles_are = sym (kept-full stands c.args.handles.now.items (omega (arith, c.requires.stands)) full);
+      remembered_are = sym (kept-full stands c.args.remembered.now.items (omega (arith, c.requires.stands, c.requires.remembered)) full);
+      long = long;
+      full = rw (← long) full;
+    }
 
-pub returns-then-rows-len-clause-keys : goal.returns-then-rows-len-clause-keys
-returns-then-rows-len-clause-keys c =
-    let stands = c.args.stands.now.items in
-    let same : vec_len c.args.stands.now ≡ length stands = omega arith in
-    let full : place_at stands (length stands) ≡ length stands = sym (rw same at c.requires.rows) ∙ omega (arith, c.if-rows-len.true, c.len.ensures) in
-    sym (kept-full stands c.args.remembered.now.items (omega (arith, c.requires.stands, c.requires.keys)) full)
+pub returns-clause-closed : goal.returns-clause-closed
+returns-clause-closed c = record {
+  handles_are = rw (c.deref.ensures.value) at c.close_up_handles.ensures.kept;
+  remembered_are = rw (c.deref-2.ensures.value) at c.close_up_remembered.ensures.kept;
+  long = omega (arith, c.close_up_marks.ensures.length);
+  full = c.close_up_marks.ensures.full;
+}

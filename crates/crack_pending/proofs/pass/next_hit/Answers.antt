@@ -18,7 +18,7 @@ returns-then-is_hit-clause-hit c =
     let coded : length c.seek-near.new.self.codes ≡ length c.args.codes.now.codes = ap (λ (x : Coding). length x.codes) c.seek-near.ensures.same in
     record {
       after = c.seek-near.ensures.next.after;
-      within = omega (arith, c.if-near-len.true, c.len-2.ensures, coded, c.requires.coded.few, c.requires.keys);
+      within = omega (arith, c.if-near-len.true, c.len-2.ensures, coded, c.requires.coded.few, c.requires.remembered_beside);
       stands_there = c.is_hit.ensures.stands c.if-is_hit.true;
       holds = c.is_hit.ensures.holds c.if-is_hit.true;
       before = missed (goal.at.returns-then-is_hit-clause-hit c).After-seek-near;

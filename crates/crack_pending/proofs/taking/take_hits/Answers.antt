@@ -48,19 +48,19 @@ pub next_hit-requires-clause-known : goal.next_hit-requires-clause-known
 next_hit-requires-clause-known c =
     let a = c.args in
     let i = c.hits.invariant in
-    rw (c.deref.ensures.value) (KnowRows-kept a.arena.now.cells a.handles.now a.remembered.now c.hits.stands.items (omega (arith, i.long, c.take_coded-start.ensures.passed.long, c.requires.stands)) c.requires.keys i.known)
+    rw (c.deref.ensures.value) (KnowRows-kept a.arena.now.cells a.handles.now a.remembered.now c.hits.stands.items (omega (arith, i.long, c.take_coded-start.ensures.passed.long, c.requires.stands)) c.requires.remembered_beside i.known)
 
 pub next_hit-requires-clause-all_known : goal.next_hit-requires-clause-all_known
 next_hit-requires-clause-all_known c = λ none.
     let i = c.hits.invariant in
     let zero : c.hits.left.unknowns ≡ 0 = omega (arith, ltb-false 0 c.hits.left.unknowns none) in
-    rw (c.deref.ensures.value) (counted_none c.args.remembered.now c.hits.stands.items (omega (arith, i.long, c.take_coded-start.ensures.passed.long, c.requires.stands, c.requires.keys)) (omega (arith, i.unknowns, zero)))
+    rw (c.deref.ensures.value) (counted_none c.args.remembered.now c.hits.stands.items (omega (arith, i.long, c.take_coded-start.ensures.passed.long, c.requires.stands, c.requires.remembered_beside)) (omega (arith, i.unknowns, zero)))
 
 -- the row at the spot that was found is the first of the range
 record IsTaken (c : After-index-handles-spot) : Type 0 where
   hit : IsHit c.args.range c.args.arena.now.cells c.args.handles.now c.hits.stands.items c.hits.start (length c.args.handles.now) c.in-Some.spot
   beside : length c.hits.stands.items ≡ length c.args.handles.now
-  keys_beside : length c.hits.stands.items ≡ length c.args.remembered.now
+  remembered_beside : length c.hits.stands.items ≡ length c.args.remembered.now
   missed : IsMissed c.args.range c.args.arena.now.cells c.args.handles.now c.hits.stands.items 0 c.in-Some.spot
   inside : rows_inside c.args.arena.now.cells c.args.range (kept c.hits.stands.items c.args.handles.now) ≡ c.index-handles-spot.result ∷ rows_inside c.args.arena.now.cells c.args.range (kept (set c.hits.stands.items c.in-Some.spot false) c.args.handles.now)
 
@@ -82,7 +82,7 @@ is_taken c =
     record {
       hit = hit;
       beside = beside;
-      keys_beside = omega (arith, beside, c.requires.keys);
+      remembered_beside = omega (arith, beside, c.requires.remembered_beside);
       missed = missed;
       inside = first ∙ ap (λ h. h ∷ rows_inside cells a.range (kept (set stands spot false) hs)) same;
     }
@@ -100,7 +100,7 @@ push_reserved-requires-in-Some c =
 pub unknowns_without-requires-clause-counted : goal.unknowns_without-requires-clause-counted
 unknowns_without-requires-clause-counted c = λ is.
     let it = is_taken (goal.at.unknowns_without-requires-clause-counted c).After-index-handles-spot in
-    omega (arith, c.hits.invariant.unknowns, counted_some c.args.remembered.now c.hits.stands.items it.keys_beside c.in-Some.spot it.hit.stands_there is)
+    omega (arith, c.hits.invariant.unknowns, counted_some c.args.remembered.now c.hits.stands.items it.remembered_beside c.in-Some.spot it.hit.stands_there is)
 
 pub overflow_add-left : goal.overflow_add-left
 overflow_add-left c =
@@ -126,9 +126,9 @@ hits-preserved c =
     let test : Handle → Bool = λ h. is_in a.range (key_at cells h) in
     let left = kept (set stands spot false) hs in
     let same : get_or hs spot no_handle ≡ c.index-handles-spot.result = get_or_default hs spot no_handle c.index-handles-spot.result it.hit.within ∙ sym c.index-handles-spot.is in
-    let memory : get_or remembered spot nothing ≡ c.index-remembered-spot.result = get_or_default remembered spot nothing c.index-remembered-spot.result (omega (arith, it.hit.within, c.requires.keys)) ∙ sym c.index-remembered-spot.is in
+    let memory : get_or remembered spot nothing ≡ c.index-remembered-spot.result = get_or_default remembered spot nothing c.index-remembered-spot.result (omega (arith, it.hit.within, c.requires.remembered_beside)) ∙ sym c.index-remembered-spot.is in
     let hole : left ≡ _ = kept-hole stands hs spot it.beside at in
-    let key_hole = kept-hole stands remembered spot it.keys_beside at in
+    let key_hole = kept-hole stands remembered spot it.remembered_beside at in
     record {
       within = omega (arith, it.hit.within);
       missed = λ k after before there.
@@ -136,9 +136,9 @@ hits-preserved c =
           it.missed k after (omega (arith, before, other.0)) other.1;
       taken = rw (c.push_reserved.ensures.items) (append_assoc c.hits.taken.items (c.index-handles-spot.result ∷ []) (rows_inside cells a.range left) ∙ ap (λ xs. c.hits.taken.items ++ xs) (sym it.inside) ∙ i.taken);
       outside = outside-hole test stands hs spot no_handle it.beside at (is_in-true a.range (key_at cells (get_or hs spot no_handle)) it.hit.holds) ∙ i.outside;
-      gone = rw (c.push_reserved.ensures.items, c.push_reserved-in-Some.ensures.items) (rw (same, memory) at (Remembers-append cells c.hits.taken.items c.hits.known.items (get_or hs spot no_handle) (get_or remembered spot nothing) (KnowRows-kept cells hs remembered stands it.beside c.requires.keys i.known spot at) i.gone));
+      gone = rw (c.push_reserved.ensures.items, c.push_reserved-in-Some.ensures.items) (rw (same, memory) at (Remembers-append cells c.hits.taken.items c.hits.known.items (get_or hs spot no_handle) (get_or remembered spot nothing) (KnowRows-kept cells hs remembered stands it.beside c.requires.remembered_beside i.known spot at) i.gone));
       known = rw (hole, key_hole) (Remembers-remove cells (kept stands hs) (kept stands remembered) (place_at stands spot) (place-within hs stands it.beside spot at) i.known);
-      unknowns = omega (arith, c.unknowns_without.ensures, counted_hole remembered stands it.keys_beside spot at, i.unknowns);
+      unknowns = omega (arith, c.unknowns_without.ensures, counted_hole remembered stands it.remembered_beside spot at, i.unknowns);
       coded = rw (c.leave_hole.ensures, c.next_hit.ensures.same) (coded_hole remembered stands c.hits.codes i.coded spot at);
       stood = λ k there. i.stood k (stood stands spot k at there).1;
       long = length-set stands spot false ∙ i.long;

@@ -1,23 +1,18 @@
-use Rattle.std.proofs.Common.{rules}
+use Rattle.std.proofs.Common.{arith}
+use Rattle.crack_pending.specs.Spots.{kept}
+use Rattle.crack_pending.proofs.Members.{marked_longer}
+use Rattle.crack_pending.proofs.Views.{kept_covered}
 use Rattle.crack_pending.proofs.list.PendingList.make_places.Goals as goal
 
-pub returns-clause-same : goal.returns-clause-same
-returns-clause-same g c = search rules
+pub lengthen-requires-clause-marked : goal.lengthen-requires-clause-marked
+lengthen-requires-clause-marked g c = omega (arith, c.self.invariant.3.within)
 
-pub returns-clause-covered : goal.returns-clause-covered
-returns-clause-covered g c = search rules
-
-pub returns-clause-kept : goal.returns-clause-kept
-returns-clause-kept g c = search rules
-
-pub returns-clause-full : goal.returns-clause-full
-returns-clause-full g c = search rules
-
-pub returns-clause-unchanged : goal.returns-clause-unchanged
-returns-clause-unchanged g c = search rules
-
-pub returns-clause-err : goal.returns-clause-err
-returns-clause-err g c = search rules
-
-pub returns-clause-remembered : goal.returns-clause-remembered
-returns-clause-remembered g c = search rules
+pub invariant_of-self : goal.invariant_of-self
+invariant_of-self g c =
+    let i = c.self.inside in
+    let e = c.lengthen.ensures in (
+      kept_covered c.self.invariant.0 c.lengthen.new.spots.items (omega (arith, e.kept)) (λ k within. e.same k (omega (arith, within))),
+      c.self.invariant.1,
+      c.self.invariant.2,
+      marked_longer i.marks c.lengthen.new.marks (kept i.stands.items i.handles.items) _ c.self.invariant.3 _ (omega (arith, e.marked)) e.marks,
+    )

@@ -6,4 +6,4 @@ pub returns-clause-after : goal.returns-clause-after
 returns-clause-after g c = search rules
 
 pub returns-clause-remembered : goal.returns-clause-remembered
-returns-clause-remembered g c = λ cells r. c.add.ensures.remembered cells (inl (ap (λ (m : Memory). m.key) c.nothing.ensures)) r
+returns-clause-remembered g c = λ cells r. c.push_remembered.ensures.remembered cells (inl (ap (λ (m : Memory). m.key) c.nothing.ensures)) r

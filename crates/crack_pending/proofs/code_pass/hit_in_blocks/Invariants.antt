@@ -1,0 +1,13 @@
+use Rattle.std.proofs.Common.{◌-◌, ◌≤◌}
+use Rattle.crack_pending.specs.Inside.{IsMissed}
+use Rattle.crack_pending.proofs.code_pass.hit_in_blocks.Given as goal
+
+abbrev pub invariant-far : goal.invariant-far
+invariant-far l = record {
+  after : l.from ≤ l.spot;
+  within : l.spot ≤ l.to;
+  missed : IsMissed l.range l.arena.cells l.handles l.stands l.from l.spot;
+}
+
+abbrev pub decreases-far : goal.decreases-far
+decreases-far l = l.to - l.spot

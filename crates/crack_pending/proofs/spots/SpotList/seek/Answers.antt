@@ -1,9 +1,0 @@
-use Rattle.std.proofs.Common.{arith}
-use Rattle.crack_pending.proofs.Kept.{length-kept}
-use Rattle.crack_pending.proofs.spots.SpotList.seek.Goals as goal
-
-pub spot_of-self-inside-requires-clause-within : goal.spot_of-self-inside-requires-clause-within
-spot_of-self-inside-requires-clause-within c =
-    let a = c.self.invariant.0 in
-    let within = rw (← c.self.view_is) at c.requires in
-    omega (arith, within, length-kept c.self.inside.stands.items c.self.inside.handles.items a.stands_beside, a.counted)

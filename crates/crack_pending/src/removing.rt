@@ -1,0 +1,160 @@
+//! Taking pending rows out.
+ghost use Rattle.std.specs.Prelude.{◌≡◌, ◌+◌, ◌<◌, ◌≤◌, ◌↔◌, [], ◌++◌, ℕ, length, drop, vec_len, vec_capacity};
+ghost use Rattle.std.specs.List.{remove};
+ghost use Rattle.crack_arena.specs.Arena.{StandsAt, times, slots, place_in};
+ghost use Rattle.crack_column.specs.Column.{Memory, Remembers};
+ghost use Rattle.crack_pending.specs.Keeps.{Has};
+ghost use Rattle.crack_pending.specs.Pending.{StillRemembersRows, rows_inside, rows_outside};
+
+use crate::bits::BitSet;
+use crate::closing::close_up;
+use crate::list::PendingList;
+use crate::noting::spot_noted;
+use crate::rows::{hint_without, spot_of, unknowns_without};
+use crate::taking::take_hits;
+use crack_arena::{Arena, Handle};
+use crack_column::Remembered;
+use crack_row::{KeyRange, Row};
+
+impl<Kind> PendingList<Kind> {
+    /// Takes the handle at the place. It takes no memory; the room stays.
+    /// Taking k of i rows at rising places costs O(i + k) in total, and at the first place amortised O(1) each.
+    pub fn take(&mut self, place: usize) -> Handle<Row>
+        requires { place < length self.old.handles }
+        ensures value { StandsAt self.old.handles place result }
+        ensures handles { self.new.handles ≡ remove self.old.handles place }
+        ensures keys { self.new.remembered ≡ remove self.old.remembered place }
+        ensures room { self.old.room ≤ self.new.room }
+        ensures covered { self.new.covered ≡ self.old.covered }
+        ensures remembered { StillRemembersRows self.old self.new }
+    {
+        let spot = spot_of(
+            &self.stands,
+            self.rows,
+            self.hint_place,
+            self.hint_spot,
+            place,
+        );
+        let handle = self.handles[spot];
+        self.marks.strike(handle.slot());
+        self.stands[spot] = false;
+        self.codes.leave_hole(spot);
+        self.rows -= 1;
+        self.unknowns = unknowns_without(&self.remembered, self.unknowns, spot);
+        self.hint_place = place;
+        self.hint_spot = spot;
+        self.close_up_if_sparse();
+        handle
+    }
+
+    /// Takes out the handle of the cell that this one names, wherever it is. It takes no memory; the room
+    /// stays. Amortised O(1), however many rows there are.
+    pub fn strike(&mut self, handle: Handle<Row>)
+        requires { 0 < times handle.slot (slots self.old.handles) }
+        ensures handles { self.new.handles ≡ remove self.old.handles (place_in self.old.handles handle.slot) }
+        ensures keys { self.new.remembered ≡ remove self.old.remembered (place_in self.old.handles handle.slot) }
+        ensures room { self.old.room ≤ self.new.room }
+        ensures covered { self.new.covered ≡ self.old.covered }
+        ensures remembered { StillRemembersRows self.old self.new }
+    {
+        let slot = handle.slot();
+        let Some(spot) = spot_noted(
+            &mut self.spots,
+            &mut self.noted,
+            &self.handles,
+            &self.stands,
+            slot,
+        ) else {
+            return;
+        };
+        self.marks.strike(slot);
+        self.hint_place = hint_without(&self.stands, self.hint_place, self.hint_spot, spot);
+        self.stands[spot] = false;
+        self.codes.leave_hole(spot);
+        self.rows -= 1;
+        self.unknowns = unknowns_without(&self.remembered, self.unknowns, spot);
+        self.close_up_if_sparse();
+    }
+
+    /// Takes all rows of a range out, in order of arrival, and puts their handles after the others of a list that
+    /// has room for them, and what is remembered of each after what another list has. It takes memory only for codes
+    /// and candidates; the room stays. One pass over the codes or keys, and O(1) for each row that it takes: no row's
+    /// place is counted.
+    pub fn take_in(
+        &mut self,
+        range: KeyRange,
+        arena: &Arena<Row>,
+        taken: &mut Vec<Handle<Row>>,
+        known: &mut Vec<Remembered>,
+    )
+        requires keys { Remembers arena.now.cells self.old.handles self.old.remembered }
+        requires room { vec_len taken.old + length (rows_inside arena.now.cells range self.old.handles) ≤
+            vec_capacity taken.old }
+        requires known { Remembers arena.now.cells taken.old.items known.old.items }
+        requires known_room { vec_len known.old + length (rows_inside arena.now.cells range self.old.handles) ≤
+            vec_capacity known.old }
+        ensures known { Remembers arena.now.cells taken.new.items known.new.items }
+        ensures taken { taken.new.items ≡ taken.old.items ++ rows_inside arena.now.cells range self.old.handles }
+        ensures left { self.new.handles ≡ rows_outside arena.now.cells range self.old.handles }
+        ensures keys { Remembers arena.now.cells self.new.handles self.new.remembered }
+        ensures room { self.old.room ≤ self.new.room }
+        ensures covered { self.new.covered ≡ self.old.covered }
+    {
+        self.codes.catch_up_if_many(&self.remembered, &self.stands);
+        let from = taken.len();
+        let left = take_hits(
+            &self.handles,
+            &self.remembered,
+            &mut self.stands,
+            &mut self.codes,
+            self.unknowns,
+            range,
+            arena,
+            taken,
+            known,
+        );
+        strike_from(&mut self.marks, taken, from);
+        self.rows -= left.taken;
+        self.unknowns = left.unknowns;
+        self.hint_place = 0;
+        self.hint_spot = 0;
+        self.close_up_if_sparse();
+    }
+
+    /// Takes all handles out. It takes no memory; the room stays. O(rows and holes).
+    pub fn clear(&mut self)
+        ensures handles { self.new.handles ≡ [] }
+        ensures keys { self.new.remembered ≡ [] }
+        ensures room { self.old.room ≤ self.new.room }
+        ensures covered { self.new.covered ≡ self.old.covered }
+    {
+        close_up(
+            &mut self.handles,
+            &mut self.remembered,
+            &mut self.stands,
+            self.rows,
+        );
+        strike_from(&mut self.marks, &self.handles, 0);
+        self.handles.clear();
+        self.remembered.clear();
+        self.codes.clear();
+        self.stands.clear();
+        self.rows = 0;
+        self.unknowns = 0;
+        self.noted = 0;
+        self.hint_place = 0;
+        self.hint_spot = 0;
+    }
+}
+
+/// Takes the cells of some handles out of the set: of those from a place of the list on. O(1) for each.
+fn strike_from(marks: &mut BitSet, handles: &[Handle<Row>], from: usize)
+    requires { (slot : ℕ) → 0 < times slot (slots (drop from handles.now)) → Has marks.old slot }
+    ensures struck { (slot : ℕ) → Has marks.new slot ↔ (Has marks.old slot ×
+        (times slot (slots (drop from handles.now)) ≡ 0)) }
+    ensures long { length marks.new ≡ length marks.old }
+{
+    'handles: for place in from..handles.len() {
+        marks.strike(handles[place].slot());
+    }
+}
