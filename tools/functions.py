@@ -19,16 +19,13 @@ class Function:
     name: str
 
     def is_named(self, parts):
-        """Whether a check's name for a function, in parts after the crate's, means this one or a closure in it."""
-        if tuple(parts[: len(self.module)]) != self.module:
-            return False
-        rest = list(parts[len(self.module) :])
-        if self.owner:
-            owner = rest.pop(0) if rest else ""
-            is_owner = owner.startswith(self.owner + self.trait) if self.trait else owner == self.owner
-            if not is_owner:
-                return False
-        return bool(rest) and rest[0] == self.name
+        """Whether a check's name for a function, in parts after the crate's, means this one or a closure in it. There a
+        method has the module of its type, even if its impl is in another."""
+        if not self.owner:
+            at = len(self.module)
+            return tuple(parts[:at]) == self.module and list(parts[at : at + 1]) == [self.name]
+        is_owner = lambda it: it.startswith(self.owner + self.trait) if self.trait else it == self.owner
+        return any(is_owner(owner) and name == self.name for owner, name in zip(parts, parts[1:]))
 
 
 def module_of(path):

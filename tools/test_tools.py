@@ -203,7 +203,11 @@ def function(text):
 
 class Functions(unittest.TestCase):
     def test_a_method_is_of_its_type(self):
-        self.assertEqual(function("self.places.len()"), functions.Function(("a", "column"), "Column", "", "len"))
+        found = function("self.places.len()")
+        self.assertEqual(found, functions.Function(("a", "column"), "Column", "", "len"))
+        self.assertTrue(found.is_named(["a", "column", "Column", "len"]))
+        self.assertTrue(found.is_named(["a", "Column", "len", "closure"]), "its type is in another module")
+        self.assertFalse(found.is_named(["a", "column", "Row", "len"]))
 
     def test_a_traits_method_is_of_type_and_trait(self):
         found = function("self.inner.read")
