@@ -1,7 +1,7 @@
 -- Receipts, and what contracts see of a book.
-use Rattle.std.specs.Prelude.{◌≡◌, ℕ, List, map}
+use Rattle.std.specs.Prelude.{◌≡◌, ℕ, List, length, map}
 use Rattle.crack_row.specs.declared.command.Entry.{Entry}
-use Rattle.crack_plain.specs.Totals.{accepted, inserted, deleted}
+use Rattle.crack_plain.specs.Totals.{inserted, deleted}
 use Rattle.crack_core.specs.declared.receipt.Receipt.{Receipt}
 
 -- the entry that a receipt is of
@@ -20,6 +20,6 @@ pub record BookState : Type 0 where
 
 -- the shares are the totals of the receipts' entries
 pub record AreShares (receipts : List Receipt) (answers placed gone : ℕ) : Type 0 where
-  pub accepted_is : answers ≡ accepted (entries_of receipts)
+  pub accepted_is : answers ≡ length (entries_of receipts)
   pub inserted_is : placed ≡ inserted (entries_of receipts)
   pub deleted_is : gone ≡ deleted (entries_of receipts)

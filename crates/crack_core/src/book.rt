@@ -1,8 +1,8 @@
 //! The book of a worker.
-ghost use Rattle.std.specs.Prelude.{◌≡◌, ◌<◌, [], ◌∷◌, ◌++◌, None, IsOk, IfOk, IfErr, IfSome, OnErr, OnOk, Err};
+ghost use Rattle.std.specs.Prelude.{◌≡◌, ◌<◌, [], ◌∷◌, ◌++◌, length, None, IsOk, IfOk, IfErr, IfSome, OnErr, OnOk, Err};
 ghost use Rattle.crack_plain.specs.Past.{with_entry, accepted_in};
 ghost use Rattle.crack_plain.specs.Plain.{IsSmall, reply_to, after};
-ghost use Rattle.crack_plain.specs.Totals.{accepted, inserted, deleted, is_placed, is_gone};
+ghost use Rattle.crack_plain.specs.Totals.{inserted, deleted, is_placed, is_gone};
 ghost use Rattle.crack_part.specs.Parts.{state_of, Serves, Spares};
 ghost use Rattle.crack_part.specs.Refusals.{refusal_of};
 ghost use Rattle.crack_part.specs.Upkeep.{upkept};
@@ -81,7 +81,7 @@ impl Book {
 
     /// How many commands were answered for the worker: O(1).
     pub fn accepted(&self) -> u64
-        ensures { result ≡ accepted (entries_of self.now.receipts) }
+        ensures { result ≡ length (entries_of self.now.receipts) }
     {
         self.accepted
     }

@@ -12,8 +12,9 @@ use Rattle.crack_row.specs.declared.Row.{Row}
 use Rattle.crack_row.specs.declared.command.Command.{Command}
 use Rattle.crack_row.specs.declared.command.Command.TheVariants.{Insert, Delete, Update, Count, Sum, Select}
 use Rattle.crack_row.specs.declared.command.Entry.{Entry}
-use Rattle.crack_plain.specs.Past.{StandWithin, state_after}
-use Rattle.crack_plain.specs.Plain.{PlainState, PlainView, after, replay_from, IsWithin, BringWithin}
+use Rattle.crack_plain.specs.Past.{state_after}
+use Rattle.crack_plain.specs.Plain.{PlainState, PlainView, after}
+use Rattle.crack_plain.proofs.Words.{replay_from, StandWithin, IsWithin, BringWithin}
 use Rattle.crack_part.specs.Parts.{Part, IsSound}
 use Rattle.crack_core.specs.Routes.{keys_of_part}
 use Rattle.crack_core.specs.Steps.{tables_of}

@@ -13,7 +13,8 @@ use Rattle.crack_pending.specs.Pending.{Finds, NoneIn}
 use Rattle.crack_pending.proofs.Searches.{is_in-true, is_in-false, StandsAt-get_or, keys_at-StandsAt}
 use Rattle.crack_state.specs.Merge.{outside_of, ReadsOutside}
 use Rattle.crack_state.proofs.OutsideLaws.{LacksFirst, LacksFirst-next, LacksFirst-all, NoneInside, outside_of-all}
-use Rattle.crack_state.specs.State.{State, Reads, HaveKeysIn}
+use Rattle.crack_state.specs.State.{State, Reads}
+use Rattle.crack_state.proofs.Words.{HaveKeysIn}
 use Rattle.crack_state.proofs.CrackLaws.{key_within}
 use Rattle.crack_merge.specs.Merges.{CarriesIn, CarriesAll, CarriesSome, PullsOut, PullsAll, begins, carries, pulls}
 

@@ -19,7 +19,8 @@ use Rattle.crack_arena.specs.Arena.{Cell, cell_at, slots, cells_with}
 use Rattle.crack_state.specs.State.{State, live_at, live_rows}
 use Rattle.crack_state.specs.Steps.{SameButRoom, admitted}
 use Rattle.crack_state.specs.Points.{pending_by, handle_by, Removes, Rewrites}
-use Rattle.crack_part.specs.Parts.{Performs, ServesCleared, placed}
+use Rattle.crack_part.specs.Parts.{Performs, ServesCleared}
+use Rattle.crack_part.specs.Inside.{placed}
 use Rattle.crack_part.specs.Cells.{takes_cell, lacks_cell}
 use Rattle.crack_part.proofs.KeepLemmas.{Keeps-prepared}
 

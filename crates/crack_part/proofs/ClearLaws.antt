@@ -11,15 +11,16 @@ use Rattle.crack_row.specs.declared.command.Policy.{Policy}
 use Rattle.crack_row.specs.declared.command.Policy.TheVariants.{Complete}
 use Rattle.crack_row.specs.declared.limit.Limits.{Limits}
 use Rattle.crack_arena.specs.Arena.{Handle}
-use Rattle.crack_state.specs.State.{State, Reads, HaveKeysIn, IsIntact, live_rows}
+use Rattle.crack_state.specs.State.{State, Reads, IsIntact, live_rows}
+use Rattle.crack_state.proofs.Words.{HaveKeysIn}
 use Rattle.crack_state.specs.Merge.{ReadsOutside}
 use Rattle.crack_state.proofs.CrackLaws.{key_within}
 use Rattle.crack_state.proofs.LayoutLaws.{cells-intact, rows-intact}
 use Rattle.crack_part.specs.Cells.{takes_cell, lacks_cell, may_clear, is_without_cell, is_cleared_first}
 use Rattle.crack_row.specs.declared.refusal.Refusal.{Refusal}
-use Rattle.crack_part.specs.Parts.{Part, IsSound, state_of, StopsAt, CracksAndMerges, ServesCleared, Serves, SparesCleared, Spares, Readies}
+use Rattle.crack_part.specs.Parts.{Part, IsSound, state_of, StopsAt, CracksAndMerges, ServesCleared, Serves, SparesCleared, Spares}
 use Rattle.crack_part.specs.Upkeep.{is_automatic}
-use Rattle.crack_part.specs.Inside.{early_refusal_of}
+use Rattle.crack_part.specs.Inside.{early_refusal_of, Readies}
 use Rattle.crack_part.proofs.KeepLemmas.{Keeps-merged, Keeps-stopped, IsIntact-stopped, Spares-same}
 use Rattle.crack_part.proofs.SoundLemmas.{IsSound-kept}
 

@@ -16,7 +16,8 @@ use Rattle.crack_state.proofs.StepLaws.{IsIntact-room}
 use Rattle.crack_state.proofs.CrackLaws.{keys-refined, live_rows-refined, cells-refined, pending_out-refined}
 use Rattle.crack_state.proofs.FollowLaws.{Follows-trans, Follows-room, Tallies-trans, Tallies-room, length_marks-Follows}
 use Rattle.crack_merge.specs.Merges.{EvictsFirst, LeavesRest, Stops}
-use Rattle.crack_part.specs.Parts.{is_merged_first, read_by, CracksAndMerges, Readies, Settles, ReadsRange, StopsAt, StopsRead, Prepares, SparesCleared}
+use Rattle.crack_part.specs.Parts.{is_merged_first, read_by, CracksAndMerges, Settles, ReadsRange, StopsAt, StopsRead, Prepares, SparesCleared}
+use Rattle.crack_part.specs.Inside.{Readies}
 
 -- commands see the same rows, and there are as many cells, and as many of them freed or still to be
 pub record Keeps (s t : State) : Type 0 where

@@ -10,7 +10,7 @@ use Rattle.crack_row.specs.declared.command.Command.{Command}
 use Rattle.crack_row.specs.declared.refusal.Refusal.{Refusal}
 use Rattle.crack_row.specs.declared.refusal.Refusal.TheVariants.{KeyOutside, HistoryFull, NoCell, LifeOver}
 use Rattle.crack_plain.specs.Past.{accepted_in}
-use Rattle.crack_plain.specs.Plain.{IsWithin}
+use Rattle.crack_plain.proofs.Words.{IsWithin}
 use Rattle.crack_part.specs.Parts.{Part}
 use Rattle.crack_part.specs.Refusals.{is_key_in, table_of, stopped_by, refusal_of}
 use Rattle.crack_part.specs.Inside.{early_refusal_of}

@@ -21,7 +21,8 @@ use Rattle.crack_row.specs.declared.command.Command.TheVariants.{Insert, Delete,
 use Rattle.crack_row.specs.declared.command.Policy.{Policy}
 use Rattle.crack_row.specs.declared.command.Reply.{Reply}
 use Rattle.crack_row.specs.declared.command.Entry.{Entry}
-use Rattle.crack_plain.specs.Plain.{PlainState, changed, after, reply_to, row_in, IsWithin}
+use Rattle.crack_plain.specs.Plain.{PlainState, changed, after, reply_to, row_in}
+use Rattle.crack_plain.proofs.Words.{IsWithin}
 use Rattle.crack_plain.specs.Inside.{gone, rewritten}
 use Rattle.crack_plain.specs.Past.{Past, no_past, with_entry, accepted_in}
 use Rattle.crack_plain.specs.Totals.{is_placed, is_gone, is_changed}
@@ -36,8 +37,8 @@ use Rattle.crack_state.proofs.AdmitLaws.{live_rows-admitted, freed-admitted, cel
 use Rattle.crack_state.proofs.PointLaws.{Spends, Spends-cancels, Spends-dooms, Spends-rewrites, found_by}
 use Rattle.crack_state.proofs.LookUpLaws.{row_by-find, row_by-pending}
 use Rattle.crack_store.specs.Inside.{no_cells}
-use Rattle.crack_part.specs.Parts.{Part, IsLimit, IsSound, folded_part, IsFaithful, ServesCleared, Prepares, Performs, state_of, placed}
-use Rattle.crack_part.specs.Inside.{MayPerform}
+use Rattle.crack_part.specs.Parts.{Part, IsLimit, IsSound, folded_part, IsFaithful, ServesCleared, Prepares, Performs, state_of}
+use Rattle.crack_part.specs.Inside.{placed, MayPerform}
 use Rattle.crack_part.proofs.CellLemmas.{rows-le-cells}
 use Rattle.crack_part.proofs.KeepLemmas.{Keeps, Keeps-room, Keeps-prepared, IsIntact-prepared}
 

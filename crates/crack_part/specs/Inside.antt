@@ -1,7 +1,10 @@
 -- What private clauses alone cite.
-use Rattle.std.specs.Prelude.{◌≡◌, ◌⊎◌, ℕ, ◌<◌, ◌≤◌, true, false, List, Option, Some, None, Result, Err, IfOk, IfErr, IfSome, OnOk, OnErr}
+use Rattle.std.specs.Prelude.{◌≡◌, ◌⊎◌, ℕ, ◌<◌, ◌≤◌, Bool, true, false, List, Option, Some, None, Result, Err, IfOk, IfErr, IfSome, OnOk, OnErr}
 use Rattle.crack_row.specs.Commands.{change_of}
 use Rattle.crack_row.specs.Ranges.{Range, IsIn, clipped}
+use Rattle.crack_row.specs.Rows.{row_with}
+use Rattle.crack_row.specs.declared.Key.{Key}
+use Rattle.crack_row.specs.declared.Payload.{Payload}
 use Rattle.crack_row.specs.declared.Row.{Row}
 use Rattle.crack_row.specs.declared.command.Change.{Change}
 use Rattle.crack_row.specs.declared.command.Change.TheVariants.{Place, Remove, Rewrite}
@@ -16,10 +19,18 @@ use Rattle.crack_plain.specs.Plain.{IsSmall, reply_to, after}
 use Rattle.crack_state.specs.State.{State}
 use Rattle.crack_state.specs.Steps.{IsAdmissible}
 use Rattle.crack_state.specs.Points.{MayFree, IsRenewable}
-use Rattle.crack_part.specs.Parts.{Part, state_of, StopsAt, Readies, Serves, Spares, placed}
+use Rattle.crack_part.specs.Parts.{Part, state_of, StopsAt, CracksAndMerges, Serves, Spares}
 use Rattle.crack_part.specs.Cells.{lacks_cell, is_without_cell, is_cleared_first}
 use Rattle.crack_part.specs.Refusals.{table_of, stopped_by, first_cause, refusal_of}
 use Rattle.crack_part.specs.Upkeep.{upkept}
+
+-- the row that a change places
+abbrev pub placed : ℕ → Key → Payload → Row
+placed serial key payload = row_with (record { 0 = serial }) key payload
+
+-- if that is due, all pending rows are merged, by a read of all keys under complete
+abbrev pub Readies : Bool → State → State → Type 0
+Readies due s t = ((due ≡ false) × (t ≡ s)) ⊎ ((due ≡ true) × CracksAndMerges Complete s t s.keys)
 
 -- the intersection of a range with the keys, if any
 abbrev pub IsCommon : Range → Range → Option Range → Type 0

@@ -5,9 +5,6 @@ use Rattle.crack_row.specs.Commands.{change_of, range_of}
 use Rattle.crack_row.specs.Ranges.{Range, clipped}
 use Rattle.crack_row.specs.Rows.{row_with}
 use Rattle.crack_row.specs.declared.TheConstants.{GREATEST_LIMIT}
-use Rattle.crack_row.specs.declared.Key.{Key}
-use Rattle.crack_row.specs.declared.Payload.{Payload}
-use Rattle.crack_row.specs.declared.Row.{Row}
 use Rattle.crack_row.specs.declared.command.Change.{Change}
 use Rattle.crack_row.specs.declared.command.Change.TheVariants.{Place, Remove, Rewrite}
 use Rattle.crack_row.specs.declared.command.Command.{Command}
@@ -64,17 +61,10 @@ pub record IsSound (part : Part) : Type 0 where
 abbrev pub folded_part : Part → Part
 folded_part part = record part { past = folded part.past }
 
--- the row that a change places
-abbrev pub placed : ℕ → Key → Payload → Row
-placed serial key payload = row_with (record { 0 = serial }) key payload
-
--- 64 times the pending insertions are at least the column's rows times its pieces; this always holds if the column is empty
-abbrev pub has_many_pending : State → Bool
-has_many_pending s = nat_le (length s.column * (length s.marks + 1)) (64 * length s.pending_in)
-
--- whether all pending rows are merged before a range is read: under auto, if many insertions are pending
+-- whether all pending rows are merged before a range is read: under auto, if 64 times the pending insertions are at least the column's rows times its
+-- pieces, which always holds if the column is empty
 abbrev pub is_merged_first : Policy → State → Bool
-is_merged_first Auto s = has_many_pending s
+is_merged_first Auto s = nat_le (length s.column * (length s.marks + 1)) (64 * length s.pending_in)
 is_merged_first policy s = false
 
 -- the policy by which the range itself is read: ripple under auto
@@ -98,14 +88,10 @@ pub record CracksAnd (Does : State → State → Type 0) (s t : State) (r : Rang
 abbrev pub CracksAndMerges : Policy → State → State → Range → Type 0
 CracksAndMerges policy s t r = CracksAnd (λ (cracked merged : State). Merges policy cracked merged r × LeavesNear policy cracked merged r × Tallies policy cracked merged) s t r
 
--- if that is due, all pending rows are merged, by a read of all keys under complete
-abbrev pub Readies : Bool → State → State → Type 0
-Readies due s t = ((due ≡ false) × (t ≡ s)) ⊎ ((due ≡ true) × CracksAndMerges Complete s t s.keys)
-
--- if that is due, all pending rows are merged first, and then this step is made
+-- if that is due, all pending rows are merged first, by a read of all keys under complete, and then this step is made
 pub record ReadiesAnd (due : Bool) (Does : State → State → Type 0) (s t : State) : Type 0 where
   pub ready : State
-  pub readies : Readies due s ready
+  pub readies : ((due ≡ false) × (ready ≡ s)) ⊎ ((due ≡ true) × CracksAndMerges Complete s ready s.keys)
   pub does : Does ready t
 
 -- a range is read, after all pending rows were merged if that is due
@@ -144,7 +130,7 @@ SparesCleared policy keys (Some range) s t = StopsRead policy s t (clipped range
 -- what is done to a store after the reply to a command: the change that it makes, if any, is made
 abbrev pub Performs : ℕ → Option Change → State → State → Type 0
 Performs next None s t = t ≡ s
-Performs next (Some (Place key payload)) s t = SameButRoom (admitted (placed next key payload) s) t
+Performs next (Some (Place key payload)) s t = SameButRoom (admitted (row_with (record { 0 = next }) key payload) s) t
 Performs next (Some (Remove serial)) s t = Removes (pending_by s serial.0) serial.0 s t
 Performs next (Some (Rewrite serial key payload)) s t = Rewrites (pending_by s serial.0) (row_with serial key payload) s t
 

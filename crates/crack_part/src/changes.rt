@@ -10,7 +10,8 @@ ghost use Rattle.crack_state.specs.State.{IsIntact, live_rows};
 ghost use Rattle.crack_state.specs.Steps.{SameButRoom, admitted, IsAdmissible};
 ghost use Rattle.crack_state.specs.Points.{pending_by, MayFree, IsRenewable, Removes, Rewrites};
 ghost use Rattle.crack_part.specs.KnownSums.{Knows};
-ghost use Rattle.crack_part.specs.Parts.{IsFaithful, placed};
+ghost use Rattle.crack_part.specs.Parts.{IsFaithful};
+ghost use Rattle.crack_part.specs.Inside.{placed};
 
 use crate::known::KnownSums;
 use crate::replies::{gone, rewritten};

@@ -1,8 +1,9 @@
 //! The preparation of the store before a range is read, by the policy.
-ghost use Rattle.std.specs.Prelude.{◌≡◌, ◌<◌, ◌≤◌, true, IfOk, IfErr, OnErr, OnOk};
+ghost use Rattle.std.specs.Prelude.{◌≡◌, ◌+◌, ◌*◌, ◌<◌, ◌≤◌, nat_le, length, true, IfOk, IfErr, OnErr, OnOk};
 ghost use Rattle.crack_state.specs.Merge.{IsCracked, Merges, Tallies};
 ghost use Rattle.crack_merge.specs.Merges.{Stops};
-ghost use Rattle.crack_part.specs.Parts.{has_many_pending, is_merged_first, read_by, CracksAndMerges, Readies, Settles};
+ghost use Rattle.crack_part.specs.Parts.{is_merged_first, read_by, CracksAndMerges, Settles};
+ghost use Rattle.crack_part.specs.Inside.{Readies};
 ghost use Rattle.crack_part.specs.Parts.{LeavesNear, StopsAt, StopsRead};
 
 use crack_merge::{merge_complete, merge_gradual};
@@ -130,7 +131,8 @@ fn merge(
 /// Whether so many insertions are pending that merging all of them is expected to cost less than passing over them
 /// repeatedly. O(1).
 fn has_many_pending(store: &Store) -> bool
-    ensures { result ≡ has_many_pending store.now }
+    ensures { result ≡ nat_le (length store.now.column * (length store.now.marks + 1))
+        (64 * length store.now.pending_in) }
 {
     let pieces = store.bounds() as u128 + 1;
     (store.column_len() as u128).saturating_mul(pieces) <= store.pending_in() as u128 * 64

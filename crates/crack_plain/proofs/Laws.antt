@@ -18,7 +18,8 @@ use Rattle.crack_row.specs.declared.command.Change.TheVariants.{Place, Remove, R
 use Rattle.crack_row.specs.declared.command.Command.{Command}
 use Rattle.crack_row.specs.declared.command.Command.TheVariants.{Insert, Delete, Update, Count, Sum, Select}
 use Rattle.crack_row.specs.declared.command.Entry.{Entry}
-use Rattle.crack_plain.specs.Plain.{PlainState, no_rows, IsNumbered, reply_to, row_in, after, replay_from, AreReplies, changed, places_row, IsWithin, BringWithin}
+use Rattle.crack_plain.specs.Plain.{PlainState, no_rows, IsNumbered, reply_to, row_in, after, AreReplies, changed, places_row}
+use Rattle.crack_plain.proofs.Words.{replay_from, IsWithin, BringWithin}
 use Rattle.crack_plain.specs.Inside.{gone, rewritten}
 use Rattle.crack_plain.specs.Totals.{is_placed, is_gone, inserted, deleted}
 use Rattle.crack_plain.proofs.TotalLaws.{inserted-cons, deleted-cons}

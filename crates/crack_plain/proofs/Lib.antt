@@ -1,3 +1,4 @@
 pub mod Laws
 pub mod PastLaws
 pub mod TotalLaws
+pub mod Words

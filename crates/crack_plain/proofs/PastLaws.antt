@@ -8,9 +8,10 @@ use Rattle.crack_row.specs.declared.command.Reply.{Reply}
 use Rattle.crack_row.specs.declared.command.Reply.TheVariants.{Placed, Gone, Changed, NoRow, Counted, Summed, Rows}
 use Rattle.crack_row.specs.declared.command.Entry.{Entry}
 use Rattle.crack_row.specs.declared.limit.Limits.{Limits}
-use Rattle.crack_plain.specs.Plain.{IsNumbered, reply_to, after, AreReplies, IsWithin}
-use Rattle.crack_plain.specs.Past.{IsBase, no_base, Past, no_past, with_entry, state_after, accepted_in, inserted_in, deleted_in, base_after, folded, StandWithin, IsLegal}
-use Rattle.crack_plain.specs.Totals.{is_placed, is_gone, is_changed, accepted, inserted, deleted, updated}
+use Rattle.crack_plain.specs.Plain.{IsNumbered, reply_to, after, AreReplies}
+use Rattle.crack_plain.proofs.Words.{StandWithin, IsWithin}
+use Rattle.crack_plain.specs.Past.{IsBase, no_base, Past, no_past, with_entry, state_after, accepted_in, inserted_in, deleted_in, base_after, folded, IsLegal}
+use Rattle.crack_plain.specs.Totals.{is_placed, is_gone, is_changed, inserted, deleted, updated}
 use Rattle.crack_plain.proofs.Laws.{replay_from-push, AreReplies-push, BringWithin-push, IsNumbered-no_rows, IsNumbered-replay_from, next-replay_from, length_rows-replay_from}
 use Rattle.crack_plain.proofs.TotalLaws.{inserted-cons, deleted-cons, updated-cons, inserted-le-accepted}
 
@@ -57,11 +58,11 @@ held-after_past past base replies =
     sym (ap (λ (n : ℕ). pos n -ℤ pos gone) (sym (length_rows-after_past past base replies)) ∙ +ℤ-neg_ℤ_cancel (pos left) (pos gone))
 
 -- a command does at most one of these: place a row, remove one, change one
-pub changes-le-accepted : (es : List Entry) → inserted es + deleted es + updated es ≤ accepted es
+pub changes-le-accepted : (es : List Entry) → inserted es + deleted es + updated es ≤ length es
 changes-le-accepted [] = omega arith
 changes-le-accepted (e ∷ es) = by_reply e.reply (inserted-cons e es) (deleted-cons e es) (updated-cons e es) (changes-le-accepted es)
   where
-    by_reply : (reply : Reply) → inserted (e ∷ es) ≡ (if is_placed reply then 1 else 0) + inserted es → deleted (e ∷ es) ≡ (if is_gone reply then 1 else 0) + deleted es → updated (e ∷ es) ≡ (if is_changed reply then 1 else 0) + updated es → inserted es + deleted es + updated es ≤ accepted es → inserted (e ∷ es) + deleted (e ∷ es) + updated (e ∷ es) ≤ accepted (e ∷ es)
+    by_reply : (reply : Reply) → inserted (e ∷ es) ≡ (if is_placed reply then 1 else 0) + inserted es → deleted (e ∷ es) ≡ (if is_gone reply then 1 else 0) + deleted es → updated (e ∷ es) ≡ (if is_changed reply then 1 else 0) + updated es → inserted es + deleted es + updated es ≤ length es → inserted (e ∷ es) + deleted (e ∷ es) + updated (e ∷ es) ≤ length (e ∷ es)
     by_reply (Placed serial) placed gone changed later = omega (arith, placed, gone, changed, later)
     by_reply (Gone row) placed gone changed later = omega (arith, placed, gone, changed, later)
     by_reply Changed placed gone changed later = omega (arith, placed, gone, changed, later)

@@ -1,9 +1,9 @@
 -- What follows from the totals of histories.
-use Rattle.std.specs.Prelude.{◌≡◌, ◌+◌, ◌≤◌, List, [], ◌∷◌, ◌++◌, if◌then◌else◌}
+use Rattle.std.specs.Prelude.{◌≡◌, ◌+◌, ◌≤◌, List, [], ◌∷◌, ◌++◌, length, if◌then◌else◌}
 use Rattle.std.proofs.Common.{arith}
 use Rattle.std.proofs.lemmas.List.Sums.{sum_by-append, count_by-le-length}
 use Rattle.crack_row.specs.declared.command.Entry.{Entry}
-use Rattle.crack_plain.specs.Totals.{is_placed, is_gone, is_changed, accepted, inserted, deleted, updated}
+use Rattle.crack_plain.specs.Totals.{is_placed, is_gone, is_changed, inserted, deleted, updated}
 
 -- one list of entries after another
 pub inserted-append : (xs ys : List Entry) → inserted (xs ++ ys) ≡ inserted xs + inserted ys
@@ -36,13 +36,13 @@ pub updated-push : (es : List Entry) (e : Entry) → updated (es ++ e ∷ []) �
 updated-push es e = omega (arith, updated-append es (e ∷ []))
 
 -- no more rows were placed than commands were answered
-pub inserted-le-accepted : (es : List Entry) → inserted es ≤ accepted es
+pub inserted-le-accepted : (es : List Entry) → inserted es ≤ length es
 inserted-le-accepted es = count_by-le-length _ es
 
 -- no more rows were removed than commands were answered
-pub deleted-le-accepted : (es : List Entry) → deleted es ≤ accepted es
+pub deleted-le-accepted : (es : List Entry) → deleted es ≤ length es
 deleted-le-accepted es = count_by-le-length _ es
 
 -- no more rows were changed than commands were answered
-pub updated-le-accepted : (es : List Entry) → updated es ≤ accepted es
+pub updated-le-accepted : (es : List Entry) → updated es ≤ length es
 updated-le-accepted es = count_by-le-length _ es

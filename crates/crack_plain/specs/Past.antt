@@ -1,11 +1,13 @@
 -- A partition's past: the base that it begins with, and the commands that it answered since.
-use Rattle.std.specs.Prelude.{◌≡◌, ℕ, ◌+◌, ◌≤◌, List, [], ◌∷◌, ◌++◌, length, All}
+use Rattle.std.specs.Prelude.{◌≡◌, ℕ, ◌+◌, ◌≤◌, List, [], ◌∷◌, ◌++◌, length, fold, All, IfSome}
+use Rattle.crack_row.specs.Commands.{key_of}
 use Rattle.crack_row.specs.Ranges.{Range, IsIn}
+use Rattle.crack_row.specs.declared.Key.{Key}
 use Rattle.crack_row.specs.declared.Row.{Row}
 use Rattle.crack_row.specs.declared.command.Entry.{Entry}
 use Rattle.crack_row.specs.declared.limit.Limits.{Limits}
-use Rattle.crack_plain.specs.Plain.{PlainState, no_rows, IsNumbered, replay_from, AreReplies, BringWithin}
-use Rattle.crack_plain.specs.Totals.{accepted, inserted, deleted}
+use Rattle.crack_plain.specs.Plain.{PlainState, no_rows, IsNumbered, after, AreReplies}
+use Rattle.crack_plain.specs.Totals.{inserted, deleted}
 
 -- the effect of commands that are no longer kept: the plain rows, how many commands there were, and how many rows they placed and removed
 pub record Base : Type 0 where
@@ -38,13 +40,13 @@ no_past = record { base = no_base; tail = [] }
 abbrev pub with_entry : Past → Entry → Past
 with_entry past entry = record past { tail = past.tail ++ entry ∷ [] }
 
--- the plain rows after a past
+-- the plain rows after a past: its base's, after the commands of the history in order
 abbrev pub state_after : Past → PlainState
-state_after past = replay_from past.base.state past.tail
+state_after past = fold (λ (s : PlainState) (e : Entry). after s e.command) past.base.state past.tail
 
 -- how many commands were accepted since the opening
 abbrev pub accepted_in : Past → ℕ
-accepted_in past = past.base.folded + accepted past.tail
+accepted_in past = past.base.folded + length past.tail
 
 -- how many rows were placed since the opening
 abbrev pub inserted_in : Past → ℕ
@@ -62,16 +64,12 @@ base_after past = record { state = state_after past; folded = accepted_in past; 
 abbrev pub folded : Past → Past
 folded past = record { base = base_after past; tail = [] }
 
--- the key of each row is one of these
-abbrev pub StandWithin : Range → List Row → Type 0
-StandWithin keys rows = All (λ (row : Row). IsIn keys row.key.0) rows
-
--- a possible past of a partition with these keys and limits: the history's limit bounds the entries since the base, and the life's bounds base
--- and history
+-- a possible past of a partition with these keys and limits: the key of each row of the base and each key of a command is one of these keys; the
+-- history's limit bounds the entries since the base, and the life's bounds base and history
 pub record IsLegal (keys : Range) (limits : Limits) (past : Past) : Type 0 where
   pub base : IsBase past.base
-  pub stand : StandWithin keys past.base.state.rows
+  pub stand : All (λ (row : Row). IsIn keys row.key.0) past.base.state.rows
   pub replies : AreReplies past.base.state past.tail
-  pub within : BringWithin keys past.tail
+  pub within : All (λ (e : Entry). IfSome (key_of e.command) (λ (key : Key). IsIn keys key.0)) past.tail
   pub limited : length past.tail ≤ limits.history
   pub lived : accepted_in past ≤ limits.life

@@ -1,7 +1,7 @@
 -- The plain table: rows changed by commands and filtered by ranges, without pieces, handles, pending rows, policies or locks.
-use Rattle.std.specs.Prelude.{◌≡◌, ℕ, pos, neg_ℤ, ◌<ℤ◌, ◌+◌, ◌<◌, ◌^◌, List, [], ◌∷◌, ◌++◌, length, map, filter, find, fold, count_by, unwrap_or, option_map, All, AllPairs, Option, Some, None, IfSome, Bool, true, false}
-use Rattle.crack_row.specs.Ranges.{Range, IsIn, in_range}
-use Rattle.crack_row.specs.Commands.{change_of, key_of}
+use Rattle.std.specs.Prelude.{◌≡◌, ℕ, pos, neg_ℤ, ◌<ℤ◌, ◌+◌, ◌<◌, ◌^◌, List, [], ◌∷◌, ◌++◌, length, map, filter, find, count_by, unwrap_or, option_map, All, AllPairs, Option, Some, None, Bool, true, false}
+use Rattle.crack_row.specs.Ranges.{Range, in_range}
+use Rattle.crack_row.specs.Commands.{change_of}
 use Rattle.crack_row.specs.Replies.{IsFlat}
 use Rattle.crack_row.specs.Rows.{row_with, has_serial, is_other, replaced, sum_of}
 use Rattle.crack_row.specs.declared.TheConstants.{GREATEST_BOUND}
@@ -81,22 +81,10 @@ pub record TakesNoMemory (s : PlainState) (command : Command) : Type 0 where
 abbrev pub answer : PlainState → Command → Reply × PlainState
 answer s command = (reply_to s command, after s command)
 
--- the state after answering the commands of these entries, in order, from a state on
-abbrev pub replay_from : PlainState → List Entry → PlainState
-replay_from s es = fold (λ s e. after s e.command) s es
-
 -- each entry has the reply of the state after the entries before it
 abbrev pub AreReplies : PlainState → List Entry → Type 0
 AreReplies s [] = Unit {0}
 AreReplies s (e ∷ es) = (e.reply ≡ reply_to s e.command) × AreReplies (after s e.command) es
-
--- the key that a command has, if any, is one of these
-abbrev pub IsWithin : Range → Command → Type 0
-IsWithin keys command = IfSome (key_of command) (λ (key : Key). IsIn keys key.0)
-
--- each key that an entry has is one of these
-abbrev pub BringWithin : Range → List Entry → Type 0
-BringWithin keys entries = All (λ (e : Entry). IsWithin keys e.command) entries
 
 -- a plain table: its state, how many commands it accepted up to its last checkpoint, and how many since
 pub record PlainView : Type 0 where

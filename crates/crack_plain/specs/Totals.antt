@@ -1,5 +1,5 @@
--- How many commands, insertions, deletions and updates a history has.
-use Rattle.std.specs.Prelude.{ℕ, Bool, true, false, List, length, count_by}
+-- How many insertions, deletions and updates a history has.
+use Rattle.std.specs.Prelude.{ℕ, Bool, true, false, List, count_by}
 use Rattle.crack_row.specs.declared.command.Reply.{Reply}
 use Rattle.crack_row.specs.declared.command.Reply.TheVariants.{Placed, Gone, Changed}
 use Rattle.crack_row.specs.declared.command.Entry.{Entry}
@@ -18,10 +18,6 @@ is_gone _ = false
 abbrev pub is_changed : Reply → Bool
 is_changed Changed = true
 is_changed _ = false
-
--- how many commands were answered
-abbrev pub accepted : List Entry → ℕ
-accepted es = length es
 
 -- how many rows were placed
 abbrev pub inserted : List Entry → ℕ

@@ -12,7 +12,8 @@ use Rattle.crack_index.specs.Marks.{next_mark, end_of, position_of}
 use Rattle.crack_index.proofs.MarkLaws.{next_mark-is, HasBound-contains, place_of-mark}
 use Rattle.crack_column.specs.Column.{IsDividedAt}
 use Rattle.crack_column.proofs.Divisions.{IsDividedAt-order, IsDividedAt-set_below, IsDividedAt-set_above, IsDividedAt-raised, IsDividedAt-append_above, IsDividedAt-append_below}
-use Rattle.crack_state.specs.State.{State, IsIntact, column_keys, Carried}
+use Rattle.crack_state.specs.State.{State, IsIntact, Carried}
+use Rattle.crack_state.proofs.Words.{column_keys}
 use Rattle.crack_state.specs.Steps.{piece_end, hand_key, pushed_on, appended}
 use Rattle.crack_state.specs.Merge.{Follows, IsCracked, edge}
 use Rattle.crack_state.proofs.MergeLaws.{IsCracked-follows}

@@ -13,7 +13,8 @@ use Rattle.crack_arena.specs.Rows.{key_of_row, key_at, keys_at}
 use Rattle.crack_index.specs.declared.mark.Mark.{Mark}
 use Rattle.crack_pending.specs.Pending.{Finds}
 use Rattle.crack_pending.proofs.Searches.{StandsAt-get_or}
-use Rattle.crack_state.specs.State.{State, Carried, IsIntact, column_keys}
+use Rattle.crack_state.specs.State.{State, Carried, IsIntact}
+use Rattle.crack_state.proofs.Words.{column_keys}
 use Rattle.crack_state.specs.Steps.{hand_key, piece_start, lifted, lifted_last, pulled_back}
 use Rattle.crack_state.specs.Merge.{Follows, StillReads, LosesFirst, bound_above, beyond, edge, outside_of, count_inside}
 use Rattle.crack_state.proofs.AdvanceLaws.{keys_still}

@@ -14,7 +14,8 @@ use Rattle.crack_row.specs.Ranges.{IsIn}
 use Rattle.crack_row.specs.declared.Row.{Row}
 use Rattle.crack_arena.specs.Arena.{Cell, Handle, times, read, cell_at, empty_cell, handle_for, cells_with, slots}
 use Rattle.crack_arena.proofs.Times.{times-nil, times-cons, times_one, times_head, times-append, times-map-append, times_map_at}
-use Rattle.crack_state.specs.State.{State, Reads, IsOwned, IsIntact, IsKeyed, IsLiveAt, AreEmpty, HaveKeysIn, handle_of, freed_of, live_at, live_rows}
+use Rattle.crack_state.specs.State.{State, Reads, IsOwned, IsIntact, IsKeyed, handle_of, freed_of, live_at, live_rows}
+use Rattle.crack_state.proofs.Words.{IsLiveAt, is_live, AreEmpty, HaveKeysIn}
 use Rattle.crack_state.specs.Steps.{next_handle, admitted, IsAdmissible}
 use Rattle.crack_state.specs.Points.{Maps}
 use Rattle.crack_state.proofs.OwnedLaws.{places_of, times-places, once-most, once-within}
@@ -124,14 +125,14 @@ IsKeyed-more cells after doomed serials later h row fill off empty fresh maps ke
     | inl e ↦
         let new = maps_this row.serial.0 p (Some h) serials later maps e in
         let same : h ≡ g = cc in
-        record { row = row; reads = rw (← same) (read-new cells after h row fill); same = e; kept = rw (← same) off }
+        (row, rw (← same) (read-new cells after h row fill), e, rw (← same) off)
     | inr ne ↦
-        let live : IsLiveAt cells doomed p g = keyed.leads p g (sym (maps_other row.serial.0 p (Some h) serials later maps ne) ∙ found) in
+        let live : IsLiveAt cells doomed p g = is_live cells doomed p g (keyed.leads p g (sym (maps_other row.serial.0 p (Some h) serials later maps ne) ∙ found)) in
         let apart : g.slot ≢ h.slot = λ e.
         let value = read-value cells g live.row live.reads in
         let at : (cell_at cells g.slot).value ≡ (cell_at cells h.slot).value = ap (λ (n : ℕ). (cell_at cells n).value) e in
         absurd (cc) in
-        record { row = live.row; reads = read-off h.slot cells after g fill.others apart ∙ live.reads; same = live.same; kept = live.kept }
+        (live.row, read-off h.slot cells after g fill.others apart ∙ live.reads, live.same, live.kept)
   ];
   lists = λ g q found kept. elim (cases_eq g.slot h.slot) [
     | inl e ↦

@@ -12,7 +12,8 @@ use Rattle.crack_row.specs.Ranges.{IsIn}
 use Rattle.crack_row.specs.declared.Row.{Row}
 use Rattle.crack_arena.specs.Arena.{Cell, Handle, StandsAt, times, read, cell_at, empty_cell, slots, place_in}
 use Rattle.crack_arena.proofs.Times.{times-nil, times-cons, times_one, times_other, times_head, times-append}
-use Rattle.crack_state.specs.State.{State, Carried, Reads, IsIntact, IsKeyed, IsCounted, AreEmpty, freed_of, live_at, live_rows, greatest}
+use Rattle.crack_state.specs.State.{State, Carried, Reads, IsIntact, IsKeyed, freed_of, live_at, live_rows, greatest}
+use Rattle.crack_state.proofs.Words.{IsCounted, AreEmpty}
 use Rattle.crack_state.specs.Steps.{IsDoomed, buried}
 use Rattle.crack_state.specs.Merge.{Follows}
 use Rattle.crack_state.proofs.OwnedLaws.{times-taken, times-places, once-most, once-within, HandApart, hand_apart}
@@ -137,7 +138,7 @@ IsIntact-buried c doomed intact =
     owned.pending_reads
     (All-removed (Reads s.cells) s.pending_out (place_in s.pending_out slot) owned.doomed_reads)
     (IsKeyed-less s.cells (buried c).cells (slots s.pending_out) (slots (buried c).pending_out) s.serials s.serials slot (hides_buried c doomed intact)
-    (λ n g found. (λ e. let kept = (intact.keyed.leads n g found).kept in let once = known.once in absurd (omega (arith, known.once, sym (ap (λ k. times k (slots s.pending_out)) e) ∙ kept)), found))
+    (λ n g found. (λ e. let kept = (intact.keyed.leads n g found).3 in let once = known.once in absurd (omega (arith, known.once, sym (ap (λ k. times k (slots s.pending_out)) e) ∙ kept)), found))
     (λ n g ne found. found)
     intact.keyed)
     (omega (arith, intact.few_freed, length-remove s.pending_out (place_in s.pending_out slot) known.place))

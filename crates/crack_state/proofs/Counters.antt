@@ -3,7 +3,8 @@ use Rattle.std.proofs.Common.{◌≡◌, ℕ, ◌+◌, ◌<◌, ◌≤◌, inl, 
 use Rattle.std.proofs.Math.Nat.{min-le_left, min-le_right, le-min}
 use Rattle.std.proofs.lemmas.Bool.{cases_lt}
 use Rattle.crack_state.specs.declared.MergeReport.{MergeReport}
-use Rattle.crack_state.specs.State.{IsCounted, greatest}
+use Rattle.crack_state.specs.State.{greatest}
+use Rattle.crack_state.proofs.Words.{IsCounted}
 use Rattle.crack_state.specs.Steps.{more}
 
 -- a counter that is raised: by one, unless it is at its greatest number

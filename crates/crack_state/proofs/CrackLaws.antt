@@ -18,7 +18,8 @@ use Rattle.crack_arena.specs.Rows.{key_at}
 use Rattle.crack_column.specs.Column.{Memory, IsDividedAt, Cracks}
 use Rattle.crack_column.proofs.Divisions.{IsDividedAt-zero, IsDividedAt-end}
 use Rattle.crack_column.proofs.Cracking.{length-Cracks, Cracks-apart, Cracks-around, Cracks-whole, Cracks-divides, Cracks-keeps}
-use Rattle.crack_state.specs.State.{State, Reads, Divides, IsObeyed, HaveKeysIn, IsIntact, column_keys, live_rows}
+use Rattle.crack_state.specs.State.{State, Reads, IsObeyed, IsIntact, live_rows}
+use Rattle.crack_state.proofs.Words.{Divides, HaveKeysIn, column_keys}
 use Rattle.crack_state.specs.Steps.{piece_start, piece_end}
 use Rattle.crack_state.specs.Merge.{IsInner, IsCracked, cuts, RefinesBy, Refines}
 use Rattle.crack_state.specs.Inside.{RefinesAt}

@@ -11,7 +11,8 @@ use Rattle.crack_arena.proofs.Times.{times-nil, times-cons, times_other, times_h
 use Rattle.crack_index.specs.declared.mark.Mark.{Mark}
 use Rattle.crack_index.specs.Marks.{Rising, next_mark, last_mark, start_of, end_of, lowered, lowered_at}
 use Rattle.crack_index.proofs.MarkLaws.{next_mark-is, last_mark-is}
-use Rattle.crack_state.specs.State.{State, Carried, Reads, IsIntact, column_keys}
+use Rattle.crack_state.specs.State.{State, Carried, Reads, IsIntact}
+use Rattle.crack_state.proofs.Words.{column_keys}
 use Rattle.crack_state.specs.Steps.{hand_key, piece_start, piece_end, lower_last, IsDoomed, lifted_last, pulled_back}
 use Rattle.crack_state.proofs.OwnedLaws.{times-places, once-most, hand_apart}
 use Rattle.crack_state.proofs.CellLaws.{one_handle, stands_there}

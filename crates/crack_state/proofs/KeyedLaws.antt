@@ -8,7 +8,8 @@ use Rattle.std.proofs.lemmas.List.FromFn.{length-range_with_len, get_or-range_wi
 use Rattle.crack_row.proofs.Lists.{Contains-filter_map}
 use Rattle.crack_row.specs.declared.Row.{Row}
 use Rattle.crack_arena.specs.Arena.{Cell, Handle, times, read, slots}
-use Rattle.crack_state.specs.State.{State, IsIntact, IsKeyed, IsLiveAt, handle_of, live_at, live_rows}
+use Rattle.crack_state.specs.State.{State, IsIntact, IsKeyed, handle_of, live_at, live_rows}
+use Rattle.crack_state.proofs.Words.{IsLiveAt, is_live}
 use Rattle.crack_state.specs.Points.{Maps}
 use Rattle.crack_state.proofs.PieceLaws.{cases_Option}
 use Rattle.crack_state.proofs.LiveLaws.{none_either, Hides}
@@ -24,15 +25,15 @@ Contains-live s h r reads kept =
 -- a serial above those of all live rows isn't in the map
 pub handle_of-fresh : (s : State) (hand : List Handle) (serial : ℕ) → IsIntact s hand → All (λ (r : Row). r.serial.0 < serial) (live_rows s) → handle_of s.serials serial ≡ None
 handle_of-fresh s hand serial intact below = cases_Option (λ (o : Option Handle). o ≡ None) (handle_of s.serials serial) (λ none. refl) (λ h is.
-    let live : IsLiveAt s.cells (slots s.pending_out) serial h = intact.keyed.leads serial h is in
+    let live : IsLiveAt s.cells (slots s.pending_out) serial h = is_live s.cells (slots s.pending_out) serial h (intact.keyed.leads serial h is) in
     let less : live.row.serial.0 < serial = All-contains (λ (r : Row). r.serial.0 < serial) (live_rows s) live.row below (Contains-live s h live.row live.reads live.kept) in
     absurd (omega (arith, live.same)))
 
 -- another serial leads to another cell
 apart_handle : (cells : List (Cell Row)) (doomed : List ℕ) (serials : List (ℕ × Handle)) (serial n : ℕ) (h g : Handle) → serial ≢ n → handle_of serials serial ≡ Some h → handle_of serials n ≡ Some g → IsKeyed cells doomed serials → g.slot ≢ h.slot
 apart_handle cells doomed serials serial n h g ne found other keyed = λ e.
-    let mine : IsLiveAt cells doomed serial h = keyed.leads serial h found in
-    let theirs : IsLiveAt cells doomed n g = keyed.leads n g other in
+    let mine : IsLiveAt cells doomed serial h = is_live cells doomed serial h (keyed.leads serial h found) in
+    let theirs : IsLiveAt cells doomed n g = is_live cells doomed n g (keyed.leads n g other) in
     let same : g ≡ h = one_handle cells g h (reads_some cells g theirs.row theirs.reads) (reads_some cells h mine.row mine.reads) e in
     let rows : Some theirs.row ≡ Some mine.row = sym theirs.reads ∙ ap (read cells) same ∙ mine.reads in
     let row : theirs.row ≡ mine.row = ap (λ (o : Option Row). unwrap_or o mine.row) rows in
@@ -57,8 +58,8 @@ pub IsKeyed-less : (cells after : List (Cell Row)) (doomed left : List ℕ) (ser
 IsKeyed-less cells after doomed left serials later slot hides fewer others keyed = record {
   leads = λ n g found.
       let was = fewer n g found in
-      let live : IsLiveAt cells doomed n g = keyed.leads n g was.1 in
-      record { row = live.row; reads = read-off slot cells after g hides.others was.0 ∙ live.reads; same = live.same; kept = hides.kept g.slot was.0 ∙ live.kept };
+      let live : IsLiveAt cells doomed n g = is_live cells doomed n g (keyed.leads n g was.1) in
+      (live.row, read-off slot cells after g hides.others was.0 ∙ live.reads, live.same, hides.kept g.slot was.0 ∙ live.kept);
   lists = λ g r reads kept. elim (cases_eq g.slot slot) [
     | inl e ↦ absurd (let shown : live_at after left g.slot ≡ Some r = rw kept (read-value after g r reads) in let none : live_at after left g.slot ≡ None = rw e hides.none in cc)
     | inr ne ↦ others r.serial.0 g ne (keyed.lists g r (sym (read-off slot cells after g hides.others ne) ∙ reads) (sym (hides.kept g.slot ne) ∙ kept))

@@ -23,3 +23,4 @@ pub mod PullLaws
 pub mod SettledLaws
 pub mod StepLaws
 pub mod StretchLaws
+pub mod Words

@@ -14,7 +14,8 @@ use Rattle.crack_row.specs.Ranges.{IsIn}
 use Rattle.crack_row.specs.declared.Row.{Row}
 use Rattle.crack_arena.specs.Arena.{Cell, Handle, times, read, cell_at, empty_cell, slots}
 use Rattle.crack_arena.proofs.Times.{times-nil, times-cons, times_one, times_other, times_head, times_apart, times-append}
-use Rattle.crack_state.specs.State.{State, Reads, IsOwned, IsIntact, AreEmpty, live_at, live_rows}
+use Rattle.crack_state.specs.State.{State, Reads, IsOwned, IsIntact, live_at, live_rows}
+use Rattle.crack_state.proofs.Words.{AreEmpty}
 use Rattle.crack_state.proofs.OwnedLaws.{places_of}
 use Rattle.crack_state.proofs.CellLaws.{AgreeOff, AgreeOff-set, read_is_value, read-value, cell_within}
 

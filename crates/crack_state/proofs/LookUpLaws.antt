@@ -11,7 +11,8 @@ use Rattle.crack_row.proofs.Lists.{IsPermutation-filter, filter_all, find_only, 
 use Rattle.crack_row.specs.Rows.{is_other, replaced}
 use Rattle.crack_row.specs.declared.Row.{Row}
 use Rattle.crack_arena.specs.Arena.{Handle, read, slots}
-use Rattle.crack_state.specs.State.{State, IsIntact, IsLiveAt, handle_of, live_rows}
+use Rattle.crack_state.specs.State.{State, IsIntact, handle_of, live_rows}
+use Rattle.crack_state.proofs.Words.{IsLiveAt, is_live}
 use Rattle.crack_state.specs.Points.{row_by, pending_by, handle_by, Cancels, Dooms}
 use Rattle.crack_state.proofs.KeyedLaws.{Contains-live}
 use Rattle.crack_state.proofs.CellLaws.{row_read}
@@ -28,7 +29,7 @@ pub record IsRowBy (s : State) (serial : ℕ) (row : Row) : Type 0 where
 
 pub row_by-is : (s : State) (serial : ℕ) (row : Row) → row_by s serial ≡ Some row → IsIntact s [] → IsRowBy s serial row
 row_by-is s serial row is intact = option_and_then_some (read s.cells) (handle_of s.serials serial) row is (λ h found e.
-    let live : IsLiveAt s.cells (slots s.pending_out) serial h = intact.keyed.leads serial h found in
+    let live : IsLiveAt s.cells (slots s.pending_out) serial h = is_live s.cells (slots s.pending_out) serial h (intact.keyed.leads serial h found) in
     let rows : live.row ≡ row = same_Some live.row row (sym live.reads ∙ e) in
     record { handle = h; leads = found; reads = e; same = ap (λ (r : Row). r.serial.0) (sym rows) ∙ live.same; live = Contains-live s h row e live.kept })
 

@@ -8,7 +8,8 @@ use Rattle.crack_arena.specs.Rows.{key_at}
 use Rattle.crack_index.specs.declared.mark.Mark.{Mark}
 use Rattle.crack_index.specs.Marks.{next_mark, last_mark, first_behind, last_before}
 use Rattle.crack_index.proofs.MarkLaws.{last_mark-is, next_mark-raised, last_mark-lowered}
-use Rattle.crack_state.specs.State.{State, Carried, IsIntact, column_keys}
+use Rattle.crack_state.specs.State.{State, Carried, IsIntact}
+use Rattle.crack_state.proofs.Words.{column_keys}
 use Rattle.crack_state.specs.Steps.{hand_key, piece_start, piece_end, pushed_on, pulled_back, exchanged}
 use Rattle.crack_state.proofs.PieceLaws.{Divides-listed, piece_end-le, piece_end-before, piece_start-behind}
 

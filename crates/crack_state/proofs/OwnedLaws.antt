@@ -6,7 +6,8 @@ use Rattle.std.proofs.lemmas.Bool.{cases_lt, le-ltb}
 use Rattle.crack_row.specs.declared.Row.{Row}
 use Rattle.crack_arena.specs.Arena.{Cell, Handle, times, slots}
 use Rattle.crack_arena.proofs.Times.{times_head, times-append, times-set, times-map-remove, times_map_at}
-use Rattle.crack_state.specs.State.{State, places, IsOwned}
+use Rattle.crack_state.specs.State.{State, IsOwned}
+use Rattle.crack_state.proofs.Words.{places}
 
 -- where the cells of a store are
 abbrev pub places_of : State → List Handle → List ℕ

@@ -8,7 +8,8 @@ use Rattle.crack_index.specs.declared.mark.Mark.{Mark}
 use Rattle.crack_index.specs.Marks.{raised, Rising, lowered, next_mark, last_mark, start_of, end_of, bounds_of}
 use Rattle.crack_index.proofs.MarkLaws.{raised_cases, next_mark-is, next_mark-none, last_mark-is, last_mark-none, bounds_of-raised}
 use Rattle.crack_column.proofs.Divisions.{IsDividedAt-order, IsDividedAt-set_below, IsDividedAt-set_above, IsDividedAt-raised, IsDividedAt-append_above, IsDividedAt-append_below}
-use Rattle.crack_state.specs.State.{Divides, IsObeyed, State, AreInside, IsIntact, column_keys}
+use Rattle.crack_state.specs.State.{IsObeyed, State, IsIntact}
+use Rattle.crack_state.proofs.Words.{Divides, AreInside, column_keys}
 use Rattle.std.proofs.lemmas.List.{length-map}
 use Rattle.std.proofs.lemmas.List.Sums.{sum_by-cons}
 use Rattle.crack_row.specs.Ranges.{Range}

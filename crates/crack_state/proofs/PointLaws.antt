@@ -16,7 +16,8 @@ use Rattle.crack_row.specs.Rows.{replaced}
 use Rattle.crack_row.specs.declared.Row.{Row}
 use Rattle.crack_arena.specs.Arena.{Cell, Handle, StandsAt, times, read, cell_at, empty_cell, slots, no_handle, place_in}
 use Rattle.crack_arena.proofs.Times.{times-nil, times_other, times_head, times-append, times-map-append}
-use Rattle.crack_state.specs.State.{State, Reads, IsIntact, IsKeyed, IsLiveAt, AreEmpty, handle_of, freed_of, live_at, live_rows}
+use Rattle.crack_state.specs.State.{State, Reads, IsIntact, IsKeyed, handle_of, freed_of, live_at, live_rows}
+use Rattle.crack_state.proofs.Words.{IsLiveAt, is_live, AreEmpty}
 use Rattle.crack_state.specs.Steps.{next_handle}
 use Rattle.crack_state.specs.Points.{pending_by, handle_by, Maps, MayFree, struck, doomed_too, overwritten, renewed, Cancels, Dooms, Renews, Rewrites, IsRenewable, IsRewritable}
 use Rattle.crack_state.proofs.PieceLaws.{cases_Option}
@@ -63,7 +64,7 @@ full-off_free cells n r free full empty = elim (cases_lt 0 (times n free)) [
 
 pub stands1 : (s : State) (serial : ℕ) (h : Handle) → handle_of s.serials serial ≡ Some h → IsIntact s [] → Stands1 s serial h
 stands1 s serial h found intact =
-    let live : IsLiveAt s.cells (slots s.pending_out) serial h = intact.keyed.leads serial h found in
+    let live : IsLiveAt s.cells (slots s.pending_out) serial h = is_live s.cells (slots s.pending_out) serial h (intact.keyed.leads serial h found) in
     let within = cell_within s.cells h live.row live.reads in
     let off = full-off_free s.cells h.slot live.row s.free (read-value s.cells h live.row live.reads) intact.empty in
     let total : times h.slot (places_of s []) ≡ 1 = intact.owned.once h.slot ∙ rw (lt-ltb h.slot (length s.cells) within) refl in
@@ -72,7 +73,7 @@ stands1 s serial h found intact =
 -- the handle of a serial reads its row
 pub reads_by : (s : State) (serial : ℕ) (h : Handle) → handle_of s.serials serial ≡ Some h → IsIntact s [] → Reads s.cells h
 reads_by s serial h found intact =
-    let live : IsLiveAt s.cells (slots s.pending_out) serial h = intact.keyed.leads serial h found in
+    let live : IsLiveAt s.cells (slots s.pending_out) serial h = is_live s.cells (slots s.pending_out) serial h (intact.keyed.leads serial h found) in
     reads_some s.cells h live.row live.reads
 
 -- a row that isn't a pending insertion isn't listed there
@@ -82,7 +83,7 @@ unlisted_by s serial found = omega (arith, ltb-false 0 (times (handle_by s seria
 -- a pending insertion is at the first place of its cell
 pub listed_at : (s : State) (serial : ℕ) (h : Handle) → handle_of s.serials serial ≡ Some h → 0 < times h.slot (slots s.pending_in) → IsIntact s [] → StandsAt s.pending_in (place_in s.pending_in h.slot) h
 listed_at s serial h found listed intact =
-    let live : IsLiveAt s.cells (slots s.pending_out) serial h = intact.keyed.leads serial h found in
+    let live : IsLiveAt s.cells (slots s.pending_out) serial h = is_live s.cells (slots s.pending_out) serial h (intact.keyed.leads serial h found) in
     stands_there s.cells s.pending_in h (reads_some s.cells h live.row live.reads) intact.owned.pending_reads listed
 
 -- the cell of a cancelled row shows none

@@ -12,7 +12,8 @@ use Rattle.crack_index.specs.declared.mark.Mark.{Mark}
 use Rattle.crack_index.specs.Marks.{Rising, last_mark, start_of, lowered, lowered_at, bounds_of}
 use Rattle.crack_index.proofs.MarkLaws.{last_mark-is, lowered_cases, bounds_of-lowered, bounds_of-lowered_at, Rising-lowered, Rising-lowered_at}
 use Rattle.crack_column.proofs.Divisions.{IsDividedAt-set_below, IsDividedAt-set_above, IsDividedAt-lowered, IsDividedAt-take}
-use Rattle.crack_state.specs.State.{State, Carried, Reads, Divides, IsObeyed, IsIntact, column_keys}
+use Rattle.crack_state.specs.State.{State, Carried, Reads, IsObeyed, IsIntact}
+use Rattle.crack_state.proofs.Words.{Divides, column_keys}
 use Rattle.crack_state.specs.Steps.{hand_key, piece_start, piece_end, lower_last, more, lifted_last, pulled_back, exchanged, bounds_up_to, returned}
 use Rattle.crack_state.specs.Merge.{Follows}
 use Rattle.crack_state.proofs.Counters.{IsCounted-evicted, IsCounted-pulled}

@@ -18,7 +18,8 @@ use Rattle.crack_index.proofs.MarkLaws.{HasBound-contains, place_of-mark}
 use Rattle.crack_arena.specs.Rows.{key_at}
 use Rattle.crack_column.specs.Column.{IsDividedAt}
 use Rattle.crack_column.proofs.Divisions.{IsDividedAt-end, IsDividedAt-order}
-use Rattle.crack_state.specs.State.{State, Reads, IsOwned, IsIntact, column_keys, live_at, live_rows}
+use Rattle.crack_state.specs.State.{State, Reads, IsOwned, IsIntact, live_at, live_rows}
+use Rattle.crack_state.proofs.Words.{column_keys}
 use Rattle.crack_state.proofs.OwnedLaws.{places_of}
 use Rattle.crack_state.specs.Merge.{ReadsOutside, Stands, IsCracked, edge, stretch, IsSettled}
 use Rattle.crack_state.proofs.CellLaws.{row_read, read-value, stands_there}

@@ -11,7 +11,8 @@ use Rattle.crack_index.specs.declared.mark.Mark.{Mark}
 use Rattle.crack_index.specs.Marks.{Rising, raised, next_mark, end_of}
 use Rattle.crack_index.proofs.MarkLaws.{next_mark-is, next_mark-none, Rising-raised}
 use Rattle.crack_state.specs.declared.MergeReport.{MergeReport}
-use Rattle.crack_state.specs.State.{State, Carried, Reads, column_keys, IsObeyed, IsCounted, IsIntact}
+use Rattle.crack_state.specs.State.{State, Carried, Reads, IsObeyed, IsIntact}
+use Rattle.crack_state.proofs.Words.{column_keys, IsCounted}
 use Rattle.crack_state.specs.Steps.{hand_key, piece_end, raise_next, more, put_at, lifted, pushed_on, appended, SameButRoom, bounds_above}
 use Rattle.crack_state.proofs.Counters.{IsCounted-put_in, IsCounted-moved}
 use Rattle.crack_state.proofs.PieceLaws.{cases_Option, Obeyed-raised, Obeyed-push, Obeyed-push_raised, Divides-listed, AreMarks, AreMarks-intact, AreMarks-map, bounds_above-less}

@@ -7,7 +7,8 @@ use Rattle.crack_arena.specs.Arena.{Handle}
 use Rattle.crack_index.specs.declared.mark.Mark.{Mark}
 use Rattle.crack_column.proofs.Divisions.{IsDividedAt-order}
 use Rattle.crack_arena.specs.Rows.{key_at}
-use Rattle.crack_state.specs.State.{State, IsIntact, column_keys}
+use Rattle.crack_state.specs.State.{State, IsIntact}
+use Rattle.crack_state.proofs.Words.{column_keys}
 use Rattle.crack_state.specs.Merge.{Stands, edge}
 use Rattle.crack_state.proofs.SettledLaws.{edge-divides}
 use Rattle.crack_state.proofs.LayoutLaws.{cells-intact}

@@ -32,7 +32,7 @@ pending_handle s serial h pending found intact =
       at = at;
       within = known.within;
       off_column = omega (arith, known.once, listed);
-      kept = (intact.keyed.leads serial h found).kept;
+      kept = (intact.keyed.leads serial h found).3;
       left = omega (arith, times-taken h.slot s.pending_in (place_in s.pending_in h.slot) h at.within at.is, known.once, times_head h.slot [], times-nil h.slot);
     }
 

@@ -1,12 +1,12 @@
 -- From marks, strangers and late receipts to a cover, or to the place of its fault.
-use Rattle.std.proofs.Common.{◌≡◌, ◌<◌, ℕ, List, [], ◌∷◌, ◌++◌, length, Bool, true, false, cond, ◌||◌, not, Option, Some, None, refl, ap, arith, sym, get_or, zero, suc, ◌∙◌, subst, append-nil, inl, inr, ⊎_elim, ◌⊎◌, length-append, append_assoc}
+use Rattle.std.proofs.Common.{◌≡◌, ◌<◌, ◌≤◌, ℕ, List, [], ◌∷◌, ◌++◌, length, Bool, true, false, cond, ◌||◌, not, Option, Some, None, refl, ap, arith, sym, get_or, zero, suc, ◌∙◌, subst, append-nil, inl, inr, ⊎_elim, ◌⊎◌, length-append, append_assoc}
 use Rattle.std.specs.Prelude.{All, AllPairs, if◌then◌else◌}
 use Rattle.std.specs.List.{list_any}
 use Rattle.std.specs.Option.{option_map}
 use Rattle.std.proofs.lemmas.List.Elements.{All-nil, All-cons, All-head, All-tail}
 use Rattle.std.proofs.lemmas.List.Folds.{Any-from_list_any}
 use Rattle.std.proofs.lemmas.List.{get_or_append_left, get_or_at, get_or_default}
-use Rattle.std.proofs.lemmas.Option.{slice_get_within}
+use Rattle.std.proofs.lemmas.Bool.Decides.{nat_tests}
 use Rattle.std.proofs.lemmas.List.Quantifiers.{all_pairs_push}
 use Rattle.crack_core.specs.declared.receipt.Receipt.{Receipt}
 use Rattle.crack_table.specs.Cover.{KeptState, has_place, SettledBelow, IsSettled, IsGap, first_stranger, first_late, is_late, IsFault, Covers}
@@ -95,13 +95,34 @@ late_absurd done (x ∷ rs) r is rises =
 gap_absurd : (rs : List Receipt) (p : ℕ) (k : KeptState) (n : ℕ) → IsGap rs p k n → IsSettled rs p k → ⊥
 gap_absurd rs p k n gap settled = ⊎_elim (λ unmet. unmet.2 (settled.met n unmet.0 unmet.1)) (λ miscount. miscount.1 settled.counted) gap
 
+-- receipts of one worker in one partition name rising places exactly if none is late
+abbrev RisesTo : Receipt → Receipt → Type 0
+RisesTo earlier r = earlier.worker ≡ r.worker → earlier.part ≡ r.part → earlier.position < r.position
+
+rises_to : (earlier r : Receipt) → IsPunctual earlier r → RisesTo earlier r
+rises_to earlier r punctual worker part = grind (arith, nat_tests)
+
+punctual_to : (earlier r : Receipt) → RisesTo earlier r → (b : Bool) → is_late earlier r ≡ b → IsPunctual earlier r
+punctual_to earlier r rises false is = is
+punctual_to earlier r rises true is =
+    let worker : earlier.worker ≡ r.worker = grind (arith, nat_tests) in
+    let part : earlier.part ≡ r.part = grind (arith, nat_tests) in
+    let late : r.position ≤ earlier.position = grind (arith, nat_tests) in
+    absurd (omega (arith, rises worker part, late))
+
+pub rising : (rs : List Receipt) → AllPairs IsPunctual rs → AllPairs RisesTo rs
+rising rs all i j d before within = rises_to (get_or rs i d) (get_or rs j d) (all i j d before within)
+
+all_punctual : (rs : List Receipt) → AllPairs RisesTo rs → AllPairs IsPunctual rs
+all_punctual rs all i j d before within = punctual_to (get_or rs i d) (get_or rs j d) (all i j d before within) (is_late (get_or rs i d) (get_or rs j d)) refl
+
 -- if a place is at fault the receipts aren't a cover
 pub fault_uncovered : (kept : List KeptState) (rs : List Receipt) (p n : ℕ) → IsFault kept rs p n → Covers kept rs → ⊥
 fault_uncovered kept rs p n fault covers =
     ⊎_elim
-    (λ first. gap_absurd rs p first.0 n first.2 (covers.settled p first.0 (slice_get_within kept p first.0 first.1) first.1))
+    (λ first. gap_absurd rs p first.0 n first.2 (covers.settled p first.0 first.1))
     (λ other. ⊎_elim
     (λ strange. stranger_absurd kept rs strange.1.0 strange.1.1 covers.placed)
-    (λ late. late_absurd [] rs late.2.0 late.2.1 covers.rising)
+    (λ late. late_absurd [] rs late.2.0 late.2.1 (all_punctual rs covers.rising))
     other)
     fault

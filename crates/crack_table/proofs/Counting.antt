@@ -10,7 +10,8 @@ use Rattle.crack_row.specs.declared.command.Entry.{Entry}
 use Rattle.crack_core.specs.declared.receipt.Receipt.{Receipt}
 use Rattle.crack_core.specs.Receipts.{entry_of}
 use Rattle.crack_plain.specs.Totals.{is_placed, is_gone, inserted, deleted}
-use Rattle.crack_table.specs.Cover.{KeptState, Place, Folded, Standing, place_at, place_in, names, has_place, IsMetBy, folded_entries, IsSettled, Covers}
+use Rattle.crack_table.specs.Cover.{KeptState, place_at, has_place, IsMetBy, folded_entries, IsSettled, Covers}
+use Rattle.crack_table.specs.Marks.{Place, place_in, names}
 use Rattle.crack_table.specs.Marks.{IsSole}
 use Rattle.crack_table.proofs.Places.{part_of, places}
 
@@ -141,13 +142,13 @@ place_sum : (f : Entry → ℕ) (rs : List Receipt) (p n : ℕ) (place : Place) 
 place_sum f rs p n place met =
     ap (λ l. sum_by (λ r. f (entry_of r)) l) (filter_filter (λ r. r.part == p) (λ r. r.position == n) rs) ∙ sole_sum f place (filter (names p n) rs) met
 
-standing_at : (k : KeptState) (n : ℕ) (e : Entry) → slice_get k.tail n ≡ Some e → place_at k (k.folded + n) ≡ Some (Standing e)
+standing_at : (k : KeptState) (n : ℕ) (e : Entry) → slice_get k.tail n ≡ Some e → place_at k (k.folded + n) ≡ Some (Some e)
 standing_at k n e is =
     let above : nat_lt (k.folded + n) k.folded ≡ false = grind (arith, nat_tests) in
     let same : k.folded + n - k.folded ≡ n = omega arith in
     rw (above, same, is) refl
 
-folded_at : (k : KeptState) (n : ℕ) → n < k.folded → place_at k n ≡ Some Folded
+folded_at : (k : KeptState) (n : ℕ) → n < k.folded → place_at k n ≡ Some None
 folded_at k n lt = let below : nat_lt n k.folded ≡ true = grind (arith, nat_tests, lt) in rw below refl
 
 -- the total of the receipts of a partition is that of its checkpointed places and of the entries since
@@ -157,8 +158,8 @@ part_counted f kept rs are p k k_is =
     let whole = by_key_from (λ r. r.position) (λ r. f (entry_of r)) (filter (λ r. r.part == p) rs) k.folded (length k.tail) (positions_within kept p k k_is rs are.placed) in
     let rest = sum_list f k.tail (λ n. sum_by (λ r. f (entry_of r)) (filter (λ r. r.position == k.folded + n) (filter (λ r. r.part == p) rs)))
     (λ n e e_is.
-    let met = (are.settled p k k_is).met (k.folded + n) (Standing e) (standing_at k n e e_is) in
-    place_sum f rs p (k.folded + n) (Standing e) met ∙ ap f met.2) in
+    let met = (are.settled p k k_is).met (k.folded + n) (Some e) (standing_at k n e e_is) in
+    place_sum f rs p (k.folded + n) (Some e) met ∙ ap f met.2) in
     whole ∙ ap (λ s. sum_by (λ r. f (entry_of r)) (filter (λ r. nat_lt r.position k.folded) (filter (λ r. r.part == p) rs)) + s) rest
 
 sum_ones : (n : ℕ) → sum_upto (λ k. 1) n ≡ n
@@ -171,7 +172,7 @@ folded_once : (kept : List KeptState) (rs : List Receipt) → AreMet kept rs →
 folded_once kept rs are p k k_is =
     split_upto (λ r. r.position) (λ r. 1) (filter (λ r. r.part == p) rs) k.folded
     ∙ (sum_upto_same (λ n. sum_by (λ r. 1) (filter (λ r. r.position == n) (filter (λ r. r.part == p) rs))) (λ n. 1) k.folded
-    (λ n lt. place_sum (λ e. 1) rs p n Folded ((are.settled p k k_is).met n Folded (folded_at k n lt)))
+    (λ n lt. place_sum (λ e. 1) rs p n None ((are.settled p k k_is).met n None (folded_at k n lt)))
     ∙ sum_ones k.folded)
 
 -- the checkpointed receipts, by their entries
@@ -190,7 +191,7 @@ counted f base kept rs are folded =
     (λ p k k_is. part_counted f kept rs are p k k_is ∙ ap (λ s. s + sum_by f k.tail) (folded p k k_is))
 
 met_by : (kept : List KeptState) (rs : List Receipt) → Covers kept rs → AreMet kept rs
-met_by kept rs covers = record { settled = λ p k is. covers.settled p k (slice_get_within kept p k is) is; placed = covers.placed }
+met_by kept rs covers = record { settled = covers.settled; placed = covers.placed }
 
 pub all_counted : (kept : List KeptState) (rs : List Receipt) → Covers kept rs → sum_by (λ r. 1) rs ≡ sum_by (λ k. k.folded + sum_by (λ (e : Entry). 1) k.tail) kept
 all_counted kept rs covers = counted (λ e. 1) (λ k. k.folded) kept rs (met_by kept rs covers) (folded_once kept rs (met_by kept rs covers))

@@ -16,7 +16,8 @@ use Rattle.crack_core.specs.declared.receipt.Receipt.{Receipt}
 use Rattle.crack_core.specs.Receipts.{entry_of}
 use Rattle.crack_table.specs.declared.marks.Naming.{Naming}
 use Rattle.crack_table.specs.declared.marks.Naming.TheVariants.{Unnamed, Met, Failed}
-use Rattle.crack_table.specs.Cover.{KeptState, Place, Standing, IsRight, place_at, place_in, names, first_stranger}
+use Rattle.crack_table.specs.Cover.{KeptState, place_at, first_stranger}
+use Rattle.crack_table.specs.Marks.{Place, IsRight, place_in, names}
 use Rattle.crack_table.specs.Marks.{at, named_place, mark_after, IsSole, MarkIs, MarkIsAt, Marked}
 use Rattle.crack_table.proofs.Places.{at_set_same, at_set_other, row_of}
 
@@ -47,7 +48,7 @@ mark_more Failed place (x ∷ xs) r b right is = (no_nil r (x ∷ xs), two_long 
 -- the entry at a place is compared with the receipt's own
 pub right_here : (k : KeptState) (r : Receipt) (e : Entry) (b : Bool) → nat_lt r.position k.folded ≡ false → slice_get k.tail (r.position - k.folded) ≡ Some e → Decides b (entry_of r ≡ e)
     → (place : Place) × (place_at k r.position ≡ Some place) × Decides b (IsRight place (entry_of r))
-right_here k r e b above is right = (Standing e, rw (above, is) refl, right)
+right_here k r e b above is right = (Some e, rw (above, is) refl, right)
 
 -- a receipt that names another place
 filter_other : (p n : ℕ) (done : List Receipt) (r : Receipt) → names p n r ≡ false → filter (names p n) (done ++ r ∷ []) ≡ filter (names p n) done

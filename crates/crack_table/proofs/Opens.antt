@@ -11,7 +11,8 @@ use Rattle.crack_table.specs.declared.kept.Kept.{Kept}
 use Rattle.crack_table.specs.declared.kinds.KindsLeft.{KindsLeft}
 use Rattle.crack_table.specs.declared.marks.Naming.{Naming}
 use Rattle.crack_table.specs.declared.marks.Naming.TheVariants.{Unnamed, Met, Failed}
-use Rattle.crack_table.specs.Cover.{KeptState, told, IsKept, Place, place_at, names, IsMetBy, IsCounted, IsSettled, SettledBelow, IsLeastUnmet, IsGap}
+use Rattle.crack_table.specs.Cover.{KeptState, told, IsKept, place_at, IsMetBy, IsCounted, IsSettled, SettledBelow, MetBelow, IsGap}
+use Rattle.crack_table.specs.Marks.{Place, names}
 use Rattle.crack_table.specs.Marks.{IsSole, MarkIs, MarkIsAt, Marked, IsOpenIn, is_below, RowNoted, AreNoted}
 use Rattle.crack_table.proofs.Places.{places, read_told}
 use Rattle.crack_table.proofs.Tallies.{counted_now, counted_all, counted_unfolded}
@@ -57,6 +58,10 @@ settled kept row left None met is none p rs noted = record {
   counted = counted_now left rs p kept noted.counted none;
 }
 settled kept row left (Some n) met is none p rs noted = cc
+
+-- the least place of a partition that isn't met; if checkpointed places are below it, only once these are counted
+abbrev IsLeastUnmet : List Receipt → ℕ → KeptState → ℕ → Type 0
+IsLeastUnmet receipts part kept position = (place : Place) × (place_at kept position ≡ Some place) × (¬ IsMetBy receipts part position place) × MetBelow receipts part kept position × (kept.folded ≤ position → IsCounted receipts part kept)
 
 least_unmet : (kept : KeptState) (row : List Naming) (left : KindsLeft) (p : ℕ) (rs : List Receipt) (n : ℕ) → RowNoted kept row left p rs → IsOpenIn row n → (kept.folded ≤ n → IsCounted rs p kept) → IsLeastUnmet rs p kept n
 least_unmet kept row left p rs n noted first counted =

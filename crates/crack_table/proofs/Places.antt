@@ -5,7 +5,8 @@ use Rattle.std.specs.Option.{option_map, option_and_then}
 use Rattle.std.proofs.lemmas.Bool.Decides.{nat_tests}
 use Rattle.std.specs.Prelude.{map, nat_lt, is_some, if◌then◌else◌}
 use Rattle.crack_table.specs.declared.kept.Kept.{Kept}
-use Rattle.crack_table.specs.Cover.{KeptState, told, Place, Folded, Standing, place_at, place_in}
+use Rattle.crack_table.specs.Cover.{KeptState, told, place_at}
+use Rattle.crack_table.specs.Marks.{Place, place_in}
 use Rattle.crack_table.specs.Marks.{at}
 
 pub get_set_same : {X : Type 0} (xs : List X) (k : ℕ) (x y : X) → slice_get xs k ≡ Some x → slice_get (set xs k y) k ≡ Some y
@@ -81,11 +82,11 @@ some_mapped : {X Y : Type 0} (f : X → Y) (o : Option X) → is_some (option_ma
 some_mapped f None = refl
 some_mapped f (Some x) = refl
 
-place_by : (k : KeptState) (n : ℕ) (b : Bool) → nat_lt n k.folded ≡ b → is_some (if b then Some Folded else option_map Standing (slice_get k.tail (n - k.folded))) ≡ nat_lt n (k.folded + length k.tail)
+place_by : (k : KeptState) (n : ℕ) (b : Bool) → nat_lt n k.folded ≡ b → is_some (if b then Some None else option_map Some (slice_get k.tail (n - k.folded))) ≡ nat_lt n (k.folded + length k.tail)
 place_by k n true is = let f : nat_lt n (k.folded + length k.tail) ≡ true = grind (arith, nat_tests) in sym f
 place_by k n false is =
     let f : nat_lt n (k.folded + length k.tail) ≡ nat_lt (n - k.folded) (length k.tail) = grind (arith, nat_tests) in
-    some_mapped Standing (slice_get k.tail (n - k.folded)) ∙ (some_within k.tail (n - k.folded) ∙ sym f)
+    some_mapped Some (slice_get k.tail (n - k.folded)) ∙ (some_within k.tail (n - k.folded) ∙ sym f)
 
 -- there are as many places as commands were checkpointed and entries are
 pub places : (k : KeptState) (n : ℕ) → is_some (place_at k n) ≡ nat_lt n (k.folded + length k.tail)

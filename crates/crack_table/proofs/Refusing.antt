@@ -1,5 +1,5 @@
 -- Why partitions and workers don't agree.
-use Rattle.std.proofs.Common.{List, inl, inr, ⊎_elim}
+use Rattle.std.proofs.Common.{List, map, inl, inr, ⊎_elim}
 use Rattle.crack_row.specs.declared.Bound.{Bound}
 use Rattle.crack_row.specs.declared.limit.Limits.{Limits}
 use Rattle.crack_row.specs.declared.refusal.Refusal.{Refusal}
@@ -7,10 +7,11 @@ use Rattle.crack_part.specs.Parts.{Part}
 use Rattle.crack_core.specs.Opening.{AreParts}
 use Rattle.crack_core.specs.Receipts.{BookState}
 use Rattle.crack_table.specs.Cover.{MayNotCover}
-use Rattle.crack_table.specs.Gather.{kept_by, receipts_of, MayNotAgree}
+use Rattle.crack_table.specs.Gather.{receipts_of, MayNotAgree}
+use Rattle.crack_table.specs.Cover.{kept_of}
 
 -- pasts that the receipts don't cover
-pub uncovered : (splits : List Bound) (limits : Limits) (parts : List Part) (workers : List BookState) (e : Refusal) → AreParts splits limits parts → MayNotCover (kept_by parts) (receipts_of workers) e → MayNotAgree splits limits workers e
+pub uncovered : (splits : List Bound) (limits : Limits) (parts : List Part) (workers : List BookState) (e : Refusal) → AreParts splits limits parts → MayNotCover (map kept_of parts) (receipts_of workers) e → MayNotAgree splits limits workers e
 uncovered splits limits parts workers e are fault =
     ⊎_elim
     (λ short. inl short)

@@ -16,7 +16,8 @@ use Rattle.crack_row.specs.declared.limit.Limits.{Limits}
 use Rattle.crack_row.specs.declared.refusal.Refusal.{Refusal}
 use Rattle.crack_row.specs.declared.refusal.Refusal.TheVariants.{KeyOutside, HistoryFull, LifeOver, OutOfMemory, NoCell}
 use Rattle.crack_plain.specs.Past.{Past, IsLegal, state_after, with_entry, accepted_in}
-use Rattle.crack_plain.specs.Plain.{PlainState, PlainView, IsWithin, BringWithin, AreReplies, reply_to, after, replay_from}
+use Rattle.crack_plain.specs.Plain.{PlainState, PlainView, AreReplies, reply_to, after}
+use Rattle.crack_plain.proofs.Words.{IsWithin, BringWithin, replay_from}
 use Rattle.crack_part.specs.Parts.{Part, IsSound}
 use Rattle.crack_part.specs.Refusals.{is_key_in, table_of, stopped_by, first_cause}
 use Rattle.crack_part.specs.Upkeep.{is_automatic, upkept}

@@ -1,5 +1,5 @@
 -- The shares of workers whose receipts cover the pasts of partitions add up to its totals.
-use Rattle.std.proofs.Common.{◌≡◌, ◌<◌, ◌≤◌, ℕ, ◌+◌, ◌*◌, ◌^◌, List, [], ◌∷◌, length, cond, refl, ap, arith, sym, ◌∙◌}
+use Rattle.std.proofs.Common.{◌≡◌, ◌<◌, ◌≤◌, ℕ, ◌+◌, ◌*◌, ◌^◌, List, [], ◌∷◌, length, map, cond, refl, ap, arith, sym, ◌∙◌}
 use Rattle.std.specs.Prelude.{All, sum_by, pos, ◌-ℤ◌}
 use Rattle.std.proofs.Math.IntN.{+ℤ-neg_ℤ_cancel}
 use Rattle.std.proofs.lemmas.List.Sums.{sum_by-cons, sum_by-append}
@@ -7,14 +7,14 @@ use Rattle.std.proofs.lemmas.List.Elements.{All-nil, All-cons, All-head, All-tai
 use Rattle.std.proofs.lemmas.List.Sorted.{length_permutation}
 use Rattle.crack_row.specs.declared.command.Entry.{Entry}
 use Rattle.crack_plain.specs.Past.{accepted_in, inserted_in, deleted_in}
-use Rattle.crack_plain.specs.Totals.{accepted, inserted, deleted, is_placed, is_gone}
+use Rattle.crack_plain.specs.Totals.{inserted, deleted, is_placed, is_gone}
 use Rattle.crack_plain.proofs.PastLaws.{length_rows-after_past, inserted_in-le-accepted}
 use Rattle.crack_state.specs.State.{live_rows}
 use Rattle.crack_part.specs.Parts.{Part, IsSound, state_of}
 use Rattle.crack_part.proofs.SoundLemmas.{accepted-le-life}
 use Rattle.crack_core.specs.Receipts.{BookState, entry_of, entries_of}
 use Rattle.crack_table.specs.Cover.{KeptState, kept_of, IsKept, Covers}
-use Rattle.crack_table.specs.Gather.{kept_by, receipts_of}
+use Rattle.crack_table.specs.Gather.{receipts_of}
 use Rattle.crack_table.proofs.Counting.{sum_entries, all_counted, placed_counted, gone_counted}
 
 -- the workers' shares, receipt by receipt
@@ -24,9 +24,9 @@ shares_sum f (w ∷ ws) =
     sum_by-cons (λ (w : BookState). sum_by f (entries_of w.receipts)) w ws
     ∙ rw (shares_sum f ws, ← sum_entries f w.receipts) (sym (sum_by-append (λ r. f (entry_of r)) w.receipts (receipts_of ws)))
 
-kept_sum : (F : KeptState → ℕ) (parts : List Part) → sum_by F (kept_by parts) ≡ sum_by (λ (p : Part). F (kept_of p.past)) parts
+kept_sum : (F : KeptState → ℕ) (parts : List Part) → sum_by F (map kept_of parts) ≡ sum_by (λ (p : Part). F (kept_of p)) parts
 kept_sum F [] = refl
-kept_sum F (p ∷ ps) = sum_by-cons F (kept_of p.past) (kept_by ps) ∙ rw (kept_sum F ps) (sym (sum_by-cons (λ (p : Part). F (kept_of p.past)) p ps))
+kept_sum F (p ∷ ps) = sum_by-cons F (kept_of p) (map kept_of ps) ∙ rw (kept_sum F ps) (sym (sum_by-cons (λ (p : Part). F (kept_of p)) p ps))
 
 -- the shares of all are those of all receipts
 shares_of_all : (f : Entry → ℕ) (workers : List BookState) → sum_by (λ (w : BookState). sum_by f (entries_of w.receipts)) workers ≡ sum_by f (entries_of (receipts_of workers))
@@ -35,7 +35,7 @@ shares_of_all f workers = shares_sum f workers ∙ sum_entries f (receipts_of wo
 abbrev one : Entry → ℕ
 one e = 1
 
-accepted-sum : (es : List Entry) → sum_by one es ≡ accepted es
+accepted-sum : (es : List Entry) → sum_by one es ≡ length es
 accepted-sum [] = refl
 accepted-sum (e ∷ es) = sum_by-cons one e es ∙ rw (accepted-sum es) (omega arith)
 
@@ -45,13 +45,13 @@ accepted_kept (p ∷ ps) =
     sum_by-cons (λ (p : Part). p.past.base.folded + sum_by one p.past.tail) p ps
     ∙ rw (accepted_kept ps, accepted-sum p.past.tail) (sym (sum_by-cons (λ (p : Part). accepted_in p.past) p ps))
 
-shares_accepted : (ws : List BookState) → sum_by (λ (w : BookState). accepted (entries_of w.receipts)) ws ≡ sum_by (λ (w : BookState). sum_by one (entries_of w.receipts)) ws
+shares_accepted : (ws : List BookState) → sum_by (λ (w : BookState). length (entries_of w.receipts)) ws ≡ sum_by (λ (w : BookState). sum_by one (entries_of w.receipts)) ws
 shares_accepted [] = refl
 shares_accepted (w ∷ ws) =
-    sum_by-cons (λ (w : BookState). accepted (entries_of w.receipts)) w ws
+    sum_by-cons (λ (w : BookState). length (entries_of w.receipts)) w ws
     ∙ rw (shares_accepted ws, ← accepted-sum (entries_of w.receipts)) (sym (sum_by-cons (λ (w : BookState). sum_by one (entries_of w.receipts)) w ws))
 
-pub accepted_of_all : (workers : List BookState) → sum_by (λ (w : BookState). accepted (entries_of w.receipts)) workers ≡ accepted (entries_of (receipts_of workers))
+pub accepted_of_all : (workers : List BookState) → sum_by (λ (w : BookState). length (entries_of w.receipts)) workers ≡ length (entries_of (receipts_of workers))
 accepted_of_all workers = shares_accepted workers ∙ shares_of_all one workers ∙ accepted-sum (entries_of (receipts_of workers))
 
 pub inserted_of_all : (workers : List BookState) → sum_by (λ (w : BookState). inserted (entries_of w.receipts)) workers ≡ inserted (entries_of (receipts_of workers))
@@ -60,18 +60,18 @@ inserted_of_all workers = shares_of_all (λ (e : Entry). cond (is_placed e.reply
 pub deleted_of_all : (workers : List BookState) → sum_by (λ (w : BookState). deleted (entries_of w.receipts)) workers ≡ deleted (entries_of (receipts_of workers))
 deleted_of_all workers = shares_of_all (λ (e : Entry). cond (is_gone e.reply) 1 0) workers
 
-pub accepted_are : (parts : List Part) (workers : List BookState) → Covers (kept_by parts) (receipts_of workers) → sum_by (λ (w : BookState). accepted (entries_of w.receipts)) workers ≡ sum_by (λ (p : Part). accepted_in p.past) parts
+pub accepted_are : (parts : List Part) (workers : List BookState) → Covers (map kept_of parts) (receipts_of workers) → sum_by (λ (w : BookState). length (entries_of w.receipts)) workers ≡ sum_by (λ (p : Part). accepted_in p.past) parts
 accepted_are parts workers covers =
     shares_accepted workers
-    ∙ (shares_sum one workers ∙ (all_counted (kept_by parts) (receipts_of workers) covers ∙ (kept_sum (λ k. k.folded + sum_by one k.tail) parts ∙ accepted_kept parts)))
+    ∙ (shares_sum one workers ∙ (all_counted (map kept_of parts) (receipts_of workers) covers ∙ (kept_sum (λ k. k.folded + sum_by one k.tail) parts ∙ accepted_kept parts)))
 
-pub inserted_are : (parts : List Part) (workers : List BookState) → Covers (kept_by parts) (receipts_of workers) → sum_by (λ (w : BookState). inserted (entries_of w.receipts)) workers ≡ sum_by (λ (p : Part). inserted_in p.past) parts
+pub inserted_are : (parts : List Part) (workers : List BookState) → Covers (map kept_of parts) (receipts_of workers) → sum_by (λ (w : BookState). inserted (entries_of w.receipts)) workers ≡ sum_by (λ (p : Part). inserted_in p.past) parts
 inserted_are parts workers covers =
-    shares_sum (λ (e : Entry). cond (is_placed e.reply) 1 0) workers ∙ (placed_counted (kept_by parts) (receipts_of workers) covers ∙ kept_sum (λ k. k.placed + inserted k.tail) parts)
+    shares_sum (λ (e : Entry). cond (is_placed e.reply) 1 0) workers ∙ (placed_counted (map kept_of parts) (receipts_of workers) covers ∙ kept_sum (λ k. k.placed + inserted k.tail) parts)
 
-pub deleted_are : (parts : List Part) (workers : List BookState) → Covers (kept_by parts) (receipts_of workers) → sum_by (λ (w : BookState). deleted (entries_of w.receipts)) workers ≡ sum_by (λ (p : Part). deleted_in p.past) parts
+pub deleted_are : (parts : List Part) (workers : List BookState) → Covers (map kept_of parts) (receipts_of workers) → sum_by (λ (w : BookState). deleted (entries_of w.receipts)) workers ≡ sum_by (λ (p : Part). deleted_in p.past) parts
 deleted_are parts workers covers =
-    shares_sum (λ (e : Entry). cond (is_gone e.reply) 1 0) workers ∙ (gone_counted (kept_by parts) (receipts_of workers) covers ∙ kept_sum (λ k. k.gone + deleted k.tail) parts)
+    shares_sum (λ (e : Entry). cond (is_gone e.reply) 1 0) workers ∙ (gone_counted (map kept_of parts) (receipts_of workers) covers ∙ kept_sum (λ k. k.gone + deleted k.tail) parts)
 
 -- the live rows of a partition are those that were placed and not removed
 live-count : (p : Part) → IsSound p → length (live_rows p.store) + deleted_in p.past ≡ inserted_in p.past
@@ -108,12 +108,12 @@ inserted-bound (p ∷ ps) all =
 
 -- the shares of the workers fit into a word, and no more rows were removed than were placed
 pub record AreSmall (workers : List BookState) : Type 0 where
-  pub accepted_fits : sum_by (λ (w : BookState). accepted (entries_of w.receipts)) workers < 2 ^ 64
+  pub accepted_fits : sum_by (λ (w : BookState). length (entries_of w.receipts)) workers < 2 ^ 64
   pub inserted_fits : sum_by (λ (w : BookState). inserted (entries_of w.receipts)) workers < 2 ^ 64
   pub deleted_fits : sum_by (λ (w : BookState). deleted (entries_of w.receipts)) workers < 2 ^ 64
   pub enough : sum_by (λ (w : BookState). deleted (entries_of w.receipts)) workers ≤ sum_by (λ (w : BookState). inserted (entries_of w.receipts)) workers
 
-pub are_small : (parts : List Part) (workers : List BookState) → Covers (kept_by parts) (receipts_of workers) → All IsSound parts → length parts ≤ 64 → AreSmall workers
+pub are_small : (parts : List Part) (workers : List BookState) → Covers (map kept_of parts) (receipts_of workers) → All IsSound parts → length parts ≤ 64 → AreSmall workers
 are_small parts workers covers sound few =
     let a = accepted_are parts workers covers in
     let i = inserted_are parts workers covers in
@@ -128,6 +128,6 @@ are_small parts workers covers sound few =
     }
 
 -- a sound partition's base counts no more rows than commands
-pub all_kept : (parts : List Part) → All IsSound parts → All IsKept (kept_by parts)
+pub all_kept : (parts : List Part) → All IsSound parts → All IsKept (map kept_of parts)
 all_kept [] all = All-nil IsKept
-all_kept (p ∷ ps) all = All-cons IsKept (kept_of p.past) (kept_by ps) (All-head IsSound p ps all).legal.base.few (all_kept ps (All-tail IsSound p ps all))
+all_kept (p ∷ ps) all = All-cons IsKept (kept_of p) (map kept_of ps) (All-head IsSound p ps all).legal.base.few (all_kept ps (All-tail IsSound p ps all))

@@ -1,12 +1,12 @@
 -- When receipts cover the pasts of partitions, and which place a fault names.
-use Rattle.std.specs.Prelude.{ℕ, Bool, List, [], ◌∷◌, ◌++◌, ◌≡◌, ◌+◌, ◌-◌, ◌<◌, ◌≤◌, ◌⊎◌, ◌&&◌, ◌==◌, nat_lt, nat_le, not, Option, Some, None, is_some, slice_get, filter, find, All, AllPairs, if◌then◌else◌, true, false, length}
+use Rattle.std.specs.Prelude.{ℕ, Bool, List, [], ◌∷◌, ◌++◌, ◌≡◌, ◌+◌, ◌-◌, ◌<◌, ◌≤◌, ◌⊎◌, ◌&&◌, ◌==◌, nat_lt, nat_le, not, Option, Some, None, IfSome, is_some, slice_get, filter, find, All, AllPairs, if◌then◌else◌, true, false, length}
 use Rattle.std.specs.List.{list_any}
 use Rattle.std.specs.Option.{option_map, option_and_then}
 use Rattle.crack_row.specs.declared.command.Entry.{Entry}
 use Rattle.crack_row.specs.declared.refusal.Refusal.{Refusal}
 use Rattle.crack_row.specs.declared.refusal.Refusal.TheVariants.{OutOfMemory, StrangeReceipt}
-use Rattle.crack_plain.specs.Past.{Past}
 use Rattle.crack_plain.specs.Totals.{inserted, deleted}
+use Rattle.crack_part.specs.Parts.{Part}
 use Rattle.crack_core.specs.declared.receipt.Receipt.{Receipt}
 use Rattle.crack_core.specs.Receipts.{entry_of, entries_of}
 use Rattle.crack_table.specs.declared.kept.Kept.{Kept}
@@ -23,43 +23,26 @@ pub record KeptState : Type 0 where
 abbrev pub told : Kept → KeptState
 told kept = record { folded = kept.folded; placed = kept.inserted; gone = kept.deleted; tail = kept.tail.now }
 
--- what is kept of a past
-abbrev pub kept_of : Past → KeptState
-kept_of past = record { folded = past.base.folded; placed = past.base.placed; gone = past.base.gone; tail = past.tail }
+-- what a partition keeps of its past
+abbrev pub kept_of : Part → KeptState
+kept_of p = record { folded = p.past.base.folded; placed = p.past.base.placed; gone = p.past.base.gone; tail = p.past.tail }
 
 -- no more checkpointed commands placed or removed rows than there are
 abbrev pub IsKept : KeptState → Type 0
 IsKept kept = kept.placed + kept.gone ≤ kept.folded
 
--- what is known of a place: only that it exists, if its entry is checkpointed, or its entry
-pub data Place : Type 0 where
-  Folded : Place
-  Standing : Entry → Place
+-- the place at a position, which counts from the opening, if there is one: it has its entry, or nothing if that is checkpointed
+abbrev pub place_at : KeptState → ℕ → Option (Option Entry)
+place_at kept position = if nat_lt position kept.folded then Some None else option_map Some (slice_get kept.tail (position - kept.folded))
 
--- the place at a position, which counts from the opening, if there is one
-abbrev pub place_at : KeptState → ℕ → Option Place
-place_at kept position = if nat_lt position kept.folded then Some Folded else option_map Standing (slice_get kept.tail (position - kept.folded))
-
--- the place at a position of a partition, if there is one
-abbrev pub place_in : List KeptState → ℕ → ℕ → Option Place
-place_in kept part position = option_and_then (λ k. place_at k position) (slice_get kept part)
-
--- whether a receipt names a place
-abbrev pub names : ℕ → ℕ → Receipt → Bool
-names part position r = (r.part == part) && (r.position == position)
-
--- an entry is right for a place: the one that is there, or any if the place is checkpointed
-abbrev pub IsRight : Place → Entry → Type 0
-IsRight Folded entry = Unit {0}
-IsRight (Standing own) entry = entry ≡ own
-
--- exactly one receipt names the place, and its entry is right there
-abbrev pub IsMetBy : List Receipt → ℕ → ℕ → Place → Type 0
-IsMetBy receipts part position place = (r : Receipt) × (filter (names part position) receipts ≡ r ∷ []) × IsRight place (entry_of r)
+-- exactly one receipt names the place, and it is of the entry that is there, or of any if the place is checkpointed
+abbrev pub IsMetBy : List Receipt → ℕ → ℕ → Option Entry → Type 0
+IsMetBy receipts part position place =
+    (r : Receipt) × (filter (λ s. (s.part == part) && (s.position == position)) receipts ≡ r ∷ []) × IfSome place (λ own. entry_of r ≡ own)
 
 -- each place below a bound is met
 abbrev pub MetBelow : List Receipt → ℕ → KeptState → ℕ → Type 0
-MetBelow receipts part kept bound = (position : ℕ) (place : Place) → position < bound → place_at kept position ≡ Some place → IsMetBy receipts part position place
+MetBelow receipts part kept bound = (position : ℕ) (place : Option Entry) → position < bound → place_at kept position ≡ Some place → IsMetBy receipts part position place
 
 -- the entries of the receipts that name checkpointed places of a partition
 abbrev pub folded_entries : List Receipt → ℕ → ℕ → List Entry
@@ -71,7 +54,7 @@ IsCounted receipts part kept = (inserted (folded_entries receipts part kept.fold
 
 -- the receipts settle a partition: each place is met, and the checkpointed ones are counted
 pub record IsSettled (receipts : List Receipt) (part : ℕ) (kept : KeptState) : Type 0 where
-  pub met : (position : ℕ) (place : Place) → place_at kept position ≡ Some place → IsMetBy receipts part position place
+  pub met : (position : ℕ) (place : Option Entry) → place_at kept position ≡ Some place → IsMetBy receipts part position place
   pub counted : IsCounted receipts part kept
 
 -- each partition below a bound is settled
@@ -80,7 +63,7 @@ SettledBelow kept receipts bound = (part : ℕ) (k : KeptState) → part < bound
 
 -- whether a receipt names an existing place
 abbrev pub has_place : List KeptState → Receipt → Bool
-has_place kept r = is_some (place_in kept r.part r.position)
+has_place kept r = is_some (option_and_then (λ k. place_at k r.position) (slice_get kept r.part))
 
 -- whether a receipt's place isn't above that of an earlier one of its worker in its partition
 abbrev pub is_late : Receipt → Receipt → Bool
@@ -89,19 +72,16 @@ is_late earlier r = (earlier.worker == r.worker) && (earlier.part == r.part) && 
 -- the receipts cover what is kept of the partitions: each partition is settled, no receipt names another place, and the receipts of one
 -- worker in one partition name rising places
 pub record Covers (kept : List KeptState) (receipts : List Receipt) : Type 0 where
-  pub settled : SettledBelow kept receipts (length kept)
+  pub settled : (part : ℕ) (k : KeptState) → slice_get kept part ≡ Some k → IsSettled receipts part k
   pub placed : All (λ r. has_place kept r ≡ true) receipts
-  pub rising : AllPairs (λ earlier r. is_late earlier r ≡ false) receipts
+  pub rising : AllPairs (λ earlier r. earlier.worker ≡ r.worker → earlier.part ≡ r.part → earlier.position < r.position) receipts
 
--- the least place of a partition that isn't met; if checkpointed places are below it, only once these are counted
-abbrev pub IsLeastUnmet : List Receipt → ℕ → KeptState → ℕ → Type 0
-IsLeastUnmet receipts part kept position =
-    (place : Place) × (place_at kept position ≡ Some place) × (¬ IsMetBy receipts part position place)
-    × MetBelow receipts part kept position × (kept.folded ≤ position → IsCounted receipts part kept)
-
--- the first gap of a partition: its least place that isn't met; or the last checkpointed one, if all of these are met and not counted
+-- the first gap of a partition: its least place that isn't met, if that is checkpointed or all checkpointed ones are counted; or the last checkpointed
+-- one, if all of these are met and not counted
 abbrev pub IsGap : List Receipt → ℕ → KeptState → ℕ → Type 0
-IsGap receipts part kept position = IsLeastUnmet receipts part kept position
+IsGap receipts part kept position =
+    ((place : Option Entry) × (place_at kept position ≡ Some place) × (¬ IsMetBy receipts part position place)
+    × MetBelow receipts part kept position × (kept.folded ≤ position → IsCounted receipts part kept))
     ⊎ ((position + 1 ≡ kept.folded) × (¬ IsCounted receipts part kept) × MetBelow receipts part kept kept.folded)
 
 -- the gap of the first partition that isn't settled

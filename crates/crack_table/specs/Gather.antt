@@ -13,7 +13,7 @@ use Rattle.crack_core.specs.Receipts.{BookState}
 use Rattle.crack_core.specs.Opening.{AreParts}
 use Rattle.crack_core.specs.Routes.{keys_of_part}
 use Rattle.crack_table.specs.Tables.{TableState}
-use Rattle.crack_table.specs.Cover.{KeptState, kept_of, IsFault}
+use Rattle.crack_table.specs.Cover.{kept_of, IsFault}
 
 -- one bit for each number below the count that no worker of the table has
 abbrev pub missing_below : {W : Type 0} → (W → ℕ) → List W → ℕ → ℕ
@@ -23,10 +23,6 @@ missing_below number_of workers (suc number) = missing_below number_of workers n
 -- the receipts of all workers, as one list
 abbrev pub receipts_of : List BookState → List Receipt
 receipts_of workers = flat_map (λ (w : BookState). w.receipts) workers
-
--- the pasts that the partitions keep
-abbrev pub kept_by : List Part → List KeptState
-kept_by parts = map (λ (p : Part). kept_of p.past) parts
 
 -- the partition with this number has the table's keys and limits
 abbrev pub IsTables : List Bound → Limits → ℕ → Part → Type 0
@@ -46,18 +42,14 @@ pub record AreTotals (parts : List Part) (answers placed gone left : ℕ) : Type
   pub rows_are : left ≡ sum_by (λ (p : Part). length (live_rows p.store)) parts
   pub held_is : pos left ≡ pos placed -ℤ pos gone
 
--- the place at which partitions and workers don't agree: the first partition that isn't the table's; if there is none,
--- the fault of the cover
-abbrev pub IsWrongAt : List Bound → Limits → List Part → List BookState → ℕ → ℕ → Type 0
-IsWrongAt splits limits parts workers part position =
-    (IsFirstOther splits limits parts part × (position ≡ 0))
-    ⊎ (AreParts splits limits parts × IsFault (kept_by parts) (receipts_of workers) part position)
-
--- why workers and the partitions in this many locks may not agree: 8, or 16 at the place at which they don't
+-- why workers and the partitions in this many locks may not agree: 8, or 16 at the first partition that isn't the table's or, if there is none, at the
+-- fault of the cover
 abbrev pub MayNotAgree : List Bound → Limits → List BookState → Refusal → Type 0
 MayNotAgree splits limits workers e =
     (e ≡ OutOfMemory)
-    ⊎ ((parts : List Part) × (part : ℕ) × (position : ℕ) × (length parts ≡ length splits + 1) × All IsSound parts × (e ≡ StrangeReceipt part position) × IsWrongAt splits limits parts workers part position)
+    ⊎ ((parts : List Part) × (part : ℕ) × (position : ℕ) × (length parts ≡ length splits + 1) × All IsSound parts × (e ≡ StrangeReceipt part position)
+    × ((IsFirstOther splits limits parts part × (position ≡ 0))
+    ⊎ (AreParts splits limits parts × IsFault (map kept_of parts) (receipts_of workers) part position)))
 
 -- why the workers of a table may not be gathered: 15 if some are missing, with their bits; if none is, they and the partitions don't agree
 abbrev pub MayNotGather : TableState → List BookState → Refusal → Type 0

@@ -1,17 +1,34 @@
 -- What private clauses alone cite.
 -- The notes about receipts that lead to a cover.
-use Rattle.std.specs.Prelude.{ℕ, zero, suc, Bool, true, false, List, [], ◌∷◌, length, ◌≡◌, ◌≢◌, ◌+◌, ◌<◌, nat_lt, nat_le, Option, Some, None, filter, slice_get}
+use Rattle.std.specs.Prelude.{ℕ, zero, suc, Bool, true, false, List, [], ◌∷◌, length, ◌≡◌, ◌≢◌, ◌+◌, ◌<◌, ◌==◌, ◌&&◌, nat_lt, nat_le, Option, Some, None, IfSome, filter, slice_get}
 use Rattle.std.specs.List.{list_any}
 use Rattle.std.specs.Option.{option_and_then}
 use Rattle.std.specs.Ordering.{nat_cmp, ordering_then}
 use Rattle.std.specs.declared.cmp.Ordering.{Ordering}
+use Rattle.crack_row.specs.declared.command.Entry.{Entry}
 use Rattle.crack_plain.specs.Totals.{inserted, deleted}
 use Rattle.crack_core.specs.declared.receipt.Receipt.{Receipt}
 use Rattle.crack_core.specs.Receipts.{entry_of}
 use Rattle.crack_table.specs.declared.kinds.KindsLeft.{KindsLeft}
 use Rattle.crack_table.specs.declared.marks.Naming.{Naming}
 use Rattle.crack_table.specs.declared.marks.Naming.TheVariants.{Unnamed, Met, Failed}
-use Rattle.crack_table.specs.Cover.{KeptState, Place, IsRight, place_at, place_in, names, folded_entries, is_late}
+use Rattle.crack_table.specs.Cover.{KeptState, place_at, folded_entries, is_late}
+
+-- what is known of a place: its entry, or nothing if that is checkpointed
+abbrev pub Place : Type 0
+Place = Option Entry
+
+-- an entry is right for a place: the one that is there, or any if the place is checkpointed
+abbrev pub IsRight : Place → Entry → Type 0
+IsRight place entry = IfSome place (λ own. entry ≡ own)
+
+-- the place at a position of a partition, if there is one
+abbrev pub place_in : List KeptState → ℕ → ℕ → Option Place
+place_in kept part position = option_and_then (λ k. place_at k position) (slice_get kept part)
+
+-- whether a receipt names a place
+abbrev pub names : ℕ → ℕ → Receipt → Bool
+names part position r = (r.part == part) && (r.position == position)
 
 -- the element at a place of a list of lists, if there is such a place
 abbrev pub at : {X : Type 0} → List (List X) → ℕ → ℕ → Option X

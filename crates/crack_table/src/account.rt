@@ -2,13 +2,13 @@
 ghost use Rattle.std.specs.Prelude.{◌≡◌, ◌+◌, ◌<◌, ◌≤◌, ◌^◌, length, map, sum_by, All, IfOk, IfErr, OnOk, IfSome};
 ghost use Rattle.std.specs.Prelude.{IfNone, IsTrue, ◌↔◌};
 ghost use Rattle.std.specs.List.{flat_map};
-ghost use Rattle.crack_plain.specs.Totals.{accepted, inserted, deleted};
+ghost use Rattle.crack_plain.specs.Totals.{inserted, deleted};
 ghost use Rattle.crack_part.specs.Parts.{IsSound};
 ghost use Rattle.crack_core.specs.Receipts.{BookState, AreShares, entries_of};
 ghost use Rattle.crack_core.specs.Opening.{AreParts};
 ghost use Rattle.crack_core.specs.Routes.{AreSplits};
 ghost use Rattle.crack_table.specs.Cover.{told, kept_of, Covers};
-ghost use Rattle.crack_table.specs.Gather.{kept_by, receipts_of, IsTables, IsFirstOther, AreTotals, MayNotAgree};
+ghost use Rattle.crack_table.specs.Gather.{receipts_of, IsTables, IsFirstOther, AreTotals, MayNotAgree};
 
 use crate::covering::cover;
 use crate::kept::Kept;
@@ -40,7 +40,7 @@ pub(crate) fn account(
     requires count { length parts.now.items ≡ length splits.now + 1 }
     requires rising { AreSplits splits.now }
     ensures parts { OnOk result (AreParts splits.now limits parts.now.items) }
-    ensures covered { OnOk result (Covers (kept_by parts.now.items) (receipts_of workers.now.items)) }
+    ensures covered { OnOk result (Covers (map kept_of parts.now.items) (receipts_of workers.now.items)) }
     ensures shares { IfOk result (λ s. AreShares (receipts_of workers.now.items) s.accepted s.inserted s.deleted) }
     ensures totals { IfOk result (λ s. AreTotals parts.now.items s.accepted s.inserted s.deleted s.held) }
     ensures causes { IfErr result (MayNotAgree splits.now limits workers.now.items) }
@@ -94,7 +94,7 @@ pub fn is_tables(splits: &[Bound], limits: Limits, part: usize, partition: &Part
 /// What partitions keep of their pasts.
 fn kept_in<'a>(alloc: Global, parts: &'a Vec<Partition>) -> Result<Vec<Kept<'a>>, AllocError>
     requires sound { All IsSound parts.now.items }
-    ensures { IfOk result (λ v. map told v.items ≡ kept_by parts.now.items) }
+    ensures { IfOk result (λ v. map told v.items ≡ map kept_of parts.now.items) }
 {
     let mut kept = Vec::with_capacity(alloc, parts.len())?;
     'parts: for part in parts {
@@ -105,7 +105,7 @@ fn kept_in<'a>(alloc: Global, parts: &'a Vec<Partition>) -> Result<Vec<Kept<'a>>
 
 /// What a partition keeps of its past.
 pub fn kept_of(part: &Partition) -> Kept<'_>
-    ensures { told result ≡ kept_of part.now.past }
+    ensures { told result ≡ kept_of part.now }
 {
     Kept {
         folded: part.folded(),
@@ -131,7 +131,7 @@ fn receipts_in<'a>(
 
 /// The sums of the shares of workers whose receipts cover the partitions' pasts: O(workers).
 fn sums_of(parts: &Vec<Partition>, workers: &Vec<Worker>) -> Sums
-    requires covered { Covers (kept_by parts.now.items) (receipts_of workers.now.items) }
+    requires covered { Covers (map kept_of parts.now.items) (receipts_of workers.now.items) }
     requires sound { All IsSound parts.now.items }
     requires few { length parts.now.items ≤ 64 }
     ensures shares { AreShares (receipts_of workers.now.items) result.accepted result.inserted result.deleted }
@@ -149,8 +149,8 @@ fn sums_of(parts: &Vec<Partition>, workers: &Vec<Worker>) -> Sums
 
 /// How many commands were answered for workers.
 fn accepted_by(workers: &Vec<Worker>) -> u64
-    requires { sum_by (λ (w : BookState). accepted (entries_of w.receipts)) workers.now.items < 2 ^ 64 }
-    ensures { result ≡ sum_by (λ (w : BookState). accepted (entries_of w.receipts)) workers.now.items }
+    requires { sum_by (λ (w : BookState). length (entries_of w.receipts)) workers.now.items < 2 ^ 64 }
+    ensures { result ≡ sum_by (λ (w : BookState). length (entries_of w.receipts)) workers.now.items }
 {
     workers.iter().map(|worker| worker.book().accepted()).sum()
 }

@@ -6,7 +6,8 @@ ghost use Rattle.std.specs.List.{flat_map};
 ghost use Rattle.std.specs.Option.{option_map};
 ghost use Rattle.crack_core.specs.declared.receipt.Receipt.{Receipt};
 ghost use Rattle.crack_core.specs.Receipts.{entry_of};
-ghost use Rattle.crack_table.specs.Cover.{told, KeptState, IsKept, Place, place_in, IsRight, SettledBelow, IsFirstGap};
+ghost use Rattle.crack_table.specs.Cover.{told, KeptState, IsKept, SettledBelow, IsFirstGap};
+ghost use Rattle.crack_table.specs.Marks.{Place, place_in, IsRight};
 ghost use Rattle.crack_table.specs.Cover.{first_stranger, Covers, IsFault, MayNotCover};
 ghost use Rattle.crack_table.specs.Marks.{named_place, in_folded, Marked, Counted, AreNoted};
 

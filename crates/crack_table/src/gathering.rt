@@ -1,11 +1,13 @@
 //! The end of a table: its workers are gathered.
-ghost use Rattle.std.specs.Prelude.{◌≡◌, ◌+◌, ◌≤◌, ◌==◌, length, IfOk, IfErr, OnOk, OnErr, vec_len, if◌then◌else◌};
+ghost use Rattle.std.specs.Prelude.{◌≡◌, ◌+◌, ℕ, ◌<◌, ◌≤◌, ◌==◌, true, length, map, IfOk, IfErr, OnOk, OnErr, vec_len};
+ghost use Rattle.std.specs.Prelude.{if◌then◌else◌};
 ghost use Rattle.std.specs.List.{list_any};
 ghost use Rattle.crack_core.specs.Receipts.{AreShares, BookState};
 ghost use Rattle.crack_core.specs.Opening.{AreParts};
 ghost use Rattle.crack_core.specs.Routes.{AreSplits};
 ghost use Rattle.crack_table.specs.Cover.{Covers};
-ghost use Rattle.crack_table.specs.Gather.{kept_by, missing_below, receipts_of, AreTotals, MayNotAgree, MayNotGather};
+ghost use Rattle.crack_table.specs.Gather.{missing_below, receipts_of, AreTotals, MayNotAgree, MayNotGather};
+ghost use Rattle.crack_table.specs.Cover.{kept_of};
 
 use crate::account::account;
 use crate::locks::{lock, unlock};
@@ -45,9 +47,10 @@ pub struct GatherRefused {
 /// table's; then as `cover` is; after 15 it may be refused with 8 at any point. The table and the workers are then
 /// handed back. O(entries + checkpointed places + receipts), up to a logarithm of the workers and partitions.
 pub fn gather(alloc: Global, table: Table, workers: Vec<Worker>) -> Result<Closed, GatherRefused>
-    ensures all { OnOk result (missing_below (λ (w : BookState). w.worker) workers.items table.workers ≡ 0) }
+    ensures all { OnOk result ((n : ℕ) → n < table.workers → list_any (λ (w : BookState). w.worker == n)
+        workers.items ≡ true) }
     ensures parts { IfOk result (λ c. AreParts table.splits table.limits c.parts.items) }
-    ensures covered { IfOk result (λ c. Covers (kept_by c.parts.items) (receipts_of workers.items)) }
+    ensures covered { IfOk result (λ c. Covers (map kept_of c.parts.items) (receipts_of workers.items)) }
     ensures shares { IfOk result (λ c. AreShares (receipts_of workers.items) c.accepted c.inserted c.deleted) }
     ensures totals { IfOk result (λ c. AreTotals c.parts.items c.accepted c.inserted c.deleted c.held) }
 
@@ -96,7 +99,7 @@ fn close(
     requires all { vec_len locks.old ≡ length splits.now + 1 }
     requires rising { AreSplits splits.now }
     ensures parts { IfOk result (λ c. AreParts splits.now limits c.parts.items) }
-    ensures covered { IfOk result (λ c. Covers (kept_by c.parts.items) (receipts_of workers.now.items)) }
+    ensures covered { IfOk result (λ c. Covers (map kept_of c.parts.items) (receipts_of workers.now.items)) }
     ensures shares { IfOk result (λ c. AreShares (receipts_of workers.now.items) c.accepted c.inserted c.deleted) }
     ensures totals { IfOk result (λ c. AreTotals c.parts.items c.accepted c.inserted c.deleted c.held) }
     ensures locked { OnErr result (vec_len locks.new ≡ vec_len locks.old) }
@@ -126,7 +129,7 @@ fn settle(
     requires rising { AreSplits splits.now }
     ensures taken { IfOk result (λ c. c.parts.items ≡ parts.items) }
     ensures parts { IfOk result (λ c. AreParts splits.now limits c.parts.items) }
-    ensures covered { IfOk result (λ c. Covers (kept_by c.parts.items) (receipts_of workers.now.items)) }
+    ensures covered { IfOk result (λ c. Covers (map kept_of c.parts.items) (receipts_of workers.now.items)) }
     ensures shares { IfOk result (λ c. AreShares (receipts_of workers.now.items) c.accepted c.inserted c.deleted) }
     ensures totals { IfOk result (λ c. AreTotals c.parts.items c.accepted c.inserted c.deleted c.held) }
     ensures back { IfErr result (λ e. e.1.items ≡ parts.items) }

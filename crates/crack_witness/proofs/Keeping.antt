@@ -7,9 +7,10 @@ use Rattle.crack_row.specs.declared.command.Entry.{Entry}
 use Rattle.crack_row.specs.declared.refusal.Refusal.{Refusal}
 use Rattle.crack_row.specs.declared.refusal.Refusal.TheVariants.{OutOfMemory}
 use Rattle.crack_row.specs.declared.command.Reply.{Reply}
-use Rattle.crack_plain.specs.Plain.{PlainState, no_rows, replay_from}
+use Rattle.crack_plain.specs.Plain.{PlainState, no_rows}
+use Rattle.crack_plain.proofs.Words.{replay_from}
 use Rattle.crack_plain.specs.Past.{Base, Past, no_base, no_past, with_entry, state_after, accepted_in, inserted_in, deleted_in, base_after, folded}
-use Rattle.crack_plain.specs.Totals.{accepted, inserted, deleted}
+use Rattle.crack_plain.specs.Totals.{inserted, deleted}
 use Rattle.crack_plain.proofs.Laws.{replay_from-append}
 use Rattle.crack_plain.proofs.TotalLaws.{inserted-append, deleted-append}
 use Rattle.crack_row.specs.declared.limit.Limits.{Limits}
@@ -31,7 +32,7 @@ state_after-whole h past k =
     let base : past.base.state ≡ replay_from no_rows k.folded = ap (λ (b : Base). b.state) k.base in
     ap (λ (s : PlainState). replay_from s past.tail) base ∙ (sym (replay_from-append no_rows k.folded past.tail) ∙ ap (replay_from no_rows) (sym k.all))
 
-pub accepted_in-whole : (h : List Entry) (past : Past) → IsPastOf h past → accepted_in past ≡ accepted h
+pub accepted_in-whole : (h : List Entry) (past : Past) → IsPastOf h past → accepted_in past ≡ length h
 accepted_in-whole h past k =
     let base : past.base.folded ≡ 0 + length k.folded = ap (λ (b : Base). b.folded) k.base in
     omega (arith, base, length-append k.folded past.tail, ap length k.all)
@@ -56,7 +57,7 @@ same_base s t a b c d e f p q r u = λ i. base_of (p i) (q i) (r i) (u i)
 pub IsPastOf-folded : (h : List Entry) (past : Past) → IsPastOf h past → IsPastOf h (folded past)
 IsPastOf-folded h past k = record {
   folded = h;
-  base = same_base (state_after past) (replay_from no_rows h) (accepted_in past) (0 + accepted h) (inserted_in past) (0 + inserted h) (deleted_in past) (0 + deleted h) (state_after-whole h past k) (omega (arith, accepted_in-whole h past k)) (omega (arith, inserted_in-whole h past k)) (omega (arith, deleted_in-whole h past k));
+  base = same_base (state_after past) (replay_from no_rows h) (accepted_in past) (0 + length h) (inserted_in past) (0 + inserted h) (deleted_in past) (0 + deleted h) (state_after-whole h past k) (omega (arith, accepted_in-whole h past k)) (omega (arith, inserted_in-whole h past k)) (omega (arith, deleted_in-whole h past k));
   all = sym (append-nil h);
 }
 

@@ -3,7 +3,8 @@ ghost use Rattle.std.specs.Prelude.{◌≡◌, map, All, IfOk, IfErr, OnOk};
 ghost use Rattle.std.specs.List.{flat_map};
 ghost use Rattle.crack_part.specs.Parts.{IsSound};
 ghost use Rattle.crack_table.specs.Cover.{told, Covers, MayNotCover};
-ghost use Rattle.crack_table.specs.Gather.{kept_by, receipts_of};
+ghost use Rattle.crack_table.specs.Gather.{receipts_of};
+ghost use Rattle.crack_table.specs.Cover.{kept_of};
 ghost use Rattle.crack_witness.specs.Witnesses.{WitnessedState};
 ghost use Rattle.crack_witness_table.specs.Gather.{held_by};
 
@@ -24,8 +25,8 @@ pub fn audit<J: Naming>(
     parts: &Vec<Witnessed<J>>,
     books: &Vec<Book>,
 ) -> Result<(), Refusal>
-    ensures covered { OnOk result (Covers (kept_by (held_by parts.now.items)) (receipts_of books.now.items)) }
-    ensures causes { IfErr result (MayNotCover (kept_by (held_by parts.now.items)) (receipts_of books.now.items)) }
+    ensures covered { OnOk result (Covers (map kept_of (held_by parts.now.items)) (receipts_of books.now.items)) }
+    ensures causes { IfErr result (MayNotCover (map kept_of (held_by parts.now.items)) (receipts_of books.now.items)) }
 {
     if parts.len() as u64 > u64::from(u32::MAX) {
         return Err(Refusal::OutOfMemory);
@@ -42,7 +43,7 @@ fn kept_in<'a, J: Naming>(
     parts: &'a Vec<Witnessed<J>>,
 ) -> Result<Vec<Kept<'a>>, AllocError>
     requires sound { All (λ (w : WitnessedState). IsSound w.held) parts.now.items }
-    ensures { IfOk result (λ v. map told v.items ≡ kept_by (held_by parts.now.items)) }
+    ensures { IfOk result (λ v. map told v.items ≡ map kept_of (held_by parts.now.items)) }
 {
     let mut kept = Vec::with_capacity(alloc, parts.len())?;
     'parts: for part in parts {

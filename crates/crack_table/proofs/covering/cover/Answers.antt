@@ -1,13 +1,14 @@
 use Rattle.std.proofs.Common.{ℕ, refl, inl, inr, sym, ◌∙◌}
+use Rattle.std.proofs.lemmas.Option.{slice_get_within}
 use Rattle.crack_table.proofs.Lates.{map_none}
-use Rattle.crack_table.proofs.Conclusions.{all_placed, none_rise, stranger_fault, late_fault}
+use Rattle.crack_table.proofs.Conclusions.{all_placed, none_rise, rising, stranger_fault, late_fault}
 use Rattle.crack_table.proofs.covering.cover.Goals as goal
 
 pub returns-clause-covers : goal.returns-clause-covers
 returns-clause-covers c = record {
-  settled = c.in_default.ensures.none _ c.note_lists-stranger.ensures.noted;
+  settled = λ p k is. c.in_default.ensures.none _ c.note_lists-stranger.ensures.noted p k (slice_get_within _ p k is) is;
   placed = all_placed _ _ (map_none _ c.in_default-stranger.ensures.stranger);
-  rising = none_rise _ (map_none _ (sym c.in_default-2.is ∙ c.in_ok-part.ensures));
+  rising = rising _ (none_rise _ (map_none _ (sym c.in_default-2.is ∙ c.in_ok-part.ensures)));
 }
 
 pub returns-in-Some-clause-fault : goal.returns-in-Some-clause-fault

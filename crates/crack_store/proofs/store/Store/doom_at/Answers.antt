@@ -43,7 +43,7 @@ push_remembered-requires-clause-absent c =
     let s = lists_of c.self.inside.inside in
     let lead = c.args.lead in
     let found : handle_of s.serials lead.serial.0 ≡ Some lead.handle = rw (← c.self.view_is) at c.requires.found in
-    rw (c.in_ok-make_places.ensures.same, c.in_ok-reserve.ensures.same) (c.self.invariant.intact.keyed.leads lead.serial.0 lead.handle found).kept
+    rw (c.in_ok-make_places.ensures.same, c.in_ok-reserve.ensures.same) (c.self.invariant.intact.keyed.leads lead.serial.0 lead.handle found).3
 
 pub invariant_of-self-2 : goal.invariant_of-self-2
 invariant_of-self-2 c =

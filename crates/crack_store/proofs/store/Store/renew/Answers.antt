@@ -53,7 +53,7 @@ pub push_remembered-requires-clause-absent : goal.push_remembered-requires-claus
 push_remembered-requires-clause-absent c =
     let s = lists_of c.self.inside.inside in
     let found : handle_of s.serials c.args.row.serial.0 ≡ Some c.args.lead.handle = rw (← c.self.view_is) at c.requires.found in
-    rw (c.in_ok-make_places.ensures.same, c.in_ok-reserve.ensures.same) (c.self.invariant.intact.keyed.leads c.args.row.serial.0 c.args.lead.handle found).kept
+    rw (c.in_ok-make_places.ensures.same, c.in_ok-reserve.ensures.same) (c.self.invariant.intact.keyed.leads c.args.row.serial.0 c.args.lead.handle found).3
 
 pub push_remembered-requires-2-clause-room : goal.push_remembered-requires-2-clause-room
 push_remembered-requires-2-clause-room c = omega (arith, c.in_ok-reserve-2.ensures.room, ap (λ (p : Pending). p.room) c.in_ok-make_places-3.ensures.same)

@@ -3,7 +3,8 @@ use Rattle.std.specs.Prelude.{All}
 use Rattle.std.proofs.lemmas.List.{length-set}
 use Rattle.std.proofs.lemmas.List.Elements.{All-push}
 use Rattle.crack_row.specs.declared.command.Entry.{Entry}
-use Rattle.crack_plain.specs.Plain.{PlainState, no_rows, replay_from, reply_to}
+use Rattle.crack_plain.specs.Plain.{PlainState, no_rows, reply_to}
+use Rattle.crack_plain.proofs.Words.{replay_from}
 use Rattle.crack_plain.proofs.Laws.{AreReplies-push}
 use Rattle.crack_part.specs.Parts.{Part}
 use Rattle.crack_part.specs.Refusals.{refusal_of}
