@@ -35,15 +35,14 @@ fn assert_reads(rt: &impl Abort, arena: &Arena<char>, handle: Handle<char>, valu
 
 /// Asserts how many cells there are, how many of them are free, and how many were ever freed.
 fn assert_cells(rt: &impl Abort, arena: &Arena<char>, cells: usize, free_cells: usize, freed: u64) {
-    assert_eq!(rt; arena.cells(), cells);
-    assert_eq!(rt; arena.free_cells(), free_cells);
-    assert_eq!(rt; arena.freed(), freed);
+    let told = (arena.cells(), arena.free_cells(), arena.freed());
+    assert_eq!(rt; told, (cells, free_cells, freed));
 }
 
 /// Asserts the slot and the generation of a handle.
 fn assert_handle(rt: &impl Abort, handle: Handle<char>, slot: u32, generation: u64) {
-    assert_eq!(rt; handle.slot(), slot);
-    assert_eq!(rt; handle.generation(), generation);
+    let told = (handle.slot(), handle.generation());
+    assert_eq!(rt; told, (slot, generation));
 }
 
 fn free_and_put(rt: &impl Abort, arena: &mut Arena<char>) {
@@ -180,14 +179,12 @@ fn cells_of_a_second_page(rt: HostRuntime) {
 /// The values of adjacent cells, from the one with this number on: this many cells.
 fn assert_stretch(rt: &impl Abort, arena: &Arena<char>, slot: u32, len: u32) {
     let stretch = arena.stretch_from(slot);
-    assert_eq!(rt; stretch.len(), len as usize);
-    assert_eq!(rt; stretch.value_at(len as usize), None);
+    let after = stretch.value_at(len as usize);
+    assert!(rt; stretch.len() == len as usize && after.is_none());
     for place in 0..len {
         let handle = Handle::new(slot.saturating_add(place), 0);
-        assert_eq!(rt;
-            stretch.value_at(place as usize).copied(),
-            arena.get(handle).copied()
-        );
+        let value = stretch.value_at(place as usize).copied();
+        assert!(rt; value == arena.get(handle).copied(), "at {place}");
     }
 }
 

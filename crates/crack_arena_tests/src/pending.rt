@@ -95,13 +95,13 @@ fn assert_keys<Kind>(
     pending: &PendingList<Kind>,
     keys: &[KeyNumber],
 ) {
-    assert_eq!(rt; pending.len(), keys.len());
-    assert_eq!(rt; pending.is_empty(), keys.len() == 0);
+    assert!(rt; pending.len() == keys.len());
+    assert!(rt; pending.is_empty() == (keys.len() == 0));
     for place in 0..keys.len() {
         let handle = at(rt, pending, place);
-        assert_eq!(rt; key_of(arena, handle).number(), keys[place], "at {place}");
-        assert_eq!(rt; pending.place_of(handle), Some(place));
-        assert!(rt; pending.contains(handle.slot()));
+        let is_found = pending.place_of(handle) == Some(place) && pending.contains(handle.slot());
+        let has_key = key_of(arena, handle).number() == keys[place];
+        assert!(rt; has_key && is_found, "at {place}");
     }
 }
 

@@ -1,13 +1,14 @@
 //! Copies of replies, the size of an entry, lists of pieces, intersections of ranges, and a writer that takes nothing.
 
 use crack_row::{
-    Bound, Entry, GREATEST_BOUND, GREATEST_KEY, GREATEST_PAYLOAD, Key, KeyNumber, KeyRange,
-    LEAST_PAYLOAD, Payload, PayloadNumber, PieceList, PieceSize, Refusal, Reply, Row, RowList,
-    Serial, Watched,
+    Bound, BoundNumber, Entry, GREATEST_BOUND, GREATEST_KEY, GREATEST_PAYLOAD, Key, KeyNumber,
+    KeyRange, LEAST_PAYLOAD, Payload, PayloadNumber, PieceList, PieceSize, Refusal, Reply, Row,
+    RowList, Serial, Watched,
 };
+use std::alloc::Global;
 use std::io;
 use std::io::Write;
-use std::test::Fail;
+use std::process::Abort;
 
 /// A writer that accepts no bytes.
 #[derive(Drop)]
@@ -33,96 +34,115 @@ fn row(serial: u64, key: KeyNumber, payload: PayloadNumber) -> Row {
     }
 }
 
+/// A copy of a reply.
+fn copy_of(rt: &impl Abort, alloc: Global, reply: &Reply) -> Reply {
+    reply.copy(alloc).expect(rt, "a copy")
+}
+
 #[test]
-fn flat_replies_are_copied(rt: HostRuntime) -> Result<(), Fail> {
-    let placed = Reply::Placed(Serial(3)).copy(rt.alloc())?;
+fn flat_replies_are_copied(rt: HostRuntime) {
+    let placed = copy_of(&rt, rt.alloc(), &Reply::Placed(Serial(3)));
+    let gone = copy_of(&rt, rt.alloc(), &Reply::Gone(row(3, 7, 70)));
+    let summed = copy_of(
+        &rt,
+        rt.alloc(),
+        &Reply::Summed(79228162514264337593543950335),
+    );
     assert!(rt; matches!(placed, Reply::Placed(Serial(3))));
-    let gone = Reply::Gone(row(3, 7, 70)).copy(rt.alloc())?;
     assert!(rt; matches!(gone, Reply::Gone(gone) if gone == row(3, 7, 70)));
-    let summed = Reply::Summed(79228162514264337593543950335).copy(rt.alloc())?;
     assert!(rt; matches!(summed, Reply::Summed(79228162514264337593543950335)));
-    Ok(())
 }
 
 /// The greatest key, with the least payload, and the least sum.
 #[test]
-fn replies_of_the_widest_numbers_are_copied(rt: HostRuntime) -> Result<(), Fail> {
+fn replies_of_the_widest_numbers_are_copied(rt: HostRuntime) {
     let widest = row(u64::MAX, GREATEST_KEY, LEAST_PAYLOAD);
-    let gone = Reply::Gone(widest).copy(rt.alloc())?;
-    assert!(rt; matches!(gone, Reply::Gone(gone) if gone == widest));
-    let summed = Reply::Summed(i128::MIN).copy(rt.alloc())?;
-    assert!(rt; matches!(summed, Reply::Summed(i128::MIN)));
+    let gone = copy_of(&rt, rt.alloc(), &Reply::Gone(widest));
+    let summed = copy_of(&rt, rt.alloc(), &Reply::Summed(i128::MIN));
     let other = Reply::Gone(row(u64::MAX, GREATEST_KEY, GREATEST_PAYLOAD));
     assert!(rt; !gone.is_same(&other));
-    Ok(())
+    assert!(rt; matches!(gone, Reply::Gone(gone) if gone == widest));
+    assert!(rt; matches!(summed, Reply::Summed(i128::MIN)));
+}
+
+/// A list of two rows.
+fn two_rows(rt: &impl Abort, alloc: Global, rows: [Row; 2]) -> RowList {
+    let mut list = Vec::new(alloc);
+    assert!(rt; list.extend_from_slice(&rows).is_ok());
+    RowList::from_vec(list)
 }
 
 #[test]
-fn listed_rows_are_copied(rt: HostRuntime) -> Result<(), Fail> {
-    let mut rows = Vec::new(rt.alloc());
-    rows.push(row(3, 7, 70))?;
-    rows.push(row(4, 6, 60))?;
-    let copied = RowList::from_vec(rows).copy(rt.alloc())?;
-    assert_eq!(rt;
-        copied.as_slice(),
-        [row(3, 7, 70), row(4, 6, 60)].as_slice()
-    );
-    assert_eq!(rt; copied.into_vec().len(), 2);
-    Ok(())
+fn listed_rows_are_copied(rt: HostRuntime) {
+    let rows = [row(3, 7, 70), row(4, 6, 60)];
+    let list = two_rows(&rt, rt.alloc(), rows);
+    let copied = list.copy(rt.alloc()).expect(&rt, "a copy");
+    drop(list);
+    assert!(rt; copied.as_slice() == rows.as_slice());
+    assert!(rt; copied.into_vec().len() == 2);
 }
 
 /// The size of an entry of a history, without the rows of a select.
 #[test]
-fn an_entry_takes_at_most_96_bytes(rt: HostRuntime) -> Result<(), Fail> {
+fn an_entry_takes_at_most_96_bytes(rt: HostRuntime) {
     assert!(rt; size_of::<Entry>() <= 96);
-    Ok(())
 }
 
 #[test]
-fn pieces_go_in_and_out(rt: HostRuntime) -> Result<(), Fail> {
+fn pieces_go_in_and_out(rt: HostRuntime) {
     let piece = PieceSize {
         low: Bound::from_number(0),
         high: Bound::from_number(15),
         size: 2,
     };
     let mut pieces = Vec::new(rt.alloc());
-    pieces.push(piece)?;
+    assert!(rt; pieces.push(piece).is_ok());
     let list = PieceList::from_vec(pieces);
-    assert_eq!(rt; list.as_slice(), [piece].as_slice());
+    assert!(rt; list.as_slice() == [piece].as_slice());
     let given_back = list.into_vec();
-    assert_eq!(rt; given_back.as_slice(), [piece].as_slice());
-    Ok(())
+    assert!(rt; given_back.as_slice() == [piece].as_slice());
+    drop(given_back);
+}
+
+/// The range from a low end to a high one.
+fn range(rt: &impl Abort, low: BoundNumber, high: BoundNumber) -> KeyRange {
+    KeyRange::new(low, high).expect(rt, "a range")
 }
 
 /// Two ranges that meet have no intersection: the empty range at the other's low end.
 #[test]
-fn ranges_that_meet(rt: HostRuntime) -> Result<(), Fail> {
-    let common = KeyRange::new(0, 50)?.clip(KeyRange::new(50, 60)?);
+fn ranges_that_meet(rt: HostRuntime) {
+    let common = range(&rt, 0, 50).clip(range(&rt, 50, 60));
     assert!(rt; common.is_empty());
-    assert_eq!(rt; common.low(), Bound::from_number(50));
-    assert_eq!(rt; common.high(), Bound::from_number(50));
-    Ok(())
+    let ends = [common.low().number(), common.high().number()];
+    assert_eq!(rt; ends, [50, 50]);
 }
 
 /// The range of only the greatest key ends at the greatest bound, which no range exceeds.
 #[test]
-fn the_range_of_the_greatest_key(rt: HostRuntime) -> Result<(), Fail> {
-    let greatest = KeyRange::new(18446744073709551615, 18446744073709551616)?;
-    assert_eq!(rt; greatest.high().number(), GREATEST_BOUND);
-    assert!(rt; greatest.contains(Key::from_number(18446744073709551615)));
-    assert!(rt; !greatest.contains(Key::from_number(18446744073709551614)));
-    assert!(rt; !greatest.contains(Key::from_number(4294967295)));
+fn the_range_of_the_greatest_key(rt: HostRuntime) {
+    let greatest = range(&rt, 18446744073709551615, 18446744073709551616);
+    let contained = [
+        greatest.contains(Key::from_number(18446744073709551615)),
+        greatest.contains(Key::from_number(18446744073709551614)),
+        greatest.contains(Key::from_number(4294967295)),
+    ];
+    assert!(rt; contained == [true, false, false]);
+    assert!(rt; greatest.high().number() == GREATEST_BOUND);
     let past = KeyRange::new(0, 18446744073709551617).err();
-    assert_eq!(rt; past, Some(Refusal::BadRange));
-    Ok(())
+    assert!(rt; past == Some(Refusal::BadRange));
+}
+
+/// How many bytes of these a writer takes.
+fn taken(rt: &impl Abort, writer: &mut Watched<Full>, bytes: &[u8]) -> usize {
+    writer.write(bytes).ok().expect(rt, "no failure")
 }
 
 #[test]
-fn a_writer_that_takes_none(rt: HostRuntime) -> Result<(), Fail> {
+fn a_writer_that_takes_none(rt: HostRuntime) {
     let mut writer = Watched::new(Full);
-    assert_eq!(rt; writer.write(b"")?, 0);
+    assert!(rt; taken(&rt, &mut writer, b"") == 0);
     assert!(rt; !writer.failed());
-    assert_eq!(rt; writer.write(b"bye")?, 0);
+    assert!(rt; taken(&rt, &mut writer, b"bye") == 0);
     assert!(rt; writer.failed());
-    Ok(())
 }

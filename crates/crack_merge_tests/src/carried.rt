@@ -6,7 +6,7 @@
 ghost use Rattle.std.specs.Prelude.{◌≡◌, ◌<◌, ◌≤◌};
 ghost use Rattle.crack_state.specs.Merge.{IsCracked};
 
-use crate::bulk::{Contents, Numbers, contents_of, some_store, take_first, take_last};
+use crate::bulk::{Contents, Numbers, assert_same, contents_of, some_store, take_first, take_last};
 use crate::merge::{crack_between, doom, insert};
 use crack_merge::{carry_range, merge_complete};
 use crack_row::{Bound, GREATEST_BOUND, Key, KeyNumber, KeyRange, Payload, Row, Serial};
@@ -218,7 +218,7 @@ fn carried_by(rt: &impl Abort, alloc: Global, seed: u64, carry: Carry) -> (Conte
 fn assert_alike(rt: &impl Abort, alloc: Global, seeds: u64, under: bool) -> u64 {
     let mut evicted = 0u64;
     for seed in 0..seeds {
-        let at_once = Carry {
+        let all = Carry {
             at_once: true,
             under,
         };
@@ -226,11 +226,9 @@ fn assert_alike(rt: &impl Abort, alloc: Global, seeds: u64, under: bool) -> u64 
             at_once: false,
             under,
         };
-        let (contents, counted) = carried_by(rt, alloc, seed, at_once);
-        let (expected, tally) = carried_by(rt, alloc, seed, each);
-        assert_eq!(rt; counted, tally, "{}", seed);
-        assert_eq!(rt; contents, expected, "{}", seed);
-        evicted = evicted.saturating_add(counted.evicted);
+        let at_once = carried_by(rt, alloc, seed, all);
+        assert_same(rt, seed, &at_once, &carried_by(rt, alloc, seed, each));
+        evicted = evicted.saturating_add(at_once.1.evicted);
     }
     evicted
 }
@@ -238,7 +236,7 @@ fn assert_alike(rt: &impl Abort, alloc: Global, seeds: u64, under: bool) -> u64 
 #[test]
 fn carries_past_doomed_rows_leave_what_one_after_the_other_leaves(rt: HostRuntime) {
     let evicted = assert_alike(&rt, rt.alloc(), 2000, false);
-    assert_eq!(rt; evicted, 0);
+    assert!(rt; evicted == 0);
 }
 
 #[test]
@@ -280,47 +278,79 @@ fn merge_again(rt: &impl Abort, store: Store) -> Store {
     }
 }
 
-/// The serial of the column's last row, which is taken out.
-pub(crate) fn take_serial(rt: &impl Abort, store: Store) -> (Store, u64) {
-    let mut store = store;
-    if store.make_room().is_err() {
-        let again = store.make_room();
-        assert!(rt; again.is_ok());
+/// Makes room, at the second time if memory was refused once.
+pub(crate) fn make_room_at_last(rt: &impl Abort, store: &mut Store)
+    ensures room { 0 < store.new.column_room }
+{
+    if store.make_room().is_ok() {
+        return;
     }
-    let (store, row) = take_last(rt, store);
-    (store, row[0])
+    let again = store.make_room();
+    assert!(rt; again.is_ok());
+}
+
+/// Takes rows out of the column, from its end on, and asserts their serials.
+pub(crate) fn assert_column(rt: &impl Abort, store: Store, serials: &[u64]) {
+    let mut store = store;
+    for place in 0..serials.len() {
+        make_room_at_last(rt, &mut store);
+        let (next, row) = take_last(rt, store);
+        assert!(rt; row[0] == serials[place], "at {place}");
+        store = next;
+    }
+    drop(store);
+}
+
+/// Puts each pending insertion after the others, from the first one on, and asserts their serials.
+fn assert_pending(rt: &impl Abort, store: Store, serials: &[u64]) -> Store {
+    let mut store = store;
+    assert!(rt; store.pending_in() == serials.len());
+    for place in 0..serials.len() {
+        make_room_at_last(rt, &mut store);
+        let (next, row) = take_first(rt, store);
+        assert!(rt; row[0] == serials[place], "at {place}");
+        store = next;
+    }
+    store
+}
+
+/// Admits rows of these keys, with serials from this one on.
+pub(crate) fn admit_all(rt: &impl Abort, store: &mut Store, first: u64, keys: &[KeyNumber]) {
+    for place in 0..keys.len() {
+        admit(rt, store, first.wrapping_add(place as u64), keys[place]);
+    }
+}
+
+/// The keys from 15 up to 25.
+pub(crate) fn middle(rt: &impl Abort) -> KeyRange
+    ensures some { result.low < result.high }
+    ensures within { result.high ≤ GREATEST_BOUND }
+{
+    KeyRange::new(15, 25).expect(rt, "a range")
+}
+
+/// A store whose column has rows of these keys, with serials from 0 on, and is cracked at 15 and 25.
+pub(crate) fn merged_store(rt: &impl Abort, alloc: Global, keys: &[KeyNumber]) -> Store {
+    let mut store = Store::new(alloc, KeyRange::all());
+    admit_all(rt, &mut store, 0, keys);
+    let mut store = merge_at_last(rt, store);
+    crack_at_last(rt, &mut store, middle(rt));
+    store
 }
 
 /// Three rows are carried into three pieces.
 #[test]
 fn sweep_carries_in_bulk(rt: HostRuntime) {
-    let mut store = Store::new(rt.alloc(), KeyRange::all());
-    admit(&rt, &mut store, 0, 10);
-    admit(&rt, &mut store, 1, 20);
-    admit(&rt, &mut store, 2, 30);
-    let mut store = merge_at_last(&rt, store);
-    let range = KeyRange::new(15, 25).expect(&rt, "a range");
-    crack_at_last(&rt, &mut store, range);
-    admit(&rt, &mut store, 3, 17);
-    admit(&rt, &mut store, 4, 12);
-    admit(&rt, &mut store, 5, 90);
-    let mut store = merge_at_last(&rt, store);
-    assert_eq!(rt; store.tally().moved, 3);
-    let mut serials = [0u64; 6];
-    for i in 0..6 {
-        let (next, serial) = take_serial(&rt, store);
-        serials[i] = serial;
-        store = next;
-    }
-    drop(store);
-    assert_eq!(rt; serials, [5, 2, 1, 3, 4, 0]);
+    let mut store = merged_store(&rt, rt.alloc(), &[10, 20, 30]);
+    admit_all(&rt, &mut store, 3, &[17, 12, 90]);
+    let store = merge_at_last(&rt, store);
+    assert!(rt; store.tally().moved == 3);
+    assert_column(&rt, store, &[5, 2, 1, 3, 4, 0]);
 }
 
 /// Dooms a row of the column, at the second time if memory was refused once.
-pub(crate) fn doom_at_last(rt: &impl Abort, store: &mut Store, serial: u64)
-    requires low { store.old.keys.low ≡ 0 }
-    requires high { store.old.keys.high ≡ GREATEST_BOUND }
-{
+pub(crate) fn doom_at_last(rt: &impl Abort, store: &mut Store, serial: u64) {
+    assert_all_keys(rt, store);
     let pending = store.is_pending(Serial(serial));
     let freed = store.freed();
     let doomed = store.pending_out();
@@ -335,76 +365,33 @@ pub(crate) fn doom_at_last(rt: &impl Abort, store: &mut Store, serial: u64)
 /// Three rows are carried into three pieces, and the second of them meets a doomed row.
 #[test]
 fn sweep_carries_past_a_doomed_row(rt: HostRuntime) {
-    let mut store = Store::new(rt.alloc(), KeyRange::all());
-    admit(&rt, &mut store, 0, 10);
-    admit(&rt, &mut store, 1, 20);
-    admit(&rt, &mut store, 2, 30);
-    let mut store = merge_at_last(&rt, store);
-    let range = KeyRange::new(15, 25).expect(&rt, "a range");
-    crack_at_last(&rt, &mut store, range);
-    assert_all_keys(&rt, &store);
+    let mut store = merged_store(&rt, rt.alloc(), &[10, 20, 30]);
     doom_at_last(&rt, &mut store, 1);
-    admit(&rt, &mut store, 3, 17);
-    admit(&rt, &mut store, 4, 12);
-    admit(&rt, &mut store, 5, 90);
-    let mut store = merge_at_last(&rt, store);
-    assert_eq!(rt; store.tally().moved, 2);
-    assert_eq!(rt; store.tally().taken_out, 1);
-    let mut serials = [0u64; 5];
-    for i in 0..5 {
-        let (next, serial) = take_serial(&rt, store);
-        serials[i] = serial;
-        store = next;
-    }
-    drop(store);
-    assert_eq!(rt; serials, [5, 2, 3, 4, 0]);
+    admit_all(&rt, &mut store, 3, &[17, 12, 90]);
+    let store = merge_at_last(&rt, store);
+    let tally = store.tally();
+    assert!(rt; tally.moved == 2 && tally.taken_out == 1);
+    assert_column(&rt, store, &[5, 2, 3, 4, 0]);
 }
 
-/// The serial of the first pending insertion, which goes after the others.
-fn pending_serial(rt: &impl Abort, store: Store) -> (Store, u64) {
-    let mut store = store;
-    if store.make_room().is_err() {
-        let again = store.make_room();
-        assert!(rt; again.is_ok());
+/// Carries the pending insertions of a range under its end, at the second time if memory was refused once.
+fn carried_at_last(rt: &impl Abort, store: Store, range: KeyRange) -> Store {
+    let (stopped, all) = carried_or_stopped(rt, store, range, Some(range.high()));
+    if all {
+        stopped
+    } else {
+        carried(rt, stopped, range, Some(range.high()))
     }
-    let (store, row) = take_first(rt, store);
-    (store, row[0])
 }
 
 /// Three rows are carried into a piece under a ceiling, beyond which there are two rows.
 #[test]
 fn sweep_carries_under_a_ceiling(rt: HostRuntime) {
-    let mut store = Store::new(rt.alloc(), KeyRange::all());
-    admit(&rt, &mut store, 0, 10);
-    admit(&rt, &mut store, 1, 20);
-    admit(&rt, &mut store, 2, 30);
-    admit(&rt, &mut store, 3, 40);
-    let mut store = merge_at_last(&rt, store);
-    let range = KeyRange::new(15, 25).expect(&rt, "a range");
-    crack_at_last(&rt, &mut store, range);
-    admit(&rt, &mut store, 4, 17);
-    admit(&rt, &mut store, 5, 18);
-    admit(&rt, &mut store, 6, 16);
-    let (stopped, all) = carried_or_stopped(&rt, store, range, Some(range.high()));
-    let mut store = if all {
-        stopped
-    } else {
-        carried(&rt, stopped, range, Some(range.high()))
-    };
-    assert_eq!(rt; store.tally().moved, 2);
-    assert_eq!(rt; store.tally().evicted, 2);
-    assert_eq!(rt; store.pending_in(), 2);
-    for serial in 2..4u64 {
-        let (next, pending) = pending_serial(&rt, store);
-        assert_eq!(rt; pending, serial);
-        store = next;
-    }
-    let mut serials = [0u64; 5];
-    for i in 0..5 {
-        let (next, serial) = take_serial(&rt, store);
-        serials[i] = serial;
-        store = next;
-    }
-    drop(store);
-    assert_eq!(rt; serials, [6, 5, 4, 1, 0]);
+    let mut store = merged_store(&rt, rt.alloc(), &[10, 20, 30, 40]);
+    admit_all(&rt, &mut store, 4, &[17, 18, 16]);
+    let store = carried_at_last(&rt, store, middle(&rt));
+    let tally = store.tally();
+    assert!(rt; tally.moved == 2 && tally.evicted == 2);
+    let store = assert_pending(&rt, store, &[2, 3]);
+    assert_column(&rt, store, &[6, 5, 4, 1, 0]);
 }

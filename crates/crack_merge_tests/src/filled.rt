@@ -1,9 +1,10 @@
 //! Pulls by fillers in bulk have the result of one after the other, in random stores.
 ghost use Rattle.std.specs.Prelude.{◌≡◌, ◌<◌, ◌≤◌};
 
-use crate::bulk::{Contents, Numbers, contents_of, some_store};
+use crate::bulk::{Contents, Numbers, assert_same, contents_of, some_store};
 use crate::carried::{
-    admit, assert_all_keys, crack_at_last, doom_at_last, doom_some, merge_at_last, take_serial,
+    admit, admit_all, assert_all_keys, assert_column, doom_at_last, doom_some, make_room_at_last,
+    merged_store, middle,
 };
 use crate::merge::{crack_between, insert};
 use crack_merge::pull_range;
@@ -45,10 +46,7 @@ fn but_the_first(range: KeyRange) -> KeyRange {
 /// Pulls the pending deletions of the range, if there is a filler, and makes room for it before.
 fn pulled_with(rt: &impl Abort, store: Store, range: KeyRange, fillers: KeyRange) -> Store {
     let mut store = store;
-    if store.make_room().is_err() {
-        let again = store.make_room();
-        assert!(rt; again.is_ok());
-    }
+    make_room_at_last(rt, &mut store);
     let Some(first) = store.next_in(fillers, 0) else {
         return store;
     };
@@ -86,11 +84,10 @@ fn pulled_by(rt: &impl Abort, alloc: Global, seed: u64, in_bulk: bool) -> (Conte
 fn pulls_by_fillers_in_bulk_leave_what_one_after_the_other_leaves(rt: HostRuntime) {
     let mut taken = 0u64;
     for seed in 0..3000u64 {
-        let (contents, counted) = pulled_by(&rt, rt.alloc(), seed, true);
-        let (expected, tally) = pulled_by(&rt, rt.alloc(), seed, false);
-        assert_eq!(rt; counted, tally, "{}", seed);
-        assert_eq!(rt; contents, expected, "{}", seed);
-        taken = taken.saturating_add(counted.taken_out);
+        let in_bulk = pulled_by(&rt, rt.alloc(), seed, true);
+        let each = pulled_by(&rt, rt.alloc(), seed, false);
+        assert_same(&rt, seed, &in_bulk, &each);
+        taken = taken.saturating_add(in_bulk.1.taken_out);
     }
     assert!(rt; taken > 1000);
 }
@@ -98,32 +95,15 @@ fn pulls_by_fillers_in_bulk_leave_what_one_after_the_other_leaves(rt: HostRuntim
 /// Two doomed rows of a piece are pulled, each by a filler.
 #[test]
 fn sweep_pulls_by_fillers(rt: HostRuntime) {
-    let mut store = Store::new(rt.alloc(), KeyRange::all());
-    admit(&rt, &mut store, 0, 10);
-    admit(&rt, &mut store, 1, 20);
-    admit(&rt, &mut store, 2, 22);
-    admit(&rt, &mut store, 3, 40);
-    let mut store = merge_at_last(&rt, store);
-    let range = KeyRange::new(15, 25).expect(&rt, "a range");
-    crack_at_last(&rt, &mut store, range);
-    assert_all_keys(&rt, &store);
+    let mut store = merged_store(&rt, rt.alloc(), &[10, 20, 22, 40]);
     doom_at_last(&rt, &mut store, 1);
-    assert_all_keys(&rt, &store);
     doom_at_last(&rt, &mut store, 2);
-    admit(&rt, &mut store, 4, 27);
-    admit(&rt, &mut store, 5, 26);
+    admit_all(&rt, &mut store, 4, &[27, 26]);
     assert_all_keys(&rt, &store);
-    let fillers = store.keys_beyond(range);
-    let mut store = pulled_with(&rt, store, range, fillers);
-    assert_eq!(rt; store.tally().put_in, 6);
-    assert_eq!(rt; store.tally().taken_out, 2);
-    assert_eq!(rt; store.pending_in(), 0);
-    let mut serials = [0u64; 4];
-    for i in 0..4 {
-        let (next, serial) = take_serial(&rt, store);
-        serials[i] = serial;
-        store = next;
-    }
-    drop(store);
-    assert_eq!(rt; serials, [3, 4, 5, 0]);
+    let fillers = store.keys_beyond(middle(&rt));
+    let store = pulled_with(&rt, store, middle(&rt), fillers);
+    let tally = store.tally();
+    assert!(rt; tally.put_in == 6 && tally.taken_out == 2);
+    assert!(rt; store.pending_in() == 0);
+    assert_column(&rt, store, &[3, 4, 5, 0]);
 }

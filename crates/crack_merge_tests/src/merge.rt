@@ -1,10 +1,13 @@
-//! A merge of pending rows counts them, and the rows that it moved for them.
+//! A merge of pending rows counts them, and the rows that it moved for them. Each test is a list of steps.
 ghost use Rattle.std.specs.Prelude.{◌≡◌, ◌<◌, ◌≤◌};
 ghost use Rattle.crack_state.specs.Merge.{IsCracked};
 
+use crate::carried::assert_all_keys;
 use crack_merge::{merge_complete, merge_gradual};
 use crack_ripple::merge_ripple;
-use crack_row::{GREATEST_BOUND, Key, KeyNumber, KeyRange, Payload, Policy, Row, Serial};
+use crack_row::{
+    BoundNumber, GREATEST_BOUND, Key, KeyNumber, KeyRange, Payload, Policy, Row, Serial,
+};
 use crack_store::{MergeReport, Store};
 use std::alloc::Global;
 use std::process::Abort;
@@ -115,8 +118,6 @@ fn merge_at(rt: &impl Abort, store: Store, range: KeyRange, policy: Policy) -> (
     requires low { store.keys.low ≡ 0 }
     requires high { store.keys.high ≡ GREATEST_BOUND }
     requires within { range.high ≤ GREATEST_BOUND }
-    ensures low { result.0.keys.low ≡ 0 }
-    ensures high { result.0.keys.high ≡ GREATEST_BOUND }
     ensures cracked { IsCracked result.0 range }
 {
     match policy {
@@ -127,360 +128,314 @@ fn merge_at(rt: &impl Abort, store: Store, range: KeyRange, policy: Policy) -> (
     }
 }
 
-/// A store of all keys whose column has the keys 10, 20 and 30, cracked at 15 and 25.
-fn cracked(rt: &impl Abort, alloc: Global) -> Store
-    ensures low { result.keys.low ≡ 0 }
-    ensures high { result.keys.high ≡ GREATEST_BOUND }
+/// A step of a test on a store of all keys.
+#[derive(Clone, Copy)]
+enum Step {
+    /// Inserts a row of this key.
+    Insert(KeyNumber),
+    /// Dooms the row of this serial.
+    Doom(u64),
+    /// Cracks at both ends of a range.
+    Crack(BoundNumber, BoundNumber),
+    /// Merges at the keys between two ends. The merge counts this many rows put in, taken out, evicted, moved and
+    /// pulled; then this many rows are between the ends.
+    Merge(Policy, [BoundNumber; 2], [u64; 5], u64),
+    /// Looks how many rows are in the column, in the pending insertions and in the pending deletions, and at the sizes
+    /// of the pieces, in rising order.
+    Look([u64; 3], &'static [u64]),
+}
+
+/// The range between two ends, which isn't empty.
+fn keys_between(rt: &impl Abort, low: BoundNumber, high: BoundNumber) -> KeyRange
+    ensures some { result.low < result.high }
+    ensures within { result.high ≤ GREATEST_BOUND }
 {
-    let mut store = Store::new(alloc, KeyRange::all());
-    insert(rt, &mut store, 10);
-    insert(rt, &mut store, 20);
-    insert(rt, &mut store, 30);
-    let (mut store, report) = merge_at(rt, store, KeyRange::all(), Policy::Complete);
-    assert_eq!(rt; [report.put_in, report.moved], [3, 0]);
-    crack_between(rt, &mut store, KeyRange::new(15, 25).expect(rt, "a range"));
+    assert!(rt; low < high);
+    KeyRange::new(low, high).expect(rt, "a range")
+}
+
+/// Asserts what a merge counts.
+fn assert_counted(rt: &impl Abort, report: MergeReport, counted: [u64; 5]) {
+    let told = [
+        report.put_in,
+        report.taken_out,
+        report.evicted,
+        report.moved,
+        report.pulled,
+    ];
+    assert_eq!(rt; told, counted);
+}
+
+/// Merges at a range, and asserts what that counts, and how many rows are in the range then.
+fn merge_counted(
+    rt: &impl Abort,
+    store: Store,
+    policy: Policy,
+    ends: [BoundNumber; 2],
+    counted: [u64; 5],
+    rows: u64,
+) -> Store {
+    assert_all_keys(rt, &store);
+    let range = keys_between(rt, ends[0], ends[1]);
+    let (store, report) = merge_at(rt, store, range, policy);
+    assert_counted(rt, report, counted);
+    let count = store.count_between(range);
+    assert!(rt; count == rows);
     store
 }
 
-/// A store of all keys whose column has the keys 10, 20, 30 and 40, cracked at 15 and 25.
-fn four(rt: &impl Abort, alloc: Global) -> Store
-    ensures low { result.keys.low ≡ 0 }
-    ensures high { result.keys.high ≡ GREATEST_BOUND }
-{
-    let mut store = Store::new(alloc, KeyRange::all());
-    insert(rt, &mut store, 10);
-    insert(rt, &mut store, 20);
-    insert(rt, &mut store, 30);
-    insert(rt, &mut store, 40);
-    let (mut store, report) = merge_at(rt, store, KeyRange::all(), Policy::Ripple);
-    assert_eq!(rt; [report.put_in, report.moved], [4, 0]);
-    crack_between(rt, &mut store, KeyRange::new(15, 25).expect(rt, "a range"));
-    store
-}
-
-/// Asserts how many rows are in the column and in the pending insertions, and the sizes of the pieces, in rising
-/// order.
-fn assert_layout(rt: &impl Abort, store: &Store, rows: [u64; 2], sizes: &[u64]) {
+/// Asserts the layout of a store.
+fn assert_layout(rt: &impl Abort, store: &Store, rows: [u64; 3], sizes: &[u64]) {
     let layout = store.layout().expect(rt, "a layout");
-    assert_eq!(rt; [layout.column, layout.pending_in], rows);
+    assert_eq!(rt;
+        [layout.column, layout.pending_in, layout.pending_out],
+        rows
+    );
     let pieces = layout.pieces.as_slice();
-    assert_eq!(rt; pieces.len(), sizes.len());
+    assert!(rt; pieces.len() == sizes.len());
     for i in 0..sizes.len() {
-        assert_eq!(rt; pieces[i].size, sizes[i], "piece {}", i);
+        assert!(rt; pieces[i].size == sizes[i], "piece {i}");
     }
 }
 
-/// What a merge at keys from 15 up to 25 counts, of two more rows of these keys, and how many rows then are between
-/// these ends.
-fn merge_two(
-    rt: &impl Abort,
-    store: Store,
-    keys: [KeyNumber; 2],
-    policy: Policy,
-) -> (Store, MergeReport, u64)
-    requires low { store.keys.low ≡ 0 }
-    requires high { store.keys.high ≡ GREATEST_BOUND }
-{
+/// Makes a step that changes a store in place.
+fn change(rt: &impl Abort, store: &mut Store, step: Step) {
+    assert_all_keys(rt, store);
+    match step {
+        Step::Insert(key) => insert(rt, store, key),
+        Step::Doom(serial) => doom(rt, store, serial),
+        Step::Crack(low, high) => crack_between(rt, store, keys_between(rt, low, high)),
+        _ => {}
+    }
+}
+
+/// Makes a step.
+fn make(rt: &impl Abort, store: Store, step: Step) -> Store {
+    match step {
+        Step::Merge(policy, ends, counted, rows) => {
+            merge_counted(rt, store, policy, ends, counted, rows)
+        }
+        Step::Look(rows, sizes) => {
+            assert_layout(rt, &store, rows, sizes);
+            store
+        }
+        _ => {
+            let mut store = store;
+            change(rt, &mut store, step);
+            store
+        }
+    }
+}
+
+/// Makes steps, one after the other.
+fn make_all(rt: &impl Abort, store: Store, steps: &[Step]) -> Store {
     let mut store = store;
-    insert(rt, &mut store, keys[0]);
-    insert(rt, &mut store, keys[1]);
-    let range = KeyRange::new(15, 25).expect(rt, "a range");
-    let (store, report) = merge_at(rt, store, range, policy);
-    let count = store.count_between(range);
-    (store, report, count)
+    'steps: for place in 0..steps.len() {
+        store = make(rt, store, steps[place]);
+    }
+    store
 }
 
-/// What a merge at keys from 0 up to 15 counts, once the one row of these keys is doomed: the pull goes through two
-/// bounds, and no row is left between these ends.
-fn merge_doomed(rt: &impl Abort, store: Store, policy: Policy) -> (Store, MergeReport)
-    requires low { store.keys.low ≡ 0 }
-    requires high { store.keys.high ≡ GREATEST_BOUND }
-{
-    let range = KeyRange::new(0, 15).expect(rt, "a range");
-    let (store, report) = merge_at(rt, store, range, policy);
-    assert_eq!(rt; store.count_between(range), 0);
-    (store, report)
+/// Makes steps in a fresh store of all keys, after the steps `first`. Each step asserts what it says.
+fn assert_steps(rt: &impl Abort, alloc: Global, first: &[Step], steps: &[Step]) {
+    let store = make_all(rt, Store::new(alloc, KeyRange::all()), first);
+    let store = make_all(rt, store, steps);
+    drop(store);
 }
 
-const NONE_COUNTED: MergeReport = MergeReport {
-    put_in: 0,
-    taken_out: 0,
-    evicted: 0,
-    moved: 0,
-    pulled: 0,
-};
+/// All keys.
+const ALL: [BoundNumber; 2] = [0, GREATEST_BOUND];
+
+/// The column has the keys 10, 20 and 30, and is cracked at 15 and 25.
+const THREE: &[Step] = &[
+    Step::Insert(10),
+    Step::Insert(20),
+    Step::Insert(30),
+    Step::Merge(Policy::Complete, ALL, [3, 0, 0, 0, 0], 3),
+    Step::Crack(15, 25),
+];
+
+/// The column has the keys 10, 20, 30 and 40, and is cracked at 15 and 25.
+const FOUR: &[Step] = &[
+    Step::Insert(10),
+    Step::Insert(20),
+    Step::Insert(30),
+    Step::Insert(40),
+    Step::Merge(Policy::Ripple, ALL, [4, 0, 0, 0, 0], 4),
+    Step::Crack(15, 25),
+];
+
+/// The column has the keys 10 and 40, and is cracked at 20 and 30.
+const APART: &[Step] = &[
+    Step::Insert(10),
+    Step::Insert(40),
+    Step::Merge(Policy::Ripple, ALL, [2, 0, 0, 0, 0], 2),
+    Step::Crack(20, 30),
+];
 
 #[test]
 fn complete_merges_every_pending_row(rt: HostRuntime) {
-    let store = cracked(&rt, rt.alloc());
-    let (store, report, count) = merge_two(&rt, store, [17, 90], Policy::Complete);
-    let counted = MergeReport {
-        put_in: 2,
-        moved: 1,
-        ..NONE_COUNTED
-    };
-    assert_eq!(rt; report, counted);
-    assert_eq!(rt; count, 2);
-    assert_layout(&rt, &store, [5, 0], &[1, 2, 2]);
-    drop(store);
+    const STEPS: &[Step] = &[
+        Step::Insert(17),
+        Step::Insert(90),
+        Step::Merge(Policy::Complete, [15, 25], [2, 0, 0, 1, 0], 2),
+        Step::Look([5, 0, 0], &[1, 2, 2]),
+    ];
+    assert_steps(&rt, rt.alloc(), THREE, STEPS);
 }
 
 #[test]
 fn complete_leaves_pending_rows_that_none_needs(rt: HostRuntime) {
-    let store = cracked(&rt, rt.alloc());
-    let (store, report, count) = merge_two(&rt, store, [5, 90], Policy::Complete);
-    assert_eq!(rt; report, NONE_COUNTED);
-    assert_eq!(rt; count, 1);
-    assert_layout(&rt, &store, [3, 2], &[1, 1, 1]);
-    drop(store);
+    const STEPS: &[Step] = &[
+        Step::Insert(5),
+        Step::Insert(90),
+        Step::Merge(Policy::Complete, [15, 25], [0, 0, 0, 0, 0], 1),
+        Step::Look([3, 2, 0], &[1, 1, 1]),
+    ];
+    assert_steps(&rt, rt.alloc(), THREE, STEPS);
 }
 
 #[test]
 fn gradual_merges_rows_of_the_range_alone(rt: HostRuntime) {
-    let store = cracked(&rt, rt.alloc());
-    let (store, report, count) = merge_two(&rt, store, [90, 17], Policy::Gradual);
-    let counted = MergeReport {
-        put_in: 1,
-        moved: 1,
-        ..NONE_COUNTED
-    };
-    assert_eq!(rt; report, counted);
-    assert_eq!(rt; count, 2);
-    assert_layout(&rt, &store, [4, 1], &[1, 2, 1]);
-    drop(store);
+    const STEPS: &[Step] = &[
+        Step::Insert(90),
+        Step::Insert(17),
+        Step::Merge(Policy::Gradual, [15, 25], [1, 0, 0, 1, 0], 2),
+        Step::Look([4, 1, 0], &[1, 2, 1]),
+    ];
+    assert_steps(&rt, rt.alloc(), THREE, STEPS);
 }
 
 #[test]
 fn a_carry_buries_the_doomed_row_that_it_meets(rt: HostRuntime) {
-    let mut store = cracked(&rt, rt.alloc());
-    doom(&rt, &mut store, 2);
-    let (store, report, count) = merge_two(&rt, store, [17, 90], Policy::Gradual);
-    let counted = MergeReport {
-        put_in: 1,
-        taken_out: 1,
-        moved: 1,
-        ..NONE_COUNTED
-    };
-    assert_eq!(rt; report, counted);
-    assert_eq!(rt; count, 2);
-    assert_layout(&rt, &store, [3, 1], &[1, 2, 0]);
-    drop(store);
+    const STEPS: &[Step] = &[
+        Step::Doom(2),
+        Step::Insert(17),
+        Step::Insert(90),
+        Step::Merge(Policy::Gradual, [15, 25], [1, 1, 0, 1, 0], 2),
+        Step::Look([3, 1, 0], &[1, 2, 0]),
+    ];
+    assert_steps(&rt, rt.alloc(), THREE, STEPS);
 }
 
 #[test]
 fn a_pull_goes_through_two_bounds(rt: HostRuntime) {
-    let mut store = cracked(&rt, rt.alloc());
-    doom(&rt, &mut store, 0);
-    let (store, report) = merge_doomed(&rt, store, Policy::Gradual);
-    let counted = MergeReport {
-        taken_out: 1,
-        pulled: 2,
-        ..NONE_COUNTED
-    };
-    assert_eq!(rt; report, counted);
-    assert_layout(&rt, &store, [2, 0], &[0, 1, 1]);
-    drop(store);
+    const STEPS: &[Step] = &[
+        Step::Doom(0),
+        Step::Merge(Policy::Gradual, [0, 15], [0, 1, 0, 0, 2], 0),
+        Step::Look([2, 0, 0], &[0, 1, 1]),
+    ];
+    assert_steps(&rt, rt.alloc(), THREE, STEPS);
 }
 
 #[test]
 fn a_pull_carries_another_doomed_row_on(rt: HostRuntime) {
-    let mut store = cracked(&rt, rt.alloc());
-    doom(&rt, &mut store, 0);
-    doom(&rt, &mut store, 2);
-    let (store, report) = merge_doomed(&rt, store, Policy::Gradual);
-    let counted = MergeReport {
-        taken_out: 1,
-        pulled: 2,
-        ..NONE_COUNTED
-    };
-    assert_eq!(rt; report, counted);
-    assert_eq!(rt; store.pending_out(), 1);
-    assert_layout(&rt, &store, [2, 0], &[0, 1, 1]);
-    drop(store);
+    const STEPS: &[Step] = &[
+        Step::Doom(0),
+        Step::Doom(2),
+        Step::Merge(Policy::Gradual, [0, 15], [0, 1, 0, 0, 2], 0),
+        Step::Look([2, 0, 1], &[0, 1, 1]),
+    ];
+    assert_steps(&rt, rt.alloc(), THREE, STEPS);
 }
 
 #[test]
 fn complete_takes_every_doomed_row_out(rt: HostRuntime) {
-    let mut store = cracked(&rt, rt.alloc());
-    doom(&rt, &mut store, 0);
-    doom(&rt, &mut store, 2);
-    let (store, report) = merge_doomed(&rt, store, Policy::Complete);
-    let counted = MergeReport {
-        taken_out: 2,
-        pulled: 2,
-        ..NONE_COUNTED
-    };
-    assert_eq!(rt; report, counted);
-    assert_layout(&rt, &store, [1, 0], &[0, 1, 0]);
-    drop(store);
-}
-
-/// A store of all keys whose column has the keys 10 and 40, cracked at 20 and 30.
-fn apart(rt: &impl Abort, alloc: Global) -> Store
-    ensures low { result.keys.low ≡ 0 }
-    ensures high { result.keys.high ≡ GREATEST_BOUND }
-{
-    let mut store = Store::new(alloc, KeyRange::all());
-    insert(rt, &mut store, 10);
-    insert(rt, &mut store, 40);
-    let (mut store, _) = ripple_at(rt, store, KeyRange::all());
-    crack_between(rt, &mut store, KeyRange::new(20, 30).expect(rt, "a range"));
-    store
-}
-
-/// What ripple counts at keys from 10 up to 20, of one more row of the key 15.
-fn ripple_fifteen(rt: &impl Abort, store: Store) -> (Store, MergeReport)
-    requires low { store.keys.low ≡ 0 }
-    requires high { store.keys.high ≡ GREATEST_BOUND }
-    ensures low { result.0.keys.low ≡ 0 }
-    ensures high { result.0.keys.high ≡ GREATEST_BOUND }
-{
-    let mut store = store;
-    insert(rt, &mut store, 15);
-    ripple_at(rt, store, KeyRange::new(10, 20).expect(rt, "a range"))
+    const STEPS: &[Step] = &[
+        Step::Doom(0),
+        Step::Doom(2),
+        Step::Merge(Policy::Complete, [0, 15], [0, 2, 0, 0, 2], 0),
+        Step::Look([1, 0, 0], &[0, 1, 0]),
+    ];
+    assert_steps(&rt, rt.alloc(), THREE, STEPS);
 }
 
 #[test]
 fn ripple_evicts_the_row_in_the_way(rt: HostRuntime) {
-    let store = apart(&rt, rt.alloc());
-    let (store, report) = ripple_fifteen(&rt, store);
-    let counted = MergeReport {
-        put_in: 1,
-        evicted: 1,
-        moved: 1,
-        ..NONE_COUNTED
-    };
-    assert_eq!(rt; report, counted);
-    assert_layout(&rt, &store, [2, 1], &[0, 2, 0, 0]);
-    drop(store);
+    const STEPS: &[Step] = &[
+        Step::Insert(15),
+        Step::Merge(Policy::Ripple, [10, 20], [1, 0, 1, 1, 0], 2),
+        Step::Look([2, 1, 0], &[0, 2, 0, 0]),
+    ];
+    assert_steps(&rt, rt.alloc(), APART, STEPS);
 }
 
 #[test]
 fn an_empty_piece_at_the_end_keeps_its_low_bound(rt: HostRuntime) {
-    let store = apart(&rt, rt.alloc());
-    let (mut store, _) = ripple_fifteen(&rt, store);
-    insert(&rt, &mut store, 25);
-    let (store, report) = ripple_at(&rt, store, KeyRange::new(20, 30).expect(&rt, "a range"));
-    let counted = MergeReport {
-        put_in: 1,
-        ..NONE_COUNTED
-    };
-    assert_eq!(rt; report, counted);
-    assert_layout(&rt, &store, [3, 1], &[0, 2, 1, 0]);
-    drop(store);
+    const STEPS: &[Step] = &[
+        Step::Insert(15),
+        Step::Merge(Policy::Ripple, [10, 20], [1, 0, 1, 1, 0], 2),
+        Step::Insert(25),
+        Step::Merge(Policy::Ripple, [20, 30], [1, 0, 0, 0, 0], 1),
+        Step::Look([3, 1, 0], &[0, 2, 1, 0]),
+    ];
+    assert_steps(&rt, rt.alloc(), APART, STEPS);
 }
 
 #[test]
 fn ripple_buries_the_doomed_row_in_the_way(rt: HostRuntime) {
-    let mut store = cracked(&rt, rt.alloc());
-    doom(&rt, &mut store, 2);
-    insert(&rt, &mut store, 17);
-    let (store, report) = ripple_at(&rt, store, KeyRange::new(15, 25).expect(&rt, "a range"));
-    let counted = MergeReport {
-        put_in: 1,
-        taken_out: 1,
-        moved: 1,
-        ..NONE_COUNTED
-    };
-    assert_eq!(rt; report, counted);
-    assert_layout(&rt, &store, [3, 0], &[1, 2, 0]);
-    drop(store);
+    const STEPS: &[Step] = &[
+        Step::Doom(2),
+        Step::Insert(17),
+        Step::Merge(Policy::Ripple, [15, 25], [1, 1, 0, 1, 0], 2),
+        Step::Look([3, 0, 0], &[1, 2, 0]),
+    ];
+    assert_steps(&rt, rt.alloc(), THREE, STEPS);
 }
 
 #[test]
 fn ripple_fills_the_place_of_a_doomed_row(rt: HostRuntime) {
-    let mut store = cracked(&rt, rt.alloc());
-    doom(&rt, &mut store, 1);
-    insert(&rt, &mut store, 27);
-    let (store, report) = ripple_at(&rt, store, KeyRange::new(15, 25).expect(&rt, "a range"));
-    let counted = MergeReport {
-        put_in: 1,
-        taken_out: 1,
-        pulled: 1,
-        ..NONE_COUNTED
-    };
-    assert_eq!(rt; report, counted);
-    assert_layout(&rt, &store, [3, 0], &[1, 0, 2]);
-    drop(store);
-}
-
-/// Asserts the counts of a merge of two more rows over four, the places of the rows afterwards, and the sizes of the
-/// pieces.
-fn assert_two_more(
-    rt: &impl Abort,
-    alloc: Global,
-    policy: Policy,
-    counted: MergeReport,
-    rows: [u64; 2],
-    sizes: &[u64],
-) {
-    let store = four(rt, alloc);
-    let (store, report, count) = merge_two(rt, store, [17, 90], policy);
-    assert_eq!(rt; report, counted);
-    assert_eq!(rt; count, 2);
-    assert_layout(rt, &store, rows, sizes);
-    drop(store);
+    const STEPS: &[Step] = &[
+        Step::Doom(1),
+        Step::Insert(27),
+        Step::Merge(Policy::Ripple, [15, 25], [1, 1, 0, 0, 1], 0),
+        Step::Look([3, 0, 0], &[1, 0, 2]),
+    ];
+    assert_steps(&rt, rt.alloc(), THREE, STEPS);
 }
 
 /// Both rows are put in, and the row in the way moves.
 #[test]
 fn complete_puts_two_more_rows_in(rt: HostRuntime) {
-    let counted = MergeReport {
-        put_in: 2,
-        moved: 1,
-        ..NONE_COUNTED
-    };
-    assert_two_more(
-        &rt,
-        rt.alloc(),
-        Policy::Complete,
-        counted,
-        [6, 0],
-        &[1, 2, 3],
-    );
+    const STEPS: &[Step] = &[
+        Step::Insert(17),
+        Step::Insert(90),
+        Step::Merge(Policy::Complete, [15, 25], [2, 0, 0, 1, 0], 2),
+        Step::Look([6, 0, 0], &[1, 2, 3]),
+    ];
+    assert_steps(&rt, rt.alloc(), FOUR, STEPS);
 }
 
 /// The row of the range is put in, and the row in the way moves.
 #[test]
 fn gradual_puts_one_of_two_rows_in(rt: HostRuntime) {
-    let counted = MergeReport {
-        put_in: 1,
-        moved: 1,
-        ..NONE_COUNTED
-    };
-    assert_two_more(
-        &rt,
-        rt.alloc(),
-        Policy::Gradual,
-        counted,
-        [5, 1],
-        &[1, 2, 2],
-    );
+    const STEPS: &[Step] = &[
+        Step::Insert(17),
+        Step::Insert(90),
+        Step::Merge(Policy::Gradual, [15, 25], [1, 0, 0, 1, 0], 2),
+        Step::Look([5, 1, 0], &[1, 2, 2]),
+    ];
+    assert_steps(&rt, rt.alloc(), FOUR, STEPS);
 }
 
 /// The row of the range is put in, and the row in the way is evicted.
 #[test]
 fn ripple_puts_one_of_two_rows_in(rt: HostRuntime) {
-    let counted = MergeReport {
-        put_in: 1,
-        evicted: 1,
-        moved: 1,
-        ..NONE_COUNTED
-    };
-    assert_two_more(&rt, rt.alloc(), Policy::Ripple, counted, [4, 2], &[1, 2, 1]);
+    const STEPS: &[Step] = &[
+        Step::Insert(17),
+        Step::Insert(90),
+        Step::Merge(Policy::Ripple, [15, 25], [1, 0, 1, 1, 0], 2),
+        Step::Look([4, 2, 0], &[1, 2, 1]),
+    ];
+    assert_steps(&rt, rt.alloc(), FOUR, STEPS);
 }
 
 #[test]
 fn a_pull_over_four_goes_through_two_bounds(rt: HostRuntime) {
-    let mut store = four(&rt, rt.alloc());
-    doom(&rt, &mut store, 0);
-    let (store, report) = merge_doomed(&rt, store, Policy::Gradual);
-    let counted = MergeReport {
-        taken_out: 1,
-        pulled: 2,
-        ..NONE_COUNTED
-    };
-    assert_eq!(rt; report, counted);
-    assert_layout(&rt, &store, [3, 0], &[0, 1, 2]);
-    drop(store);
+    const STEPS: &[Step] = &[
+        Step::Doom(0),
+        Step::Merge(Policy::Gradual, [0, 15], [0, 1, 0, 0, 2], 0),
+        Step::Look([3, 0, 0], &[0, 1, 2]),
+    ];
+    assert_steps(&rt, rt.alloc(), FOUR, STEPS);
 }

@@ -7,6 +7,7 @@ use crack_row::{
     Command, GREATEST_LIMIT, Key, KeyNumber, KeyRange, Layout, Limits, Payload, PayloadNumber,
     Policy, Refusal, Reply, Serial, Upkeep,
 };
+use std::alloc::Global;
 use std::process::Abort;
 
 /// An insert of a row whose payload is its key.
@@ -45,9 +46,8 @@ fn rows_of(rt: &impl Abort, partition: &Partition) -> u64 {
 /// Asserts how many rows a partition has, how many of them are pending insertions, and how many are doomed.
 fn assert_counts(rt: &impl Abort, partition: &Partition, rows: u64, waiting: u64, doomed: u64) {
     let layout = layout_of(rt, partition);
-    assert_eq!(rt; layout.rows, rows);
-    assert_eq!(rt; layout.pending_in, waiting);
-    assert_eq!(rt; layout.pending_out, doomed);
+    let told = [layout.rows, layout.pending_in, layout.pending_out];
+    assert_eq!(rt; told, [rows, waiting, doomed]);
 }
 
 /// Has a command answered. If no memory is found at first, the history is unchanged, and so are the rows, of which
@@ -57,9 +57,8 @@ fn answer(rt: &impl Abort, partition: &mut Partition, command: &Command, rows: u
     let reply = match ask(partition, *command) {
         Ok(reply) => Ok(reply),
         Err(refusal) => {
-            assert_eq!(rt; refusal, Refusal::OutOfMemory);
-            assert_eq!(rt; partition.history().len(), kept);
-            assert_eq!(rt; rows_of(rt, partition), rows);
+            assert!(rt; refusal == Refusal::OutOfMemory);
+            assert!(rt; partition.history().len() == kept && rows_of(rt, partition) == rows);
             ask(partition, *command)
         }
     };
@@ -81,15 +80,24 @@ fn doom_two(rt: &impl Abort, partition: &mut Partition) {
     }
 }
 
+/// Asserts that a row is placed under this serial, where there were this many rows.
+fn assert_placed(rt: &impl Abort, partition: &mut Partition, key: u16, rows: u64, serial: u64) {
+    let reply = answer(rt, partition, &insert(key), rows);
+    assert!(rt; matches!(reply, Reply::Placed(placed) if placed == Serial(serial)));
+}
+
+/// Asserts that there is no cell for a row of this key.
+fn assert_no_cell(rt: &impl Abort, partition: &mut Partition, key: u16) {
+    let refused = ask(partition, insert(key)).err();
+    assert!(rt; refused == Some(Refusal::NoCell));
+}
+
 /// Inserts rows until no cell is left: before the first one the doomed rows are taken out.
 fn fill(rt: &impl Abort, partition: &mut Partition) {
-    let reply = answer(rt, partition, &insert(4), 1);
-    assert!(rt; matches!(reply, Reply::Placed(Serial(3))));
+    assert_placed(rt, partition, 4, 1, 3);
     assert_counts(rt, partition, 2, 1, 0);
-    let reply = answer(rt, partition, &insert(5), 2);
-    assert!(rt; matches!(reply, Reply::Placed(Serial(4))));
-    let refused = ask(partition, insert(6)).err();
-    assert_eq!(rt; refused, Some(Refusal::NoCell));
+    assert_placed(rt, partition, 5, 2, 4);
+    assert_no_cell(rt, partition, 6);
     let reply = answer(rt, partition, &Command::Count(KeyRange::all()), 3);
     assert!(rt; matches!(reply, Reply::Counted(3)));
 }
@@ -103,25 +111,26 @@ fn of_three_cells(upkeep: Upkeep) -> Limits {
     }
 }
 
+/// An empty partition of at most three cells.
+fn three_cells(rt: &impl Abort, alloc: Global, upkeep: Upkeep) -> Partition {
+    let opened = Partition::open_with(alloc, KeyRange::all(), of_three_cells(upkeep));
+    opened.expect(rt, "a partition")
+}
+
 #[test]
-fn sweep_partition_that_frees_cells(rt: HostRuntime) -> Result<(), Refusal> {
-    let limits = of_three_cells(Upkeep::Automatic);
-    let mut partition = Partition::open_with(rt.alloc(), KeyRange::all(), limits)?;
+fn sweep_partition_that_frees_cells(rt: HostRuntime) {
+    let mut partition = three_cells(&rt, rt.alloc(), Upkeep::Automatic);
     doom_two(&rt, &mut partition);
     fill(&rt, &mut partition);
     drop(partition);
-    Ok(())
 }
 
 /// Without upkeep the doomed rows wait for a range.
 #[test]
-fn partition_frees_no_cell_unasked(rt: HostRuntime) -> Result<(), Refusal> {
-    let limits = of_three_cells(Upkeep::OnRequest);
-    let mut partition = Partition::open_with(rt.alloc(), KeyRange::all(), limits)?;
+fn partition_frees_no_cell_unasked(rt: HostRuntime) {
+    let mut partition = three_cells(&rt, rt.alloc(), Upkeep::OnRequest);
     doom_two(&rt, &mut partition);
-    let refused = ask(&mut partition, insert(4)).err();
-    assert_eq!(rt; refused, Some(Refusal::NoCell));
+    assert_no_cell(&rt, &mut partition, 4);
     assert_counts(&rt, &partition, 1, 0, 2);
     drop(partition);
-    Ok(())
 }

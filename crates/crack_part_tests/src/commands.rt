@@ -8,7 +8,6 @@ use crack_row::{
 use std::alloc::Global;
 use std::io::Write;
 use std::process::Abort;
-use std::test::Fail;
 
 /// The row of the greatest serial and key, with this payload.
 fn greatest_row(payload: PayloadNumber) -> Row {
@@ -20,16 +19,15 @@ fn greatest_row(payload: PayloadNumber) -> Row {
 }
 
 /// A layout of the greatest numbers, with two pieces.
-fn greatest_layout(alloc: Global) -> Result<Layout, Fail> {
+fn greatest_layout(rt: &impl Abort, alloc: Global) -> Layout {
     let piece = PieceSize {
         low: Bound::from_number(GREATEST_BOUND),
         high: Bound::from_number(GREATEST_BOUND),
         size: u64::MAX,
     };
     let mut pieces = Vec::new(alloc);
-    pieces.push(piece)?;
-    pieces.push(piece)?;
-    Ok(Layout {
+    assert!(rt; pieces.extend_from_slice(&[piece, piece]).is_ok());
+    Layout {
         rows: u64::MAX,
         column: u64::MAX,
         pending_out: u64::MAX,
@@ -37,7 +35,7 @@ fn greatest_layout(alloc: Global) -> Result<Layout, Fail> {
         cells: u64::MAX,
         free: u64::MAX,
         pieces: PieceList::from_vec(pieces),
-    })
+    }
 }
 
 /// Writes replies of the greatest numbers.
@@ -59,93 +57,58 @@ fn write_least<W: Write>(writer: &mut Watched<W>) -> Result<(), Refusal> {
 }
 
 #[test]
-fn greatest_numbers_are_written(rt: HostRuntime) -> Result<(), Fail> {
+fn greatest_numbers_are_written(rt: HostRuntime) {
     let mut writer = Watched::new(Vec::new(rt.alloc()));
-    let written = write_greatest(&mut writer);
+    assert!(rt; write_greatest(&mut writer).is_ok());
     let text = writer.into_inner();
-    written?;
     let told =
         "row 4294967295.18446744073709551615\ngone 18446744073709551615 9223372036854775807\n\
         sum 170141183460469231731687303715884105727\n\
 rows 18446744073709551615\n4294967295.18446744073709551615 18446744073709551615 9223372036854775807\n";
     assert_eq!(rt; text.as_slice(), told.as_bytes());
-    Ok(())
 }
 
 #[test]
-fn numbers_below_0_are_written(rt: HostRuntime) -> Result<(), Fail> {
+fn numbers_below_0_are_written(rt: HostRuntime) {
     let mut writer = Watched::new(Vec::new(rt.alloc()));
-    let written = write_least(&mut writer);
+    assert!(rt; write_least(&mut writer).is_ok());
     let text = writer.into_inner();
-    written?;
     let told =
         "gone 18446744073709551615 -9223372036854775808\nsum -170141183460469231731687303715884105728\nsum -1\nsum 0\n\
 0.18446744073709551615 18446744073709551615 -9223372036854775808\n";
     assert_eq!(rt; text.as_slice(), told.as_bytes());
-    Ok(())
 }
 
-/// The text of a layout, to a writer that fails from a call on.
-fn layout_until(
-    rt: &impl Abort,
-    alloc: Global,
-    layout: &Layout,
-    fails_at: u64,
-) -> Result<Vec<u8>, Fail> {
+/// The text of the layout of the greatest numbers.
+const GREATEST_TEXT: &[u8] =
+    b"layout 4294967295 rows 18446744073709551615 column 18446744073709551615 out 18446744073709551615 \
+in 18446744073709551615 cells 18446744073709551615 free 18446744073709551615 pieces 2\n\
+piece 18446744073709551616 18446744073709551616 18446744073709551615\n\
+piece 18446744073709551616 18446744073709551616 18446744073709551615\n";
+
+/// Asserts that a writer that fails from a call on has a prefix of the text.
+fn assert_front(rt: &impl Abort, alloc: Global, layout: &Layout, fails_at: u64) {
     let mut writer = Watched::new(Sink::new(Vec::new(alloc)).failing_at(fails_at));
     let result = write_layout(u32::MAX, layout, &mut writer);
-    assert_eq!(rt; result.err(), Some(Refusal::WriteFault));
-    assert!(rt; writer.failed());
-    Ok(writer.into_inner().into_bytes())
+    assert!(rt; result.err() == Some(Refusal::WriteFault) && writer.failed());
+    let front = writer.into_inner().into_bytes();
+    assert!(rt; front.len() < GREATEST_TEXT.len() && GREATEST_TEXT.starts_with(&front));
 }
 
-/// The whole text of a layout.
-fn whole_text(alloc: Global, layout: &Layout) -> Result<Vec<u8>, Fail> {
+/// Asserts the whole text.
+fn assert_whole(rt: &impl Abort, alloc: Global, layout: &Layout) {
     let mut writer = Watched::new(Vec::new(alloc));
-    let result = write_layout(u32::MAX, layout, &mut writer);
-    let text = writer.into_inner();
-    result?;
-    Ok(text)
-}
-
-/// Asserts that this is the text of the layout of the greatest numbers.
-fn assert_greatest(rt: &impl Abort, alloc: Global, whole: &[u8]) -> Result<(), Fail> {
-    let most = "18446744073709551615";
-    let told = format!(in alloc;
-        "layout 4294967295 rows {most} column {most} out {most} in {most} cells {most} free {most} pieces 2\n\
-piece 18446744073709551616 18446744073709551616 {most}\npiece 18446744073709551616 18446744073709551616 {most}\n"
-    )?;
-    assert_eq!(rt; whole, told.as_bytes());
-    Ok(())
-}
-
-/// Asserts that a writer that fails from a call on has a prefix of the whole text.
-fn assert_front(
-    rt: &impl Abort,
-    alloc: Global,
-    layout: &Layout,
-    whole: &[u8],
-    fails_at: u64,
-) -> Result<(), Fail> {
-    let front = layout_until(rt, alloc, layout, fails_at)?;
-    assert!(rt; front.len() < whole.len());
-    assert_eq!(rt; front.as_slice(), &whole[..front.len()]);
-    Ok(())
-}
-
-fn assert_layout_texts(rt: &impl Abort, alloc: Global, layout: &Layout) -> Result<(), Fail> {
-    let whole = whole_text(alloc, layout)?;
-    assert_greatest(rt, alloc, whole.as_slice())?;
-    for fails_at in 1..6 {
-        assert_front(rt, alloc, layout, whole.as_slice(), fails_at)?;
-    }
-    Ok(())
+    assert!(rt; write_layout(u32::MAX, layout, &mut writer).is_ok());
+    let whole = writer.into_inner();
+    assert_eq!(rt; whole.as_slice(), GREATEST_TEXT);
 }
 
 #[test]
-fn layouts_are_written_as_far_as_the_writer_goes(rt: HostRuntime) -> Result<(), Fail> {
-    let layout = greatest_layout(rt.alloc())?;
-    let told = assert_layout_texts(&rt, rt.alloc(), &layout);
+fn layouts_are_written_as_far_as_the_writer_goes(rt: HostRuntime) {
+    let layout = greatest_layout(&rt, rt.alloc());
+    assert_whole(&rt, rt.alloc(), &layout);
+    for fails_at in 1..6 {
+        assert_front(&rt, rt.alloc(), &layout, fails_at);
+    }
     drop(layout);
-    told
 }

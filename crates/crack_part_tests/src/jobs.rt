@@ -1,16 +1,18 @@
-//! Steps and checkpoints that one thread makes one after the other, under small limits: their replies, as texts.
-use crack_commands::{write_folded, write_refusal, write_reply};
+//! Steps and checkpoints that one thread makes one after the other, under small limits: their outcome, as texts.
+use crate::script::{Script, assert_text, command_of};
+use crack_commands::{Statement, parse_statement, write_folded, write_refusal, write_reply};
 use crack_core::{Core, Done, Job, Step};
-use crack_row::{
-    Command, GREATEST_LIMIT, Key, KeyNumber, KeyRange, Limits, Payload, PayloadNumber, Policy,
-    Refusal, Serial, Watched,
-};
+use crack_row::{GREATEST_LIMIT, Limits, Policy, Refusal, Watched};
 use std::alloc::Global;
-use std::io::Write;
 use std::process::Abort;
 
-/// A step of worker 0 at partition 0 under the ripple merge.
-fn perform(command: Command) -> Job {
+/// The job of a line: a step of worker 0 at partition 0 under the ripple merge, or a checkpoint.
+fn job_of(rt: &impl Abort, line: &str) -> Job {
+    let statement = parse_statement(line.as_bytes()).expect(rt, "a statement");
+    if let Statement::Checkpoint(part) = statement {
+        return Job::Fold(part);
+    }
+    let command = command_of(statement).expect(rt, "a command");
     Job::Perform(Step {
         worker: 0,
         part: 0,
@@ -19,149 +21,100 @@ fn perform(command: Command) -> Job {
     })
 }
 
-/// An insert of a row whose payload is its key.
-fn insert(key: u32) -> Job {
-    perform(Command::Insert {
-        key: Key::from_number(KeyNumber::from(key)),
-        payload: Payload::from_number(PayloadNumber::from(key)),
-    })
-}
-
-fn delete(serial: u64) -> Job {
-    perform(Command::Delete {
-        serial: Serial(serial),
-    })
-}
-
-fn update(serial: u64, key: KeyNumber, payload: PayloadNumber) -> Job {
-    perform(Command::Update {
-        serial: Serial(serial),
-        key: Key::from_number(key),
-        payload: Payload::from_number(payload),
-    })
-}
-
-fn count_all() -> Job {
-    perform(Command::Count(KeyRange::all()))
-}
-
-/// Writes the outcome of a job.
-fn tell<W: Write>(done: &Result<Done, Refusal>, writer: &mut Watched<W>) -> Result<(), Refusal> {
-    match done {
-        Ok(done) => match done {
-            Done::Replied(reply) => write_reply(0, reply, writer),
-            Done::Folded(count) => write_folded(*count, writer),
-        },
-        Err(refusal) => write_refusal(refusal, writer),
+/// The jobs of a script.
+fn jobs_of(rt: &impl Abort, alloc: Global, script: Script) -> Vec<Job> {
+    let mut jobs = Vec::new(alloc);
+    'script: for place in 0..script.len() {
+        let (line, _) = script[place];
+        assert!(rt; jobs.push(job_of(rt, line)).is_ok());
     }
+    jobs
 }
 
-/// Writes the outcome of jobs, a line each.
-fn tell_all<W: Write>(
-    all: &[Result<Done, Refusal>],
-    writer: &mut Watched<W>,
-) -> Result<(), Refusal> {
-    for done in all {
-        tell(done, writer)?;
-    }
-    Ok(())
+/// The text of the outcome of a job.
+fn text_of(rt: &impl Abort, alloc: Global, done: &Result<Done, Refusal>) -> Vec<u8> {
+    let mut writer = Watched::new(Vec::new(alloc));
+    let told = match done {
+        Ok(Done::Replied(reply)) => write_reply(0, reply, &mut writer),
+        Ok(Done::Folded(count)) => write_folded(*count, &mut writer),
+        Err(refusal) => write_refusal(refusal, &mut writer),
+    };
+    assert!(rt; told.is_ok());
+    writer.into_inner()
 }
 
 /// The outcome of jobs. It promises nothing, so that no test carries the contract of `run_jobs`.
-fn run(core: &mut Core, jobs: &[Job]) -> Result<Vec<Result<Done, Refusal>>, Refusal> {
-    core.run_jobs(jobs)
+fn run(rt: &impl Abort, core: &mut Core, jobs: &[Job]) -> Vec<Result<Done, Refusal>> {
+    core.run_jobs(jobs).expect(rt, "memory")
 }
 
-/// Asserts the texts of the outcome of jobs.
-fn assert_done(
-    rt: &impl Abort,
-    alloc: Global,
-    core: &mut Core,
-    jobs: &[Job],
-    wanted: &[u8],
-) -> Result<(), Refusal> {
-    let done = run(core, jobs)?;
-    let mut writer = Watched::new(Vec::new(alloc));
-    let told = tell_all(done.as_slice(), &mut writer);
-    drop(done);
-    let text = writer.into_inner();
-    assert_eq!(rt; text.as_slice(), wanted);
-    told
-}
-
-/// A core of one partition with these limits, which runs jobs.
-fn assert_jobs(
-    rt: &impl Abort,
-    alloc: Global,
-    limits: Limits,
-    jobs: &[Job],
-    wanted: &[u8],
-) -> Result<(), Refusal> {
-    let mut core = Core::open_with(alloc, &[], limits)?;
-    let told = assert_done(rt, alloc, &mut core, jobs, wanted);
+/// Asserts the outcome of the jobs of a script at a core of one partition with these limits.
+fn assert_jobs(rt: &impl Abort, alloc: Global, limits: Limits, script: Script) {
+    let mut core = Core::open_with(alloc, &[], limits).expect(rt, "a core");
+    let jobs = jobs_of(rt, alloc, script);
+    let done = run(rt, &mut core, &jobs);
     drop(core);
-    told
+    assert_eq!(rt; done.len(), script.len());
+    'script: for place in 0..script.len() {
+        let (line, wanted) = script[place];
+        let text = text_of(rt, alloc, &done[place]);
+        assert_text(rt, &text, line, wanted);
+    }
 }
 
 #[test]
-fn a_checkpoint_empties_the_history(rt: HostRuntime) -> Result<(), Refusal> {
-    let jobs = [
-        insert(1),
-        insert(2),
-        count_all(),
-        Job::Fold(0),
-        count_all(),
-        insert(3),
-        insert(4),
-        Job::Fold(0),
-        Job::Fold(0),
-        delete(0),
-        Job::Fold(1),
+fn a_checkpoint_empties_the_history(rt: HostRuntime) {
+    const SCRIPT: Script = &[
+        ("insert 1 1", "row 0.0"),
+        ("insert 2 2", "row 0.1"),
+        ("count 0 18446744073709551616", "refused 6 2"),
+        ("checkpoint 0", "folded 2"),
+        ("count 0 18446744073709551616", "count 2"),
+        ("insert 3 3", "row 0.2"),
+        ("insert 4 4", "refused 6 2"),
+        ("checkpoint 0", "folded 2"),
+        ("checkpoint 0", "folded 0"),
+        ("delete 0.0", "gone 1 1"),
+        ("checkpoint 1", "refused 5"),
     ];
-    let wanted =
-        b"row 0.0\nrow 0.1\nrefused 6 2\nfolded 2\ncount 2\nrow 0.2\nrefused 6 2\nfolded 2\nfolded 0\ngone 1 1\n\
-        refused 5\n";
-    assert_jobs(&rt, rt.alloc(), Limits::of_history(2), &jobs, wanted)
+    assert_jobs(&rt, rt.alloc(), Limits::of_history(2), SCRIPT);
 }
 
 #[test]
-fn a_row_without_a_cell_is_refused(rt: HostRuntime) -> Result<(), Refusal> {
-    let jobs = [
-        insert(1),
-        insert(2),
-        insert(3),
-        count_all(),
-        delete(0),
-        insert(3),
-        count_all(),
-        insert(3),
-        update(1, 2, 9),
-        update(2, 4, 4),
+fn a_row_without_a_cell_is_refused(rt: HostRuntime) {
+    const SCRIPT: Script = &[
+        ("insert 1 1", "row 0.0"),
+        ("insert 2 2", "row 0.1"),
+        ("insert 3 3", "refused 9"),
+        ("count 0 18446744073709551616", "count 2"),
+        ("delete 0.0", "gone 1 1"),
+        ("insert 3 3", "refused 9"),
+        ("count 0 18446744073709551616", "count 1"),
+        ("insert 3 3", "row 0.2"),
+        ("update 0.1 2 9", "refused 9"),
+        ("update 0.2 4 4", "changed"),
     ];
-    let wanted =
-        b"row 0.0\nrow 0.1\nrefused 9\ncount 2\ngone 1 1\nrefused 9\ncount 1\nrow 0.2\nrefused 9\nchanged\n";
     let limits = Limits {
         cells: 2,
         ..Limits::of_history(GREATEST_LIMIT)
     };
-    assert_jobs(&rt, rt.alloc(), limits, &jobs, wanted)
+    assert_jobs(&rt, rt.alloc(), limits, SCRIPT);
 }
 
 #[test]
-fn a_life_ends(rt: HostRuntime) -> Result<(), Refusal> {
-    let jobs = [
-        insert(1),
-        count_all(),
-        Job::Fold(0),
-        count_all(),
-        count_all(),
+fn a_life_ends(rt: HostRuntime) {
+    const SCRIPT: Script = &[
+        ("insert 1 1", "row 0.0"),
+        ("count 0 18446744073709551616", "count 1"),
+        ("checkpoint 0", "folded 2"),
+        ("count 0 18446744073709551616", "count 1"),
+        ("count 0 18446744073709551616", "refused 10"),
     ];
-    let wanted = b"row 0.0\ncount 1\nfolded 2\ncount 1\nrefused 10\n";
     let limits = Limits {
         life: 3,
         ..Limits::of_history(GREATEST_LIMIT)
     };
-    assert_jobs(&rt, rt.alloc(), limits, &jobs, wanted)
+    assert_jobs(&rt, rt.alloc(), limits, SCRIPT);
 }
 
 #[test]

@@ -19,4 +19,6 @@ mod partitions;
 #[cfg(test)]
 mod plain;
 #[cfg(test)]
+mod script;
+#[cfg(test)]
 mod sums;

@@ -1,141 +1,151 @@
 //! A partition: each call once, with ample memory, and each refusal except the one for lack of memory.
+use crate::plain::assert_own;
+use crate::script::{Asked, Script, assert_answers};
 use crack_part::Partition;
 use crack_row::{
-    Command, Entry, GREATEST_BOUND, GREATEST_CELLS, GREATEST_LIFE, GREATEST_LIMIT, Key, KeyNumber,
-    KeyRange, Limits, Payload, PayloadNumber, Policy, Refusal, Reply, Serial, Upkeep,
+    BoundNumber, Command, Entry, GREATEST_BOUND, GREATEST_CELLS, GREATEST_LIFE, GREATEST_LIMIT,
+    KeyRange, Layout, Limits, Policy, Refusal, Reply, Upkeep,
 };
+use std::alloc::Global;
 use std::process::Abort;
 
-/// An insert of a key, with ten times the key as its payload.
-fn insert(key: u16) -> Command {
-    Command::Insert {
-        key: Key::from_number(KeyNumber::from(key)),
-        payload: Payload::from_number(PayloadNumber::from(key) * 10),
+/// A partition that worker 3 asks by a policy.
+#[derive(Drop)]
+struct Asking {
+    partition: Partition,
+    policy: Policy,
+}
+
+/// Asserts that a history has one entry more than it had: worker 3's command, with its reply.
+fn assert_kept(
+    rt: &impl Abort,
+    history: &[Entry],
+    before: usize,
+    command: &Command,
+    reply: &Reply,
+) {
+    assert!(rt; history.len() == before.saturating_add(1));
+    let entry = &history[before];
+    assert!(rt; entry.worker == 3 && entry.command == *command && entry.reply.is_same(reply));
+}
+
+/// Reply and receipt of worker 3. It promises nothing, so that no test carries the contract of `apply`.
+fn apply(
+    partition: &mut Partition,
+    command: Command,
+    policy: Policy,
+) -> Result<(Reply, Reply), Refusal> {
+    partition.apply(3, command, policy)
+}
+
+impl Asked for Asking {
+    /// The receipt has the reply, and so has the new entry of the history. If the command is refused, there is none.
+    fn ask(&mut self, rt: &impl Abort, command: Command) -> Result<Reply, Refusal> {
+        let before = self.partition.history().len();
+        match apply(&mut self.partition, command, self.policy) {
+            Ok((reply, receipt)) => {
+                assert!(rt; reply.is_same(&receipt));
+                assert_kept(rt, self.partition.history(), before, &command, &reply);
+                assert_own(rt, &command, &reply);
+                Ok(reply)
+            }
+            Err(refusal) => {
+                assert!(rt; self.partition.history().len() == before);
+                Err(refusal)
+            }
+        }
+    }
+
+    fn fold(&mut self, _rt: &impl Abort) -> Result<u64, Refusal> {
+        self.partition.checkpoint()
+    }
+
+    fn layout(&self) -> Result<Layout, Refusal> {
+        self.partition.layout()
+    }
+
+    fn follow(&mut self, policy: Policy) {
+        self.policy = policy;
     }
 }
 
-/// The answers that worker 3 gets.
-fn ask(partition: &mut Partition, command: Command) -> Result<(Reply, Reply), Refusal> {
-    partition.apply(3, command, Policy::Complete)
+/// Asserts the answers of a partition of these keys and this limit, under the complete merge until a statement names
+/// another, and how many commands it accepted and kept.
+pub fn assert_partition(
+    rt: &impl Abort,
+    alloc: Global,
+    keys: [BoundNumber; 2],
+    limit: u64,
+    script: Script,
+    accepted: u64,
+) {
+    let keys = KeyRange::new(keys[0], keys[1]).expect(rt, "keys");
+    let mut asking = Asking {
+        partition: Partition::open(alloc, keys, limit).expect(rt, "a partition"),
+        policy: Policy::Complete,
+    };
+    assert_answers(rt, alloc, &mut asking, script);
+    let kept = asking.partition.history().len() as u64;
+    assert_eq!(rt; [asking.partition.accepted(), kept], [accepted, accepted]);
+    drop(asking);
 }
 
-/// Why worker 3 is refused, if it is.
-fn refusal_of(partition: &mut Partition, command: Command) -> Option<Refusal> {
-    ask(partition, command).err()
-}
-
-/// Whether the entry is worker 3's insert of key 7, which was given serial 0.
-fn is_first_insert(entry: &Entry) -> bool {
-    entry.worker == 3
-        && entry.command == insert(7)
-        && matches!(entry.reply, Reply::Placed(Serial(0)))
-}
-
-/// Asserts that the partition has all keys, the greatest limits and no history.
-fn assert_opened(rt: &impl Abort, partition: &Partition) {
+/// A partition has all keys, the greatest limits and no history.
+#[test]
+fn partition_is_opened_empty(rt: HostRuntime) {
+    let opened = Partition::open(rt.alloc(), KeyRange::all(), GREATEST_LIMIT);
+    let partition = opened.expect(&rt, "a partition");
     let greatest = Limits {
         history: GREATEST_LIMIT,
         cells: GREATEST_CELLS,
         life: GREATEST_LIFE,
         upkeep: Upkeep::OnRequest,
     };
-    assert_eq!(rt; partition.limit(), GREATEST_LIMIT);
-    assert!(rt; partition.limits() == greatest);
-    assert_eq!(rt; partition.keys().low().number(), 0);
-    assert_eq!(rt; partition.keys().high().number(), GREATEST_BOUND);
+    assert!(rt; partition.limit() == GREATEST_LIMIT && partition.limits() == greatest);
+    let keys = partition.keys();
+    assert_eq!(rt;
+        [keys.low().number(), keys.high().number()],
+        [0, GREATEST_BOUND]
+    );
     assert!(rt; partition.history().is_empty());
-}
-
-/// Inserts key 7 as the first row, which the reply and its receipt show.
-fn insert_first(rt: &impl Abort, partition: &mut Partition) -> Result<(), Refusal> {
-    let (reply, receipt) = ask(partition, insert(7))?;
-    assert!(rt; matches!(reply, Reply::Placed(Serial(0))));
-    assert!(rt; matches!(receipt, Reply::Placed(Serial(0))));
-    Ok(())
-}
-
-/// Counts the only row, which the reply and its receipt show.
-fn count_first(rt: &impl Abort, partition: &mut Partition) -> Result<(), Refusal> {
-    let (reply, receipt) = ask(partition, Command::Count(KeyRange::all()))?;
-    assert!(rt; matches!(reply, Reply::Counted(1)));
-    assert!(rt; matches!(receipt, Reply::Counted(1)));
-    Ok(())
-}
-
-fn answer_and_keep(rt: &impl Abort, partition: &mut Partition) -> Result<(), Refusal> {
-    assert_opened(rt, partition);
-    insert_first(rt, partition)?;
-    count_first(rt, partition)?;
-    assert_eq!(rt; partition.history().len(), 2);
-    assert_eq!(rt; partition.accepted(), 2);
-    assert!(rt; is_first_insert(&partition.history()[0]));
-    Ok(())
+    drop(partition);
 }
 
 #[test]
-fn partition_answers_and_keeps(rt: HostRuntime) -> Result<(), Refusal> {
-    let mut partition = Partition::open(rt.alloc(), KeyRange::all(), GREATEST_LIMIT)?;
-    let told = answer_and_keep(&rt, &mut partition);
-    drop(partition);
-    told
-}
-
-/// Counts a range of no key.
-fn count_no_key(rt: &impl Abort, partition: &mut Partition) -> Result<(), Refusal> {
-    let empty = KeyRange::new(5, 5)?;
-    let (reply, _receipt) = ask(partition, Command::Count(empty))?;
-    assert!(rt; matches!(reply, Reply::Counted(0)));
-    assert_eq!(rt; partition.history().len(), 1);
-    Ok(())
+fn partition_answers_and_keeps(rt: HostRuntime) {
+    const SCRIPT: Script = &[
+        ("insert 7 70", "row 0.0"),
+        ("count 0 18446744073709551616", "count 1"),
+    ];
+    let all = [0, GREATEST_BOUND];
+    assert_partition(&rt, rt.alloc(), all, GREATEST_LIMIT, SCRIPT, 2);
 }
 
 /// A read is also kept, even one that can't find a row.
 #[test]
-fn partition_keeps_a_count_of_no_key(rt: HostRuntime) -> Result<(), Refusal> {
-    let mut partition = Partition::open(rt.alloc(), KeyRange::all(), 1)?;
-    let told = count_no_key(&rt, &mut partition);
-    drop(partition);
-    told
+fn partition_keeps_a_count_of_no_key(rt: HostRuntime) {
+    const SCRIPT: Script = &[("count 5 5", "count 0")];
+    assert_partition(&rt, rt.alloc(), [0, GREATEST_BOUND], 1, SCRIPT, 1);
 }
 
-/// Fills a history of two entries.
-fn fill_two(rt: &impl Abort, partition: &mut Partition) {
-    let told = [
-        refusal_of(partition, insert(1)),
-        refusal_of(partition, insert(2)),
-        refusal_of(partition, Command::Count(KeyRange::all())),
+#[test]
+fn partition_refuses_at_its_limit(rt: HostRuntime) {
+    const SCRIPT: Script = &[
+        ("insert 1 10", "row 0.0"),
+        ("insert 2 20", "row 0.1"),
+        ("count 0 18446744073709551616", "refused 6 2"),
     ];
-    let full = Refusal::HistoryFull { length: 2 };
-    assert_eq!(rt; told, [None, None, Some(full)]);
-    assert_eq!(rt; partition.history().len(), 2);
+    assert_partition(&rt, rt.alloc(), [0, GREATEST_BOUND], 2, SCRIPT, 2);
 }
 
 #[test]
-fn partition_refuses_at_its_limit(rt: HostRuntime) -> Result<(), Refusal> {
-    let mut partition = Partition::open(rt.alloc(), KeyRange::all(), 2)?;
-    fill_two(&rt, &mut partition);
-    drop(partition);
-    Ok(())
-}
-
-/// Inserts keys outside of 100 up to 200, and one inside.
-fn insert_outside(rt: &impl Abort, partition: &mut Partition) -> Result<(), Refusal> {
-    for key in [50, 200] {
-        let refused = refusal_of(partition, insert(key));
-        assert_eq!(rt; refused, Some(Refusal::KeyOutside), "key {key}");
-    }
-    assert!(rt; partition.history().is_empty());
-    let (reply, _receipt) = ask(partition, insert(199))?;
-    assert!(rt; matches!(reply, Reply::Placed(Serial(0))));
-    Ok(())
-}
-
-#[test]
-fn partition_refuses_keys_outside(rt: HostRuntime) -> Result<(), Refusal> {
-    let mut partition = Partition::open(rt.alloc(), KeyRange::new(100, 200)?, 10)?;
-    let told = insert_outside(&rt, &mut partition);
-    drop(partition);
-    told
+fn partition_refuses_keys_outside(rt: HostRuntime) {
+    const SCRIPT: Script = &[
+        ("insert 50 500", "refused 4"),
+        ("insert 200 2000", "refused 4"),
+        ("insert 199 1990", "row 0.0"),
+    ];
+    assert_partition(&rt, rt.alloc(), [100, 200], 10, SCRIPT, 1);
 }
 
 #[test]

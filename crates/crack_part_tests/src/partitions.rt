@@ -26,9 +26,9 @@ fn assert_parts(
     low: BoundNumber,
     high: BoundNumber,
     wanted: &[[BoundNumber; 3]],
-) -> Result<(), Refusal> {
-    let parts = parts(core, low, high)?;
-    assert_eq!(rt; parts.len(), wanted.len());
+) {
+    let parts = parts(core, low, high).expect(rt, "parts");
+    assert!(rt; parts.len() == wanted.len());
     for place in 0..wanted.len() {
         let (number, range) = parts[place];
         let told = [
@@ -36,29 +36,31 @@ fn assert_parts(
             range.low().number(),
             range.high().number(),
         ];
-        assert_eq!(rt; told, wanted[place], "part {place}");
+        assert!(rt; told == wanted[place], "part {place}");
     }
-    Ok(())
+}
+
+/// A core of the partitions between these splits.
+fn open(rt: &impl Abort, alloc: Global, splits: &[Bound], limit: u64) -> Core {
+    Core::open(alloc, splits, limit).expect(rt, "a core")
 }
 
 /// A range over three partitions is cut at their splits. An empty one goes to the partition of its low end, and from
 /// the greatest bound to the last one.
-fn cut_at_splits(rt: &impl Abort, core: &Core) -> Result<(), Refusal> {
-    let three = [[0, 50, 100], [1, 100, 200], [2, 200, 201]];
-    assert_parts(rt, core, 50, 201, &three)?;
-    assert_parts(rt, core, 100, 100, &[[1, 100, 100]])?;
-    let end = GREATEST_BOUND;
-    assert_parts(rt, core, end, end, &[[2, end, end]])
-}
-
 #[test]
-fn ranges_are_cut_at_splits(rt: HostRuntime) -> Result<(), Refusal> {
-    let core = Core::open(
-        rt.alloc(),
-        &[Bound::from_number(100), Bound::from_number(200)],
-        GREATEST_LIMIT,
-    )?;
-    let told = cut_at_splits(&rt, &core);
+fn ranges_are_cut_at_splits(rt: HostRuntime) {
+    let splits = [Bound::from_number(100), Bound::from_number(200)];
+    let core = open(&rt, rt.alloc(), &splits, GREATEST_LIMIT);
+    assert_parts(
+        &rt,
+        &core,
+        50,
+        201,
+        &[[0, 50, 100], [1, 100, 200], [2, 200, 201]],
+    );
+    assert_parts(&rt, &core, 100, 100, &[[1, 100, 100]]);
+    let end = GREATEST_BOUND;
+    assert_parts(&rt, &core, end, end, &[[2, end, end]]);
     let places = [
         core.route(Key::from_number(99)),
         core.route(Key::from_number(100)),
@@ -66,7 +68,6 @@ fn ranges_are_cut_at_splits(rt: HostRuntime) -> Result<(), Refusal> {
     ];
     drop(core);
     assert_eq!(rt; places, [0, 1, 2]);
-    told
 }
 
 /// A step of worker 0 under the gradual merge.
@@ -80,27 +81,26 @@ fn step(part: u32, command: Command) -> Step {
 }
 
 /// A step at a partition that doesn't exist is refused, and the next one is made.
-fn make_three(rt: &impl Abort, core: &mut Core) -> Result<(), Refusal> {
+fn make_three(rt: &impl Abort, core: &mut Core) {
     let insert = Command::Insert {
         key: Key::from_number(7),
         payload: Payload::from_number(70),
     };
     let count = Command::Count(KeyRange::all());
-    let results = core.run_steps(&[step(0, insert), step(7, count), step(0, count)])?;
-    assert_eq!(rt; results.len(), 3);
+    let steps = [step(0, insert), step(7, count), step(0, count)];
+    let results = core.run_steps(&steps).expect(rt, "memory");
+    assert!(rt; results.len() == 3);
     assert!(rt; matches!(results[0], Ok(Reply::Placed(Serial(0)))));
     assert!(rt; matches!(results[1], Err(Refusal::NoSuchPartition)));
     assert!(rt; matches!(results[2], Ok(Reply::Counted(1))));
-    assert_eq!(rt; core.accepted(), 2);
-    Ok(())
 }
 
 #[test]
-fn steps_are_made_one_after_the_other(rt: HostRuntime) -> Result<(), Refusal> {
-    let mut core = Core::open(rt.alloc(), &[], GREATEST_LIMIT)?;
-    let told = make_three(&rt, &mut core);
+fn steps_are_made_one_after_the_other(rt: HostRuntime) {
+    let mut core = open(&rt, rt.alloc(), &[], GREATEST_LIMIT);
+    make_three(&rt, &mut core);
+    assert!(rt; core.accepted() == 2);
     drop(core);
-    told
 }
 
 /// Why a count at a partition is refused, if it is.
@@ -125,20 +125,18 @@ fn fill_each(rt: &impl Abort, core: &mut Core) {
 }
 
 /// There are two partitions, and the second is one piece.
-fn assert_two(rt: &impl Abort, core: &Core) -> Result<(), Refusal> {
-    let layout = layout_of(core, 1)?;
-    assert_eq!(rt; layout.pieces.as_slice().len(), 1);
-    assert_eq!(rt; layout_of(core, 2).err(), Some(Refusal::NoSuchPartition));
-    Ok(())
+fn assert_two(rt: &impl Abort, core: &Core) {
+    let layout = layout_of(core, 1).expect(rt, "a layout");
+    assert!(rt; layout.pieces.as_slice().len() == 1);
+    assert!(rt; layout_of(core, 2).err() == Some(Refusal::NoSuchPartition));
 }
 
 #[test]
-fn each_partition_has_the_limit(rt: HostRuntime) -> Result<(), Refusal> {
-    let mut core = Core::open(rt.alloc(), &[Bound::from_number(100)], 1)?;
+fn each_partition_has_the_limit(rt: HostRuntime) {
+    let mut core = open(&rt, rt.alloc(), &[Bound::from_number(100)], 1);
     fill_each(&rt, &mut core);
-    let told = assert_two(&rt, &core);
+    assert_two(&rt, &core);
     drop(core);
-    told
 }
 
 /// Why partitions aren't opened.

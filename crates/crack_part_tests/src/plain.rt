@@ -1,167 +1,116 @@
 //! The plain table: each call once, with ample memory.
+use crate::script::{Asked, Script, assert_answers, assert_text};
+use crack_commands::write_each_row;
 use crack_plain::PlainTable;
-use crack_row::{
-    BoundNumber, Command, GREATEST_BOUND, GREATEST_KEY, Key, KeyNumber, KeyRange, LEAST_PAYLOAD,
-    Payload, PayloadNumber, Refusal, Reply, Row, Serial,
-};
+use crack_row::{Command, Layout, Policy, Refusal, Reply, Watched};
+use std::alloc::Global;
 use std::process::Abort;
 
-/// A row.
-fn row(serial: u64, key: KeyNumber, payload: PayloadNumber) -> Row {
-    Row {
-        serial: Serial(serial),
-        key: Key::from_number(key),
-        payload: Payload::from_number(payload),
+/// Asserts that a row that was given has the serial for which it was asked.
+pub fn assert_own(rt: &impl Abort, command: &Command, reply: &Reply) {
+    if let Reply::Gone(row) = reply {
+        let serial = row.serial;
+        assert!(rt; *command == Command::Delete { serial });
     }
 }
 
-/// The answer of a table. It promises nothing, so that no test carries the contract of `apply`.
-fn ask(table: &mut PlainTable, command: &Command) -> Result<Reply, Refusal> {
-    table.apply(command)
-}
-
-/// Asks for a row of this key and payload, which gets this serial.
-fn insert(rt: &impl Abort, table: &mut PlainTable, row: Row) -> Result<(), Refusal> {
-    let insert = Command::Insert {
-        key: row.key,
-        payload: row.payload,
-    };
-    match ask(table, &insert)? {
-        Reply::Placed(serial) => assert_eq!(rt; serial, row.serial),
-        _ => assert!(rt; false),
+impl Asked for PlainTable {
+    /// Each command that is answered is accepted.
+    fn ask(&mut self, rt: &impl Abort, command: Command) -> Result<Reply, Refusal> {
+        let accepted = self.accepted();
+        let reply = self.apply(&command)?;
+        assert!(rt; self.accepted() == accepted + 1);
+        assert_own(rt, &command, &reply);
+        Ok(reply)
     }
-    Ok(())
-}
 
-/// Counts all rows, and those of no key, and adds up the payloads of all.
-fn count(rt: &impl Abort, table: &mut PlainTable) -> Result<(), Refusal> {
-    let all = ask(table, &Command::Count(KeyRange::all()))?;
-    assert!(rt; matches!(all, Reply::Counted(2)));
-    let none = ask(table, &Command::Count(KeyRange::new(5, 5)?))?;
-    assert!(rt; matches!(none, Reply::Counted(0)));
-    let sum = ask(table, &Command::Sum(KeyRange::all()))?;
-    assert!(rt; matches!(sum, Reply::Summed(120)));
-    Ok(())
-}
-
-/// Gives the row of a serial another key and another payload.
-fn update(table: &mut PlainTable, new: Row) -> Result<Reply, Refusal> {
-    let update = Command::Update {
-        serial: new.serial,
-        key: new.key,
-        payload: new.payload,
-    };
-    ask(table, &update)
-}
-
-/// Changes a row, which keeps its serial, removes one, and looks for that again.
-fn change(rt: &impl Abort, table: &mut PlainTable) -> Result<(), Refusal> {
-    let changed = update(table, row(0, 6, 60))?;
-    assert!(rt; matches!(changed, Reply::Changed));
-    let delete = Command::Delete { serial: Serial(1) };
-    match ask(table, &delete)? {
-        Reply::Gone(gone) => assert_eq!(rt; gone, row(1, 8, 50)),
-        _ => assert!(rt; false),
+    /// A checkpoint is no command.
+    fn fold(&mut self, rt: &impl Abort) -> Result<u64, Refusal> {
+        let accepted = self.accepted();
+        let since = self.checkpoint();
+        assert!(rt; self.accepted() == accepted);
+        Ok(since)
     }
-    find_none(rt, table)
-}
 
-/// Looks for the removed row, to remove and to change it.
-fn find_none(rt: &impl Abort, table: &mut PlainTable) -> Result<(), Refusal> {
-    let none = ask(table, &Command::Delete { serial: Serial(1) })?;
-    assert!(rt; matches!(none, Reply::NoRow));
-    let none = update(table, row(1, 6, 60))?;
-    assert!(rt; matches!(none, Reply::NoRow));
-    Ok(())
-}
-
-/// Lists the rows in a range that has them all but for the changed row's old key.
-fn select(rt: &impl Abort, table: &mut PlainTable) -> Result<(), Refusal> {
-    match ask(table, &Command::Select(KeyRange::new(0, 7)?))? {
-        Reply::Rows(rows) => assert_eq!(rt; rows.as_slice(), [row(0, 6, 60)].as_slice()),
-        _ => assert!(rt; false),
+    fn layout(&self) -> Result<Layout, Refusal> {
+        self.whole_layout()
     }
-    Ok(())
+
+    fn follow(&mut self, _policy: Policy) {}
 }
 
-/// Asserts how many commands were accepted, and the rows.
-fn assert_table(rt: &impl Abort, table: &PlainTable, accepted: u64, rows: &[Row]) {
+/// The rows of a table, as a text.
+fn rows_of(rt: &impl Abort, alloc: Global, table: &PlainTable) -> Vec<u8> {
+    let mut writer = Watched::new(Vec::new(alloc));
+    let told = write_each_row(0, table.rows(), &mut writer);
+    assert!(rt; told.is_ok());
+    writer.into_inner()
+}
+
+/// Asserts the answers of a fresh table, and then how many commands it accepted and which rows it has.
+fn assert_table(rt: &impl Abort, alloc: Global, script: Script, accepted: u64, rows: &str) {
+    let mut table = PlainTable::new(alloc);
+    assert!(rt; table.accepted() == 0 && table.rows().is_empty());
+    assert_answers(rt, alloc, &mut table, script);
     assert_eq!(rt; table.accepted(), accepted);
-    assert_eq!(rt; table.rows(), rows);
-}
-
-fn answer(rt: &impl Abort, table: &mut PlainTable) -> Result<(), Refusal> {
-    assert_table(rt, table, 0, &[]);
-    insert(rt, table, row(0, 7, 70))?;
-    insert(rt, table, row(1, 8, 50))?;
-    count(rt, table)?;
-    change(rt, table)?;
-    select(rt, table)?;
-    assert_table(rt, table, 10, &[row(0, 6, 60)]);
-    Ok(())
-}
-
-/// Asserts how many commands were accepted since the last checkpoint, and that those in all don't change with this one.
-fn assert_since(rt: &impl Abort, table: &mut PlainTable, since: u64, accepted: u64) {
-    assert_eq!(rt; table.checkpoint(), since);
-    assert_eq!(rt; table.accepted(), accepted);
-}
-
-fn fold(rt: &impl Abort, table: &mut PlainTable) -> Result<(), Refusal> {
-    assert_since(rt, table, 0, 0);
-    insert(rt, table, row(0, 7, 70))?;
-    insert(rt, table, row(1, 8, 50))?;
-    assert_since(rt, table, 2, 2);
-    count(rt, table)?;
-    assert_since(rt, table, 3, 5);
-    assert_since(rt, table, 0, 5);
-    insert(rt, table, row(2, 9, 90))
-}
-
-/// The sum of the payloads of a range.
-fn sum(table: &mut PlainTable, low: BoundNumber, high: BoundNumber) -> Result<i128, Refusal> {
-    match ask(table, &Command::Sum(KeyRange::new(low, high)?))? {
-        Reply::Summed(sum) => Ok(sum),
-        _ => Ok(i128::MAX),
-    }
-}
-
-fn add_up(rt: &impl Abort, table: &mut PlainTable) -> Result<(), Refusal> {
-    insert(rt, table, row(0, GREATEST_KEY, LEAST_PAYLOAD))?;
-    insert(rt, table, row(1, 4294967296, -1))?;
-    insert(rt, table, row(2, 4294967295, 5))?;
-    assert_eq!(rt; sum(table, 0, GREATEST_BOUND)?, -9223372036854775804);
-    assert_eq!(rt;
-        sum(table, 4294967296, GREATEST_BOUND)?,
-        -9223372036854775809
-    );
-    assert_eq!(rt; sum(table, 4294967296, 18446744073709551615)?, -1);
-    Ok(())
-}
-
-/// Payloads of both signs, at keys on both sides of 2^32.
-#[test]
-fn plain_table_adds_up_below_0(rt: HostRuntime) -> Result<(), Refusal> {
-    let mut table = PlainTable::new(rt.alloc());
-    let told = add_up(&rt, &mut table);
+    let text = rows_of(rt, alloc, &table);
+    assert_text(rt, &text, "the rows", rows);
     drop(table);
-    told
-}
-
-/// A checkpoint reports the number of commands since the last one, and changes no row.
-#[test]
-fn plain_table_counts_since_its_checkpoint(rt: HostRuntime) -> Result<(), Refusal> {
-    let mut table = PlainTable::new(rt.alloc());
-    let told = fold(&rt, &mut table);
-    drop(table);
-    told
 }
 
 /// Each command, those that find no row among them: all are accepted.
 #[test]
-fn plain_table_answers(rt: HostRuntime) -> Result<(), Refusal> {
-    let mut table = PlainTable::new(rt.alloc());
-    let told = answer(&rt, &mut table);
-    drop(table);
-    told
+fn plain_table_answers(rt: HostRuntime) {
+    const SCRIPT: Script = &[
+        ("insert 7 70", "row 0.0"),
+        ("insert 8 50", "row 0.1"),
+        ("count 0 18446744073709551616", "count 2"),
+        ("count 5 5", "count 0"),
+        ("sum 0 18446744073709551616", "sum 120"),
+        ("update 0.0 6 60", "changed"),
+        ("delete 0.1", "gone 8 50"),
+        ("delete 0.1", "none"),
+        ("update 0.1 6 60", "none"),
+        ("select 0 7", "rows 1\n0.0 6 60"),
+    ];
+    assert_table(&rt, rt.alloc(), SCRIPT, 10, "0.0 6 60");
+}
+
+/// A checkpoint reports the number of commands since the last one, and changes no row.
+#[test]
+fn plain_table_counts_since_its_checkpoint(rt: HostRuntime) {
+    const SCRIPT: Script = &[
+        ("checkpoint 0", "folded 0"),
+        ("insert 7 70", "row 0.0"),
+        ("insert 8 50", "row 0.1"),
+        ("checkpoint 0", "folded 2"),
+        ("count 0 18446744073709551616", "count 2"),
+        ("count 5 5", "count 0"),
+        ("sum 0 18446744073709551616", "sum 120"),
+        ("checkpoint 0", "folded 3"),
+        ("checkpoint 0", "folded 0"),
+        ("insert 9 90", "row 0.2"),
+    ];
+    assert_table(&rt, rt.alloc(), SCRIPT, 6, "0.0 7 70\n0.1 8 50\n0.2 9 90");
+}
+
+/// Payloads of both signs, at keys on both sides of 2^32.
+#[test]
+fn plain_table_adds_up_below_0(rt: HostRuntime) {
+    const SCRIPT: Script = &[
+        (
+            "insert 18446744073709551615 -9223372036854775808",
+            "row 0.0",
+        ),
+        ("insert 4294967296 -1", "row 0.1"),
+        ("insert 4294967295 5", "row 0.2"),
+        ("sum 0 18446744073709551616", "sum -9223372036854775804"),
+        (
+            "sum 4294967296 18446744073709551616",
+            "sum -9223372036854775809",
+        ),
+        ("sum 4294967296 18446744073709551615", "sum -1"),
+    ];
+    let rows = "0.0 18446744073709551615 -9223372036854775808\n0.1 4294967296 -1\n0.2 4294967295 5";
+    assert_table(&rt, rt.alloc(), SCRIPT, 6, rows);
 }

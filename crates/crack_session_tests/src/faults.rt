@@ -1,12 +1,10 @@
 //! Sessions whose reader or writer fails, at each of its calls.
-use crate::session::{ends, session};
-use crack_core::Core;
+use crate::session::{assert_text, core, ends, joined, session};
 use crack_failing::{ONE_BYTE, Sink, Source};
 use crack_row::{GREATEST_LIMIT, Refusal, Watched};
 use crack_session::{End, Fault, How};
 use std::alloc::Global;
 use std::process::Abort;
-use std::test::Fail;
 
 /// Statements, one of them after a blank line.
 static LINES: [&[u8]; 10] = [
@@ -35,15 +33,6 @@ static REPLIES: [&[u8]; 10] = [
     b"none\n",
     b"sum 90\n",
 ];
-
-/// All parts, one after the other.
-pub fn joined(alloc: Global, parts: &[&[u8]]) -> Result<Vec<u8>, Fail> {
-    let mut all = Vec::new(alloc);
-    for part in parts {
-        all.extend_from_slice(part)?;
-    }
-    Ok(all)
-}
 
 /// How many of the first parts are whole in this many bytes, and how many bytes these are.
 fn whole_parts(parts: &[&[u8]], bytes: usize) -> (u64, usize) {
@@ -75,7 +64,7 @@ struct Seen {
 
 /// Serves a session over a fresh core of this limit.
 fn see(rt: &impl Abort, alloc: Global, limit: u64, source: Source<'_>, sink: Sink) -> Seen {
-    let mut desk = Core::open(alloc, &[], limit).expect(rt, "a core");
+    let mut desk = core(rt, alloc, limit);
     let mut reader = Watched::new(source);
     let mut writer = Watched::new(sink);
     let result = session(alloc, &mut desk, &mut reader, &mut writer);
@@ -96,10 +85,15 @@ fn see(rt: &impl Abort, alloc: Global, limit: u64, source: Source<'_>, sink: Sin
     }
 }
 
+/// Asserts how a session ended.
+fn assert_ended(rt: &impl Abort, seen: &Seen, wanted: Result<End, Fault>) {
+    assert_eq!(rt; seen.result, wanted);
+}
+
 /// Asserts that all statements are answered.
 fn assert_whole(rt: &impl Abort, seen: &Seen, replies: &[u8]) {
-    assert_eq!(rt; seen.text.as_slice(), replies);
-    assert_eq!(rt; seen.result, Ok(ends(How::InputEnded, 10)));
+    assert_text(rt, &seen.text, replies);
+    assert_ended(rt, seen, Ok(ends(How::InputEnded, 10)));
 }
 
 /// Asserts that as many statements are done as are answered whole, and that the output is a prefix of all replies;
@@ -113,7 +107,7 @@ fn assert_cut_off(rt: &impl Abort, seen: &Seen, refusal: Refusal, replies: &[u8]
         done,
         first_short: None,
     };
-    assert_eq!(rt; seen.result, Err(fault));
+    assert_ended(rt, seen, Err(fault));
     whole
 }
 
@@ -135,11 +129,11 @@ fn fail_read(
         Sink::new(Vec::new(alloc)),
     );
     let whole = assert_cut_off(rt, &seen, Refusal::ReadFault, replies);
-    assert_eq!(rt; seen.text.len(), whole);
+    assert!(rt; seen.text.len() == whole);
     let given = input.len().saturating_sub(seen.left);
     let (asked, _) = whole_parts(&LINES, given);
     let (answered, _) = whole_parts(&REPLIES, whole);
-    assert_eq!(rt; answered, asked);
+    assert!(rt; answered == asked);
     drop(seen);
 }
 
@@ -162,15 +156,14 @@ fn fail_each_read(rt: &impl Abort, alloc: Global, input: &[u8], replies: &[u8], 
 }
 
 #[test]
-fn a_reader_fails_at_each_read(rt: HostRuntime) -> Result<(), Fail> {
+fn a_reader_fails_at_each_read(rt: HostRuntime) {
     let alloc: Global = rt.alloc();
-    let input = joined(alloc, &LINES)?;
-    let replies = joined(alloc, &REPLIES)?;
+    let input = joined(&rt, alloc, &LINES);
+    let replies = joined(&rt, alloc, &REPLIES);
     let cuts: [&[usize]; 3] = [&[], ONE_BYTE, &[2, 30, 1, 5]];
     for sizes in cuts {
         fail_each_read(&rt, alloc, input.as_slice(), replies.as_slice(), sizes);
     }
-    Ok(())
 }
 
 /// Asserts that a writer which fails at its k-th call has all before it, of the reply that it cuts off a part.
@@ -184,7 +177,7 @@ fn fail_call(rt: &impl Abort, alloc: Global, input: &[u8], replies: &[u8], most:
         sink,
     );
     assert_cut_off(rt, &seen, Refusal::WriteFault, replies);
-    assert_eq!(rt; seen.calls, k);
+    assert!(rt; seen.calls == k);
     drop(seen);
 }
 
@@ -207,20 +200,20 @@ fn fail_each_call(rt: &impl Abort, alloc: Global, input: &[u8], replies: &[u8], 
 }
 
 #[test]
-fn a_writer_fails_at_each_call(rt: HostRuntime) -> Result<(), Fail> {
+fn a_writer_fails_at_each_call(rt: HostRuntime) {
     let alloc: Global = rt.alloc();
-    let input = joined(alloc, &LINES)?;
-    let replies = joined(alloc, &REPLIES)?;
+    let input = joined(&rt, alloc, &LINES);
+    let replies = joined(&rt, alloc, &REPLIES);
     for most in [usize::MAX, 1, 5] {
         fail_each_call(&rt, alloc, input.as_slice(), replies.as_slice(), most);
     }
-    Ok(())
 }
+
 /// Asserts that a device failed, and that the session was cut short so, after this text.
 fn assert_fault(rt: &impl Abort, seen: &Seen, text: &[u8], fault: Fault) {
     assert!(rt; seen.failed);
-    assert_eq!(rt; seen.text.as_slice(), text);
-    assert_eq!(rt; seen.result, Err(fault));
+    assert_text(rt, &seen.text, text);
+    assert_ended(rt, seen, Err(fault));
 }
 
 /// The third reply is the writer's fourth call, after a flush.

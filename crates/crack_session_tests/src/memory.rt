@@ -3,17 +3,15 @@
 //! The tests `sweep_..` hold whichever one of their allocations is refused, so they may be run with each of them
 //! refused in turn.
 use crate::desks::{Refusing, Starved};
-use crate::faults::joined;
-use crate::session::{assert_run, session};
+use crate::session::{assert_run, assert_text, ends_short, joined, session};
 use crack_core::Core;
 use crack_failing::Sink;
 use crack_plain::PlainTable;
 use crack_row::{GREATEST_LIMIT, Layout, Policy, Refusal, Watched};
-use crack_session::{Desk, End, How, serve};
+use crack_session::{Desk, How, serve};
 use std::alloc::Global;
 use std::io::Write;
 use std::process::Abort;
-use std::test::Fail;
 
 /// Statements of one command each: rows are inserted, changed, deleted and read, with pending rows in between.
 static LINES: [&[u8]; 17] = [
@@ -70,21 +68,16 @@ fn replies_without(rt: &impl Abort, alloc: Global, place: u64) -> Vec<u8> {
 
 /// A desk that finds no memory for one command answers from then on as if that command had never been asked.
 #[test]
-fn a_want_of_memory_stops_nothing(rt: HostRuntime) -> Result<(), Fail> {
+fn a_want_of_memory_stops_nothing(rt: HostRuntime) {
     let alloc: Global = rt.alloc();
-    let input = joined(alloc, &LINES)?;
+    let input = joined(&rt, alloc, &LINES);
     'places: for before in 0..17u64 {
         let place = before + 1;
         let replies = replies_without(&rt, alloc, place);
         let desk = Starved::new(PlainTable::new(alloc), place);
-        let end = End {
-            how: How::InputEnded,
-            statements: 17,
-            first_short: Some(place),
-        };
-        assert_run(&rt, alloc, desk, input.as_slice(), replies.as_slice(), end)?;
+        let end = ends_short(How::InputEnded, 17, place);
+        assert_run(&rt, alloc, desk, &input, &replies, end);
     }
-    Ok(())
 }
 
 /// The answer of a desk to one line by a policy, and whether it is a lack of room. Room for the text is found at
@@ -111,13 +104,14 @@ fn told<D: Desk>(
 /// pending ones, and that the pieces are all of the column.
 fn assert_layout(rt: &impl Abort, layout: &Layout) {
     let whole = layout.pieces.as_slice().iter().map(|piece| piece.size);
-    assert_eq!(rt;
-        whole.fold(0u64, |sum, size| sum.saturating_add(size)),
-        layout.column
-    );
+    let column = whole.fold(0u64, |sum, size| sum.saturating_add(size));
     let placed = layout.column.saturating_add(layout.pending_in);
-    assert_eq!(rt; placed.saturating_add(layout.free), layout.cells);
-    assert_eq!(rt; layout.rows.saturating_add(layout.pending_out), placed);
+    let cells = placed.saturating_add(layout.free);
+    let kept = layout.rows.saturating_add(layout.pending_out);
+    assert_eq!(rt;
+        [column, cells, kept],
+        [layout.column, layout.cells, placed]
+    );
 }
 
 /// Has one line answered by a core, and by a plain table if the core finds memory for it; returns whether it didn't.
@@ -131,7 +125,7 @@ fn answer_beside(
 ) -> bool {
     let (is_short, text) = told(rt, alloc, core, policy, line);
     if is_short {
-        assert_eq!(rt; text.as_slice(), b"refused 8\n".as_slice());
+        assert_text(rt, &text, b"refused 8\n");
         let layout = core.layout(0).expect(rt, "a layout");
         assert_layout(rt, &layout);
         return true;
@@ -140,7 +134,7 @@ fn answer_beside(
     if is_short {
         wanted = told(rt, alloc, plain, policy, line).1;
     }
-    assert_eq!(rt; text.as_slice(), wanted.as_slice());
+    assert_text(rt, &text, &wanted);
     false
 }
 

@@ -4,14 +4,12 @@ use crack_core::Core;
 use crack_failing::{ONE_BYTE, Source};
 use crack_plain::PlainTable;
 use crack_row::{
-    Command, GREATEST_BOUND, GREATEST_KEY, GREATEST_LIMIT, Key, KeyRange, Payload, Policy, Refusal,
-    Reply, Serial, Watched,
+    Command, GREATEST_LIMIT, Key, KeyRange, Payload, Policy, Refusal, Reply, Serial, Watched,
 };
 use crack_session::{Desk, End, Fault, How, LINE_BYTES, serve};
 use std::alloc::Global;
 use std::io::{Read, Write};
 use std::process::Abort;
-use std::test::Fail;
 
 /// How a session ends. It promises nothing, so that no test carries the contract of `serve`.
 pub fn session<D: Desk, R: Read, W: Write>(
@@ -25,18 +23,18 @@ pub fn session<D: Desk, R: Read, W: Write>(
 
 /// A session that writes to memory: how it ended, and its output.
 fn run<D: Desk + Drop, R: Read + Drop>(
+    rt: &impl Abort,
     alloc: Global,
     mut desk: D,
     reader: R,
-) -> Result<(End, Vec<u8>), Fail> {
+) -> (End, Vec<u8>) {
     let mut reader = Watched::new(reader);
     let mut writer = Watched::new(Vec::new(alloc));
     let result = session(alloc, &mut desk, &mut reader, &mut writer);
     drop(reader);
     drop(desk);
     let text = writer.into_inner();
-    let end = result.ok().ok_or("a fault")?;
-    Ok((end, text))
+    (result.expect(rt, "no fault"), text)
 }
 
 /// How a session is to end, with no lack of room.
@@ -48,6 +46,29 @@ pub fn ends(how: How, statements: u64) -> End {
     }
 }
 
+/// How a session is to end whose statement of this number was the first that found no room.
+pub fn ends_short(how: How, statements: u64, first_short: u64) -> End {
+    End {
+        how,
+        statements,
+        first_short: Some(first_short),
+    }
+}
+
+/// All parts, one after the other.
+pub fn joined(rt: &impl Abort, alloc: Global, parts: &[&[u8]]) -> Vec<u8> {
+    let mut all = Vec::new(alloc);
+    for part in parts {
+        assert!(rt; all.extend_from_slice(part).is_ok());
+    }
+    all
+}
+
+/// Asserts that these bytes were written.
+pub fn assert_text(rt: &impl Abort, text: &[u8], wanted: &[u8]) {
+    assert_eq!(rt; text, wanted);
+}
+
 /// A session that is to write these replies and end so.
 pub fn assert_told<D: Desk + Drop, R: Read + Drop>(
     rt: &impl Abort,
@@ -56,12 +77,10 @@ pub fn assert_told<D: Desk + Drop, R: Read + Drop>(
     reader: R,
     replies: &[u8],
     end: End,
-) -> Result<(), Fail> {
-    let (told, text) = run(alloc, desk, reader)?;
-    assert_eq!(rt; text.as_slice(), replies);
-    assert_eq!(rt; told, end);
-    drop(text);
-    Ok(())
+) {
+    let (told, text) = run(rt, alloc, desk, reader);
+    assert_text(rt, &text, replies);
+    assert!(rt; told == end);
 }
 
 /// The same over memory.
@@ -72,24 +91,16 @@ pub fn assert_run<D: Desk + Drop>(
     input: &[u8],
     replies: &[u8],
     end: End,
-) -> Result<(), Fail> {
-    assert_told(rt, alloc, desk, input, replies, end)
+) {
+    assert_told(rt, alloc, desk, input, replies, end);
 }
 
-/// The same if the reader returns a byte at a time.
-fn assert_dripped<D: Desk + Drop>(
-    rt: &impl Abort,
-    alloc: Global,
-    desk: D,
-    input: &[u8],
-    replies: &[u8],
-    end: End,
-) -> Result<(), Fail> {
-    let reader = Source::new(input).cut(ONE_BYTE);
-    assert_told(rt, alloc, desk, reader, replies, end)
+/// A core of one partition of this limit.
+pub fn core(rt: &impl Abort, alloc: Global, limit: u64) -> Core {
+    Core::open(alloc, &[], limit).expect(rt, "a core")
 }
 
-/// A session over one partition of this limit, however its bytes are cut.
+/// A session over one partition of this limit: at once, and if the reader returns a byte at a time.
 fn assert_script(
     rt: &impl Abort,
     alloc: Global,
@@ -97,76 +108,68 @@ fn assert_script(
     input: &[u8],
     replies: &[u8],
     end: End,
-) -> Result<(), Fail> {
-    let desk = Core::open(alloc, &[], limit)?;
-    assert_run(rt, alloc, desk, input, replies, end)?;
-    let again = Core::open(alloc, &[], limit)?;
-    assert_dripped(rt, alloc, again, input, replies, end)
+) {
+    assert_run(rt, alloc, core(rt, alloc, limit), input, replies, end);
+    let dripped = Source::new(input).cut(ONE_BYTE);
+    assert_told(rt, alloc, core(rt, alloc, limit), dripped, replies, end);
 }
 
 /// A session that a plain table answers by the same bytes.
-fn assert_alike(
-    rt: &impl Abort,
-    alloc: Global,
-    input: &[u8],
-    replies: &[u8],
-    end: End,
-) -> Result<(), Fail> {
-    assert_script(rt, alloc, GREATEST_LIMIT, input, replies, end)?;
-    assert_run(rt, alloc, PlainTable::new(alloc), input, replies, end)
+fn assert_alike(rt: &impl Abort, alloc: Global, input: &[u8], replies: &[u8], end: End) {
+    assert_script(rt, alloc, GREATEST_LIMIT, input, replies, end);
+    assert_run(rt, alloc, PlainTable::new(alloc), input, replies, end);
 }
 
 #[test]
-fn no_input_has_no_reply(rt: HostRuntime) -> Result<(), Fail> {
-    assert_alike(&rt, rt.alloc(), b"", b"", ends(How::InputEnded, 0))
+fn no_input_has_no_reply(rt: HostRuntime) {
+    assert_alike(&rt, rt.alloc(), b"", b"", ends(How::InputEnded, 0));
 }
 
 #[test]
-fn quit_ends_a_session(rt: HostRuntime) -> Result<(), Fail> {
+fn quit_ends_a_session(rt: HostRuntime) {
     assert_alike(
         &rt,
         rt.alloc(),
         b"insert 7 70\ncount 0 9\nquit\ncount 0 1\n",
         b"row 0.0\ncount 1\nbye\n",
         ends(How::Quit, 3),
-    )
+    );
 }
 
 #[test]
-fn a_line_that_is_too_long_is_no_statement(rt: HostRuntime) -> Result<(), Fail> {
+fn a_line_that_is_too_long_is_no_statement(rt: HostRuntime) {
     let many = [b'x'; LINE_BYTES + 1];
-    let mut input = Vec::from_slice(rt.alloc(), b"insert 1 1\r\n")?;
-    input.extend_from_slice(many.as_slice())?;
-    input.extend_from_slice(b"\n\ncount 0 5")?;
+    let parts = [
+        b"insert 1 1\r\n".as_slice(),
+        many.as_slice(),
+        b"\n\ncount 0 5".as_slice(),
+    ];
+    let input = joined(&rt, rt.alloc(), &parts);
     assert_alike(
         &rt,
         rt.alloc(),
         input.as_slice(),
         b"row 0.0\nrefused 1\ncount 1\n",
         ends(How::InputEnded, 3),
-    )
+    );
 }
 
+/// The numbers are the greatest key, the greatest bound, and one more than that.
 #[test]
-fn the_greatest_key_and_bound_are_taken(rt: HostRuntime) -> Result<(), Fail> {
-    let key = GREATEST_KEY;
-    let bound = GREATEST_BOUND;
-    let past = GREATEST_BOUND + 1;
-    let input = format!(in rt.alloc();
-        "insert {key} 1\ncount {key} {bound}\ninsert {bound} 1\ncount 0 {past}\n"
-    )?;
+fn the_greatest_key_and_bound_are_taken(rt: HostRuntime) {
     assert_alike(
         &rt,
         rt.alloc(),
-        input.as_bytes(),
+        b"insert 18446744073709551615 1\ncount 18446744073709551615 18446744073709551616\n\
+insert 18446744073709551616 1\ncount 0 18446744073709551617\n",
         b"row 0.0\ncount 1\nrefused 1\nrefused 2\n",
         ends(How::InputEnded, 4),
-    )
+    );
 }
 
 /// The greatest key with the least payload, a sum below every payload, and numbers just past the limits.
 #[test]
-fn wide_numbers_are_read_and_told(rt: HostRuntime) -> Result<(), Fail> {
+fn wide_numbers_are_read_and_told(rt: HostRuntime) {
     assert_alike(
         &rt,
         rt.alloc(),
@@ -176,12 +179,12 @@ insert 1 9223372036854775808\ninsert 1 - 2\ninsert 1 -0\nselect 0 2\ndelete 0.1\
         b"row 0.0\nrow 0.1\nsum -9223372036854775809\nrefused 1\nrefused 2\nrefused 1\nrefused 1\nrow 0.2\n\
 rows 1\n0.2 1 0\ngone 18446744073709551615 -1\n",
         ends(How::InputEnded, 10),
-    )
+    );
 }
 
 /// Keys at both sides of 2^32, with payloads of both signs.
 #[test]
-fn keys_next_to_32_bits_are_told_apart(rt: HostRuntime) -> Result<(), Fail> {
+fn keys_next_to_32_bits_are_told_apart(rt: HostRuntime) {
     assert_alike(
         &rt,
         rt.alloc(),
@@ -191,44 +194,36 @@ update 0.2 4294967295 -9223372036854775808\nsum 4294967295 4294967296\nselect 42
         b"row 0.0\nrow 0.1\nrow 0.2\nrow 0.3\nsum 2\nsum -2\ncount 2\nrows 2\n0.1 4294967296 5\n0.2 4294967297 -1\n\
 changed\nsum -9223372036854775815\nrows 2\n0.0 4294967295 -7\n0.2 4294967295 -9223372036854775808\n",
         ends(How::InputEnded, 11),
-    )
+    );
 }
 
 #[test]
-fn a_full_history_is_told(rt: HostRuntime) -> Result<(), Fail> {
+fn a_full_history_is_told(rt: HostRuntime) {
     assert_script(
         &rt,
         rt.alloc(),
         2,
         b"insert 1 1\ninsert 2 2\ncount 0 9\n",
         b"row 0.0\nrow 0.1\nrefused 6 2\n",
-        End {
-            how: How::InputEnded,
-            statements: 3,
-            first_short: Some(3),
-        },
-    )
+        ends_short(How::InputEnded, 3, 3),
+    );
 }
 
 /// Statements after a lack of room are answered as usual.
 #[test]
-fn a_want_of_room_stops_nothing(rt: HostRuntime) -> Result<(), Fail> {
+fn a_want_of_room_stops_nothing(rt: HostRuntime) {
     assert_script(
         &rt,
         rt.alloc(),
         1,
         b"insert 1 1\ninsert 2 2\nfoo\ninsert 3 3\nquit\n",
         b"row 0.0\nrefused 6 1\nrefused 1\nrefused 6 1\nbye\n",
-        End {
-            how: How::Quit,
-            statements: 5,
-            first_short: Some(2),
-        },
-    )
+        ends_short(How::Quit, 5, 2),
+    );
 }
 
 #[test]
-fn spaces_and_zeros_are_passed_over(rt: HostRuntime) -> Result<(), Fail> {
+fn spaces_and_zeros_are_passed_over(rt: HostRuntime) {
     assert_alike(
         &rt,
         rt.alloc(),
@@ -236,12 +231,12 @@ fn spaces_and_zeros_are_passed_over(rt: HostRuntime) -> Result<(), Fail> {
         quit now\nInsert 1 1",
         b"row 0.0\ncount 1\nrefused 1\nrefused 2\nrefused 1\nrefused 1\n",
         ends(How::InputEnded, 6),
-    )
+    );
 }
 
 /// Each statement, with its texts; a statement that names another partition is refused, whatever it asks.
 #[test]
-fn each_statement_is_answered(rt: HostRuntime) -> Result<(), Fail> {
+fn each_statement_is_answered(rt: HostRuntime) {
     assert_alike(
         &rt,
         rt.alloc(),
@@ -252,86 +247,76 @@ delete 0.18446744073709551615\nselect 0 18446744073709551616\nquit\n",
 none\npolicy gradual\npolicy complete\ncount 1\nrefused 5\nrefused 5\nrefused 5\nrefused 5\n\
 none\nrows 1\n0.0 8 80\nbye\n",
         ends(How::Quit, 19),
-    )
+    );
 }
 
-/// A session whose first line names this policy, and whose last one gets this layout.
-fn assert_policy(rt: &impl Abort, alloc: Global, name: &str, layout: &str) -> Result<(), Fail> {
-    let rows =
-        "insert 10 10\ninsert 20 20\ninsert 30 30\ninsert 40 40\ncount 0 18446744073709551616\ncount 15 25\n";
-    let more = "insert 17 0\ninsert 90 0\ncount 15 25\nlayout 0\n";
-    let input = format!(in alloc; "policy {name}\n{rows}{more}")?;
-    let replies = "row 0.0\nrow 0.1\nrow 0.2\nrow 0.3\ncount 4\ncount 1\n";
-    let told = format!(in alloc; "policy {name}\n{replies}row 0.4\nrow 0.5\ncount 2\n{layout}")?;
+/// Statements after a policy, and the answers to all but the last of them.
+const ROWS: &[u8] =
+    b"insert 10 10\ninsert 20 20\ninsert 30 30\ninsert 40 40\ncount 0 18446744073709551616\ncount 15 25\n\
+insert 17 0\ninsert 90 0\ncount 15 25\nlayout 0\n";
+
+const TOLD: &[u8] =
+    b"row 0.0\nrow 0.1\nrow 0.2\nrow 0.3\ncount 4\ncount 1\nrow 0.4\nrow 0.5\ncount 2\n";
+
+/// A session whose first line names a policy, and whose last one gets this layout.
+fn assert_policy(rt: &impl Abort, alloc: Global, policy: &[u8], layout: &[u8]) {
+    let input = joined(rt, alloc, &[policy, ROWS]);
+    let told = joined(rt, alloc, &[policy, TOLD, layout]);
     let end = ends(How::InputEnded, 11);
-    assert_script(
-        rt,
-        alloc,
-        GREATEST_LIMIT,
-        input.as_bytes(),
-        told.as_bytes(),
-        end,
-    )
+    assert_script(rt, alloc, GREATEST_LIMIT, &input, &told, end);
 }
 
 /// A policy holds for the rest of a session: a merge takes all that is pending, or what its range needs.
 #[test]
-fn a_policy_holds_for_the_rest(rt: HostRuntime) -> Result<(), Fail> {
+fn a_policy_holds_for_the_rest(rt: HostRuntime) {
     let all =
-        "layout 0 rows 6 column 6 out 0 in 0 cells 6 free 0 pieces 3\npiece 0 15 1\npiece 15 25 2\n\
+        b"layout 0 rows 6 column 6 out 0 in 0 cells 6 free 0 pieces 3\npiece 0 15 1\npiece 15 25 2\n\
         piece 25 18446744073709551616 3\n";
     let some =
-        "layout 0 rows 6 column 5 out 0 in 1 cells 6 free 0 pieces 3\npiece 0 15 1\npiece 15 25 2\n\
+        b"layout 0 rows 6 column 5 out 0 in 1 cells 6 free 0 pieces 3\npiece 0 15 1\npiece 15 25 2\n\
         piece 25 18446744073709551616 2\n";
     let near =
-        "layout 0 rows 6 column 4 out 0 in 2 cells 6 free 0 pieces 3\npiece 0 15 1\npiece 15 25 2\n\
+        b"layout 0 rows 6 column 4 out 0 in 2 cells 6 free 0 pieces 3\npiece 0 15 1\npiece 15 25 2\n\
         piece 25 18446744073709551616 1\n";
-    assert_policy(&rt, rt.alloc(), "complete", all)?;
-    assert_policy(&rt, rt.alloc(), "gradual", some)?;
-    assert_policy(&rt, rt.alloc(), "ripple", near)?;
-    assert_policy(&rt, rt.alloc(), "auto", all)
+    assert_policy(&rt, rt.alloc(), b"policy complete\n", all);
+    assert_policy(&rt, rt.alloc(), b"policy gradual\n", some);
+    assert_policy(&rt, rt.alloc(), b"policy ripple\n", near);
+    assert_policy(&rt, rt.alloc(), b"policy auto\n", all);
 }
 
 /// 22 rows, merged into three pieces.
-const ROWS_IN_PIECES: &str =
-    "insert 10 1\ninsert 20 1\ninsert 30 1\ninsert 40 1\ninsert 50 1\ninsert 60 1\ninsert 70 1\ninsert 80 1\n\
+const ROWS_IN_PIECES: &[u8] =
+    b"policy auto\ninsert 10 1\ninsert 20 1\ninsert 30 1\ninsert 40 1\ninsert 50 1\ninsert 60 1\ninsert 70 1\ninsert 80 1\n\
 insert 90 1\ninsert 100 1\ninsert 110 1\ninsert 120 1\ninsert 130 1\ninsert 140 1\ninsert 150 1\ninsert 160 1\n\
 insert 170 1\ninsert 180 1\ninsert 190 1\ninsert 200 1\ninsert 210 1\ninsert 220 1\ncount 15 25\n";
 
 /// The answers to these.
-const ROWS_TOLD: &str =
-    "row 0.0\nrow 0.1\nrow 0.2\nrow 0.3\nrow 0.4\nrow 0.5\nrow 0.6\nrow 0.7\nrow 0.8\nrow 0.9\nrow 0.10\n\
+const ROWS_TOLD: &[u8] =
+    b"policy auto\nrow 0.0\nrow 0.1\nrow 0.2\nrow 0.3\nrow 0.4\nrow 0.5\nrow 0.6\nrow 0.7\nrow 0.8\nrow 0.9\nrow 0.10\n\
 row 0.11\nrow 0.12\nrow 0.13\nrow 0.14\nrow 0.15\nrow 0.16\nrow 0.17\nrow 0.18\nrow 0.19\nrow 0.20\nrow 0.21\n\
 count 1\n";
 
 /// One pending insertion beside 22 rows in three pieces is few: room for it is made near the range. Two are many: all
 /// are merged.
 #[test]
-fn auto_makes_room_where_few_rows_are_pending(rt: HostRuntime) -> Result<(), Fail> {
+fn auto_makes_room_where_few_rows_are_pending(rt: HostRuntime) {
     let more =
-        "delete 0.10\ndelete 0.11\ninsert 17 2\nsum 15 25\nlayout 0\ninsert 16 3\nselect 15 25\nlayout 0\n";
-    let told = "gone 110 1\ngone 120 1\nrow 0.22\nsum 3\n\
+        b"delete 0.10\ndelete 0.11\ninsert 17 2\nsum 15 25\nlayout 0\ninsert 16 3\nselect 15 25\nlayout 0\n";
+    let told = b"gone 110 1\ngone 120 1\nrow 0.22\nsum 3\n\
 layout 0 rows 21 column 22 out 2 in 1 cells 23 free 0 pieces 3\npiece 0 15 1\npiece 15 25 2\n\
 piece 25 18446744073709551616 19\n\
 row 0.23\nrows 3\n0.1 20 1\n0.22 17 2\n0.23 16 3\n\
 layout 0 rows 22 column 22 out 0 in 0 cells 24 free 2 pieces 3\npiece 0 15 1\npiece 15 25 3\n\
 piece 25 18446744073709551616 18\n";
-    let input = format!(in rt.alloc(); "policy auto\n{ROWS_IN_PIECES}{more}")?;
-    let replies = format!(in rt.alloc(); "policy auto\n{ROWS_TOLD}{told}")?;
+    let input = joined(&rt, rt.alloc(), &[ROWS_IN_PIECES, more.as_slice()]);
+    let replies = joined(&rt, rt.alloc(), &[ROWS_TOLD, told.as_slice()]);
     let end = ends(How::InputEnded, 32);
-    assert_script(
-        &rt,
-        rt.alloc(),
-        GREATEST_LIMIT,
-        input.as_bytes(),
-        replies.as_bytes(),
-        end,
-    )
+    assert_script(&rt, rt.alloc(), GREATEST_LIMIT, &input, &replies, end);
 }
 
-/// A plain table lays its rows out as one piece, and a layout that finds no memory is a lack of room.
+/// A plain table lays its rows out as one piece.
 #[test]
-fn layouts_of_other_desks(rt: HostRuntime) -> Result<(), Fail> {
+fn a_layout_of_a_plain_table(rt: HostRuntime) {
     assert_run(
         &rt,
         rt.alloc(),
@@ -340,33 +325,32 @@ fn layouts_of_other_desks(rt: HostRuntime) -> Result<(), Fail> {
         b"row 0.0\nrow 0.1\ncount 0\nlayout 0 rows 2 column 2 out 0 in 0 cells 2 free 0 pieces 1\n\
         piece 0 18446744073709551616 2\n",
         ends(How::InputEnded, 4),
-    )?;
+    );
+}
+
+/// A layout that finds no memory is a lack of room.
+#[test]
+fn layouts_of_other_desks(rt: HostRuntime) {
     let refusal = Refusal::OutOfMemory;
-    let end = End {
-        how: How::InputEnded,
-        statements: 2,
-        first_short: Some(2),
-    };
     assert_run(
         &rt,
         rt.alloc(),
         Refusing { refusal },
         b"policy gradual\nlayout 0",
         b"policy gradual\nrefused 8\n",
-        end,
-    )
+        ends_short(How::InputEnded, 2, 2),
+    );
 }
 
 /// A refusal's text as it is printed, which is that of its reply.
-fn assert_printed(rt: &impl Abort, alloc: Global, refusal: Refusal) -> Result<(), Fail> {
-    let (_end, text) = run(alloc, Refusing { refusal }, b"count 0 1\n".as_slice())?;
-    let printed = format!(in alloc; "{refusal}\n")?;
-    assert_eq!(rt; text.as_slice(), printed.as_bytes());
-    Ok(())
+fn assert_printed(rt: &impl Abort, alloc: Global, refusal: Refusal) {
+    let (_end, text) = run(rt, alloc, Refusing { refusal }, b"count 0 1\n".as_slice());
+    let printed = format!(in alloc; "{refusal}\n").expect(rt, "memory");
+    assert_text(rt, &text, printed.as_bytes());
 }
 
 #[test]
-fn refusals_are_printed_as_they_are_replied(rt: HostRuntime) -> Result<(), Fail> {
+fn refusals_are_printed_as_they_are_replied(rt: HostRuntime) {
     for refusal in [
         Refusal::BadStatement,
         Refusal::BadRange,
@@ -380,9 +364,8 @@ fn refusals_are_printed_as_they_are_replied(rt: HostRuntime) -> Result<(), Fail>
         Refusal::ReadFault,
         Refusal::WriteFault,
     ] {
-        assert_printed(&rt, rt.alloc(), refusal)?;
+        assert_printed(&rt, rt.alloc(), refusal);
     }
-    Ok(())
 }
 
 /// The answer of a desk. It promises nothing, so that no test carries the contract of `ask`.
@@ -391,31 +374,27 @@ fn ask<D: Desk>(desk: &mut D, part: u32, command: Command) -> Result<Reply, Refu
 }
 
 /// A desk by itself: its commands, how many it accepted, and that there is one partition.
-fn ask_it<D: Desk>(rt: &impl Abort, desk: &mut D) -> Result<(), Fail> {
+fn ask_it<D: Desk>(rt: &impl Abort, desk: &mut D) {
     let insert = Command::Insert {
         key: Key::from_number(7),
         payload: Payload::from_number(70),
     };
-    assert!(rt; matches!(ask(desk, 0, insert)?, Reply::Placed(Serial(0))));
-    let count = Command::Count(KeyRange::new(7, 8)?);
-    assert!(rt; matches!(ask(desk, 0, count)?, Reply::Counted(1)));
-    let elsewhere = ask(desk, 1, insert).err();
-    assert_eq!(rt; elsewhere, Some(Refusal::NoSuchPartition));
-    assert_eq!(rt; desk.receipts(), 2);
-    assert!(rt; desk.splits().is_empty());
-    Ok(())
+    assert!(rt; matches!(ask(desk, 0, insert), Ok(Reply::Placed(Serial(0)))));
+    let range = KeyRange::new(7, 8).expect(rt, "a range");
+    assert!(rt; matches!(ask(desk, 0, Command::Count(range)), Ok(Reply::Counted(1))));
+    let elsewhere = ask(desk, 1, insert);
+    assert!(rt; matches!(elsewhere, Err(Refusal::NoSuchPartition)));
+    assert!(rt; desk.receipts() == 2 && desk.splits().is_empty());
 }
 
 #[test]
-fn desks(rt: HostRuntime) -> Result<(), Fail> {
-    let mut desk = Core::open(rt.alloc(), &[], GREATEST_LIMIT)?;
-    let told = ask_it(&rt, &mut desk);
+fn desks(rt: HostRuntime) {
+    let mut desk = core(&rt, rt.alloc(), GREATEST_LIMIT);
+    ask_it(&rt, &mut desk);
     drop(desk);
-    told?;
     let mut table = PlainTable::new(rt.alloc());
-    let told = ask_it(&rt, &mut table);
+    ask_it(&rt, &mut table);
     drop(table);
-    told
 }
 
 #[test]
