@@ -88,35 +88,146 @@ impl From<AllocError> for ArgumentsError {
     }
 }
 
-fn limit_option<'a>(alloc: Global) -> Arg<'a> {
-    Arg::new(alloc, "limit")
-        .long("limit")
-        .value_name("N")
-        .value_parser(value_parser!(u64))
-        .help("Length of a history, 1 to 1000000 [default: 1000000]")
+/// The value of an option.
+enum Value {
+    /// None: the option is given or not.
+    Flag,
+    /// A number, for which this word stands.
+    Number(&'static str),
+    /// The same, of an option that must be given.
+    Required(&'static str),
 }
 
-fn cells_option<'a>(alloc: Global) -> Arg<'a> {
-    Arg::new(alloc, "cells")
-        .long("cells")
-        .value_name("N")
-        .value_parser(value_parser!(u64))
-        .help("Cells of a partition, 1 to 1048576 [default: 1048576]")
+/// An option: its name, its value and its help.
+struct Choice(&'static str, Value, &'static str);
+
+const WORKERS: Choice = Choice(
+    "workers",
+    Value::Required("W"),
+    "How many workers, each on its own thread: 1 to 64",
+);
+
+static OPENING_CHOICES: [Choice; 4] = [
+    Choice(
+        "limit",
+        Value::Number("N"),
+        "Length of a history, 1 to 1000000 [default: 1000000]",
+    ),
+    Choice(
+        "cells",
+        Value::Number("N"),
+        "Cells of a partition, 1 to 1048576 [default: 1048576]",
+    ),
+    Choice(
+        "life",
+        Value::Number("N"),
+        "Commands of a partition, 1 to 2^40 [default: 2^40]",
+    ),
+    Choice(
+        "auto-checkpoint",
+        Value::Flag,
+        "Makes a checkpoint when a history is full",
+    ),
+];
+
+static BATCH_CHOICES: [Choice; 1] = [WORKERS];
+
+static SERVER_CHOICES: [Choice; 7] = [
+    Choice(
+        "port",
+        Value::Required("N"),
+        "The port of 127.0.0.1 to listen on, 1 to 65535",
+    ),
+    WORKERS,
+    Choice(
+        "sessions",
+        Value::Number("N"),
+        "How many connections are served before it ends",
+    ),
+    Choice(
+        "until-eof",
+        Value::Flag,
+        "Serves until its input ends, instead of --sessions",
+    ),
+    Choice(
+        "idle",
+        Value::Number("N"),
+        "Ends a session that waits N seconds for its client",
+    ),
+    Choice(
+        "quiet",
+        Value::Flag,
+        "Writes only a refusal to standard error",
+    ),
+    Choice(
+        "audit",
+        Value::Flag,
+        "Keeps a receipt of each reply, compared at the end",
+    ),
+];
+
+static WORDS_CHOICE: Choice = Choice(
+    "words",
+    Value::Flag,
+    "Explains errors in words, on standard error",
+);
+
+fn option_of<'a>(alloc: Global, choice: &Choice) -> Arg<'a> {
+    let Choice(name, value, help) = choice;
+    let option = Arg::new(alloc, name).long(name).help(help);
+    match value {
+        Value::Flag => option.action(ArgAction::SetTrue),
+        Value::Number(word) => number_option(option, word),
+        Value::Required(word) => number_option(option, word).required(true),
+    }
 }
 
-fn life_option<'a>(alloc: Global) -> Arg<'a> {
-    Arg::new(alloc, "life")
-        .long("life")
-        .value_name("N")
-        .value_parser(value_parser!(u64))
-        .help("Commands of a partition, 1 to 2^40 [default: 2^40]")
+fn number_option<'a>(option: Arg<'a>, word: &'a str) -> Arg<'a> {
+    option.value_name(word).value_parser(value_parser!(u64))
 }
 
-fn upkeep_option<'a>(alloc: Global) -> Arg<'a> {
-    Arg::new(alloc, "auto-checkpoint")
-        .long("auto-checkpoint")
-        .action(ArgAction::SetTrue)
-        .help("Makes a checkpoint when a history is full")
+/// A command that is being built, or that no memory was found for it.
+type Built<'a> = Result<Command<'a>, AllocError>;
+
+/// A command with one more option.
+fn with_option<'a>(built: Built<'a>, option: Arg<'a>) -> Built<'a> {
+    match built {
+        Ok(command) => command.arg(option),
+        Err(error) => {
+            drop(option);
+            Err(error)
+        }
+    }
+}
+
+/// A command with these options, too.
+fn with_options<'a>(alloc: Global, built: Built<'a>, choices: &[Choice]) -> Built<'a> {
+    let mut built = built;
+    'choices: for choice in choices {
+        built = with_option(built, option_of(alloc, choice));
+    }
+    built
+}
+
+/// A command with one more subcommand.
+fn with_subcommand<'a>(built: Built<'a>, subcommand: Built<'a>) -> Built<'a> {
+    match built {
+        Ok(command) => joined(command, subcommand),
+        Err(error) => {
+            drop(subcommand);
+            Err(error)
+        }
+    }
+}
+
+fn joined<'a>(command: Command<'a>, subcommand: Built<'a>) -> Built<'a> {
+    match subcommand {
+        Ok(subcommand) => command.subcommand(subcommand),
+        Err(error) => {
+            drop(command);
+            Err(error)
+        }
+    }
 }
 
 fn policy_option<'a>(alloc: Global) -> Arg<'a> {
@@ -137,88 +248,15 @@ fn split_values<'a>(alloc: Global) -> Arg<'a> {
         .help("First keys of partitions: rising, 1 to 2^64 - 1; 63 at most")
 }
 
-fn workers_option<'a>(alloc: Global) -> Arg<'a> {
-    Arg::new(alloc, "workers")
-        .long("workers")
-        .value_name("W")
-        .required(true)
-        .value_parser(value_parser!(u64))
-        .help("How many workers, each on its own thread: 1 to 64")
-}
-
-fn port_option<'a>(alloc: Global) -> Arg<'a> {
-    Arg::new(alloc, "port")
-        .long("port")
-        .value_name("N")
-        .required(true)
-        .value_parser(value_parser!(u64))
-        .help("The port of 127.0.0.1 to listen on, 1 to 65535")
-}
-
-fn sessions_option<'a>(alloc: Global) -> Arg<'a> {
-    Arg::new(alloc, "sessions")
-        .long("sessions")
-        .value_name("N")
-        .value_parser(value_parser!(u64))
-        .help("How many connections are served before it ends")
-}
-
-fn until_eof_option<'a>(alloc: Global) -> Arg<'a> {
-    Arg::new(alloc, "until-eof")
-        .long("until-eof")
-        .action(ArgAction::SetTrue)
-        .help("Serves until its input ends, instead of --sessions")
-}
-
-fn idle_option<'a>(alloc: Global) -> Arg<'a> {
-    Arg::new(alloc, "idle")
-        .long("idle")
-        .value_name("N")
-        .value_parser(value_parser!(u64))
-        .help("Ends a session that waits N seconds for its client")
-}
-
-fn quiet_option<'a>(alloc: Global) -> Arg<'a> {
-    Arg::new(alloc, "quiet")
-        .long("quiet")
-        .action(ArgAction::SetTrue)
-        .help("Writes only a refusal to standard error")
-}
-
-fn audit_option<'a>(alloc: Global) -> Arg<'a> {
-    Arg::new(alloc, "audit")
-        .long("audit")
-        .action(ArgAction::SetTrue)
-        .help("Keeps a receipt of each reply, compared at the end")
-}
-
-fn words_option<'a>(alloc: Global) -> Arg<'a> {
-    Arg::new(alloc, "words")
-        .long("words")
-        .global(true)
-        .action(ArgAction::SetTrue)
-        .help("Explains errors in words, on standard error")
-}
-
 /// A subcommand with the options and the splits that all openings have.
-fn opening_command<'a>(
-    alloc: Global,
-    name: &'a str,
-    about: &'a str,
-    behind: &'a str,
-) -> Result<Command<'a>, AllocError> {
-    Command::new(alloc, name)
-        .about(about)
-        .after_help(behind)
-        .arg(limit_option(alloc))?
-        .arg(cells_option(alloc))?
-        .arg(life_option(alloc))?
-        .arg(upkeep_option(alloc))?
-        .arg(policy_option(alloc))?
-        .arg(split_values(alloc))
+fn opening_command<'a>(alloc: Global, name: &'a str, about: &'a str, behind: &'a str) -> Built<'a> {
+    let bare = Command::new(alloc, name).about(about).after_help(behind);
+    let limited = with_options(alloc, Ok(bare), OPENING_CHOICES.as_slice());
+    let merging = with_option(limited, policy_option(alloc));
+    with_option(merging, split_values(alloc))
 }
 
-fn script_command<'a>(alloc: Global) -> Result<Command<'a>, AllocError> {
+fn script_command<'a>(alloc: Global) -> Built<'a> {
     opening_command(
         alloc,
         "script",
@@ -227,33 +265,27 @@ fn script_command<'a>(alloc: Global) -> Result<Command<'a>, AllocError> {
     )
 }
 
-fn batch_command<'a>(alloc: Global) -> Result<Command<'a>, AllocError> {
-    opening_command(
+fn batch_command<'a>(alloc: Global) -> Built<'a> {
+    let opening = opening_command(
         alloc,
         "batch",
         "Answers numbered lines with workers that run in parallel",
         help::OF_BATCH,
-    )?
-    .arg(workers_option(alloc))
+    );
+    with_options(alloc, opening, BATCH_CHOICES.as_slice())
 }
 
-fn serve_command<'a>(alloc: Global) -> Result<Command<'a>, AllocError> {
-    opening_command(
+fn serve_command<'a>(alloc: Global) -> Built<'a> {
+    let opening = opening_command(
         alloc,
         "serve",
         "Serves connections to a port, one per worker at a time",
         help::OF_SERVE,
-    )?
-    .arg(port_option(alloc))?
-    .arg(workers_option(alloc))?
-    .arg(sessions_option(alloc))?
-    .arg(until_eof_option(alloc))?
-    .arg(idle_option(alloc))?
-    .arg(quiet_option(alloc))?
-    .arg(audit_option(alloc))
+    );
+    with_options(alloc, opening, SERVER_CHOICES.as_slice())
 }
 
-fn csv_command<'a>(alloc: Global) -> Result<Command<'a>, AllocError> {
+fn csv_command<'a>(alloc: Global) -> Built<'a> {
     opening_command(
         alloc,
         "csv",
@@ -262,18 +294,22 @@ fn csv_command<'a>(alloc: Global) -> Result<Command<'a>, AllocError> {
     )
 }
 
-/// The common form of command lines.
-fn command_line<'a>(alloc: Global) -> Result<Command<'a>, AllocError> {
+/// The program without its subcommands.
+fn program<'a>(alloc: Global) -> Built<'a> {
     Command::new(alloc, "crackd")
         .about("An in-memory table that sorts itself as it is queried")
         .version(VERSION)
         .after_help(help::OF_PROGRAM)
         .subcommand_required(true)
-        .arg(words_option(alloc))?
-        .subcommand(script_command(alloc)?)?
-        .subcommand(batch_command(alloc)?)?
-        .subcommand(serve_command(alloc)?)?
-        .subcommand(csv_command(alloc)?)
+        .arg(option_of(alloc, &WORDS_CHOICE).global(true))
+}
+
+/// The common form of command lines.
+fn command_line<'a>(alloc: Global) -> Built<'a> {
+    let with_script = with_subcommand(program(alloc), script_command(alloc));
+    let with_batch = with_subcommand(with_script, batch_command(alloc));
+    let with_serve = with_subcommand(with_batch, serve_command(alloc));
+    with_subcommand(with_serve, csv_command(alloc))
 }
 
 fn policy_of(matches: &ArgMatches<'_>) -> Policy {

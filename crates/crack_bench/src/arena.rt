@@ -13,22 +13,30 @@ pub struct Filled {
     pub handles: Vec<Handle<Row>>,
 }
 
-/// An arena with this many rows of random keys, and their handles in order.
-pub fn fill(alloc: Global, rows: u32, numbers: &mut Numbers) -> Result<Filled, Refusal> {
-    let mut arena = Arena::new(alloc);
-    arena.reserve(rows as usize)?;
-    let mut handles = Vec::new(alloc);
-    handles.reserve(rows as usize)?;
-    for serial in 0..rows {
+impl Filled {
+    /// No rows yet.
+    pub fn new(alloc: Global) -> Filled {
+        Filled {
+            arena: Arena::new(alloc),
+            handles: Vec::new(alloc),
+        }
+    }
+}
+
+/// Puts this many rows of random keys, and keeps their handles in order.
+pub fn fill(filled: &mut Filled, rows: u32, numbers: &mut Numbers) -> Result<(), Refusal> {
+    filled.arena.reserve(rows as usize)?;
+    filled.handles.reserve(rows as usize)?;
+    'rows: for serial in 0..rows {
         let key = numbers.below(1 << 31) as KeyNumber;
         let row = Row {
             serial: Serial(serial as u64),
             key: Key::from_number(key),
             payload: Payload::from_number(1),
         };
-        put(&mut arena, &mut handles, row)?;
+        put(&mut filled.arena, &mut filled.handles, row)?;
     }
-    Ok(Filled { arena, handles })
+    Ok(())
 }
 
 /// Puts a row, and keeps its handle.

@@ -2,26 +2,27 @@
 
 use crate::numbers::{Numbers, mixed};
 use crate::partition::{Measured, serials};
-use crate::report;
+use crate::{Told, report};
 use crack_row::Row;
 use std::time::Instant;
 
 /// How many commands of one kind are measured before a checkpoint, and after it.
 const NEXT: u32 = 1000;
 
-/// A checkpoint of inserts, of which some are pending, and one after as many deletes and inserts, which put rows into
-/// freed cells, with nothing pending.
+/// A checkpoint of the inserts that were made, of which some are pending, and one after as many deletes and inserts,
+/// which put rows into freed cells, with nothing pending.
 pub fn measure(
     rt: &HostRuntime,
     table: &mut Measured,
     rows: u32,
     changes: u32,
     numbers: &mut Numbers,
-) -> anyhow::Result<()> {
-    table.load_partly(rows, numbers)?;
+) -> Told {
     measure_checkpoint(rt, table, "fold")?;
     let mut serials = serials(rt.alloc(), rows)?;
-    table.mix(changes, &mut serials, numbers)?;
+    let changed = table.mix(changes, &mut serials, numbers);
+    drop(serials);
+    changed?;
     measure_next(rt, table, "counts_before", "inserts_before", numbers)?;
     measure_checkpoint(rt, table, "mixed_fold")?;
     measure_next(rt, table, "counts_after", "inserts_after", numbers)
@@ -34,11 +35,10 @@ fn measure_next(
     counts: &str,
     inserts: &str,
     numbers: &mut Numbers,
-) -> anyhow::Result<()> {
+) -> Told {
     let start = Instant::now(rt)?;
     let sum = table.upper_counts(NEXT)?;
-    report(rt, counts, start)?;
-    let start = Instant::now(rt)?;
+    let start = report(rt, counts, start)?;
     table.load_half(NEXT, numbers)?;
     report(rt, inserts, start)?;
     let everything = table.count_all()?;
@@ -46,7 +46,7 @@ fn measure_next(
     Ok(())
 }
 
-fn measure_checkpoint(rt: &HostRuntime, table: &mut Measured, name: &str) -> anyhow::Result<()> {
+fn measure_checkpoint(rt: &HostRuntime, table: &mut Measured, name: &str) -> Told {
     let start = Instant::now(rt)?;
     let entries = table.partition.checkpoint()?;
     report(rt, name, start)?;
