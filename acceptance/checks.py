@@ -1,4 +1,4 @@
-"""Runs the checks that unittest finds in parallel: first those that take one processor, then those that take several."""
+"""Runs the checks that unittest finds, in parallel: first those that take one processor, then the heavy ones."""
 
 import collections
 import concurrent.futures
