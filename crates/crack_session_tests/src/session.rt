@@ -401,7 +401,7 @@ fn ask_it<D: Desk>(rt: &impl Abort, desk: &mut D) -> Result<(), Fail> {
     assert!(rt; matches!(ask(desk, 0, count)?, Reply::Counted(1)));
     let elsewhere = ask(desk, 1, insert).err();
     assert_eq!(rt; elsewhere, Some(Refusal::NoSuchPartition));
-    assert_eq!(rt; desk.receipts(), 2);
+    assert_eq!(rt; desk.accepted(), 2);
     assert!(rt; desk.splits().is_empty());
     Ok(())
 }
