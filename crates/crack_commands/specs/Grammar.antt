@@ -2,7 +2,7 @@
 use Rattle.std.specs.Prelude.{ℕ, ◌+◌, ◌-◌, ◌*◌, ℤ, pos, neg_ℤ, int_le, Bool, true, false, List, [], ◌∷◌, length, drop, fold, filter, Option, None, Some, Result, Ok, Err, ◌==◌, ◌&&◌, not, nat_lt, nat_le, if◌then◌else◌, codes, slice_index, slice_index_or}
 use Rattle.std.specs.Str.{bytes_eq}
 use Rattle.std.specs.List.{list_all, slice_split, before_first, after_first}
-use Rattle.std.specs.Option.{option_zip, option_and_then, option_map, ok_or}
+use Rattle.std.specs.Option.{option_zip, option_and_then, option_map, option_map_or, ok_or}
 use Rattle.crack_row.specs.Ranges.{Range}
 use Rattle.crack_row.specs.declared.Key.{Key}
 use Rattle.crack_row.specs.declared.Payload.{Payload}
@@ -36,10 +36,10 @@ number_of word = if not (bytes_eq word []) && nat_le (length word) MOST_DIGITS &
 abbrev pub whole_number_of : List ℕ → Option ℤ
 whole_number_of word = if slice_index word 0 == 45 then option_map (λ n. neg_ℤ (pos n)) (number_of (drop 1 word)) else option_map pos (number_of word)
 
--- the two NUMBERs that these words are, if they are exactly that
-abbrev pub two_numbers : List (List ℕ) → Option (ℕ × ℕ)
-two_numbers (first ∷ second ∷ []) = option_zip (number_of first) (number_of second)
-two_numbers _ = None
+-- what these words are, if they are exactly two, one of a first kind and one of a second
+abbrev pub two_of : {X Y : Type 0} → (List ℕ → Option X) → (List ℕ → Option Y) → List (List ℕ) → Option (X × Y)
+two_of one other (first ∷ second ∷ []) = option_zip (one first) (other second)
+two_of one other _ = None
 
 -- a NUMBER that is at most the greatest
 abbrev pub number_up_to : ℕ → List ℕ → Option ℕ
@@ -52,11 +52,6 @@ key_of word = option_map (λ n. record { 0 = n }) (number_up_to GREATEST_KEY wor
 -- a payload: an integer that is neither below the least nor above the greatest
 abbrev pub payload_of : List ℕ → Option Payload
 payload_of word = option_and_then (λ z. if int_le LEAST_PAYLOAD z && int_le z GREATEST_PAYLOAD then Some (record { 0 = z }) else None) (whole_number_of word)
-
--- the key and the payload that these words are, if they are exactly that
-abbrev pub key_and_payload : List (List ℕ) → Option (Key × Payload)
-key_and_payload (key ∷ payload ∷ []) = option_zip (key_of key) (payload_of payload)
-key_and_payload _ = None
 
 -- a row number: a NUMBER, a full stop and a NUMBER, each at most the greatest of its kind
 abbrev pub row_number_of : List ℕ → Option RowNo
@@ -81,18 +76,17 @@ made statement arguments = ok_or (option_map statement arguments) BadStatement
 
 -- a statement over the range between two numbers, refused if these aren't the ends of a range
 abbrev pub over : (Range → Statement) → Option (ℕ × ℕ) → Reading
-over statement (Some (low, high)) = if nat_le low high && nat_le high GREATEST_BOUND then Ok (statement (record { low = low; high = high })) else Err BadRange
-over statement None = Err BadStatement
+over statement ends = option_map_or (λ e. if nat_le e.0 e.1 && nat_le e.1 GREATEST_BOUND then Ok (statement (record { low = e.0; high = e.1 })) else Err BadRange) ends (Err BadStatement)
 
 -- the statement with this name and these arguments
 abbrev pub named : List ℕ → List (List ℕ) → Reading
 named name arguments =
-    if bytes_eq name (codes "insert") then made (λ n. Insert n.0 n.1) (key_and_payload arguments)
+    if bytes_eq name (codes "insert") then made (λ n. Insert n.0 n.1) (two_of key_of payload_of arguments)
     else if bytes_eq name (codes "delete") then made Delete (row_number_of (only_word arguments))
-    else if bytes_eq name (codes "update") then made (λ u. Update u.0 u.1.0 u.1.1) (option_zip (row_number_of (slice_index_or arguments 0 [])) (key_and_payload (drop 1 arguments)))
-    else if bytes_eq name (codes "count") then over Count (two_numbers arguments)
-    else if bytes_eq name (codes "sum") then over Sum (two_numbers arguments)
-    else if bytes_eq name (codes "select") then over Select (two_numbers arguments)
+    else if bytes_eq name (codes "update") then made (λ u. Update u.0 u.1.0 u.1.1) (option_zip (row_number_of (slice_index_or arguments 0 [])) (two_of key_of payload_of (drop 1 arguments)))
+    else if bytes_eq name (codes "count") then over Count (two_of number_of number_of arguments)
+    else if bytes_eq name (codes "sum") then over Sum (two_of number_of number_of arguments)
+    else if bytes_eq name (codes "select") then over Select (two_of number_of number_of arguments)
     else if bytes_eq name (codes "layout") then made Layout (number_up_to GREATEST_PART (only_word arguments))
     else if bytes_eq name (codes "checkpoint") then made Checkpoint (number_up_to GREATEST_PART (only_word arguments))
     else if bytes_eq name (codes "policy") then made Policy (policy_named (only_word arguments))

@@ -17,7 +17,7 @@ use Rattle.crack_row.specs.declared.refusal.Refusal.{Refusal}
 use Rattle.crack_row.specs.declared.refusal.Refusal.TheVariants.{BadStatement, BadRange}
 use Rattle.crack_commands.specs.declared.words.TheConstants.{GREATEST_PART}
 use Rattle.crack_commands.specs.declared.statement.Statement.TheVariants.{Insert, Delete, Update, Layout as AsksLayout, Checkpoint, Policy, Quit}
-use Rattle.crack_commands.specs.Grammar.{Reading, words, is_digit, number_of, whole_number_of, number_up_to, row_number_of, key_and_payload, only_word, policy_named, made}
+use Rattle.crack_commands.specs.Grammar.{Reading, words, is_digit, number_of, whole_number_of, number_up_to, row_number_of, key_of, payload_of, two_of, only_word, policy_named, made}
 use Rattle.crack_commands.specs.Texts.{line_text, row_text, field_text}
 
 -- whether there is a space
@@ -109,7 +109,7 @@ refused_text code carried = codes "refused " ++ decimal code ++ carried ++ codes
 
 -- `insert K V`
 abbrev pub insert_of : List (List ℕ) → Reading
-insert_of arguments = made (λ n. Insert n.0 n.1) (key_and_payload arguments)
+insert_of arguments = made (λ n. Insert n.0 n.1) (two_of key_of payload_of arguments)
 
 -- `delete P.S`
 abbrev pub delete_of : List (List ℕ) → Reading
@@ -121,7 +121,7 @@ update_from row pair = made (λ u. Update u.0 u.1.0 u.1.1) (option_zip row pair)
 
 -- `update P.S K V`
 abbrev pub update_of : List (List ℕ) → Reading
-update_of arguments = made (λ u. Update u.0 u.1.0 u.1.1) (option_zip (row_number_of (slice_index_or arguments 0 [])) (key_and_payload (drop 1 arguments)))
+update_of arguments = made (λ u. Update u.0 u.1.0 u.1.1) (option_zip (row_number_of (slice_index_or arguments 0 [])) (two_of key_of payload_of (drop 1 arguments)))
 
 -- the range between these ends; only these may be refused as a bad range
 abbrev pub range_from : Option (ℕ × ℕ) → Result Range Refusal

@@ -1,6 +1,6 @@
 //! The statement language.
 ghost use Rattle.std.specs.Prelude.{◌≡◌, Some};
-ghost use Rattle.crack_commands.specs.Grammar.{statement_of, words, named, two_numbers, over, policy_named};
+ghost use Rattle.crack_commands.specs.Grammar.{statement_of, words, named, number_of, two_of, over, policy_named};
 ghost use Rattle.crack_commands.specs.Inside.{insert_of, delete_of, update_of, update_from, range_from, layout_of};
 ghost use Rattle.crack_commands.specs.Inside.{checkpoint_of, policy_of, quit_of};
 ghost use Rattle.crack_commands.specs.declared.statement.Statement.TheVariants.{Count, Sum, Select};
@@ -127,7 +127,7 @@ fn update_from(row: RowNo, pair: Option<(Key, Payload)>) -> Result<Statement, Re
 /// A count with the words after its name.
 #[tactic(auto, using(crate::proofs::Statements::over_ok, crate::proofs::Statements::over_err))]
 fn parse_count(rest: &[u8]) -> Result<Statement, Refusal>
-    ensures { result ≡ over Count (two_numbers (words rest.now)) }
+    ensures { result ≡ over Count (two_of number_of number_of (words rest.now)) }
 {
     match parse_range(rest) {
         Ok(range) => Ok(Statement::Count(range)),
@@ -138,7 +138,7 @@ fn parse_count(rest: &[u8]) -> Result<Statement, Refusal>
 /// A sum with the words after its name.
 #[tactic(auto, using(crate::proofs::Statements::over_ok, crate::proofs::Statements::over_err))]
 fn parse_sum(rest: &[u8]) -> Result<Statement, Refusal>
-    ensures { result ≡ over Sum (two_numbers (words rest.now)) }
+    ensures { result ≡ over Sum (two_of number_of number_of (words rest.now)) }
 {
     match parse_range(rest) {
         Ok(range) => Ok(Statement::Sum(range)),
@@ -149,7 +149,7 @@ fn parse_sum(rest: &[u8]) -> Result<Statement, Refusal>
 /// A select with the words after its name.
 #[tactic(auto, using(crate::proofs::Statements::over_ok, crate::proofs::Statements::over_err))]
 fn parse_select(rest: &[u8]) -> Result<Statement, Refusal>
-    ensures { result ≡ over Select (two_numbers (words rest.now)) }
+    ensures { result ≡ over Select (two_of number_of number_of (words rest.now)) }
 {
     match parse_range(rest) {
         Ok(range) => Ok(Statement::Select(range)),
@@ -159,7 +159,7 @@ fn parse_select(rest: &[u8]) -> Result<Statement, Refusal>
 
 /// The range between two numbers.
 fn parse_range(rest: &[u8]) -> Result<KeyRange, Refusal>
-    ensures { result ≡ range_from (two_numbers (words rest.now)) }
+    ensures { result ≡ range_from (two_of number_of number_of (words rest.now)) }
 {
     match two_numbers(rest) {
         Some((low, high)) => KeyRange::new(low, high),

@@ -2,8 +2,8 @@
 ghost use Rattle.std.specs.Prelude.{pos, neg_ℤ, int_le, ◌&&◌, ◌≡◌, ◌+◌, ◌-◌, ◌*◌, ◌^◌, ◌<◌, ◌≤◌, ◌≢◌, ◌↔◌, true, false};
 ghost use Rattle.std.specs.Prelude.{length, IsTrue, Some, take, drop, ◌==◌, if◌then◌else◌, IfSome, slice_index};
 ghost use Rattle.std.specs.List.{list_all, position_or_len};
-ghost use Rattle.crack_commands.specs.Grammar.{words, number_of, whole_number_of, number_up_to, two_numbers};
-ghost use Rattle.crack_commands.specs.Grammar.{key_of, payload_of, key_and_payload, only_word, row_number_of, is_digit};
+ghost use Rattle.crack_commands.specs.Grammar.{words, number_of, whole_number_of, number_up_to, two_of};
+ghost use Rattle.crack_commands.specs.Grammar.{key_of, payload_of, only_word, row_number_of, is_digit};
 ghost use Rattle.crack_commands.specs.Inside.{value_on, has_space, has_sign, row_from, IsFirstWord, IsFirstNumber};
 ghost use Rattle.crack_commands.specs.Inside.{IsFirstWholeNumber, BeginsWithDigits};
 
@@ -30,7 +30,7 @@ pub const GREATEST_SERIAL: u64 = 18446744073709551615;
 /// The key and the payload that two words are, if there are exactly two such words.
 #[inline(always)]
 pub fn key_and_payload(bytes: &[u8]) -> Option<(Key, Payload)>
-    ensures { result ≡ key_and_payload (words bytes.now) }
+    ensures { result ≡ two_of key_of payload_of (words bytes.now) }
 {
     if let Some((key, payload)) = two_short_words(bytes) {
         if let Some(row) = row_from(key as u128, payload) {
@@ -43,7 +43,7 @@ pub fn key_and_payload(bytes: &[u8]) -> Option<(Key, Payload)>
 /// A number and an integer, if these are exactly two words, 64 bits are enough for each, and no space is after them.
 #[inline(always)]
 fn two_short_words(bytes: &[u8]) -> Option<(u64, i128)>
-    ensures { IfSome result (λ pair. key_and_payload (words bytes.now) ≡ row_from pair.0 pair.1) }
+    ensures { IfSome result (λ pair. two_of key_of payload_of (words bytes.now) ≡ row_from pair.0 pair.1) }
 {
     let (key, rest) = short_number(bytes)?;
     let (payload, rest) = short_whole_number(rest)?;
@@ -58,7 +58,7 @@ fn two_short_words(bytes: &[u8]) -> Option<(u64, i128)>
 #[cold]
 #[inline(never)]
 fn any_key_and_payload(bytes: &[u8]) -> Option<(Key, Payload)>
-    ensures { result ≡ key_and_payload (words bytes.now) }
+    ensures { result ≡ two_of key_of payload_of (words bytes.now) }
 {
     let (key, rest) = next_word(bytes);
     let (payload, rest) = next_word(rest);
@@ -122,7 +122,7 @@ fn is_payload(number: i128) -> bool
 /// The two numbers, if there are exactly two words and both are numbers.
 #[inline(always)]
 pub fn two_numbers(bytes: &[u8]) -> Option<(u128, u128)>
-    ensures { result ≡ two_numbers (words bytes.now) }
+    ensures { result ≡ two_of number_of number_of (words bytes.now) }
 {
     match two_short_numbers(bytes) {
         Some((first, second)) => Some((first as u128, second as u128)),
@@ -133,7 +133,7 @@ pub fn two_numbers(bytes: &[u8]) -> Option<(u128, u128)>
 /// The two numbers, if there are exactly two words, both are numbers of 64 bits, and no space is after them.
 #[inline(always)]
 fn two_short_numbers(bytes: &[u8]) -> Option<(u64, u64)>
-    ensures { IfSome result (λ pair. two_numbers (words bytes.now) ≡ Some (pair.0, pair.1)) }
+    ensures { IfSome result (λ pair. two_of number_of number_of (words bytes.now) ≡ Some (pair.0, pair.1)) }
 {
     let (first, rest) = short_number(bytes)?;
     let (second, rest) = short_number(rest)?;
@@ -148,7 +148,7 @@ fn two_short_numbers(bytes: &[u8]) -> Option<(u64, u64)>
 #[cold]
 #[inline(never)]
 fn any_two_numbers(bytes: &[u8]) -> Option<(u128, u128)>
-    ensures { result ≡ two_numbers (words bytes.now) }
+    ensures { result ≡ two_of number_of number_of (words bytes.now) }
 {
     let (first, rest) = next_number(bytes);
     let (second, rest) = next_number(rest);

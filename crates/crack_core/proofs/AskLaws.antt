@@ -18,13 +18,15 @@ use Rattle.crack_row.specs.declared.refusal.Refusal.{Refusal}
 use Rattle.crack_row.specs.declared.refusal.Refusal.TheVariants.{KeyOutside, HistoryFull, NoSuchPartition, OutOfMemory, NoCell, LifeOver}
 use Rattle.crack_plain.specs.Plain.{PlainView, PlainState, accepted_of, checkpointed, IsSmall, reply_to, after}
 use Rattle.crack_core.specs.declared.asking.Query.{Query}
-use Rattle.crack_core.specs.Routes.{keys_of_part}
+use Rattle.crack_core.specs.Routes.{keys_of_part, parts_of}
+use Rattle.crack_core.specs.Cores.{CoreState}
 use Rattle.crack_part.specs.Refusals.{is_key_in}
 use Rattle.crack_part.specs.Upkeep.{is_automatic, is_due, is_full as shuts}
 use Rattle.crack_part.proofs.UpkeepLaws.{upkept_table}
-use Rattle.crack_core.specs.Steps.{bounds_of, unless, MayLackCell, IsOutcome, IsOutcomeAt, IsFoldOutcome, fresh_table, table_after, changed_at, tables_after, expected}
+use Rattle.crack_core.specs.Steps.{bounds_of, unless, MayLackCell, IsOutcome, IsOutcomeAt, IsFoldOutcome, fresh_table, table_after, changed_at, tables_after, expected, tables_of}
 use Rattle.crack_core.specs.Inside.{is_full}
-use Rattle.crack_core.specs.Asking.{lasting_bounds, lasting, Asks, AsksInTurn, replies, refuses, asking, counted, summed}
+use Rattle.crack_core.proofs.TurnLaws.{one_replies, one_refuses}
+use Rattle.crack_core.specs.Asking.{lasting_bounds, lasting, Asks, AsksInTurn, Reads, asking, counted, summed}
 
 -- a table right after a checkpoint
 abbrev folded_table : PlainState → ℕ → PlainView
@@ -214,17 +216,31 @@ asks-said limits splits part command reply old new asks = elim asks.comes_out [
   | inr both ↦ cc both.0
 ]
 
+-- a partition is asked for its part of a range
+abbrev AsksPart : Limits → List Bound → Query → ℕ × Range → Result Reply Refusal → List PlainView → List PlainView → Type 0
+AsksPart limits splits query part outcome old new = Asks limits splits part.0 (asking query part.1) outcome old new
+
 -- one more partition replies
-pub AsksInTurn-more : {limits : Limits} {splits : List Bound} (query : Query) (old : List PlainView) (parts : List (ℕ × Range)) (i : ℕ) (part : ℕ × Range) (command : Command) (said said' : List Reply) (reply : Reply) (between new : List PlainView) → i < length parts → part ≡ get_or parts i part → command ≡ asking query part.1 → said' ≡ said ++ reply ∷ [] → AsksInTurn limits splits query old (take i parts) (Ok said) between → Asks limits splits part.0 command (Ok reply) between new → AsksInTurn limits splits query old (take (i + 1) parts) (Ok said') new
-AsksInTurn-more query old parts i part command said said' reply between new below is asked grown so_far asks =
+pub AsksInTurn-more : {limits : Limits} {splits : List Bound} (query : Query) (old : List PlainView) (parts : List (ℕ × Range)) (i : ℕ) (part : ℕ × Range) (command : Command) (said said' : List Reply) (reply : Reply) (between new : List PlainView) → i < length parts → part ≡ get_or parts i part → command ≡ asking query part.1 → said' ≡ said ++ reply ∷ [] → AsksInTurn limits splits (λ range. asking query range) old (take i parts) (Ok said) between → Asks limits splits part.0 command (Ok reply) between new → AsksInTurn limits splits (λ range. asking query range) old (take (i + 1) parts) (Ok said') new
+AsksInTurn-more {limits} {splits} query old parts i part command said said' reply between new below is asked grown so_far asks =
     let more : take (i + 1) parts ≡ take i parts ++ part ∷ [] = take_more parts i part below ∙ ap (λ (p : ℕ × Range). take i parts ++ p ∷ []) (sym is) in
-    rw (more, grown) (replies (take i parts) part said reply between new so_far (rw asked at asks))
+    rw (more, grown) (one_replies (AsksPart limits splits query) (λ (part : ℕ × Range) (reply : Reply). reply) old (take i parts) part said reply between new so_far (rw asked at asks))
 
 -- the next one refuses
-pub AsksInTurn-stops : {limits : Limits} {splits : List Bound} (query : Query) (old : List PlainView) (parts : List (ℕ × Range)) (i : ℕ) (part : ℕ × Range) (command : Command) (said : List Reply) (e : Refusal) (between new : List PlainView) → i < length parts → part ≡ get_or parts i part → command ≡ asking query part.1 → AsksInTurn limits splits query old (take i parts) (Ok said) between → Asks limits splits part.0 command (Err e) between new → AsksInTurn limits splits query old parts (Err e) new
+pub AsksInTurn-stops : {limits : Limits} {splits : List Bound} (query : Query) (old : List PlainView) (parts : List (ℕ × Range)) (i : ℕ) (part : ℕ × Range) (command : Command) (said : List Reply) (e : Refusal) (between new : List PlainView) → i < length parts → part ≡ get_or parts i part → command ≡ asking query part.1 → AsksInTurn limits splits (λ range. asking query range) old (take i parts) (Ok said) between → Asks limits splits part.0 command (Err e) between new → AsksInTurn limits splits (λ range. asking query range) old parts (Err e) new
 AsksInTurn-stops {limits} {splits} query old parts i part command said e between new below is asked so_far asks =
     let whole : take i parts ++ part ∷ drop (i + 1) parts ≡ parts = ap (λ (p : ℕ × Range). take i parts ++ p ∷ drop (i + 1) parts) is ∙ ap (λ (r : List (ℕ × Range)). take i parts ++ r) (sym (drop_more parts i part below)) ∙ take-append-drop i parts in
-    subst (λ (ps : List (ℕ × Range)). AsksInTurn limits splits query old ps (Err e) new) whole (refuses (take i parts) part (drop (i + 1) parts) said e between new so_far (rw asked at asks))
+    subst (λ (ps : List (ℕ × Range)). AsksInTurn limits splits (λ range. asking query range) old ps (Err e) new) whole (one_refuses (AsksPart limits splits query) (λ (part : ℕ × Range) (reply : Reply). reply) old (take i parts) part (drop (i + 1) parts) said e between new so_far (rw asked at asks))
+
+-- a range whose parts aren't all answered isn't read
+pub reads-refused : {X : Type 0} (old new : CoreState) (question : Range → Command) (comes_to : List Reply → X → Type 0) (range : Range) (parts : List (ℕ × Range)) (e : Refusal) → parts ≡ parts_of old.splits range
+    → AsksInTurn old.limits old.splits question (lasting (tables_of old.parts)) parts (Err e) (lasting (tables_of new.parts)) ⊎ ((e ≡ OutOfMemory) × (new ≡ old))
+    → Reads old.limits old.splits question comes_to range (Err e) (lasting (tables_of old.parts)) (lasting (tables_of new.parts))
+reads-refused old new question comes_to range parts e is (inl asked) = record {
+  ok = tt;
+  err = inl (subst (λ (ps : List (ℕ × Range)). AsksInTurn old.limits old.splits question (lasting (tables_of old.parts)) ps (Err e) (lasting (tables_of new.parts))) is asked);
+}
+reads-refused old new question comes_to range parts e is (inr none) = record { ok = tt; err = inr (none.0, ap (λ (core : CoreState). lasting (tables_of core.parts)) none.1) }
 
 -- what a small reply counts or lists
 pub counted-small : (r : Reply) → IsSmall r → counted r ≤ 4294967295

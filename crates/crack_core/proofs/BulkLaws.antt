@@ -11,16 +11,20 @@ use Rattle.crack_row.specs.declared.limit.Limits.{Limits}
 use Rattle.crack_row.specs.declared.refusal.Refusal.{Refusal}
 use Rattle.crack_plain.specs.Plain.{PlainView}
 use Rattle.crack_core.specs.Asking.{Inserts, Deletes, Updates, Counts, Sums}
-use Rattle.crack_core.specs.Bulk.{Call, Answered, none, one_more, Went, whole, stopped, flag, key_at, payload_at, row_at, InsertsAt, DeletesAt, UpdatesAt, CountsAt, SumsAt, OverKeys, joined}
+use Rattle.crack_core.specs.Bulk.{NumberedCall, Answered, none, one_more, Went, whole, stopped, flag, key_at, payload_at, row_number, InsertsAt, DeletesAt, UpdatesAt, CountsAt, SumsAt, OverKeys, of_halves}
+
+-- the row's number at a place of two lists
+abbrev row_at : List ℕ → List ℕ → ℕ → RowNo
+row_at parts serials k = row_number (slice_index_or parts k 0) (slice_index_or serials k 0)
 
 -- the calls of a list that were answered stay answered if each call before them does
-pub answered-as : (call call' : Call) (old : List PlainView) (done : ℕ) (new : List PlainView) → ((k : ℕ) (before after : List PlainView) → k < done → call k None before after → call' k None before after) → Answered call old done new → Answered call' old done new
+pub answered-as : (call call' : NumberedCall) (old : List PlainView) (done : ℕ) (new : List PlainView) → ((k : ℕ) (before after : List PlainView) → k < done → call k None before after → call' k None before after) → Answered call old done new → Answered call' old done new
 answered-as call call' old done new turns none = none
 answered-as call call' old done new turns (one_more begun between new' so_far called) =
     one_more begun between new' (answered-as call call' old begun between (λ k before after below. turns k before after (omega arith)) so_far) (turns begun between new' (omega arith) called)
 
 -- one more call
-pub answered-more : (call call' : Call) (old : List PlainView) (done : ℕ) (between new : List PlainView) → ((k : ℕ) (before after : List PlainView) → k < done → call k None before after → call' k None before after) → Answered call old done between → call' done None between new → Answered call' old (done + 1) new
+pub answered-more : (call call' : NumberedCall) (old : List PlainView) (done : ℕ) (between new : List PlainView) → ((k : ℕ) (before after : List PlainView) → k < done → call k None before after → call' k None before after) → Answered call old done between → call' done None between new → Answered call' old (done + 1) new
 answered-more call call' old done between new turns so_far called = one_more done between new (answered-as call call' old done between turns so_far) called
 
 -- an item before the one that is written stays
@@ -38,7 +42,7 @@ set-int : (xs : List ℤ) (i : ℕ) (x : ℤ) → i < length xs → slice_index_
 set-int xs i x below = get_or-set_same xs i x (pos 0) below
 
 -- all calls of a list were answered
-pub went-whole : (call : Call) (old : List PlainView) (count i : ℕ) (new : List PlainView) → count ≤ i → i ≤ count → Answered call old i new → Went call count old (record { done = count; refusal = None }) new
+pub went-whole : (call : NumberedCall) (old : List PlainView) (count i : ℕ) (new : List PlainView) → count ≤ i → i ≤ count → Answered call old i new → Went call count old (record { done = count; refusal = None }) new
 went-whole call old count i new least most so_far = whole new (subst (λ (n : ℕ). Answered call old n new) (omega arith) so_far)
 
 -- a row is placed, or refused, by its key and payload
@@ -129,7 +133,7 @@ counts-more limits splits firsts lasts counts i count old between new within so_
 
 -- one more range is added up
 pub sums-more : (limits : Limits) (splits : List Bound) (firsts lasts lows : List ℕ) (highs : List ℤ) (i low : ℕ) (high sum : ℤ) (old between new : List PlainView)
-    → i < length lows → i < length highs → sum ≡ joined low high
+    → i < length lows → i < length highs → sum ≡ of_halves low high
     → Answered (SumsAt limits splits firsts lasts lows highs) old i between
     → OverKeys (Sums limits splits) (slice_index_or firsts i 0) (slice_index_or lasts i 0) (Ok sum) between new
     → Answered (SumsAt limits splits firsts lasts (set lows i low) (set highs i high)) old (i + 1) new

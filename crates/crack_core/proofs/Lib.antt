@@ -5,4 +5,5 @@ pub mod ListLaws
 pub mod RouteLaws
 pub mod ShortLaws
 pub mod StepLaws
+pub mod TurnLaws
 pub mod UpkeepLaws

@@ -10,12 +10,16 @@ use Rattle.crack_row.specs.declared.command.Reply.{Reply}
 use Rattle.crack_row.specs.declared.command.Reply.TheVariants.{Placed, Gone, Changed, NoRow, Counted, Summed, Rows}
 use Rattle.crack_plain.specs.Plain.{IsSmall}
 use Rattle.crack_core.proofs.StepLaws.{get-last, get-front}
-use Rattle.crack_core.specs.Listing.{listed, all_listed, listed_at, StandIn}
+use Rattle.crack_core.specs.Listing.{listed, all_listed, AreInLists}
 use Rattle.crack_core.specs.Inside.{of_part}
 
 -- the same row as its numbers
 abbrev row_of : ℕ → ℕ → ℕ → ℤ → ℕ × Row
 row_of part serial key payload = (part, record { serial = record { 0 = serial }; key = record { 0 = key }; payload = record { 0 = payload } })
+
+-- the row at a place of four lists
+abbrev listed_at : List ℕ → List ℕ → List ℕ → List ℤ → ℕ → ℕ × Row
+listed_at parts serials keys payloads k = row_of (get_or parts k 0) (get_or serials k 0) (get_or keys k 0) (get_or payloads k (pos 0))
 
 some_is : {X : Type 0} {x y : X} → Some x ≡ Some y → x ≡ y
 some_is e = cc
@@ -27,15 +31,15 @@ slice_get-before (row ∷ rows) more zero below = refl
 slice_get-before (row ∷ rows) more (suc k) below = slice_get-before rows more k (omega (arith, below))
 
 -- rows after those that there is room for are nowhere
-pub stand-longer : (rows more : List (ℕ × Row)) (parts serials keys : List ℕ) (payloads : List ℤ) → length parts ≤ length rows → StandIn rows parts serials keys payloads → StandIn (rows ++ more) parts serials keys payloads
+pub stand-longer : (rows more : List (ℕ × Row)) (parts serials keys : List ℕ) (payloads : List ℤ) → length parts ≤ length rows → AreInLists rows parts serials keys payloads → AreInLists (rows ++ more) parts serials keys payloads
 stand-longer rows more parts serials keys payloads full stand k row is there =
     stand k row (sym (slice_get-before rows more k (omega arith)) ∙ is) there
 
 -- one more row is written after them
 pub stand-more : (rows : List (ℕ × Row)) (row : ℕ × Row) (parts serials keys : List ℕ) (payloads : List ℤ) (at : ℕ)
     → length rows ≡ at → at < length parts → length serials ≡ length parts → length keys ≡ length parts → length payloads ≡ length parts
-    → StandIn rows parts serials keys payloads
-    → StandIn (rows ++ row ∷ []) (set parts at row.0) (set serials at row.1.serial.0) (set keys at row.1.key.0) (set payloads at row.1.payload.0)
+    → AreInLists rows parts serials keys payloads
+    → AreInLists (rows ++ row ∷ []) (set parts at row.0) (set serials at row.1.serial.0) (set keys at row.1.key.0) (set payloads at row.1.payload.0)
 stand-more rows row parts serials keys payloads at is below s k' p stand k found found_is there = ⊎_elim
     (λ (same : k ≡ at). subst (λ (n : ℕ). listed_at (set parts at row.0) (set serials at row.1.serial.0) (set keys at row.1.key.0) (set payloads at row.1.payload.0) n ≡ found) (sym same) (last ∙ added same))
     (λ (other : k ≢ at). before other)
@@ -99,12 +103,12 @@ long-so-far before part rows i from is within =
     length-append before (of_part part (take i rows)) ∙ ap (λ (n : ℕ). length before + n) (length-map (take i rows) with_part ∙ length-take-le i rows within) ∙ ap (λ (n : ℕ). n + i) is
 
 -- if the lists are full, all rows of the partition are in them as far as there is room
-pub rest-behind : (before : List (ℕ × Row)) (part : ℕ) (rows : List Row) (i : ℕ) (parts serials keys : List ℕ) (payloads : List ℤ) → length parts ≤ length (before ++ of_part part (take i rows)) → StandIn (before ++ of_part part (take i rows)) parts serials keys payloads → StandIn (before ++ of_part part rows) parts serials keys payloads
+pub rest-behind : (before : List (ℕ × Row)) (part : ℕ) (rows : List Row) (i : ℕ) (parts serials keys : List ℕ) (payloads : List ℤ) → length parts ≤ length (before ++ of_part part (take i rows)) → AreInLists (before ++ of_part part (take i rows)) parts serials keys payloads → AreInLists (before ++ of_part part rows) parts serials keys payloads
 rest-behind before part rows i parts serials keys payloads full stand =
     let row : Row → ℕ × Row = λ r. (part, r) in
     let cut : (before ++ of_part part (take i rows)) ++ of_part part (drop i rows) ≡ before ++ of_part part rows =
     append_assoc before (of_part part (take i rows)) (of_part part (drop i rows)) ∙ ap (λ (more : List (ℕ × Row)). before ++ more) (sym (map-append row (take i rows) (drop i rows)) ∙ ap (of_part part) (take-append-drop i rows)) in
-    subst (λ (all : List (ℕ × Row)). StandIn all parts serials keys payloads) cut (stand-longer (before ++ of_part part (take i rows)) (of_part part (drop i rows)) parts serials keys payloads full stand)
+    subst (λ (all : List (ℕ × Row)). AreInLists all parts serials keys payloads) cut (stand-longer (before ++ of_part part (take i rows)) (of_part part (drop i rows)) parts serials keys payloads full stand)
 
 -- how many rows are listed with a partition's more
 pub all_listed-long : (part : ℕ) (so_far : List (ℕ × Row)) (rows : List Row) → length (so_far ++ of_part part rows) ≡ length so_far + length rows

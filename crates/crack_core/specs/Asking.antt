@@ -1,5 +1,5 @@
 -- The answers if a full history is checkpointed first: to one command, and to questions about a range over all partitions.
-use Rattle.std.specs.Prelude.{◌≡◌, ◌⊎◌, ℕ, ℤ, pos, Bool, false, List, [], ◌∷◌, ◌++◌, map, length, Option, None, Some, Result, Ok, Err, IfOk, IfErr, nat_le, slice_get, sum_by, if◌then◌else◌}
+use Rattle.std.specs.Prelude.{◌≡◌, ◌⊎◌, ℕ, ℤ, pos, Bool, false, List, [], ◌∷◌, map, length, Option, None, Some, Result, Ok, Err, IfOk, IfErr, nat_le, slice_get, sum_by, if◌then◌else◌}
 use Rattle.std.specs.Option.{option_map_or}
 use Rattle.crack_row.specs.Ranges.{Range}
 use Rattle.crack_row.specs.Rows.{total_by}
@@ -17,7 +17,7 @@ use Rattle.crack_row.specs.declared.refusal.Refusal.{Refusal}
 use Rattle.crack_row.specs.declared.refusal.Refusal.TheVariants.{OutOfMemory, LifeOver}
 use Rattle.crack_plain.specs.Plain.{PlainView, accepted_of, checkpointed}
 use Rattle.crack_core.specs.Routes.{keys_of_part, route, parts_of}
-use Rattle.crack_core.specs.Steps.{Bounds, taken_where_full, mapped, expected, IsOutcomeAt, table_after, changed_at}
+use Rattle.crack_core.specs.Steps.{Bounds, taken_where_full, mapped, expected, IsOutcome, table_after, changed_at}
 use Rattle.crack_core.specs.declared.asking.Query.{Query}
 use Rattle.crack_core.specs.declared.asking.Query.TheVariants.{CountRows, SumPayloads, SelectRows}
 
@@ -32,7 +32,7 @@ lasting tables = map checkpointed tables
 -- one partition is asked, whose full history is checkpointed first: the outcome is what its plain rows require; if that is 10, it may be 8, for
 -- a checkpoint that found no memory
 pub record Asks (limits : Limits) (splits : List Bound) (part : ℕ) (command : Command) (outcome : Result Reply Refusal) (old new : List PlainView) : Type 0 where
-  pub comes_out : IsOutcomeAt (lasting_bounds limits) splits old part command outcome
+  pub comes_out : IsOutcome (lasting_bounds limits) (keys_of_part splits part) (slice_get old part) command outcome
       ⊎ ((outcome ≡ Err OutOfMemory) × (expected (lasting_bounds limits) (keys_of_part splits part) (slice_get old part) command ≡ Err LifeOver))
   pub leaves : new ≡ changed_at (λ table. checkpointed (table_after table command)) old part outcome
 
@@ -49,35 +49,28 @@ Deletes limits splits row result old new = Asks limits splits row.part (Delete r
 abbrev pub Updates : Limits → List Bound → RowNo → Key → Payload → Result Bool Refusal → List PlainView → List PlainView → Type 0
 Updates limits splits row key payload result old new = Asks limits splits row.part (Update row.serial key payload) (mapped (λ (found : Bool). if found then Changed else NoRow) result) old new
 
--- a question about a part of a range
+-- the command that puts a question to a partition about its part of a range
 abbrev pub asking : Query → Range → Command
 asking CountRows range = Count range
 asking SumPayloads range = Sum range
 asking SelectRows range = Select range
 
--- Partitions are asked in turn, each for its part of a range, from this state: their replies, or the first refusal, and the state afterwards.
-pub data InTurn {S R : Type 0} (Asks : ℕ × Range → Result Reply Refusal → S → S → Type 0) (given : ℕ × Range → Reply → R) (old : S) : List (ℕ × Range) → Result (List R) Refusal → S → Type 0 where
-  -- none is asked yet
-  begins : InTurn Asks given old [] (Ok []) old
-  -- after those that replied, the next one replies
-  replies : (parts : List (ℕ × Range)) (part : ℕ × Range) (said : List R) (reply : Reply) (between new : S)
-      → InTurn Asks given old parts (Ok said) between
-      → Asks part (Ok reply) between new
-      → InTurn Asks given old (parts ++ part ∷ []) (Ok (said ++ given part reply ∷ [])) new
-  -- after those that replied, the next one refuses, and those after it aren't asked
-  refuses : (parts : List (ℕ × Range)) (part : ℕ × Range) (behind : List (ℕ × Range)) (said : List R) (e : Refusal) (between new : S)
-      → InTurn Asks given old parts (Ok said) between
-      → Asks part (Err e) between new
-      → InTurn Asks given old (parts ++ part ∷ behind) (Err e) new
+-- partitions are asked in turn, each for its part of a range, from this state: the first replies, and then the others are asked; or it refuses, and
+-- no other is asked; their replies, or the refusal, and the state afterwards
+abbrev pub InTurn : {S R : Type 0} → (ℕ × Range → Result Reply Refusal → S → S → Type 0) → (ℕ × Range → Reply → R) → S → List (ℕ × Range) → Result (List R) Refusal → S → Type 0
+InTurn Asks given old [] result new = (result ≡ Ok []) × (new ≡ old)
+InTurn {S} {R} Asks given old (part ∷ parts) result new =
+    ((reply : Reply) × (between : S) × Asks part (Ok reply) old between × (rest : Result (List R) Refusal) × InTurn Asks given between parts rest new × (result ≡ mapped (λ replies. given part reply ∷ replies) rest))
+    ⊎ ((e : Refusal) × Asks part (Err e) old new × (result ≡ Err e))
 
 -- the partitions that hold parts of a range are asked in turn
-abbrev pub AsksInTurn : Limits → List Bound → Query → List PlainView → List (ℕ × Range) → Result (List Reply) Refusal → List PlainView → Type 0
-AsksInTurn limits splits query old parts said new = InTurn (λ (part : ℕ × Range) (outcome : Result Reply Refusal) (between after : List PlainView). Asks limits splits part.0 (asking query part.1) outcome between after) (λ (part : ℕ × Range) (reply : Reply). reply) old parts said new
+abbrev pub AsksInTurn : Limits → List Bound → (Range → Command) → List PlainView → List (ℕ × Range) → Result (List Reply) Refusal → List PlainView → Type 0
+AsksInTurn limits splits question old parts said new = InTurn (λ (part : ℕ × Range) (outcome : Result Reply Refusal) (between after : List PlainView). Asks limits splits part.0 (question part.1) outcome between after) (λ (part : ℕ × Range) (reply : Reply). reply) old parts said new
 
 -- a range is read: the replies of its parts are combined, or it is refused as they are, or for lack of memory before one is asked
-pub record Reads {X : Type 0} (limits : Limits) (splits : List Bound) (query : Query) (comes_to : List Reply → X → Type 0) (range : Range) (result : Result X Refusal) (old new : List PlainView) : Type 0 where
-  pub ok : IfOk result (λ x. (said : List Reply) × AsksInTurn limits splits query old (parts_of splits range) (Ok said) new × comes_to said x)
-  pub err : IfErr result (λ e. AsksInTurn limits splits query old (parts_of splits range) (Err e) new ⊎ ((e ≡ OutOfMemory) × (new ≡ old)))
+pub record Reads {X : Type 0} (limits : Limits) (splits : List Bound) (question : Range → Command) (comes_to : List Reply → X → Type 0) (range : Range) (result : Result X Refusal) (old new : List PlainView) : Type 0 where
+  pub ok : IfOk result (λ x. (said : List Reply) × AsksInTurn limits splits question old (parts_of splits range) (Ok said) new × comes_to said x)
+  pub err : IfErr result (λ e. AsksInTurn limits splits question old (parts_of splits range) (Err e) new ⊎ ((e ≡ OutOfMemory) × (new ≡ old)))
 
 -- how many rows a reply counts or lists
 abbrev pub counted : Reply → ℕ
@@ -92,8 +85,8 @@ summed _ = pos 0
 
 -- a range is counted: so are its parts, and the counts are added
 abbrev pub Counts : Limits → List Bound → Range → Result ℕ Refusal → List PlainView → List PlainView → Type 0
-Counts limits splits range result old new = Reads limits splits CountRows (λ said count. count ≡ sum_by counted said) range result old new
+Counts limits splits range result old new = Reads limits splits (λ part. Count part) (λ said count. count ≡ sum_by counted said) range result old new
 
 -- the payloads of a range are added up: those of its parts, and then these sums
 abbrev pub Sums : Limits → List Bound → Range → Result ℤ Refusal → List PlainView → List PlainView → Type 0
-Sums limits splits range result old new = Reads limits splits SumPayloads (λ said sum. sum ≡ total_by summed said) range result old new
+Sums limits splits range result old new = Reads limits splits (λ part. Sum part) (λ said sum. sum ≡ total_by summed said) range result old new

@@ -1,5 +1,6 @@
 -- The expected answers to steps and checkpoints, one after the other, and what these leave.
-use Rattle.std.specs.Prelude.{◌≡◌, ◌≢◌, ℕ, ◌==◌, List, [], ◌∷◌, length, take, Option, Some, Result, Ok, OnOk, OnErr, IfErr, slice_get, if◌then◌else◌}
+use Rattle.std.specs.Prelude.{◌≡◌, ◌≢◌, ℕ, ◌==◌, List, [], ◌∷◌, length, take, fold, Option, Some, Result, Ok, OnOk, OnErr, IfErr, slice_get, if◌then◌else◌}
+use Rattle.std.specs.List.{zip}
 use Rattle.std.specs.Option.{option_map}
 use Rattle.crack_row.specs.declared.Bound.{Bound}
 use Rattle.crack_row.specs.declared.limit.Limits.{Limits}
@@ -29,8 +30,7 @@ past_after limits part job result past = past
 
 -- the same after these jobs, one after the other
 abbrev pub past_at : Limits → ℕ → List Job → List (Result Done Refusal) → Past → Past
-past_at limits part (job ∷ jobs) (result ∷ results) past = past_at limits part jobs results (past_after limits part job result past)
-past_at limits part _ _ past = past
+past_at limits part jobs results past = fold (λ past done. past_after limits part done.0 done.1 past) past (zip jobs results)
 
 -- each partition with these limits has its former past, continued by its own jobs
 abbrev pub KeepsJobs : Limits → List Past → List Job → List (Result Done Refusal) → List Past → Type 0

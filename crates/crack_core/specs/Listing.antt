@@ -1,6 +1,8 @@
 -- The rows of a range, written into lists.
-use Rattle.std.specs.Prelude.{◌≡◌, ℕ, ◌<◌, ℤ, pos, List, [], ◌∷◌, ◌++◌, map, length, Some, Result, slice_get, slice_index_or}
+use Rattle.std.specs.Prelude.{◌≡◌, ℕ, ◌<◌, ℤ, List, [], map, length, Some, Result, slice_get, slice_index_or}
+use Rattle.std.specs.List.{flat_map, zip}
 use Rattle.crack_row.specs.Ranges.{Range}
+use Rattle.crack_row.specs.Rows.{row_with}
 use Rattle.crack_row.specs.declared.Bound.{Bound}
 use Rattle.crack_row.specs.declared.Row.{Row}
 use Rattle.crack_row.specs.declared.limit.Limits.{Limits}
@@ -11,7 +13,7 @@ use Rattle.crack_plain.specs.Plain.{PlainView}
 use Rattle.crack_core.specs.Routes.{parts_of}
 use Rattle.crack_core.specs.Asking.{Reads}
 use Rattle.crack_core.specs.Bulk.{key_at, payload_at}
-use Rattle.crack_core.specs.declared.asking.Query.TheVariants.{SelectRows}
+use Rattle.crack_row.specs.declared.command.Command.TheVariants.{Select}
 
 -- the rows that a reply lists
 abbrev pub listed : Reply → List Row
@@ -20,18 +22,14 @@ listed _ = []
 
 -- what partitions reply, as one list of rows, each with its partition's number
 abbrev pub all_listed : List (ℕ × Range) → List Reply → List (ℕ × Row)
-all_listed (part ∷ parts) (reply ∷ replies) = map (λ row. (part.0, row)) (listed reply) ++ all_listed parts replies
-all_listed _ _ = []
-
--- the row at a place of four lists
-abbrev pub listed_at : List ℕ → List ℕ → List ℕ → List ℤ → ℕ → ℕ × Row
-listed_at parts serials keys payloads k = (slice_index_or parts k 0, record { serial = record { 0 = slice_index_or serials k 0 }; key = key_at keys k; payload = payload_at payloads k })
+all_listed parts replies = flat_map (λ (one : (ℕ × Range) × Reply). map (λ row. (one.0.0, row)) (listed one.1)) (zip parts replies)
 
 -- rows are in four lists in their order, as far as there is room
-abbrev pub StandIn : List (ℕ × Row) → List ℕ → List ℕ → List ℕ → List ℤ → Type 0
-StandIn rows parts serials keys payloads = (k : ℕ) (row : ℕ × Row) → slice_get rows k ≡ Some row → k < length parts → listed_at parts serials keys payloads k ≡ row
+abbrev pub AreInLists : List (ℕ × Row) → List ℕ → List ℕ → List ℕ → List ℤ → Type 0
+AreInLists rows parts serials keys payloads = (k : ℕ) (row : ℕ × Row) → slice_get rows k ≡ Some row → k < length parts →
+    (slice_index_or parts k 0, row_with (record { 0 = slice_index_or serials k 0 }) (key_at keys k) (payload_at payloads k)) ≡ row
 
 -- the rows of a range are listed: there are this many, and as many of them as there is room for are in the lists
 abbrev pub Selects : Limits → List Bound → List ℕ → List ℕ → List ℕ → List ℤ → Range → Result ℕ Refusal → List PlainView → List PlainView → Type 0
 Selects limits splits parts serials keys payloads range result old new =
-    Reads limits splits SelectRows (λ said found. (found ≡ length (all_listed (parts_of splits range) said)) × StandIn (all_listed (parts_of splits range) said) parts serials keys payloads) range result old new
+    Reads limits splits (λ part. Select part) (λ said found. (found ≡ length (all_listed (parts_of splits range) said)) × AreInLists (all_listed (parts_of splits range) said) parts serials keys payloads) range result old new

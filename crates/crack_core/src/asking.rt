@@ -184,11 +184,12 @@ impl Core {
     ) -> Result<Vec<Reply>, Refusal>
         requires few { length parts.now ≤ 64 }
         ensures ok { IfOk result (λ replies.
-            AsksInTurn self.old.limits self.old.splits query (lasting (tables_of self.old.parts)) parts.now
-            (Ok replies.items) (lasting (tables_of self.new.parts))) }
+            AsksInTurn self.old.limits self.old.splits (λ range. asking query range)
+            (lasting (tables_of self.old.parts)) parts.now (Ok replies.items) (lasting (tables_of self.new.parts))) }
         ensures err { IfErr result (λ e.
-            AsksInTurn self.old.limits self.old.splits query (lasting (tables_of self.old.parts)) parts.now (Err e)
-            (lasting (tables_of self.new.parts)) ⊎ ((e ≡ Refusal.OutOfMemory) × (self.new ≡ self.old))) }
+            AsksInTurn self.old.limits self.old.splits (λ range. asking query range)
+            (lasting (tables_of self.old.parts)) parts.now (Err e) (lasting (tables_of self.new.parts))
+            ⊎ ((e ≡ Refusal.OutOfMemory) × (self.new ≡ self.old))) }
         ensures small { IfOk result (λ replies. All IsSmall replies.items × (length replies.items ≤ 64)) }
         ensures few { IfOk result (λ replies. length replies.items ≤ length parts.now) }
         ensures opened { (self.new.splits ≡ self.old.splits) × (self.new.limits ≡ self.old.limits) }
@@ -213,11 +214,12 @@ impl Core {
         requires none { replies.old.items ≡ [] }
         requires room { length parts.now ≤ vec_capacity replies.old }
         ensures ok { IfOk result (λ _.
-            AsksInTurn self.old.limits self.old.splits query (lasting (tables_of self.old.parts)) parts.now
-            (Ok replies.new.items) (lasting (tables_of self.new.parts))) }
-        ensures err { IfErr result (λ e.
-            AsksInTurn self.old.limits self.old.splits query (lasting (tables_of self.old.parts)) parts.now (Err e)
+            AsksInTurn self.old.limits self.old.splits (λ range. asking query range)
+            (lasting (tables_of self.old.parts)) parts.now (Ok replies.new.items)
             (lasting (tables_of self.new.parts))) }
+        ensures err { IfErr result (λ e.
+            AsksInTurn self.old.limits self.old.splits (λ range. asking query range)
+            (lasting (tables_of self.old.parts)) parts.now (Err e) (lasting (tables_of self.new.parts))) }
         ensures small { All IsSmall replies.new.items }
         ensures few { length replies.new.items ≤ length parts.now }
         ensures opened { (self.new.splits ≡ self.old.splits) × (self.new.limits ≡ self.old.limits) }

@@ -3,7 +3,7 @@ ghost use Rattle.std.specs.Prelude.{◌≡◌, ◌<◌, ◌≤◌, ◌≤ℤ◌,
 ghost use Rattle.crack_core.specs.Steps.{tables_of};
 ghost use Rattle.crack_core.specs.Asking.{lasting, Counts, Sums};
 ghost use Rattle.crack_core.specs.Bulk.{Went, InsertsAt, DeletesAt, UpdatesAt, CountsAt, SumsAt, OverKeys};
-ghost use Rattle.crack_core.specs.Bulk.{joined, flag};
+ghost use Rattle.crack_core.specs.Bulk.{of_halves, flag};
 
 use crate::Core;
 use crack_row::{
@@ -227,7 +227,7 @@ impl Core {
 pub fn halves(sum: i128) -> (u64, i64)
     requires low { neg_ℤ (pos (2 ^ 102)) ≤ℤ sum }
     requires high { sum ≤ℤ pos (2 ^ 102) }
-    ensures value { sum ≡ joined result.0 result.1 }
+    ensures value { sum ≡ of_halves result.0 result.1 }
     ensures small { (neg_ℤ (pos (2 ^ 38)) ≤ℤ result.1) × (result.1 ≤ℤ pos (2 ^ 38)) }
 {
     let lifted = (sum + FARTHEST) as u128;

@@ -5,7 +5,7 @@ ghost use Rattle.crack_plain.specs.Plain.{IsSmall};
 ghost use Rattle.crack_core.specs.Steps.{tables_of};
 ghost use Rattle.crack_core.specs.Asking.{lasting};
 ghost use Rattle.crack_core.specs.Bulk.{OverKeys};
-ghost use Rattle.crack_core.specs.Listing.{Selects, StandIn, all_listed, listed};
+ghost use Rattle.crack_core.specs.Listing.{Selects, AreInLists, all_listed, listed};
 ghost use Rattle.crack_core.specs.Inside.{of_part};
 
 use crate::{Core, Query};
@@ -98,7 +98,7 @@ fn list_all(
     requires keys { length keys.old ≡ length parts.old }
     requires payloads { length payloads.old ≡ length parts.old }
     ensures found { result ≡ length (all_listed met.now replies.now) }
-    ensures stand { StandIn (all_listed met.now replies.now) parts.new serials.new keys.new payloads.new }
+    ensures stand { AreInLists (all_listed met.now replies.now) parts.new serials.new keys.new payloads.new }
 {
     let mut found = 0;
     'replies: for i in 0..replies.len() {
@@ -134,8 +134,8 @@ fn list_rows(
     requires keys { length keys.old ≡ length parts.old }
     requires payloads { length payloads.old ≡ length parts.old }
     ensures { (before : List (ℕ × Row)) → length before ≡ from →
-        StandIn before parts.old serials.old keys.old payloads.old →
-        StandIn (before ++ of_part part rows.now) parts.new serials.new keys.new payloads.new }
+        AreInLists before parts.old serials.old keys.old payloads.old →
+        AreInLists (before ++ of_part part rows.now) parts.new serials.new keys.new payloads.new }
 {
     'rows: for i in 0..rows.len() {
         let at = from + i;

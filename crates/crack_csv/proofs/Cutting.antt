@@ -68,21 +68,21 @@ refuses_list bounds splits part keys there table e all is outcome =
     (subst (λ (o : Option PlainView). IsOutcome bounds (keys_of_part splits part) o (Select keys) (Err e)) is outcome)
 
 -- a partition refuses the list of the rows of all its keys
-pub part_unlisted : (bounds : Bounds) (splits : List Bound) (tables : List PlainView) (part : ℕ) (keys : Range) (e : Refusal) (receipts receipts' : ℕ) (failed : Bool) (left : Option (List PlainView)) (out : Option (List ℕ)) → keys ≡ keys_of_part splits part → part < length tables
-    → IsOutcomeAt bounds splits tables part (Select keys) (Err e) → left ≡ Some tables → receipts' ≡ receipts → Keeps out out → IsPartCut bounds splits tables part e receipts receipts' failed failed left out out
-part_unlisted bounds splits tables part keys e receipts receipts' failed left out all within outcome after none kept =
+pub part_unlisted : (bounds : Bounds) (splits : List Bound) (tables : List PlainView) (part : ℕ) (keys : Range) (e : Refusal) (accepted accepted' : ℕ) (failed : Bool) (left : Option (List PlainView)) (out : Option (List ℕ)) → keys ≡ keys_of_part splits part → part < length tables
+    → IsOutcomeAt bounds splits tables part (Select keys) (Err e) → left ≡ Some tables → accepted' ≡ accepted → Keeps out out → IsPartCut bounds splits tables part e accepted accepted' failed failed left out out
+part_unlisted bounds splits tables part keys e accepted accepted' failed left out all within outcome after none kept =
     let found = get_there tables part within in
     record {
       table = found.0;
       there = found.1;
-      how = inl (record { cause = refuses_list bounds splits part keys (slice_get tables part) found.0 e all found.1 outcome; left_is = after; receipts_are = none; unfailed = refl; unwritten = kept });
+      how = inl (record { cause = refuses_list bounds splits part keys (slice_get tables part) found.0 e all found.1 outcome; left_is = after; accepted_are = none; unfailed = refl; unwritten = kept });
     }
 
 -- a partition lists the rows of all its keys, and their records aren't all written
-pub part_unwritten : (bounds : Bounds) (splits : List Bound) (tables : List PlainView) (part : ℕ) (keys : Range) (reply : Reply) (e : Refusal) (receipts receipts' : ℕ) (failed failed' : Bool) (left : Option (List PlainView)) (out out' : Option (List ℕ)) → keys ≡ keys_of_part splits part
-    → IsOutcomeAt bounds splits tables part (Select keys) (Ok reply) → left ≡ Some (tables_after bounds tables part (Select keys) (Ok reply)) → receipts' ≡ receipts + 1
-    → AreUnsent (map record_text (listed reply)) e failed failed' out out' → IsPartCut bounds splits tables part e receipts receipts' failed failed' left out out'
-part_unwritten bounds splits tables part keys reply e receipts receipts' failed failed' left out out' all outcome after one unsent =
+pub part_unwritten : (bounds : Bounds) (splits : List Bound) (tables : List PlainView) (part : ℕ) (keys : Range) (reply : Reply) (e : Refusal) (accepted accepted' : ℕ) (failed failed' : Bool) (left : Option (List PlainView)) (out out' : Option (List ℕ)) → keys ≡ keys_of_part splits part
+    → IsOutcomeAt bounds splits tables part (Select keys) (Ok reply) → left ≡ Some (tables_after bounds tables part (Select keys) (Ok reply)) → accepted' ≡ accepted + 1
+    → AreUnsent (map record_text (listed reply)) e failed failed' out out' → IsPartCut bounds splits tables part e accepted accepted' failed failed' left out out'
+part_unwritten bounds splits tables part keys reply e accepted accepted' failed failed' left out out' all outcome after one unsent =
     let replied = replied_rows bounds (keys_of_part splits part) (slice_get tables part) keys reply outcome in
     let rows : listed reply ≡ rows_at splits part replied.0 = ap listed replied.2 ∙ ap (λ (k : Range). rows_in k replied.0.state.rows) all in
     record {
@@ -91,19 +91,19 @@ part_unwritten bounds splits tables part keys reply e receipts receipts' failed 
       how = inr (record {
         cause = subst (λ rows. AreUnsent (map record_text rows) e failed failed' out out') rows unsent;
         left_is = after ∙ ap (λ (t : PlainView). Some (slice_set tables part t)) (ap (λ (t : PlainView). table_after (upkept_by bounds t) (Select keys)) (index_there tables part replied.0 fresh_table replied.1) ∙ asked-after bounds replied.0 keys);
-        receipts_are = one;
+        accepted_are = one;
       });
     }
 
 -- the header isn't written
-pub header_unsent : (bounds : Bounds) (splits : List Bound) (tables : List PlainView) (e : Refusal) (receipts : ℕ) (failed failed' : Bool) (left : Option (List PlainView)) (out out' : Option (List ℕ)) → left ≡ Some tables → IsUnsent header_text e failed failed' out out'
-    → IsExportCut bounds splits tables e receipts receipts failed failed' left out out'
-header_unsent bounds splits tables e receipts failed failed' left out out' known unsent = record {
+pub header_unsent : (bounds : Bounds) (splits : List Bound) (tables : List PlainView) (e : Refusal) (accepted : ℕ) (failed failed' : Bool) (left : Option (List PlainView)) (out out' : Option (List ℕ)) → left ≡ Some tables → IsUnsent header_text e failed failed' out out'
+    → IsExportCut bounds splits tables e accepted accepted failed failed' left out out'
+header_unsent bounds splits tables e accepted failed failed' left out out' known unsent = record {
   done = [];
   rest = tables;
   split = refl;
   left_is = known;
-  receipts_are = omega arith;
+  accepted_are = omega arith;
   cause = inl (one_unsent header_text e failed failed' out out' unsent);
 }
 
@@ -111,11 +111,11 @@ lines_text : (splits : List Bound) (done : List PlainView) (out out' : Option (L
 lines_text splits done out out' written = subst (Appends out out') (ap (λ z. header_text ++ z) (sym (concat_map record_text (rows_from splits 0 done)))) written
 
 -- the next partition refuses the list of its rows
-unlisted_next : (bounds : Bounds) (splits : List Bound) (tables : List PlainView) (part : ℕ) (table : PlainView) (e : Refusal) (receipts now receipts' : ℕ) (failed failed' : Bool) (left : Option (List PlainView)) (out out' out'' : Option (List ℕ)) (done rest : List PlainView)
-    → tables ≡ done ++ rest → length done ≡ part → now ≡ receipts + part → Appends out out' (header_text ++ flat_map record_text (rows_from splits 0 done)) → slice_get (map (asked bounds) done ++ rest) part ≡ Some table
-    → IsUnlisted bounds splits (map (asked bounds) done ++ rest) part table e now receipts' failed failed' left out' out'' → IsExportCut bounds splits tables e receipts receipts' failed failed' left out out''
-unlisted_next bounds splits tables part table e receipts now receipts' failed failed' left out out' out'' done [] split reached so_far written there next = absurd (next_is_there bounds done part table reached there)
-unlisted_next bounds splits tables part table e receipts now receipts' failed failed' left out out' out'' done (t ∷ rest) split reached so_far written there next =
+unlisted_next : (bounds : Bounds) (splits : List Bound) (tables : List PlainView) (part : ℕ) (table : PlainView) (e : Refusal) (accepted now accepted' : ℕ) (failed failed' : Bool) (left : Option (List PlainView)) (out out' out'' : Option (List ℕ)) (done rest : List PlainView)
+    → tables ≡ done ++ rest → length done ≡ part → now ≡ accepted + part → Appends out out' (header_text ++ flat_map record_text (rows_from splits 0 done)) → slice_get (map (asked bounds) done ++ rest) part ≡ Some table
+    → IsUnlisted bounds splits (map (asked bounds) done ++ rest) part table e now accepted' failed failed' left out' out'' → IsExportCut bounds splits tables e accepted accepted' failed failed' left out out''
+unlisted_next bounds splits tables part table e accepted now accepted' failed failed' left out out' out'' done [] split reached so_far written there next = absurd (next_is_there bounds done part table reached there)
+unlisted_next bounds splits tables part table e accepted now accepted' failed failed' left out out' out'' done (t ∷ rest) split reached so_far written there next =
     let same : table ≡ t = next_is bounds done t rest part table reached there in
     let here : IsOutcome bounds (keys_of_part splits part) (Some t) (Select (keys_of_part splits part)) (Err e) = subst (λ (x : PlainView). IsOutcome bounds (keys_of_part splits part) (Some x) (Select (keys_of_part splits part)) (Err e)) same next.cause in
     record {
@@ -123,7 +123,7 @@ unlisted_next bounds splits tables part table e receipts now receipts' failed fa
       rest = t ∷ rest;
       split = split;
       left_is = next.left_is;
-      receipts_are = let none = next.receipts_are in omega (arith, none, so_far, reached);
+      accepted_are = let none = next.accepted_are in omega (arith, none, so_far, reached);
       cause = inr (inl (
         t,
         refl,
@@ -134,11 +134,11 @@ unlisted_next bounds splits tables part table e receipts now receipts' failed fa
     }
 
 -- the records of the next partition aren't all written
-unwritten_next : (bounds : Bounds) (splits : List Bound) (tables : List PlainView) (part : ℕ) (table : PlainView) (e : Refusal) (receipts now receipts' : ℕ) (failed failed' : Bool) (left : Option (List PlainView)) (out out' out'' : Option (List ℕ)) (done rest : List PlainView)
-    → tables ≡ done ++ rest → length done ≡ part → now ≡ receipts + part → Appends out out' (header_text ++ flat_map record_text (rows_from splits 0 done)) → slice_get (map (asked bounds) done ++ rest) part ≡ Some table
-    → IsUnwritten bounds splits (map (asked bounds) done ++ rest) part table e now receipts' failed failed' left out' out'' → IsExportCut bounds splits tables e receipts receipts' failed failed' left out out''
-unwritten_next bounds splits tables part table e receipts now receipts' failed failed' left out out' out'' done [] split reached so_far written there next = absurd (next_is_there bounds done part table reached there)
-unwritten_next bounds splits tables part table e receipts now receipts' failed failed' left out out' out'' done (t ∷ rest) split reached so_far written there next =
+unwritten_next : (bounds : Bounds) (splits : List Bound) (tables : List PlainView) (part : ℕ) (table : PlainView) (e : Refusal) (accepted now accepted' : ℕ) (failed failed' : Bool) (left : Option (List PlainView)) (out out' out'' : Option (List ℕ)) (done rest : List PlainView)
+    → tables ≡ done ++ rest → length done ≡ part → now ≡ accepted + part → Appends out out' (header_text ++ flat_map record_text (rows_from splits 0 done)) → slice_get (map (asked bounds) done ++ rest) part ≡ Some table
+    → IsUnwritten bounds splits (map (asked bounds) done ++ rest) part table e now accepted' failed failed' left out' out'' → IsExportCut bounds splits tables e accepted accepted' failed failed' left out out''
+unwritten_next bounds splits tables part table e accepted now accepted' failed failed' left out out' out'' done [] split reached so_far written there next = absurd (next_is_there bounds done part table reached there)
+unwritten_next bounds splits tables part table e accepted now accepted' failed failed' left out out' out'' done (t ∷ rest) split reached so_far written there next =
     let same : table ≡ t = next_is bounds done t rest part table reached there in
     let rows = next_rows splits done t part table reached same in
     let lines : lines_of splits (done ++ t ∷ []) ≡ lines_of splits done ++ map record_text (rows_at splits part table) =
@@ -148,39 +148,39 @@ unwritten_next bounds splits tables part table e receipts now receipts' failed f
       rest = rest;
       split = split ∙ sym (append_assoc done (t ∷ []) rest);
       left_is = next.left_is ∙ ap Some (next_asked bounds done t rest part table reached same);
-      receipts_are = let one = next.receipts_are in let l = length-append done (t ∷ []) in omega (arith, one, so_far, reached, l);
+      accepted_are = let one = next.accepted_are in let l = length-append done (t ∷ []) in omega (arith, one, so_far, reached, l);
       cause = inl (subst (λ z. AreUnsent z e failed failed' out out'') (sym lines) (unsent_behind (lines_of splits done) (map record_text (rows_at splits part table)) e failed failed' out out' out'' (lines_text splits done out out' written) next.cause));
     }
 
-how_next : (bounds : Bounds) (splits : List Bound) (tables : List PlainView) (part : ℕ) (table : PlainView) (e : Refusal) (receipts now receipts' : ℕ) (failed failed' : Bool) (left : Option (List PlainView)) (out out' out'' : Option (List ℕ)) (done rest : List PlainView)
-    → tables ≡ done ++ rest → length done ≡ part → now ≡ receipts + part → Appends out out' (header_text ++ flat_map record_text (rows_from splits 0 done)) → slice_get (map (asked bounds) done ++ rest) part ≡ Some table
-    → IsUnlisted bounds splits (map (asked bounds) done ++ rest) part table e now receipts' failed failed' left out' out'' ⊎ IsUnwritten bounds splits (map (asked bounds) done ++ rest) part table e now receipts' failed failed' left out' out''
-    → IsExportCut bounds splits tables e receipts receipts' failed failed' left out out''
-how_next bounds splits tables part table e receipts now receipts' failed failed' left out out' out'' done rest split reached so_far written there (inl next) =
-    unlisted_next bounds splits tables part table e receipts now receipts' failed failed' left out out' out'' done rest split reached so_far written there next
-how_next bounds splits tables part table e receipts now receipts' failed failed' left out out' out'' done rest split reached so_far written there (inr next) =
-    unwritten_next bounds splits tables part table e receipts now receipts' failed failed' left out out' out'' done rest split reached so_far written there next
+how_next : (bounds : Bounds) (splits : List Bound) (tables : List PlainView) (part : ℕ) (table : PlainView) (e : Refusal) (accepted now accepted' : ℕ) (failed failed' : Bool) (left : Option (List PlainView)) (out out' out'' : Option (List ℕ)) (done rest : List PlainView)
+    → tables ≡ done ++ rest → length done ≡ part → now ≡ accepted + part → Appends out out' (header_text ++ flat_map record_text (rows_from splits 0 done)) → slice_get (map (asked bounds) done ++ rest) part ≡ Some table
+    → IsUnlisted bounds splits (map (asked bounds) done ++ rest) part table e now accepted' failed failed' left out' out'' ⊎ IsUnwritten bounds splits (map (asked bounds) done ++ rest) part table e now accepted' failed failed' left out' out''
+    → IsExportCut bounds splits tables e accepted accepted' failed failed' left out out''
+how_next bounds splits tables part table e accepted now accepted' failed failed' left out out' out'' done rest split reached so_far written there (inl next) =
+    unlisted_next bounds splits tables part table e accepted now accepted' failed failed' left out out' out'' done rest split reached so_far written there next
+how_next bounds splits tables part table e accepted now accepted' failed failed' left out out' out'' done rest split reached so_far written there (inr next) =
+    unwritten_next bounds splits tables part table e accepted now accepted' failed failed' left out out' out'' done rest split reached so_far written there next
 
 -- the export of the next partition is refused
-pub Exporting-cut : {bounds : Bounds} {splits : List Bound} {tables : List PlainView} {part count : ℕ} {left : Option (List PlainView)} {out out' : Option (List ℕ)} (e : Refusal) (receipts now receipts' : ℕ) (failed failed' : Bool) (left' : Option (List PlainView)) (out'' : Option (List ℕ)) → Exporting bounds splits tables part count left out out' → now ≡ receipts + part
-    → ((known : List PlainView) → left ≡ Some known → IsPartCut bounds splits known part e now receipts' failed failed' left' out' out'') → IsExportCut bounds splits tables e receipts receipts' failed failed' left' out out''
-Exporting-cut {bounds} {splits} {tables} {part} {out = out} {out' = out'} e receipts now receipts' failed failed' left' out'' was so_far cut =
+pub Exporting-cut : {bounds : Bounds} {splits : List Bound} {tables : List PlainView} {part count : ℕ} {left : Option (List PlainView)} {out out' : Option (List ℕ)} (e : Refusal) (accepted now accepted' : ℕ) (failed failed' : Bool) (left' : Option (List PlainView)) (out'' : Option (List ℕ)) → Exporting bounds splits tables part count left out out' → now ≡ accepted + part
+    → ((known : List PlainView) → left ≡ Some known → IsPartCut bounds splits known part e now accepted' failed failed' left' out' out'') → IsExportCut bounds splits tables e accepted accepted' failed failed' left' out out''
+Exporting-cut {bounds} {splits} {tables} {part} {out = out} {out' = out'} e accepted now accepted' failed failed' left' out'' was so_far cut =
     let next = cut _ was.left_is in
-    how_next bounds splits tables part next.table e receipts now receipts' failed failed' left' out out' out'' was.done was.rest was.split was.reached so_far was.written next.there next.how
+    how_next bounds splits tables part next.table e accepted now accepted' failed failed' left' out out' out'' was.done was.rest was.split was.reached so_far was.written next.there next.how
 
 no_rest : {X : Type 0} (xs done rest : List X) → xs ≡ done ++ rest → length done ≡ length xs → rest ≡ []
 no_rest xs done [] split all = refl
 no_rest xs done (x ∷ rest) split all = absurd (let l = length-append done (x ∷ rest) in let n = ap length split in omega (arith, l, n, all))
 
 -- the output can't be flushed
-pub Exporting-kept : {bounds : Bounds} {splits : List Bound} {tables : List PlainView} {part count : ℕ} {left : Option (List PlainView)} {out out' : Option (List ℕ)} (receipts receipts' : ℕ) (failed failed' : Bool) (out'' : Option (List ℕ)) → Exporting bounds splits tables part count left out out' → receipts' ≡ receipts + part → part ≡ length tables → failed' ≡ true
-    → Keeps out' out'' → IsExportCut bounds splits tables WriteFault receipts receipts' failed failed' left out out''
-Exporting-kept {bounds} {splits} {tables} {out = out} {out' = out'} receipts receipts' failed failed' out'' was so_far all is kept = record {
+pub Exporting-kept : {bounds : Bounds} {splits : List Bound} {tables : List PlainView} {part count : ℕ} {left : Option (List PlainView)} {out out' : Option (List ℕ)} (accepted accepted' : ℕ) (failed failed' : Bool) (out'' : Option (List ℕ)) → Exporting bounds splits tables part count left out out' → accepted' ≡ accepted + part → part ≡ length tables → failed' ≡ true
+    → Keeps out' out'' → IsExportCut bounds splits tables WriteFault accepted accepted' failed failed' left out out''
+Exporting-kept {bounds} {splits} {tables} {out = out} {out' = out'} accepted accepted' failed failed' out'' was so_far all is kept = record {
   done = was.done;
   rest = was.rest;
   split = was.split;
   left_is = was.left_is;
-  receipts_are = let reached = was.reached in omega (arith, so_far, reached);
+  accepted_are = let reached = was.reached in omega (arith, so_far, reached);
   cause = inr (inr (
     refl,
     is,

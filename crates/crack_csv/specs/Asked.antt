@@ -1,7 +1,8 @@
 -- The calls of a desk by a load and an export, whatever is known of its rows.
-use Rattle.std.specs.Prelude.{◌≡◌, ℕ, ◌+◌, ◌≤◌, ◌⊎◌, Bool, true, List, [], ◌∷◌, ◌++◌, length, map, Option, None, Some, Result, Ok, Err}
+use Rattle.std.specs.Prelude.{◌≡◌, ℕ, ◌+◌, ◌≤◌, ◌⊎◌, Bool, true, List, [], ◌∷◌, ◌++◌, length, map, Option, None, Some, Result, Ok, Err, codes}
 use Rattle.std.specs.List.{AllZip, concat, flat_map}
 use Rattle.std.specs.Io.KnownBytes.{Appends}
+use Rattle.csv.specs.Writing.{default_writer, row_text}
 use Rattle.csv.specs.Reading.{default_config, AreRecords, strip_bom}
 use Rattle.csv.specs.declared.parser.State.TheVariants as st
 use Rattle.crack_row.specs.declared.Bound.{Bound}
@@ -15,7 +16,7 @@ use Rattle.crack_session.specs.Calls.{Call, Asked, Calls}
 use Rattle.crack_core.specs.Listing.{listed}
 use Rattle.crack_csv.specs.declared.load.LoadFault.{LoadFault}
 use Rattle.crack_csv.specs.declared.record.NewRow.{NewRow}
-use Rattle.crack_csv.specs.Exports.{header_text, record_text, AreUnsent}
+use Rattle.crack_csv.specs.Exports.{record_text, AreUnsent}
 use Rattle.crack_csv.specs.Records.{without_header, new_row_of, AreFirstOf}
 
 -- the call that asks the partition of its key to insert a row, and its outcome
@@ -54,7 +55,7 @@ listings splits policy part (reply ∷ replies) = listing splits policy part (Ok
 
 -- the header, and a record for each row that replies list
 abbrev pub lines_in : List Reply → List (List ℕ)
-lines_in replies = header_text ∷ map record_text (flat_map listed replies)
+lines_in replies = row_text default_writer (codes "key" ∷ codes "payload" ∷ []) ∷ map record_text (flat_map listed replies)
 
 -- on Ok a desk is asked for the rows of all its partitions, and nothing else; the header and their records are written
 abbrev pub IsListed : {D : Type 0} → (D → Call → D → Type 0) → List Bound → Policy → ℕ → D → D → Option (List ℕ) → Option (List ℕ) → Type 0

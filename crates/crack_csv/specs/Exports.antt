@@ -54,10 +54,10 @@ IsStopped bounds splits done rest e failed failed' out out' = AreUnsent (lines_o
     ⊎ ((e ≡ WriteFault) × (failed' ≡ true) × (rest ≡ []) × Appends out out' (concat (lines_of splits done)))
 
 -- An export that is refused: the first partitions are asked, and their rows are unchanged; the rest is unchanged as a whole.
-pub record IsExportCut (bounds : Bounds) (splits : List Bound) (tables : List PlainView) (e : Refusal) (receipts receipts' : ℕ) (failed failed' : Bool) (left : Option (List PlainView)) (out out' : Option (List ℕ)) : Type 0 where
+pub record IsExportCut (bounds : Bounds) (splits : List Bound) (tables : List PlainView) (e : Refusal) (accepted accepted' : ℕ) (failed failed' : Bool) (left : Option (List PlainView)) (out out' : Option (List ℕ)) : Type 0 where
   pub done : List PlainView
   pub rest : List PlainView
   pub split : tables ≡ done ++ rest
   pub left_is : left ≡ Some (map (asked bounds) done ++ rest)
-  pub receipts_are : receipts' ≡ receipts + length done
+  pub accepted_are : accepted' ≡ accepted + length done
   pub cause : IsStopped bounds splits done rest e failed failed' out out'

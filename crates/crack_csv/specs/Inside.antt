@@ -57,25 +57,25 @@ IsUnsent text e failed failed' out out' = ((e ≡ OutOfMemory) × (failed' ≡ f
     ⊎ ((e ≡ WriteFault) × (failed' ≡ true) × AppendsFront out out' text)
 
 -- A partition refuses the list of its rows: nothing has changed.
-pub record IsUnlisted (bounds : Bounds) (splits : List Bound) (tables : List PlainView) (part : ℕ) (table : PlainView) (e : Refusal) (receipts receipts' : ℕ) (failed failed' : Bool) (left : Option (List PlainView)) (out out' : Option (List ℕ)) : Type 0 where
+pub record IsUnlisted (bounds : Bounds) (splits : List Bound) (tables : List PlainView) (part : ℕ) (table : PlainView) (e : Refusal) (accepted accepted' : ℕ) (failed failed' : Bool) (left : Option (List PlainView)) (out out' : Option (List ℕ)) : Type 0 where
   pub cause : IsOutcome bounds (keys_of_part splits part) (Some table) (Select (keys_of_part splits part)) (Err e)
   pub left_is : left ≡ Some tables
-  pub receipts_are : receipts' ≡ receipts
+  pub accepted_are : accepted' ≡ accepted
   pub unfailed : failed' ≡ failed
   pub unwritten : Keeps out out'
 
 -- A partition lists its rows, and their records aren't all written.
-pub record IsUnwritten (bounds : Bounds) (splits : List Bound) (tables : List PlainView) (part : ℕ) (table : PlainView) (e : Refusal) (receipts receipts' : ℕ) (failed failed' : Bool) (left : Option (List PlainView)) (out out' : Option (List ℕ)) : Type 0 where
+pub record IsUnwritten (bounds : Bounds) (splits : List Bound) (tables : List PlainView) (part : ℕ) (table : PlainView) (e : Refusal) (accepted accepted' : ℕ) (failed failed' : Bool) (left : Option (List PlainView)) (out out' : Option (List ℕ)) : Type 0 where
   pub cause : AreUnsent (map record_text (rows_at splits part table)) e failed failed' out out'
   pub left_is : left ≡ Some (slice_set tables part (asked bounds table))
-  pub receipts_are : receipts' ≡ receipts + 1
+  pub accepted_are : accepted' ≡ accepted + 1
 
 -- The export of a partition is refused.
-pub record IsPartCut (bounds : Bounds) (splits : List Bound) (tables : List PlainView) (part : ℕ) (e : Refusal) (receipts receipts' : ℕ) (failed failed' : Bool) (left : Option (List PlainView)) (out out' : Option (List ℕ)) : Type 0 where
+pub record IsPartCut (bounds : Bounds) (splits : List Bound) (tables : List PlainView) (part : ℕ) (e : Refusal) (accepted accepted' : ℕ) (failed failed' : Bool) (left : Option (List PlainView)) (out out' : Option (List ℕ)) : Type 0 where
   pub table : PlainView
   pub there : slice_get tables part ≡ Some table
-  pub how : IsUnlisted bounds splits tables part table e receipts receipts' failed failed' left out out'
-      ⊎ IsUnwritten bounds splits tables part table e receipts receipts' failed failed' left out out'
+  pub how : IsUnlisted bounds splits tables part table e accepted accepted' failed failed' left out out'
+      ⊎ IsUnwritten bounds splits tables part table e accepted accepted' failed failed' left out out'
 
 -- a record is a row, which is inserted
 abbrev pub BringsRow : Bounds → List Bound → List PlainView → Fields → Option (List PlainView) → Type 0

@@ -1,7 +1,7 @@
 -- The meaning of CSV records, and how far a reader of them is.
-use Rattle.std.specs.Prelude.{ℕ, Bool, false, List, [], ◌∷◌, Option, option_map, ◌&&◌, codes, if◌then◌else◌}
+use Rattle.std.specs.Prelude.{ℕ, Bool, false, List, [], ◌∷◌, drop, slice_index_or, Option, option_map, ◌&&◌, codes, if◌then◌else◌}
 use Rattle.std.specs.Str.{bytes_eq}
-use Rattle.crack_commands.specs.Grammar.{key_and_payload}
+use Rattle.crack_commands.specs.Grammar.{key_of, payload_of, two_of}
 use Rattle.csv.specs.Reading.{default_config, Reached}
 use Rattle.csv.specs.declared.parser.State.{State}
 use Rattle.csv.specs.declared.parser.State.TheVariants as st
@@ -14,12 +14,11 @@ is_header _ = false
 
 -- the records that are to be inserted: all except a header
 abbrev pub without_header : List (List (List ℕ)) → List (List (List ℕ))
-without_header [] = []
-without_header (first ∷ records) = if is_header first then records else first ∷ records
+without_header records = if is_header (slice_index_or records 0 []) then drop 1 records else records
 
 -- the row of a record that has exactly two fields, a key and a payload
 abbrev pub new_row_of : List (List ℕ) → Option NewRow
-new_row_of fields = option_map (λ n. record { key = n.0; payload = n.1 }) (key_and_payload fields)
+new_row_of fields = option_map (λ n. record { key = n.0; payload = n.1 }) (two_of key_of payload_of fields)
 
 -- these are the first records of a text
 abbrev pub AreFirstOf : List ℕ → List (List (List ℕ)) → Type 0

@@ -37,7 +37,7 @@ pub fn export_csv<D: Desk, W: Write>(
     // On a refusal the first partitions are asked, and no row is changed. Their records are written as far as the cause
     // implies.
     ensures cut { IfErr result (λ e. (tables : List PlainView) → D.tables desk.old ≡ Some tables →
-        IsExportCut (D.bounds desk.old) (D.splits desk.old) tables e (D.receipts desk.old) (D.receipts desk.new)
+        IsExportCut (D.bounds desk.old) (D.splits desk.old) tables e (D.accepted desk.old) (D.accepted desk.new)
         (has_failed writer.old) (has_failed writer.new) (D.tables desk.new) (W.contents (device writer.old))
         (W.contents (device writer.new))) }
     // Whatever is known of the rows: each partition is asked for them, once, in order and by this policy, and what is
@@ -50,7 +50,7 @@ pub fn export_csv<D: Desk, W: Write>(
         IsListedFirst D.leads (D.splits desk.old) policy e desk.old desk.new (has_failed writer.old)
         (has_failed writer.new) (W.contents (device writer.old)) (W.contents (device writer.new))) }
     ensures unfailed { OnOk result (has_failed writer.new ≡ has_failed writer.old) }
-    ensures receipts { OnOk result (D.receipts desk.new ≡ D.receipts desk.old + length (D.splits desk.old) + 1) }
+    ensures accepted { OnOk result (D.accepted desk.new ≡ D.accepted desk.old + length (D.splits desk.old) + 1) }
     ensures splits { D.splits desk.new ≡ D.splits desk.old }
     ensures bounds { D.bounds desk.new ≡ D.bounds desk.old }
 {
@@ -92,7 +92,7 @@ fn export_part<D: Desk, W: Write>(
         IsPartExported (D.bounds desk.old) (D.splits desk.old) tables part count (D.tables desk.new)
         (W.contents (device writer.old)) (W.contents (device writer.new))) }
     ensures cut { IfErr result (λ e. (tables : List PlainView) → D.tables desk.old ≡ Some tables →
-        IsPartCut (D.bounds desk.old) (D.splits desk.old) tables part e (D.receipts desk.old) (D.receipts desk.new)
+        IsPartCut (D.bounds desk.old) (D.splits desk.old) tables part e (D.accepted desk.old) (D.accepted desk.new)
         (has_failed writer.old) (has_failed writer.new) (D.tables desk.new) (W.contents (device writer.old))
         (W.contents (device writer.new))) }
     ensures asks { IfOk result (λ count. AsksAndWrites D.leads (D.splits desk.old) policy part count desk.old desk.new
@@ -102,7 +102,7 @@ fn export_part<D: Desk, W: Write>(
         (W.contents (device writer.new))) }
     ensures small { IfOk result (λ count. count < 2 ^ 32) }
     ensures unfailed { OnOk result (has_failed writer.new ≡ has_failed writer.old) }
-    ensures receipts { OnOk result (D.receipts desk.new ≡ D.receipts desk.old + 1) }
+    ensures accepted { OnOk result (D.accepted desk.new ≡ D.accepted desk.old + 1) }
     ensures splits { D.splits desk.new ≡ D.splits desk.old }
     ensures bounds { D.bounds desk.new ≡ D.bounds desk.old }
 {

@@ -33,7 +33,7 @@ pub fn insert_record<D: Desk>(
         Refuses (D.bounds desk.old) (D.splits desk.old) tables number (new_row_of (fields_of fields.now)) e) }
     ensures splits { D.splits desk.new ≡ D.splits desk.old }
     ensures bounds { D.bounds desk.new ≡ D.bounds desk.old }
-    ensures receipts { D.receipts desk.new ≡ (if is_ok result then D.receipts desk.old + 1 else D.receipts desk.old) }
+    ensures accepted { D.accepted desk.new ≡ (if is_ok result then D.accepted desk.old + 1 else D.accepted desk.old) }
     // Whatever is known of the rows: the partition of the row's key is asked to insert it, once and by this policy.
     ensures asks { OnOk result (AsksRow D.leads (D.splits desk.old) policy (fields_of fields.now) desk.old desk.new) }
     ensures asks_in_vain { IfErr result (λ e. AsksNoRow D.leads (D.splits desk.old) policy number (fields_of fields.now)
@@ -56,7 +56,7 @@ fn insert_row<D: Desk>(desk: &mut D, policy: Policy, row: NewRow) -> Result<(), 
         (Insert row.key row.payload) (Err e)) }
     ensures splits { D.splits desk.new ≡ D.splits desk.old }
     ensures bounds { D.bounds desk.new ≡ D.bounds desk.old }
-    ensures receipts { D.receipts desk.new ≡ (if is_ok result then D.receipts desk.old + 1 else D.receipts desk.old) }
+    ensures accepted { D.accepted desk.new ≡ (if is_ok result then D.accepted desk.old + 1 else D.accepted desk.old) }
     ensures asks { OnOk result ((reply : Reply) × D.leads desk.old (insertion (D.splits desk.old) policy row
         (Ok reply)) desk.new) }
     ensures asks_in_vain { IfErr result (λ e. D.leads desk.old (insertion (D.splits desk.old) policy row

@@ -48,8 +48,8 @@ pub fn load_csv<D: Desk, R: Read + Drop>(
     ensures asks_in_part { IfErr result (λ fault. (bytes : List ℕ) → R.remaining reader ≡ Some bytes →
         IsAskedFirst D.leads (D.splits desk.old) policy bytes fault desk.old desk.new) }
     ensures few { IfOk result (λ count. count ≤ MOST_RECORDS) }
-    ensures receipts { IfOk result (λ count. D.receipts desk.new ≡ D.receipts desk.old + count) }
-    ensures receipts_of_fault { IfErr result (λ fault. D.receipts desk.new ≡ D.receipts desk.old + fault.loaded) }
+    ensures accepted { IfOk result (λ count. D.accepted desk.new ≡ D.accepted desk.old + count) }
+    ensures accepted_of_fault { IfErr result (λ fault. D.accepted desk.new ≡ D.accepted desk.old + fault.loaded) }
     ensures splits { D.splits desk.new ≡ D.splits desk.old }
     ensures bounds { D.bounds desk.new ≡ D.bounds desk.old }
 {

@@ -124,9 +124,9 @@ fn a_core_is_told_the_script(rt: HostRuntime) -> Result<(), Fail> {
     let alloc: Global = rt.alloc();
     let mut core = Core::open(alloc, &hundred(), GREATEST_LIMIT)?;
     assert_session(&rt, alloc, &mut core, SCRIPT, REPLIES, (How::Quit, 25));
-    let receipts = core.receipts();
+    let accepted = Desk::accepted(&core);
     drop(core);
-    assert_eq!(rt; receipts, 18);
+    assert_eq!(rt; accepted, 18);
     Ok(())
 }
 
@@ -137,7 +137,7 @@ fn a_worker_desk_is_told_the_same(rt: HostRuntime) -> Result<(), Fail> {
     let worker = workers.pop().ok_or("worker")?;
     let mut desk = WorkerDesk::new(&rt, &table, &OpenGate, worker);
     assert_session(&rt, alloc, &mut desk, SCRIPT, REPLIES, (How::Quit, 25));
-    assert_eq!(rt; desk.receipts(), 18);
+    assert_eq!(rt; desk.accepted(), 18);
     assert_eq!(rt; desk.splits(), hundred().as_slice());
     workers.push(desk.into_worker())?;
     assert_eq!(rt; totals(alloc, table, workers), Ok([18, 6, 1, 5]));
@@ -218,7 +218,7 @@ fn a_shut_gate_refuses_each_command_of_a_session(rt: HostRuntime) -> Result<(), 
 layout 0 rows 0 column 0 out 0 in 0 cells 0 free 0 pieces 1\npiece 0 100 0\npolicy ripple\n",
         (How::InputEnded, 5),
     );
-    assert_eq!(rt; desk.receipts(), 0);
+    assert_eq!(rt; desk.accepted(), 0);
     workers.push(desk.into_worker())?;
     assert_eq!(rt; totals(alloc, table, workers), Ok([0, 0, 0, 0]));
     Ok(())

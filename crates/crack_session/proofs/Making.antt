@@ -1,14 +1,13 @@
 -- How the answers of a session are made of the calls of its desk, one statement after another.
 use Rattle.std.proofs.Common.{◌≡◌, ℕ, ◌+◌, ◌<◌, Bool, true, false, cond, Option, Some, None, Result, Ok, Err, List, [], ◌∷◌, ◌++◌, length, map, take, refl, sym, ap, ◌∙◌, subst, inl, inr, arith, append_assoc, append-nil, length-append}
 use Rattle.std.proofs.lemmas.List.{map-append}
-use Rattle.std.specs.Prelude.{IfOk, IfErr, ◌⊎◌}
+use Rattle.std.specs.Prelude.{IfOk, IfErr}
 use Rattle.std.specs.List.{concat}
-use Rattle.std.specs.Io.KnownBytes.{Appends, Keeps}
+use Rattle.std.specs.Io.KnownBytes.{Keeps}
 use Rattle.crack_row.specs.Devices.{device}
 use Rattle.crack_row.specs.declared.Bound.{Bound}
 use Rattle.crack_row.specs.declared.command.Policy.{Policy}
 use Rattle.crack_row.specs.declared.refusal.Refusal.{Refusal}
-use Rattle.crack_row.specs.declared.refusal.Refusal.TheVariants.{WriteFault}
 use Rattle.crack_row.specs.declared.watched.Watched.{Watched}
 use Rattle.crack_commands.specs.Grammar.{Reading}
 use Rattle.crack_session.specs.declared.answer.Answer.{Answer}
@@ -22,10 +21,11 @@ use Rattle.crack_session.specs.Input.{first_line, after_line, kept_of}
 use Rattle.crack_session.specs.Readings.{statements, is_quit, reading_of}
 use Rattle.crack_session.specs.Sessions.{first_short}
 use Rattle.crack_session.specs.Telling.{Tells, marked}
-use Rattle.crack_session.specs.Written.{AreWritten, IsLastCut, AreWrittenThen}
+use Rattle.crack_commands.specs.Texts.{AppendsFront}
+use Rattle.crack_session.specs.Written.{AreWritten, AreWrittenThen}
 use Rattle.crack_session.proofs.Calling.{Calls-then}
 use Rattle.crack_session.proofs.Finishing.{end_of, fault_of}
-use Rattle.crack_session.proofs.Following.{next_some, next_blank}
+use Rattle.crack_session.proofs.Following.{next_some}
 use Rattle.crack_session.proofs.Going.{first_short-push, concat-push, appended, kept_known, done_first}
 
 -- a session's policy after these answers
@@ -143,10 +143,9 @@ Making-written leads splits first old bytes o short' m fs e =
     let all : statements bytes ≡ m.done = m.split ∙ append-nil m.done in
     record {
       answers = m.answers;
-      each = m.each ∙ ap length (sym all);
       are = (m.calls, m.were, subst (λ (rs : List Reading). AreMadeOf splits first rs m.answers m.calls) (sym all) m.are);
       short_is = fs ∙ m.short_is;
-      written_is = m.written_is o e;
+      output = m.written_is o e;
     }
 
 -- a session that was cut off between two answers
@@ -155,10 +154,9 @@ Making-cut leads splits first old bytes o fault {left} m d fs e =
     let front : take fault.done (statements bytes) ≡ m.done = done_first (statements bytes) m.done left fault.done m.split (m.count ∙ sym d) in
     inl (record {
       answers = m.answers;
-      each = m.each ∙ ap length (sym front);
       are = (m.calls, m.were, subst (λ (rs : List Reading). AreMadeOf splits first rs m.answers m.calls) (sym front) m.are);
       short_is = fs ∙ m.short_is;
-      written_is = m.written_is o e;
+      output = m.written_is o e;
     })
 
 -- a session that was cut off within an answer
@@ -168,19 +166,17 @@ Making-cut_in leads splits first old contents bytes o fault {left} {now} r a p q
     let count : length (m.done ++ r ∷ []) ≡ fault.done + 1 = (let l = length-append m.done (r ∷ []) in let c = m.count in omega (arith, l, c, done)) in
     let front : take (fault.done + 1) (statements bytes) ≡ m.done ++ r ∷ [] = done_first (statements bytes) (m.done ++ r ∷ []) left (fault.done + 1) (m.split ∙ sym (append_assoc m.done (r ∷ []) left)) count in
     let here = AreMadeOf-push splits first m.done m.answers m.calls r a calls m.are (subst (λ (b : Policy). IsReadingMadeOf splits b r a calls) m.policy_is (subst (λ (s : List Bound). IsReadingMadeOf s p.policy r a calls) same made)) in
-    inr (record {
-      refusal_is = refused ∙ tells.writes.err.0;
-      one_more = (let l = ap length m.split in let l2 = length-append m.done (r ∷ left) in let c = m.count in omega (arith, l, l2, c, done));
-      answers = m.answers;
-      last = a;
-      each = m.each ∙ m.count ∙ sym done;
-      are = (m.calls ++ calls, Calls-then leads old m.calls now calls now' m.were were, subst (λ (rs : List Reading). AreMadeOf splits first rs (m.answers ++ a ∷ []) (m.calls ++ calls)) (sym front) here);
-      short_is = fs ∙ tells.short ∙ ap (λ (o : Option ℕ). marked o (p.statements + 1) (is_short_answer a)) m.short_is
-          ∙ sym (first_short-push m.answers a (p.statements + 1) (let e = m.each in let c = m.count in omega (arith, e, c)));
-      count = tells.writes.front.0;
-      cut = tells.writes.front.1;
-      written_is = appended (contents (device w)) _ (contents (device w')) _ (m.written_is o e) tells.writes.front.2 ∙ ap Some (append_assoc o (concat (map answer_text m.answers)) (take tells.writes.front.0 (answer_text a)));
-    })
+    inr (
+      refused ∙ tells.writes.err.0,
+      (let l = ap length m.split in let l2 = length-append m.done (r ∷ left) in let c = m.count in omega (arith, l, l2, c, done)),
+      record {
+        answers = m.answers ++ a ∷ [];
+        are = (m.calls ++ calls, Calls-then leads old m.calls now calls now' m.were were, subst (λ (rs : List Reading). AreMadeOf splits first rs (m.answers ++ a ∷ []) (m.calls ++ calls)) (sym front) here);
+        short_is = fs ∙ tells.short ∙ ap (λ (o : Option ℕ). marked o (p.statements + 1) (is_short_answer a)) m.short_is
+            ∙ sym (first_short-push m.answers a (p.statements + 1) (let e = m.each in let c = m.count in omega (arith, e, c)));
+        output = (m.answers, a, refl, subst (λ (b : Option (List ℕ)). AppendsFront b (contents (device w')) (answer_text a)) (m.written_is o e) tells.writes.front);
+      },
+    )
 
 -- the session of these bytes is over
 abbrev pub IsMade : {D : Type 0} → (D → Call → D → Type 0) → List Bound → Policy → D → Option (List ℕ) → Progress → D → Option (List ℕ) → Option (List ℕ) → Type 0

@@ -1,15 +1,16 @@
 -- What a session answers to a statement, and how it writes that.
 use Rattle.std.specs.Fmt.{signed_decimal}
-use Rattle.std.specs.List.{flat_map}
-use Rattle.std.specs.Prelude.{◌≡◌, ℕ, Bool, true, false, List, [], ◌∷◌, ◌++◌, ◌⊎◌, Result, Ok, Err, codes, decimal, slice_get}
+use Rattle.std.specs.List.{flat_map, list_any}
+use Rattle.std.specs.Prelude.{◌≡◌, ℕ, Bool, false, List, [], ◌∷◌, ◌++◌, ◌⊎◌, Result, Ok, Err, codes, decimal, slice_get, ◌==◌}
 use Rattle.crack_row.specs.Ranges.{Range}
+use Rattle.crack_row.specs.Refusals.{code_of}
 use Rattle.crack_row.specs.declared.Bound.{Bound}
 use Rattle.crack_row.specs.declared.command.Command.{Command}
 use Rattle.crack_row.specs.declared.command.Command.TheVariants.{Insert as AskInsert, Delete as AskDelete, Update as AskUpdate}
 use Rattle.crack_row.specs.declared.command.Reply.{Reply}
 use Rattle.crack_row.specs.declared.layout.Layout.{Layout as PartLayout}
 use Rattle.crack_row.specs.declared.refusal.Refusal.{Refusal}
-use Rattle.crack_row.specs.declared.refusal.Refusal.TheVariants.{HistoryFull, OutOfMemory, NoCell, LifeOver}
+use Rattle.crack_row.specs.declared.refusal.Refusal.TheVariants.{OutOfMemory}
 use Rattle.crack_plain.specs.Plain.{PlainView, checkpointed}
 use Rattle.crack_commands.specs.Grammar.{Reading}
 use Rattle.crack_commands.specs.Texts.{line_text, reply_text, row_text, layout_text, policy_text, refusal_text}
@@ -22,31 +23,31 @@ use Rattle.crack_core.specs.Asking.{InTurn, asking}
 use Rattle.crack_core.specs.Listing.{listed}
 use Rattle.crack_core.specs.declared.asking.Query.{Query}
 use Rattle.crack_core.specs.declared.asking.Query.TheVariants.{CountRows, SumPayloads, SelectRows}
-use Rattle.crack_session.specs.Queries.{reply_of, joined}
+use Rattle.crack_session.specs.Queries.{joined}
 use Rattle.crack_core.specs.Routes.{keys_of_part, route, parts_of}
 use Rattle.crack_core.specs.Steps.{Bounds, IsOutcomeAt, IsLayoutOutcome, IsFoldOutcome, tables_after, changed_at}
 
 -- the answer if there is an outcome, or why there is none
-abbrev pub told : {X : Type 0} → (X → Answer) → Result X Refusal → Answer
-told answer (Ok x) = answer x
-told answer (Err e) = Refused e
+abbrev pub answer_from : {X : Type 0} → (X → Answer) → Result X Refusal → Answer
+answer_from answer (Ok x) = answer x
+answer_from answer (Err e) = Refused e
 
 -- One partition is asked: the answer is the outcome, and the partitions are new afterwards.
 pub record IsAsked (bounds : Bounds) (splits : List Bound) (tables : List PlainView) (part : ℕ) (command : Command) (answer : Answer) (new : List PlainView) : Type 0 where
   pub outcome : Result Reply Refusal
   pub comes_out : IsOutcomeAt bounds splits tables part command outcome
-  pub answer_is : answer ≡ told (Replied part) outcome
+  pub answer_is : answer ≡ answer_from (Replied part) outcome
   pub new_is : new ≡ tables_after bounds tables part command outcome
 
 -- several partitions are asked in turn, each for its part of a range: their replies, or the first refusal, and the partitions afterwards
 abbrev pub AsksInTurn : Bounds → List Bound → Query → List PlainView → List (ℕ × Range) → Result (List PartReply) Refusal → List PlainView → Type 0
-AsksInTurn bounds splits query tables parts outcome new = InTurn (λ (part : ℕ × Range) (reply : Result Reply Refusal) (before after : List PlainView). IsOutcomeAt bounds splits before part.0 (asking query part.1) reply × (after ≡ tables_after bounds before part.0 (asking query part.1) reply)) reply_of tables parts outcome new
+AsksInTurn bounds splits query tables parts outcome new = InTurn (λ (part : ℕ × Range) (reply : Result Reply Refusal) (before after : List PlainView). IsOutcomeAt bounds splits before part.0 (asking query part.1) reply × (after ≡ tables_after bounds before part.0 (asking query part.1) reply)) (λ (part : ℕ × Range) (reply : Reply). record { part = part.0; reply = reply }) tables parts outcome new
 
 -- Several partitions are asked in turn, and their replies are joined.
 pub record IsJoined (bounds : Bounds) (splits : List Bound) (tables : List PlainView) (query : Query) (parts : List (ℕ × Range)) (answer : Answer) (new : List PlainView) : Type 0 where
   pub outcome : Result (List PartReply) Refusal
   pub asked : AsksInTurn bounds splits query tables parts outcome new
-  pub answer_is : answer ≡ told (joined query) outcome
+  pub answer_is : answer ≡ answer_from (joined query) outcome
 
 -- These parts of a range are asked: a single one as for any command; several in turn, or none of them, if no memory is found for their replies.
 abbrev pub AsksParts : Bounds → List Bound → List PlainView → Query → List (ℕ × Range) → Answer → List PlainView → Type 0
@@ -57,13 +58,13 @@ AsksParts bounds splits tables query parts answer new = IsJoined bounds splits t
 pub record IsLaidOut (splits : List Bound) (tables : List PlainView) (part : ℕ) (answer : Answer) : Type 0 where
   pub outcome : Result PartLayout Refusal
   pub comes_out : IsLayoutOutcome (keys_of_part splits part) (slice_get tables part) outcome
-  pub answer_is : answer ≡ told (Laid part) outcome
+  pub answer_is : answer ≡ answer_from (Laid part) outcome
 
 -- A checkpoint of one partition is made: the answer says how many commands it accepted since its last checkpoint, and the partitions are new afterwards.
 pub record IsFolded (tables : List PlainView) (part : ℕ) (answer : Answer) (new : List PlainView) : Type 0 where
   pub outcome : Result ℕ Refusal
   pub comes_out : IsFoldOutcome (slice_get tables part) outcome
-  pub answer_is : answer ≡ told Folded outcome
+  pub answer_is : answer ≡ answer_from Folded outcome
   pub new_is : new ≡ changed_at checkpointed tables part outcome
 
 -- an answer to a statement, and the partitions afterwards: the partition that holds a row's key or that its number names is asked, and for
@@ -85,13 +86,10 @@ abbrev pub IsAnswer : Bounds → List Bound → List PlainView → Reading → A
 IsAnswer bounds splits tables (Err e) answer new = (answer ≡ Refused e) × (new ≡ tables)
 IsAnswer bounds splits tables (Ok statement) answer new = IsAnswerTo bounds splits tables statement answer new
 
--- a refusal for lack of room: the history is full, or no memory or no cell was found, or as many commands were accepted as there may be in total
+-- a refusal for lack of room: the history is full (6), no memory (8) or no cell (9) was found, or as many commands were accepted as there may be in
+-- total (10)
 abbrev pub is_short : Refusal → Bool
-is_short (HistoryFull entries) = true
-is_short OutOfMemory = true
-is_short NoCell = true
-is_short LifeOver = true
-is_short _ = false
+is_short refusal = list_any (λ code. code == code_of refusal) (6 ∷ 8 ∷ 9 ∷ 10 ∷ [])
 
 -- whether it is a refusal for lack of room
 abbrev pub is_short_answer : Answer → Bool

@@ -1,9 +1,10 @@
 -- The calls of a desk, and the answers that a session makes of their outcomes, whatever is known of the rows.
-use Rattle.std.specs.Prelude.{◌≡◌, ℕ, List, [], ◌∷◌, ◌++◌, ◌⊎◌, length, Option, Result, Ok, Err}
+use Rattle.std.specs.Prelude.{◌≡◌, ℕ, List, [], ◌∷◌, ◌++◌, ◌⊎◌, Result, Ok, Err, sum_by}
 use Rattle.crack_row.specs.Ranges.{Range}
+use Rattle.crack_row.specs.Rows.{total_by}
 use Rattle.crack_row.specs.declared.Bound.{Bound}
 use Rattle.crack_row.specs.declared.command.Command.{Command}
-use Rattle.crack_row.specs.declared.command.Command.TheVariants.{Insert as AskInsert, Delete as AskDelete, Update as AskUpdate}
+use Rattle.crack_row.specs.declared.command.Command.TheVariants.{Insert as AskInsert, Delete as AskDelete, Update as AskUpdate, Count as AskCount, Sum as AskSum, Select as AskSelect}
 use Rattle.crack_row.specs.declared.command.Policy.{Policy as MergePolicy}
 use Rattle.crack_row.specs.declared.command.Reply.{Reply}
 use Rattle.crack_row.specs.declared.layout.Layout.{Layout as PartLayout}
@@ -14,13 +15,10 @@ use Rattle.crack_commands.specs.declared.statement.Statement.{Statement}
 use Rattle.crack_commands.specs.declared.statement.Statement.TheVariants.{Insert, Delete, Update, Count, Sum, Select, Layout, Checkpoint, Policy, Quit}
 use Rattle.crack_core.specs.Routes.{route, parts_of}
 use Rattle.crack_session.specs.declared.answer.Answer.{Answer}
-use Rattle.crack_session.specs.declared.answer.Answer.TheVariants.{Replied, Laid, Folded, Set, Refused, Bye}
+use Rattle.crack_session.specs.declared.answer.Answer.TheVariants.{Replied, Counted, Summed, Listed, Laid, Folded, Set, Refused, Bye}
 use Rattle.crack_session.specs.declared.query.PartReply.{PartReply}
-use Rattle.crack_core.specs.Asking.{InTurn, asking}
-use Rattle.crack_core.specs.declared.asking.Query.{Query}
-use Rattle.crack_core.specs.declared.asking.Query.TheVariants.{CountRows, SumPayloads, SelectRows}
-use Rattle.crack_session.specs.Queries.{reply_of, joined}
-use Rattle.crack_session.specs.Answers.{told}
+use Rattle.crack_core.specs.Asking.{InTurn, counted, summed}
+use Rattle.crack_session.specs.Answers.{answer_from}
 
 -- a call of a desk, and its outcome: a partition was asked a command by a policy, was told to make a checkpoint, or was asked for its layout
 pub data Call : Type 0 where
@@ -35,32 +33,32 @@ Calls {D} leads old (call ∷ calls) new = (between : D) × leads old call betwe
 
 -- one partition is asked, and the answer is the outcome
 abbrev pub IsOneAsked : MergePolicy → ℕ → Command → Answer → List Call → Type 0
-IsOneAsked policy part command answer calls = (outcome : Result Reply Refusal) × (calls ≡ Asked part command policy outcome ∷ []) × (answer ≡ told (Replied part) outcome)
+IsOneAsked policy part command answer calls = (outcome : Result Reply Refusal) × (calls ≡ Asked part command policy outcome ∷ []) × (answer ≡ answer_from (Replied part) outcome)
 
 -- several partitions are asked in turn, each once and for its part of a range: their replies, or the first refusal
-abbrev pub AreAskedInTurn : MergePolicy → Query → List (ℕ × Range) → Result (List PartReply) Refusal → List Call → Type 0
-AreAskedInTurn policy query parts outcome calls = InTurn (λ (part : ℕ × Range) (reply : Result Reply Refusal) (before after : List Call). after ≡ before ++ Asked part.0 (asking query part.1) policy reply ∷ []) reply_of [] parts outcome calls
+abbrev pub AreAskedInTurn : MergePolicy → (Range → Command) → List (ℕ × Range) → Result (List PartReply) Refusal → List Call → Type 0
+AreAskedInTurn policy question parts outcome calls = InTurn (λ (part : ℕ × Range) (reply : Result Reply Refusal) (before after : List Call). after ≡ before ++ Asked part.0 (question part.1) policy reply ∷ []) (λ (part : ℕ × Range) (reply : Reply). record { part = part.0; reply = reply }) [] parts outcome calls
 
 -- several partitions are asked in turn, and their replies are joined; or none of them, if no memory is found for their replies
-abbrev pub AreSeveralAsked : MergePolicy → Query → List (ℕ × Range) → Answer → List Call → Type 0
-AreSeveralAsked policy query parts answer calls = ((outcome : Result (List PartReply) Refusal) × AreAskedInTurn policy query parts outcome calls × (answer ≡ told (joined query) outcome)) ⊎ ((answer ≡ Refused OutOfMemory) × (calls ≡ []))
+abbrev pub AreSeveralAsked : MergePolicy → (Range → Command) → (List PartReply → Answer) → List (ℕ × Range) → Answer → List Call → Type 0
+AreSeveralAsked policy question join parts answer calls = ((outcome : Result (List PartReply) Refusal) × AreAskedInTurn policy question parts outcome calls × (answer ≡ answer_from join outcome)) ⊎ ((answer ≡ Refused OutOfMemory) × (calls ≡ []))
 
 -- these parts of a range are asked: a single one as for any command, or several in turn
-abbrev pub ArePartsAsked : MergePolicy → Query → List (ℕ × Range) → Answer → List Call → Type 0
-ArePartsAsked policy query (part ∷ []) answer calls = IsOneAsked policy part.0 (asking query part.1) answer calls
-ArePartsAsked policy query parts answer calls = AreSeveralAsked policy query parts answer calls
+abbrev pub ArePartsAsked : MergePolicy → (Range → Command) → (List PartReply → Answer) → List (ℕ × Range) → Answer → List Call → Type 0
+ArePartsAsked policy question join (part ∷ []) answer calls = IsOneAsked policy part.0 (question part.1) answer calls
+ArePartsAsked policy question join parts answer calls = AreSeveralAsked policy question join parts answer calls
 
 -- an answer to a statement is made of the outcomes of exactly these calls: of the partition that a row's key or its number determines, or of those that
--- hold a part of a range, by this policy
+-- hold a part of a range, by this policy; counts and sums of several partitions are added, and their rows are listed one partition after another
 abbrev pub IsMadeOf : List Bound → MergePolicy → Statement → Answer → List Call → Type 0
 IsMadeOf splits policy (Insert key payload) answer calls = IsOneAsked policy (route splits key.0) (AskInsert key payload) answer calls
 IsMadeOf splits policy (Delete row) answer calls = IsOneAsked policy row.part (AskDelete row.serial) answer calls
 IsMadeOf splits policy (Update row key payload) answer calls = IsOneAsked policy row.part (AskUpdate row.serial key payload) answer calls
-IsMadeOf splits policy (Count range) answer calls = ArePartsAsked policy CountRows (parts_of splits range) answer calls
-IsMadeOf splits policy (Sum range) answer calls = ArePartsAsked policy SumPayloads (parts_of splits range) answer calls
-IsMadeOf splits policy (Select range) answer calls = ArePartsAsked policy SelectRows (parts_of splits range) answer calls
-IsMadeOf splits policy (Layout part) answer calls = (outcome : Result PartLayout Refusal) × (calls ≡ Looked part outcome ∷ []) × (answer ≡ told (Laid part) outcome)
-IsMadeOf splits policy (Checkpoint part) answer calls = (outcome : Result ℕ Refusal) × (calls ≡ Checkpointed part outcome ∷ []) × (answer ≡ told Folded outcome)
+IsMadeOf splits policy (Count range) answer calls = ArePartsAsked policy (λ part. AskCount part) (λ replies. Counted (sum_by (λ (r : PartReply). counted r.reply) replies)) (parts_of splits range) answer calls
+IsMadeOf splits policy (Sum range) answer calls = ArePartsAsked policy (λ part. AskSum part) (λ replies. Summed (total_by (λ (r : PartReply). summed r.reply) replies)) (parts_of splits range) answer calls
+IsMadeOf splits policy (Select range) answer calls = ArePartsAsked policy (λ part. AskSelect part) (λ replies. Listed (sum_by (λ (r : PartReply). counted r.reply) replies) replies) (parts_of splits range) answer calls
+IsMadeOf splits policy (Layout part) answer calls = (outcome : Result PartLayout Refusal) × (calls ≡ Looked part outcome ∷ []) × (answer ≡ answer_from (Laid part) outcome)
+IsMadeOf splits policy (Checkpoint part) answer calls = (outcome : Result ℕ Refusal) × (calls ≡ Checkpointed part outcome ∷ []) × (answer ≡ answer_from Folded outcome)
 IsMadeOf splits policy (Policy other) answer calls = (answer ≡ Set other) × (calls ≡ [])
 IsMadeOf splits policy Quit answer calls = (answer ≡ Bye) × (calls ≡ [])
 

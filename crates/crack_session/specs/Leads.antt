@@ -1,21 +1,19 @@
 -- The effects of calls of a core and of a plain table.
-use Rattle.std.specs.Prelude.{◌≡◌, ℕ, [], ◌∷◌, List, OnOk, OnErr, slice_get}
+use Rattle.std.specs.Prelude.{◌≡◌, List, OnOk, OnErr, slice_get, if◌then◌else◌}
 use Rattle.crack_row.specs.declared.Bound.{Bound}
-use Rattle.crack_row.specs.declared.command.Command.{Command}
-use Rattle.crack_row.specs.declared.command.Policy.{Policy}
-use Rattle.crack_row.specs.declared.command.Reply.{Reply}
-use Rattle.crack_row.specs.declared.refusal.Refusal.{Refusal}
 use Rattle.crack_plain.specs.Plain.{PlainView, checkpointed}
 use Rattle.crack_part.specs.Parts.{Part, Serves, Spares}
 use Rattle.crack_core.specs.Cores.{CoreState}
 use Rattle.crack_core.specs.Routes.{keys_of_part}
-use Rattle.crack_core.specs.Steps.{Bounds, bounds_of, IsOutcomeAt, IsLayoutOutcome, IsFoldOutcome, tables_of, tables_after, changed_at}
+use Rattle.crack_core.specs.Steps.{Bounds, bounds_of, IsOutcome, IsLayoutOutcome, IsFoldOutcome, tables_of, table_after, changed_at}
 use Rattle.crack_core.specs.Jobs.{AtPart}
 use Rattle.crack_session.specs.Calls.{Call, Asked, Checkpointed, Looked}
 
 -- the outcome of a call of partitions whose rows are known, and their rows afterwards
 abbrev pub rows_lead : Bounds → List Bound → List PlainView → Call → List PlainView → Type 0
-rows_lead bounds splits old (Asked part command policy outcome) new = IsOutcomeAt bounds splits old part command outcome × (new ≡ tables_after bounds old part command outcome)
+rows_lead bounds splits old (Asked part command policy outcome) new =
+    IsOutcome bounds (keys_of_part splits part) (slice_get old part) command outcome
+    × (new ≡ changed_at (λ table. table_after (if bounds.due table then checkpointed table else table) command) old part outcome)
 rows_lead bounds splits old (Checkpointed part outcome) new = IsFoldOutcome (slice_get old part) outcome × (new ≡ changed_at checkpointed old part outcome)
 rows_lead bounds splits old (Looked part outcome) new = IsLayoutOutcome (keys_of_part splits part) (slice_get old part) outcome × (new ≡ old)
 

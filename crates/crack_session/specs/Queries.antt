@@ -1,18 +1,12 @@
 -- What several partitions reply together to a question about a range.
-use Rattle.std.specs.Prelude.{ℕ, List, sum_by}
-use Rattle.crack_row.specs.Ranges.{Range}
+use Rattle.std.specs.Prelude.{List, sum_by}
 use Rattle.crack_row.specs.Rows.{total_by}
-use Rattle.crack_row.specs.declared.command.Reply.{Reply}
 use Rattle.crack_core.specs.Asking.{counted, summed}
 use Rattle.crack_core.specs.declared.asking.Query.{Query}
 use Rattle.crack_core.specs.declared.asking.Query.TheVariants.{CountRows, SumPayloads, SelectRows}
 use Rattle.crack_session.specs.declared.answer.Answer.{Answer}
 use Rattle.crack_session.specs.declared.answer.Answer.TheVariants.{Counted, Summed, Listed}
 use Rattle.crack_session.specs.declared.query.PartReply.{PartReply}
-
--- the reply to a part of a range, with its partition
-abbrev pub reply_of : ℕ × Range → Reply → PartReply
-reply_of part reply = record { part = part.0; reply = reply }
 
 -- the joint reply of several partitions: counts and sums are added, and rows are listed one partition after another
 abbrev pub joined : Query → List PartReply → Answer

@@ -3,35 +3,30 @@ use Rattle.std.specs.Prelude.{◌≡◌, ℕ, ◌+◌, ◌<◌, List, [], ◌∷
 use Rattle.std.specs.List.{concat}
 use Rattle.crack_row.specs.declared.refusal.Refusal.TheVariants.{WriteFault}
 use Rattle.crack_commands.specs.Grammar.{Reading}
+use Rattle.crack_commands.specs.Texts.{AppendsFront}
 use Rattle.crack_session.specs.declared.answer.Answer.{Answer}
 use Rattle.crack_session.specs.declared.session.Fault.{Fault}
 use Rattle.crack_session.specs.Answers.{answer_text}
 use Rattle.crack_session.specs.Readings.{statements}
 use Rattle.crack_session.specs.Sessions.{first_short}
 
--- There is an answer to each of these statements, the answers are right, and their texts are written, each of them whole.
-pub record AreWritten (Are : List Reading → List Answer → Type 0) (readings : List Reading) (out : List ℕ) (short : Option ℕ) (written : Option (List ℕ)) : Type 0 where
+-- These statements have answers that are right, the first of them that is short is known, and their output is this.
+pub record HaveAnswers (Are : List Reading → List Answer → Type 0) (readings : List Reading) (short : Option ℕ) (IsOutput : List Answer → Type 0) : Type 0 where
   pub answers : List Answer
-  pub each : length answers ≡ length readings
   pub are : Are readings answers
   pub short_is : short ≡ first_short answers
-  pub written_is : written ≡ Some (out ++ concat (map answer_text answers))
+  pub output : IsOutput answers
 
--- If the writer failed in a text, there is one more answer than statements are done, and a prefix of its text follows the others.
-pub record IsLastCut (Are : List Reading → List Answer → Type 0) (bytes out : List ℕ) (fault : Fault) (written : Option (List ℕ)) : Type 0 where
-  pub refusal_is : fault.refusal ≡ WriteFault
-  pub one_more : fault.done < length (statements bytes)
-  pub answers : List Answer
-  pub last : Answer
-  pub each : length answers ≡ fault.done
-  pub are : Are (take (fault.done + 1) (statements bytes)) (answers ++ last ∷ [])
-  pub short_is : fault.first_short ≡ first_short (answers ++ last ∷ [])
-  pub count : ℕ
-  pub cut : count < length (answer_text last)
-  pub written_is : written ≡ Some (out ++ (concat (map answer_text answers) ++ take count (answer_text last)))
+-- the answers to these statements are right, and their texts are written, each of them whole
+abbrev pub AreWritten : (List Reading → List Answer → Type 0) → List Reading → List ℕ → Option ℕ → Option (List ℕ) → Type 0
+AreWritten Are readings out short written = HaveAnswers Are readings short (λ answers. written ≡ Some (out ++ concat (map answer_text answers)))
 
--- on a fault the statements that are done are answered, and their texts are followed by nothing or by a prefix of one more, whatever is known of the
--- rows
+-- the texts of these answers are written whole, except the last, of which a prefix is written
+abbrev pub AreCutInLast : List ℕ → Option (List ℕ) → List Answer → Type 0
+AreCutInLast out written answers = (whole : List Answer) × (last : Answer) × (answers ≡ whole ++ last ∷ []) × AppendsFront (Some (out ++ concat (map answer_text whole))) written (answer_text last)
+
+-- on a fault the statements that are done are answered, and their texts are followed by nothing or, if the writer failed, by a prefix of one more,
+-- whatever is known of the rows
 abbrev pub AreWrittenThen : (List Reading → List Answer → Type 0) → List ℕ → List ℕ → Fault → Option (List ℕ) → Type 0
 AreWrittenThen Are bytes out fault written = AreWritten Are (take fault.done (statements bytes)) out fault.first_short written
-    ⊎ IsLastCut Are bytes out fault written
+    ⊎ ((fault.refusal ≡ WriteFault) × (fault.done < length (statements bytes)) × HaveAnswers Are (take (fault.done + 1) (statements bytes)) fault.first_short (AreCutInLast out written))

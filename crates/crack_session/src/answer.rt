@@ -5,13 +5,15 @@ ghost use Rattle.std.specs.List.{flat_map};
 ghost use Rattle.crack_row.specs.declared.layout.Layout.{Layout};
 ghost use Rattle.crack_row.specs.declared.refusal.Refusal.{Refusal};
 ghost use Rattle.crack_plain.specs.Plain.{IsSmall};
+ghost use Rattle.crack_core.specs.Asking.{asking};
 ghost use Rattle.crack_core.specs.Routes.{route, parts_of};
 ghost use Rattle.crack_commands.specs.Texts.{Writes};
 ghost use Rattle.crack_session.specs.Telling.{list_text, lists_text, AsksSeveral, AsksDesk};
 ghost use Rattle.crack_session.specs.Answers.{IsAnswer, IsAnswerTo, IsAsked, AsksInTurn, AsksParts, IsLaidOut};
-ghost use Rattle.crack_session.specs.Answers.{IsFolded, is_short_answer, answer_text, told};
+ghost use Rattle.crack_session.specs.Answers.{IsFolded, is_short_answer, answer_text, answer_from};
 ghost use Rattle.crack_session.specs.Calls.{Checkpointed, Looked, IsOneAsked, AreAskedInTurn, AreSeveralAsked};
 ghost use Rattle.crack_session.specs.Calls.{ArePartsAsked, IsMadeOf, IsReadingMadeOf};
+ghost use Rattle.crack_session.specs.Queries.{joined};
 
 use crate::desk::Desk;
 use crate::query::{PartReply, ReplyList, joined};
@@ -141,7 +143,7 @@ fn answer_statement<D: Desk>(
 {
     let (part, command) = match statement {
         Statement::Insert { key, payload } => {
-            (part_of(desk, key), Command::Insert { key, payload })
+            (part_with_key(desk, key), Command::Insert { key, payload })
         }
         Statement::Delete(row) => {
             let serial = row.serial;
@@ -169,7 +171,7 @@ fn answer_statement<D: Desk>(
 
 /// The partition that holds a key.
 #[inline(always)]
-pub fn part_of<D: Desk>(desk: &D, key: Key) -> u32
+pub fn part_with_key<D: Desk>(desk: &D, key: Key) -> u32
     ensures { result ≡ route (D.splits desk.now) key.0 }
 {
     route(desk.splits(), key)
@@ -196,8 +198,8 @@ fn ask_range<D: Desk>(
     range: KeyRange,
 ) -> Answer
     ensures { AsksDesk D.bounds D.splits D.tables D.leads (λ bounds splits tables. AsksParts bounds splits tables query
-        (parts_of splits range) result) (λ splits calls. ArePartsAsked policy query (parts_of splits range) result
-        calls) desk.old desk.new }
+        (parts_of splits range) result) (λ splits calls. ArePartsAsked policy (λ range. asking query range)
+        (λ replies. joined query replies) (parts_of splits range) result calls) desk.old desk.new }
 {
     if let Some(part) = only_part(desk.splits(), range) {
         return ask_part(desk, policy, part, query.over(range));
@@ -218,8 +220,8 @@ fn ask_several<D: Desk>(
 ) -> Answer
     requires { length parts.now ≤ 64 }
     ensures { AsksDesk D.bounds D.splits D.tables D.leads (λ bounds splits tables. AsksSeveral bounds splits tables
-        query parts.now result) (λ splits calls. AreSeveralAsked policy query parts.now result calls)
-        desk.old desk.new }
+        query parts.now result) (λ splits calls. AreSeveralAsked policy (λ range. asking query range)
+        (λ replies. joined query replies) parts.now result calls) desk.old desk.new }
 {
     match Vec::with_capacity(alloc, parts.len()) {
         Ok(mut replies) => match ask_each(desk, policy, query, parts, &mut replies) {
@@ -242,8 +244,8 @@ fn ask_each<D: Desk>(
     requires none { replies.old.items ≡ [] }
     requires room { length parts.now ≤ vec_capacity replies.old }
     ensures asks { AsksDesk D.bounds D.splits D.tables D.leads (λ bounds splits tables. AsksInTurn bounds splits query
-        tables parts.now (result_and result (Ok replies.new.items))) (λ splits calls. AreAskedInTurn policy query
-        parts.now (result_and result (Ok replies.new.items)) calls) desk.old desk.new }
+        tables parts.now (result_and result (Ok replies.new.items))) (λ splits calls. AreAskedInTurn policy
+        (λ range. asking query range) parts.now (result_and result (Ok replies.new.items)) calls) desk.old desk.new }
     ensures small { All (λ (r : PartReply). IsSmall r.reply) replies.new.items }
     ensures few { length replies.new.items ≤ length parts.now }
 {
@@ -263,7 +265,7 @@ fn ask_each<D: Desk>(
 fn lay_out<D: Desk>(desk: &D, part: u32) -> Answer
     ensures { AsksDesk D.bounds D.splits D.tables D.leads (λ bounds splits tables new. IsLaidOut splits tables part
         result × (new ≡ tables)) (λ splits calls. (outcome : Result Layout Refusal) × (calls ≡ Looked part outcome ∷
-        []) × (result ≡ told (Answer.Laid part) outcome)) desk.now desk.now }
+        []) × (result ≡ answer_from (Answer.Laid part) outcome)) desk.now desk.now }
 {
     match desk.layout(part) {
         Ok(layout) => Answer::Laid { part, layout },
@@ -275,7 +277,7 @@ fn lay_out<D: Desk>(desk: &D, part: u32) -> Answer
 fn fold_part<D: Desk>(desk: &mut D, part: u32) -> Answer
     ensures { AsksDesk D.bounds D.splits D.tables D.leads (λ bounds splits tables. IsFolded tables part result)
         (λ splits calls. (outcome : Result ℕ Refusal) × (calls ≡ Checkpointed part outcome ∷ []) ×
-        (result ≡ told Answer.Folded outcome)) desk.old desk.new }
+        (result ≡ answer_from Answer.Folded outcome)) desk.old desk.new }
 {
     match desk.checkpoint(part) {
         Ok(count) => Answer::Folded(count),

@@ -24,7 +24,7 @@ impl Desk for Core {
 
     ghost splits = { λ c. c.splits };
 
-    ghost receipts = { λ c. accepted_by c.parts };
+    ghost accepted = { λ c. accepted_by c.parts };
 
     ghost leads = { λ c call d. core_leads c call d };
 
@@ -75,7 +75,7 @@ impl Desk for Core {
         Core::splits(self)
     }
 
-    fn receipts(&self) -> u64 {
-        self.accepted()
+    fn accepted(&self) -> u64 {
+        Core::accepted(self)
     }
 }

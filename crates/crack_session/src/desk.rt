@@ -26,7 +26,7 @@ pub trait Desk {
     ghost splits: { Self → List Bound };
 
     /// How many commands were accepted through this desk.
-    ghost receipts: { Self → ℕ };
+    ghost accepted: { Self → ℕ };
 
     /// The effect of a call with this outcome, from one state to another.
     ghost leads: { Self → Call → Self → Type 0 };
@@ -47,7 +47,7 @@ pub trait Desk {
         ensures small { IfOk result IsSmall }
         ensures splits { splits self.new ≡ splits self.old }
         ensures bounds { bounds self.new ≡ bounds self.old }
-        ensures receipts { receipts self.new ≡ (if is_ok result then receipts self.old + 1 else receipts self.old) }
+        ensures accepted { accepted self.new ≡ (if is_ok result then accepted self.old + 1 else accepted self.old) }
         // The partition is asked this command by this policy, once, and this is the outcome.
         ensures leads { leads self.old (Asked part command policy result) self.new };
 
@@ -63,7 +63,7 @@ pub trait Desk {
 
         ensures splits { splits self.new ≡ splits self.old }
         ensures bounds { bounds self.new ≡ bounds self.old }
-        ensures receipts { receipts self.new ≡ receipts self.old }
+        ensures accepted { accepted self.new ≡ accepted self.old }
         ensures leads { leads self.old (Checkpointed part result) self.new };
 
     /// The layout of one partition. It cracks and merges nothing, and isn't kept. Refused with 5 if there is
@@ -85,6 +85,6 @@ pub trait Desk {
             All (λ (table : PlainView). IsNumbered table.state) known };
 
     /// How many commands were accepted through this desk.
-    fn receipts(&self) -> u64
-        ensures { result ≡ receipts self.now };
+    fn accepted(&self) -> u64
+        ensures { result ≡ accepted self.now };
 }

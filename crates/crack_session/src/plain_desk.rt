@@ -16,7 +16,7 @@ impl Desk for PlainTable {
 
     ghost splits = { λ t. [] };
 
-    ghost receipts = { λ t. accepted_of t };
+    ghost accepted = { λ t. accepted_of t };
 
     ghost leads = { λ t call u. rows_lead plain_bounds [] (t ∷ []) call (u ∷ []) };
 
@@ -26,7 +26,7 @@ impl Desk for PlainTable {
         }
         // A count is at most the number of rows, which is at most the number of accepted commands.
         let _rows = self.rows();
-        let _accepted = self.accepted();
+        let _accepted = PlainTable::accepted(self);
         self.apply(&command)
     }
 
@@ -50,7 +50,7 @@ impl Desk for PlainTable {
         &[]
     }
 
-    fn receipts(&self) -> u64 {
-        self.accepted()
+    fn accepted(&self) -> u64 {
+        PlainTable::accepted(self)
     }
 }

@@ -11,7 +11,7 @@ ghost use Rattle.crack_session.specs.Calls.{policy_after, AreAnswersOf};
 ghost use Rattle.crack_session.specs.Telling.{Responds, Tells, marked};
 ghost use Rattle.crack_session.specs.Written.{AreWritten, AreWrittenThen};
 
-use crate::answer::{Answer, answer_reading, part_of};
+use crate::answer::{Answer, answer_reading, part_with_key};
 use crate::desk::Desk;
 use crate::input::{LineReader, next_line};
 use crate::line::says_quit;
@@ -167,7 +167,7 @@ fn respond_to_insert<D: Desk, W: Write>(
     ensures { Responds D.bounds D.splits D.tables D.leads W.contents (Ok (Statement.Insert key payload)) progress.old
         progress.new result desk.old desk.new writer.old writer.new }
 {
-    let part = part_of(desk, key);
+    let part = part_with_key(desk, key);
     match desk.ask(part, Command::Insert { key, payload }, progress.policy) {
         Ok(reply) => tell_reply(part, &reply, progress, writer),
         Err(refusal) => tell_refusal(refusal, progress, writer),
@@ -267,7 +267,7 @@ pub fn serve<D: Desk, R: Read, W: Write>(
     writer: &mut Watched<W>,
 ) -> Result<End, Fault>
     // However the session went, its statements are counted and its end is returned.
-    ensures counted { IfOk result (λ end. (bytes : List ℕ) → R.remaining (device reader.old) ≡ Some bytes →
+    ensures ends { IfOk result (λ end. (bytes : List ℕ) → R.remaining (device reader.old) ≡ Some bytes →
         CountsStatements bytes end) }
     // The answers, the output, and the desk afterwards.
     ensures served { IfOk result (λ end. (bytes out : List ℕ) (tables : List PlainView) →

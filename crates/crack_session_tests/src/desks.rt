@@ -37,7 +37,7 @@ impl Desk for Starved {
 
     ghost splits = { λ d. [] };
 
-    ghost receipts = { λ d. accepted_of d.table };
+    ghost accepted = { λ d. accepted_of d.table };
 
     ghost leads = { λ d call e. Unit {0} };
 
@@ -61,8 +61,8 @@ impl Desk for Starved {
         &[]
     }
 
-    fn receipts(&self) -> u64 {
-        self.table.receipts()
+    fn accepted(&self) -> u64 {
+        self.table.accepted()
     }
 }
 
@@ -82,7 +82,7 @@ impl Desk for Refusing {
 
     ghost splits = { λ d. [] };
 
-    ghost receipts = { λ d. 0 };
+    ghost accepted = { λ d. 0 };
 
     ghost leads = { λ d call e. Unit {0} };
 
@@ -102,7 +102,7 @@ impl Desk for Refusing {
         &[]
     }
 
-    fn receipts(&self) -> u64 {
+    fn accepted(&self) -> u64 {
         0
     }
 }

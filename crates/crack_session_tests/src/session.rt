@@ -384,7 +384,7 @@ fn ask_it<D: Desk>(rt: &impl Abort, desk: &mut D) {
     assert!(rt; matches!(ask(desk, 0, Command::Count(range)), Ok(Reply::Counted(1))));
     let elsewhere = ask(desk, 1, insert);
     assert!(rt; matches!(elsewhere, Err(Refusal::NoSuchPartition)));
-    assert!(rt; desk.receipts() == 2 && desk.splits().is_empty());
+    assert!(rt; desk.accepted() == 2 && desk.splits().is_empty());
 }
 
 #[test]

@@ -14,8 +14,8 @@ use Rattle.std.specs.Prelude.{nat_lt, ◌-◌}
 use Rattle.crack_row.specs.declared.command.Entry.{Entry}
 use Rattle.crack_core.specs.declared.receipt.Receipt.{Receipt}
 use Rattle.crack_core.specs.Receipts.{entry_of}
-use Rattle.crack_table.specs.declared.marks.Naming.{Naming}
-use Rattle.crack_table.specs.declared.marks.Naming.TheVariants.{Unnamed, Met, Failed}
+use Rattle.crack_table.specs.declared.marks.PlaceState.{PlaceState}
+use Rattle.crack_table.specs.declared.marks.PlaceState.TheVariants.{Unnamed, Met, Failed}
 use Rattle.crack_table.specs.Cover.{KeptState, place_at, first_stranger}
 use Rattle.crack_table.specs.Marks.{Place, IsRight, place_in, names}
 use Rattle.crack_table.specs.Marks.{at, named_place, mark_after, IsSole, MarkIs, MarkIsAt, Marked}
@@ -37,7 +37,7 @@ not_right place r right sole =
     let w : false ≡ true = right.1 (subst P same sole.2) in
     absurd (cc)
 
-pub mark_more : (m : Naming) (place : Place) (named : List Receipt) (r : Receipt) (b : Bool) → Decides b (IsRight place (entry_of r)) → MarkIs m place named → MarkIs (mark_after m b) place (named ++ r ∷ [])
+pub mark_more : (m : PlaceState) (place : Place) (named : List Receipt) (r : Receipt) (b : Bool) → Decides b (IsRight place (entry_of r)) → MarkIs m place named → MarkIs (mark_after m b) place (named ++ r ∷ [])
 mark_more Unnamed place named r true right is = (r, rw is refl, right.0 refl)
 mark_more Unnamed place named r false right is = (no_nil r named, rw is (not_right place r right))
 mark_more Met place [] r b right is = absurd (let e : [] ≡ is.0 ∷ [] = is.1 in cc)
@@ -60,7 +60,7 @@ filter_same p n done r same = filter-append (names p n) done (r ∷ []) ∙ rw s
 itself : (r : Receipt) → names r.part r.position r ≡ true
 itself r = grind (arith, nat_tests)
 
-noted_here : (kept : List KeptState) (ms : List (List Naming)) (done : List Receipt) (r : Receipt) (e : Place) (row : List Naming) (m : Naming) (b : Bool)
+noted_here : (kept : List KeptState) (ms : List (List PlaceState)) (done : List Receipt) (r : Receipt) (e : Place) (row : List PlaceState) (m : PlaceState) (b : Bool)
     → place_in kept r.part r.position ≡ Some e → slice_get ms r.part ≡ Some row → slice_get row r.position ≡ Some m → Decides b (IsRight e (entry_of r))
     → Marked kept ms done
     → MarkIsAt (place_in kept r.part r.position) (at (set ms r.part (set row r.position (mark_after m b))) r.part r.position) (filter (names r.part r.position) (done ++ r ∷ []))
@@ -68,7 +68,7 @@ noted_here kept ms done r e row m b e_is row_is m_is same marked =
     let was : MarkIs m e (filter (names r.part r.position) done) = rw (e_is, row_is, m_is) at (marked r.part r.position) in
     rw (e_is, at_set_same ms r.part r.position row m (mark_after m b) row_is m_is, filter_same r.part r.position done r (itself r)) (mark_more m e (filter (names r.part r.position) done) r b same was)
 
-noted_at : (kept : List KeptState) (ms : List (List Naming)) (done : List Receipt) (r : Receipt) (e : Place) (row : List Naming) (m : Naming) (b : Bool)
+noted_at : (kept : List KeptState) (ms : List (List PlaceState)) (done : List Receipt) (r : Receipt) (e : Place) (row : List PlaceState) (m : PlaceState) (b : Bool)
     → place_in kept r.part r.position ≡ Some e → slice_get ms r.part ≡ Some row → slice_get row r.position ≡ Some m → Decides b (IsRight e (entry_of r))
     → Marked kept ms done → (p n : ℕ) (t : Bool) → names p n r ≡ t
     → MarkIsAt (place_in kept p n) (at (set ms r.part (set row r.position (mark_after m b))) p n) (filter (names p n) (done ++ r ∷ []))
@@ -82,27 +82,27 @@ noted_at kept ms done r e row m b e_is row_is m_is same marked p n false other =
     rw (at_set_other ms r.part r.position p n row (mark_after m b) row_is other, filter_other p n done r other) (marked p n)
 
 -- if there is an entry there is a mark
-mark_there : (e : Place) (o : Option Naming) (rs : List Receipt) → MarkIsAt (Some e) o rs → (m : Naming) × (o ≡ Some m)
+mark_there : (e : Place) (o : Option PlaceState) (rs : List Receipt) → MarkIsAt (Some e) o rs → (m : PlaceState) × (o ≡ Some m)
 mark_there e None rs h = absurd h
 mark_there e (Some m) rs h = (m, refl)
 
-pub marked_some : (kept : List KeptState) (ms : List (List Naming)) (done : List Receipt) (p n : ℕ) (e : Place) → Marked kept ms done → place_in kept p n ≡ Some e → (m : Naming) × (at ms p n ≡ Some m)
+pub marked_some : (kept : List KeptState) (ms : List (List PlaceState)) (done : List Receipt) (p n : ℕ) (e : Place) → Marked kept ms done → place_in kept p n ≡ Some e → (m : PlaceState) × (at ms p n ≡ Some m)
 marked_some kept ms done p n e marked is = mark_there e (at ms p n) _ (rw is at (marked p n))
 
 -- one more receipt, whose entry is or isn't that of its place
-pub noted : (kept : List KeptState) (ms : List (List Naming)) (done : List Receipt) (r : Receipt) (e : Place) (row after : List Naming) (b : Bool)
-    → place_in kept r.part r.position ≡ Some e → slice_get ms r.part ≡ Some row → ((m : Naming) → slice_get row r.position ≡ Some m → after ≡ set row r.position (mark_after m b)) → Decides b (IsRight e (entry_of r))
+pub noted : (kept : List KeptState) (ms : List (List PlaceState)) (done : List Receipt) (r : Receipt) (e : Place) (row after : List PlaceState) (b : Bool)
+    → place_in kept r.part r.position ≡ Some e → slice_get ms r.part ≡ Some row → ((m : PlaceState) → slice_get row r.position ≡ Some m → after ≡ set row r.position (mark_after m b)) → Decides b (IsRight e (entry_of r))
     → Marked kept ms done → Marked kept (set ms r.part after) (done ++ r ∷ [])
 noted kept ms done r e row after b e_is row_is after_is same marked p n =
     let there = marked_some kept ms done r.part r.position e marked e_is in
     let m_is : slice_get row r.position ≡ Some there.0 = rw row_is at there.1 in
     rw (after_is there.0 m_is) (noted_at kept ms done r e row there.0 b e_is row_is m_is same marked p n (names p n r) refl)
 
-none_still : (o : Option Naming) (rs ss : List Receipt) → MarkIsAt None o rs → MarkIsAt None o ss
+none_still : (o : Option PlaceState) (rs ss : List Receipt) → MarkIsAt None o rs → MarkIsAt None o ss
 none_still None rs ss h = tt
 none_still (Some m) rs ss h = absurd h
 
-unnoted_at : (kept : List KeptState) (ms : List (List Naming)) (done : List Receipt) (r : Receipt)
+unnoted_at : (kept : List KeptState) (ms : List (List PlaceState)) (done : List Receipt) (r : Receipt)
     → place_in kept r.part r.position ≡ None → Marked kept ms done → (p n : ℕ) (t : Bool) → names p n r ≡ t
     → MarkIsAt (place_in kept p n) (at ms p n) (filter (names p n) (done ++ r ∷ []))
 unnoted_at kept ms done r none marked p n true named =
@@ -112,27 +112,27 @@ unnoted_at kept ms done r none marked p n true named =
     rw none_there (none_still (at ms p n) _ (filter (names p n) (done ++ r ∷ [])) (rw none_there at (marked p n)))
 unnoted_at kept ms done r none marked p n false other = rw (filter_other p n done r other) (marked p n)
 
-pub unnoted : (kept : List KeptState) (ms : List (List Naming)) (done : List Receipt) (r : Receipt)
+pub unnoted : (kept : List KeptState) (ms : List (List PlaceState)) (done : List Receipt) (r : Receipt)
     → place_in kept r.part r.position ≡ None → Marked kept ms done → Marked kept ms (done ++ r ∷ [])
 unnoted kept ms done r none marked p n = unnoted_at kept ms done r none marked p n (names p n r) refl
 
-pub within_rows : (kept : List KeptState) (ms : List (List Naming)) (done : List Receipt) (p n : ℕ) (e : Place) → Marked kept ms done → place_in kept p n ≡ Some e → p < length ms
+pub within_rows : (kept : List KeptState) (ms : List (List PlaceState)) (done : List Receipt) (p n : ℕ) (e : Place) → Marked kept ms done → place_in kept p n ≡ Some e → p < length ms
 within_rows kept ms done p n e marked is =
     let h = marked_some kept ms done p n e marked is in
     let row = row_of (slice_get ms p) n h.0 h.1 in
     slice_get_within ms p row.0 row.1
 
-pub within_row : (kept : List KeptState) (ms : List (List Naming)) (done : List Receipt) (p n : ℕ) (e : Place) → Marked kept ms done → place_in kept p n ≡ Some e → (row : List Naming) → slice_get ms p ≡ Some row → n < length row
+pub within_row : (kept : List KeptState) (ms : List (List PlaceState)) (done : List Receipt) (p n : ℕ) (e : Place) → Marked kept ms done → place_in kept p n ≡ Some e → (row : List PlaceState) → slice_get ms p ≡ Some row → n < length row
 within_row kept ms done p n e marked is row row_is =
     let h = marked_some kept ms done p n e marked is in
     let found = row_of (slice_get ms p) n h.0 h.1 in
     let same : row ≡ found.0 = cc in
     rw same (slice_get_within found.0 n h.0 found.2)
 
-pub row_read : (kept : List KeptState) (ms : List (List Naming)) (done : List Receipt) (p n : ℕ) (e : Place) (row : List Naming) → Marked kept ms done → place_in kept p n ≡ Some e → row ≡ get_or ms p row → slice_get ms p ≡ Some row
+pub row_read : (kept : List KeptState) (ms : List (List PlaceState)) (done : List Receipt) (p n : ℕ) (e : Place) (row : List PlaceState) → Marked kept ms done → place_in kept p n ≡ Some e → row ≡ get_or ms p row → slice_get ms p ≡ Some row
 row_read kept ms done p n e row marked is read = slice_get_read ms (length ms) p row refl (within_rows kept ms done p n e marked is) read
 
-pub within_read : (kept : List KeptState) (ms : List (List Naming)) (done : List Receipt) (p n : ℕ) (e : Place) (row : List Naming) → Marked kept ms done → place_in kept p n ≡ Some e → row ≡ get_or ms p row → n < length row
+pub within_read : (kept : List KeptState) (ms : List (List PlaceState)) (done : List Receipt) (p n : ℕ) (e : Place) (row : List PlaceState) → Marked kept ms done → place_in kept p n ≡ Some e → row ≡ get_or ms p row → n < length row
 within_read kept ms done p n e row marked is read = within_row kept ms done p n e marked is row (row_read kept ms done p n e row marked is read)
 
 pub take_read : {X : Type 0} (done xs : List X) (i : ℕ) (x : X) → i < length xs → x ≡ get_or xs i x → done ++ take (i + 1) xs ≡ (done ++ take i xs) ++ x ∷ []

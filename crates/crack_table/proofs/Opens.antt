@@ -3,14 +3,14 @@ use Rattle.std.proofs.Common.{◌≡◌, ◌≢◌, ◌<◌, ◌≤◌, ℕ, Lis
 use Rattle.std.specs.Prelude.{All, is_some, nat_lt, filter, MatchOption}
 use Rattle.std.specs.List.{slice_get}
 use Rattle.std.proofs.lemmas.Bool.Decides.{nat_tests}
-use Rattle.std.proofs.lemmas.Option.{slice_get_within, slice_get_read}
+use Rattle.std.proofs.lemmas.Option.{slice_get_read}
 use Rattle.std.proofs.lemmas.List.{take_more, length-map, length-take, map-append}
 use Rattle.std.proofs.lemmas.List.Elements.{All-head, All-tail}
 use Rattle.crack_core.specs.declared.receipt.Receipt.{Receipt}
 use Rattle.crack_table.specs.declared.kept.Kept.{Kept}
 use Rattle.crack_table.specs.declared.kinds.KindsLeft.{KindsLeft}
-use Rattle.crack_table.specs.declared.marks.Naming.{Naming}
-use Rattle.crack_table.specs.declared.marks.Naming.TheVariants.{Unnamed, Met, Failed}
+use Rattle.crack_table.specs.declared.marks.PlaceState.{PlaceState}
+use Rattle.crack_table.specs.declared.marks.PlaceState.TheVariants.{Unnamed, Met, Failed}
 use Rattle.crack_table.specs.Cover.{KeptState, told, IsKept, place_at, IsMetBy, IsCounted, IsSettled, SettledBelow, MetBelow, IsGap}
 use Rattle.crack_table.specs.Marks.{Place, names}
 use Rattle.crack_table.specs.Marks.{IsSole, MarkIs, MarkIsAt, Marked, IsOpenIn, is_below, RowNoted, AreNoted}
@@ -24,7 +24,7 @@ blank_at None (suc count) zero there = absurd (let f : nat_lt 0 (suc count) ≡ 
 blank_at (Some place) (suc count) zero there = refl
 blank_at o (suc count) (suc n) there = let f : nat_lt (suc n) (suc count) ≡ nat_lt n count = grind (arith, nat_tests) in blank_at o count n (there ∙ f)
 
-pub blank_more : (kept : List KeptState) (ms : List (List Naming)) (k : KeptState) → length kept ≡ length ms → Marked kept ms [] → Marked (kept ++ k ∷ []) (ms ++ replicate (k.folded + length k.tail) Unnamed ∷ []) []
+pub blank_more : (kept : List KeptState) (ms : List (List PlaceState)) (k : KeptState) → length kept ≡ length ms → Marked kept ms [] → Marked (kept ++ k ∷ []) (ms ++ replicate (k.folded + length k.tail) Unnamed ∷ []) []
 blank_more [] [] k long marked zero n = blank_at (place_at k n) (k.folded + length k.tail) n (places k n)
 blank_more [] [] k long marked (suc p) n = tt
 blank_more [] (y ∷ ys) k long marked p n = absurd (cc)
@@ -32,27 +32,27 @@ blank_more (x ∷ xs) [] k long marked p n = absurd (cc)
 blank_more (x ∷ xs) (y ∷ ys) k long marked zero n = marked zero n
 blank_more (x ∷ xs) (y ∷ ys) k long marked (suc p) n = blank_more xs ys k (cc) (λ q m. marked (suc q) m) p n
 
-pub blank_read : (ks : List Kept) (ms : List (List Naming)) (i : ℕ) (k : Kept) → i < length ks → length ms ≡ i → k ≡ get_or ks i k → Marked (map told (take i ks)) ms [] → Marked (map told (take (i + 1) ks)) (ms ++ replicate (k.folded + length k.tail.now) Unnamed ∷ []) []
+pub blank_read : (ks : List Kept) (ms : List (List PlaceState)) (i : ℕ) (k : Kept) → i < length ks → length ms ≡ i → k ≡ get_or ks i k → Marked (map told (take i ks)) ms [] → Marked (map told (take (i + 1) ks)) (ms ++ replicate (k.folded + length k.tail.now) Unnamed ∷ []) []
 blank_read ks ms i k lt long read marked =
     let l : length (map told (take i ks)) ≡ length ms = simp (length-map, length-take) (omega arith) in
     rw (take_more ks i k lt, ← read, map-append) (blank_more (map told (take i ks)) ms (told k) l marked)
 
 -- a place whose mark is Met
-met_at : (place : Place) (o : Option Naming) (named : List Receipt) → MarkIsAt (Some place) o named → ((k : Naming) → o ≡ Some k → k ≡ Met) → IsSole place named
+met_at : (place : Place) (o : Option PlaceState) (named : List Receipt) → MarkIsAt (Some place) o named → ((k : PlaceState) → o ≡ Some k → k ≡ Met) → IsSole place named
 met_at place None named is all = absurd is
-met_at place (Some m) named is all = let P : Naming → Type 0 = λ k. MarkIs k place named in subst P (all m refl) is
+met_at place (Some m) named is all = let P : PlaceState → Type 0 = λ k. MarkIs k place named in subst P (all m refl) is
 
-met_there : (kept : KeptState) (row : List Naming) (left : KindsLeft) (p : ℕ) (rs : List Receipt) → RowNoted kept row left p rs → (n : ℕ) (place : Place) → ((k : Naming) → slice_get row n ≡ Some k → k ≡ Met) → place_at kept n ≡ Some place → IsMetBy rs p n place
+met_there : (kept : KeptState) (row : List PlaceState) (left : KindsLeft) (p : ℕ) (rs : List Receipt) → RowNoted kept row left p rs → (n : ℕ) (place : Place) → ((k : PlaceState) → slice_get row n ≡ Some k → k ≡ Met) → place_at kept n ≡ Some place → IsMetBy rs p n place
 met_there kept row left p rs noted n place met is = met_at place (slice_get row n) (filter (names p n) rs) (rw is at (noted.marked n)) met
 
 -- a mark that isn't
-unmet_at : (o : Option Place) (m : Naming) (named : List Receipt) → MarkIsAt o (Some m) named → m ≢ Met → (place : Place) × (o ≡ Some place) × (¬ IsSole place named)
+unmet_at : (o : Option Place) (m : PlaceState) (named : List Receipt) → MarkIsAt o (Some m) named → m ≢ Met → (place : Place) × (o ≡ Some place) × (¬ IsSole place named)
 unmet_at None m named is ne = absurd is
 unmet_at (Some place) Unnamed named is ne = (place, refl, λ sole. let e : [] ≡ sole.0 ∷ [] = sym is ∙ sole.1 in cc)
 unmet_at (Some place) Met named is ne = absurd (ne refl)
 unmet_at (Some place) Failed named is ne = (place, refl, is.1)
 
-pub settled : (kept : KeptState) (row : List Naming) (left : KindsLeft) (first : Option ℕ) → MatchOption first ((n : ℕ) (m : Naming) → slice_get row n ≡ Some m → m ≡ Met) (IsOpenIn row) → first ≡ None → (left.placed ≡ Some 0) × (left.gone ≡ Some 0) → (p : ℕ) (rs : List Receipt) → RowNoted kept row left p rs → IsSettled rs p kept
+pub settled : (kept : KeptState) (row : List PlaceState) (left : KindsLeft) (first : Option ℕ) → MatchOption first ((n : ℕ) (m : PlaceState) → slice_get row n ≡ Some m → m ≡ Met) (IsOpenIn row) → first ≡ None → (left.placed ≡ Some 0) × (left.gone ≡ Some 0) → (p : ℕ) (rs : List Receipt) → RowNoted kept row left p rs → IsSettled rs p kept
 settled kept row left None met is none p rs noted = record {
   met = λ n place there. met_there kept row left p rs noted n place (met n) there;
   counted = counted_now left rs p kept noted.counted none;
@@ -63,22 +63,22 @@ settled kept row left (Some n) met is none p rs noted = cc
 abbrev IsLeastUnmet : List Receipt → ℕ → KeptState → ℕ → Type 0
 IsLeastUnmet receipts part kept position = (place : Place) × (place_at kept position ≡ Some place) × (¬ IsMetBy receipts part position place) × MetBelow receipts part kept position × (kept.folded ≤ position → IsCounted receipts part kept)
 
-least_unmet : (kept : KeptState) (row : List Naming) (left : KindsLeft) (p : ℕ) (rs : List Receipt) (n : ℕ) → RowNoted kept row left p rs → IsOpenIn row n → (kept.folded ≤ n → IsCounted rs p kept) → IsLeastUnmet rs p kept n
+least_unmet : (kept : KeptState) (row : List PlaceState) (left : KindsLeft) (p : ℕ) (rs : List Receipt) (n : ℕ) → RowNoted kept row left p rs → IsOpenIn row n → (kept.folded ≤ n → IsCounted rs p kept) → IsLeastUnmet rs p kept n
 least_unmet kept row left p rs n noted first counted =
     let there = unmet_at (place_at kept n) first.0 (filter (names p n) rs) (rw first.1 at (noted.marked n)) first.2 in
     (there.0, there.1, there.2, λ m place lt is. met_there kept row left p rs noted m place (λ k k_is. first.3 m k lt k_is) is, counted)
 
 -- the gap is a first place, which is checkpointed, or where all checkpointed ones are counted
-pub open_gap : (kept : KeptState) (row : List Naming) (left : KindsLeft) (n : ℕ) → IsOpenIn row n → (nat_lt n kept.folded ≡ false → (left.placed ≡ Some 0) × (left.gone ≡ Some 0)) → (p : ℕ) (rs : List Receipt) → RowNoted kept row left p rs → IsGap rs p kept n
+pub open_gap : (kept : KeptState) (row : List PlaceState) (left : KindsLeft) (n : ℕ) → IsOpenIn row n → (nat_lt n kept.folded ≡ false → (left.placed ≡ Some 0) × (left.gone ≡ Some 0)) → (p : ℕ) (rs : List Receipt) → RowNoted kept row left p rs → IsGap rs p kept n
 open_gap kept row left n first none p rs noted =
     inl (least_unmet kept row left p rs n noted first (λ above. let f : nat_lt n kept.folded ≡ false = grind (arith, nat_tests, above) in counted_now left rs p kept noted.counted (none f)))
 
-met_up_to : (row : List Naming) (first : Option ℕ) (bound : ℕ) → MatchOption first ((n : ℕ) (m : Naming) → slice_get row n ≡ Some m → m ≡ Met) (IsOpenIn row) → is_below first bound ≡ false → (n : ℕ) (k : Naming) → n < bound → slice_get row n ≡ Some k → k ≡ Met
+met_up_to : (row : List PlaceState) (first : Option ℕ) (bound : ℕ) → MatchOption first ((n : ℕ) (m : PlaceState) → slice_get row n ≡ Some m → m ≡ Met) (IsOpenIn row) → is_below first bound ≡ false → (n : ℕ) (k : PlaceState) → n < bound → slice_get row n ≡ Some k → k ≡ Met
 met_up_to row None bound met not_below n k lt is = met n k is
 met_up_to row (Some i) bound first not_below n k lt is = let l : n < i = grind (arith, nat_tests, lt, not_below) in first.3 n k l is
 
 -- something is checkpointed if it isn't counted
-pub some_folded : (kept : KeptState) (row : List Naming) (left : KindsLeft) (p : ℕ) (rs : List Receipt) → IsKept kept → RowNoted kept row left p rs → ¬ ((left.placed ≡ Some 0) × (left.gone ≡ Some 0)) → 0 < kept.folded
+pub some_folded : (kept : KeptState) (row : List PlaceState) (left : KindsLeft) (p : ℕ) (rs : List Receipt) → IsKept kept → RowNoted kept row left p rs → ¬ ((left.placed ≡ Some 0) × (left.gone ≡ Some 0)) → 0 < kept.folded
 some_folded kept row left p rs few noted not_none = by kept.folded refl
   where
     by : (n : ℕ) → kept.folded ≡ n → 0 < kept.folded
@@ -86,19 +86,19 @@ some_folded kept row left p rs few noted not_none = by kept.folded refl
     by (suc n) is = omega (arith, is)
 
 -- the gap is the last checkpointed place, where all of these are met and not counted
-pub miscount_gap : (kept : KeptState) (row : List Naming) (left : KindsLeft) (first : Option ℕ) (n : ℕ) → MatchOption first ((n : ℕ) (m : Naming) → slice_get row n ≡ Some m → m ≡ Met) (IsOpenIn row) → is_below first kept.folded ≡ false → ¬ ((left.placed ≡ Some 0) × (left.gone ≡ Some 0)) → n + 1 ≡ kept.folded → (p : ℕ) (rs : List Receipt) → RowNoted kept row left p rs → IsGap rs p kept n
+pub miscount_gap : (kept : KeptState) (row : List PlaceState) (left : KindsLeft) (first : Option ℕ) (n : ℕ) → MatchOption first ((n : ℕ) (m : PlaceState) → slice_get row n ≡ Some m → m ≡ Met) (IsOpenIn row) → is_below first kept.folded ≡ false → ¬ ((left.placed ≡ Some 0) × (left.gone ≡ Some 0)) → n + 1 ≡ kept.folded → (p : ℕ) (rs : List Receipt) → RowNoted kept row left p rs → IsGap rs p kept n
 miscount_gap kept row left first n met not_below not_none last p rs noted =
     inr (last, λ counted. not_none (counted_all left rs p kept noted.counted counted), λ m place lt is. met_there kept row left p rs noted m place (λ k k_is. met_up_to row first kept.folded met not_below m k lt k_is) is)
 
 -- a partition's row among all
-pub row_noted : (kept : List KeptState) (ms : List (List Naming)) (kinds : List KindsLeft) (rs : List Receipt) (p : ℕ) (k : KeptState) (row : List Naming) (left : KindsLeft) → slice_get kept p ≡ Some k → slice_get ms p ≡ Some row → slice_get kinds p ≡ Some left → AreNoted kept ms kinds rs → RowNoted k row left p rs
+pub row_noted : (kept : List KeptState) (ms : List (List PlaceState)) (kinds : List KindsLeft) (rs : List Receipt) (p : ℕ) (k : KeptState) (row : List PlaceState) (left : KindsLeft) → slice_get kept p ≡ Some k → slice_get ms p ≡ Some row → slice_get kinds p ≡ Some left → AreNoted kept ms kinds rs → RowNoted k row left p rs
 row_noted kept ms kinds rs p k row left k_is row_is left_is noted = record {
   marked = λ n. rw (k_is, row_is) at (noted.marked p n);
   counted = noted.counted p k left k_is left_is;
 }
 
 -- the same for the values that were read
-pub row_read : (ks : List Kept) (ms : List (List Naming)) (kinds : List KindsLeft) (rs : List Receipt) (p : ℕ) (k : Kept) (row : List Naming) (left : KindsLeft) → p < length ks → k ≡ get_or ks p k → row ≡ get_or ms p row → left ≡ get_or kinds p left → AreNoted (map told ks) ms kinds rs → RowNoted (told k) row left p rs
+pub row_read : (ks : List Kept) (ms : List (List PlaceState)) (kinds : List KindsLeft) (rs : List Receipt) (p : ℕ) (k : Kept) (row : List PlaceState) (left : KindsLeft) → p < length ks → k ≡ get_or ks p k → row ≡ get_or ms p row → left ≡ get_or kinds p left → AreNoted (map told ks) ms kinds rs → RowNoted (told k) row left p rs
 row_read ks ms kinds rs p k row left lt k_is row_is left_is noted =
     let long : length (map told ks) ≡ length ks = simp length-map refl in
     let a : p < length ms = omega (arith, noted.rows, long, lt) in

@@ -1,6 +1,6 @@
 -- What private clauses alone cite.
 -- The invariant of a table, and the outcome of asking a partition for a worker.
-use Rattle.std.specs.Prelude.{◌≡◌, ℕ, ◌+◌, ◌≤◌, List, [], ◌∷◌, ◌++◌, length, None, Result, Err, IfOk, IfErr, IfSome, OnOk, OnErr}
+use Rattle.std.specs.Prelude.{◌≡◌, ℕ, ◌+◌, ◌≤◌, List, [], ◌∷◌, ◌++◌, length, None, Some, Result, Err, IfOk, IfErr, IfSome, OnOk, OnErr, slice_get}
 use Rattle.crack_row.specs.Limits.{AreLimits}
 use Rattle.crack_row.specs.declared.Bound.{Bound}
 use Rattle.crack_row.specs.declared.command.Command.{Command}
@@ -39,3 +39,7 @@ pub record AsksFor (part : ℕ) (command : Command) (policy : Policy) (answered 
   pub spared : OnErr answered (Spares policy old command new.store)
   pub refused : IfSome (refusal_of old command) (λ e. (answered ≡ Err e) × (new ≡ old))
   pub memory : refusal_of old command ≡ None → IfErr answered (λ e. e ≡ OutOfMemory)
+
+-- the workers are numbered from 0 on, and have no receipts
+abbrev pub AreNew : List BookState → Type 0
+AreNew books = (number : ℕ) (book : BookState) → slice_get books number ≡ Some book → (book.worker ≡ number) × (book.receipts ≡ [])

@@ -1,5 +1,5 @@
 -- What contracts see of a table and of its workers, and their outcomes.
-use Rattle.std.specs.Prelude.{ℕ, ◌≡◌, ◌+◌, ◌<◌, ◌≤◌, ◌⊎◌, List, [], ◌∷◌, ◌++◌, length, Some, Result, Err, IfOk, IfErr, OnErr, OnOk, slice_get}
+use Rattle.std.specs.Prelude.{ℕ, ◌≡◌, ◌+◌, ◌<◌, ◌≤◌, ◌⊎◌, List, [], ◌∷◌, ◌++◌, length, Some, Result, Err, IfOk, IfErr, OnErr, OnOk}
 use Rattle.crack_row.specs.Layouts.{IsLayout}
 use Rattle.crack_row.specs.Ranges.{Range}
 use Rattle.crack_row.specs.declared.Bound.{Bound}
@@ -15,16 +15,11 @@ use Rattle.crack_part.specs.Refusals.{refusal_of}
 use Rattle.crack_core.specs.Receipts.{BookState}
 use Rattle.crack_table.specs.declared.TheConstants.{GATE_TURNS}
 
--- where one partition ends and the next begins, the limits of each partition, how many workers there are, and how many locks
+-- where one partition ends and the next begins, the limits of each partition, and how many workers there are
 pub record TableState : Type 0 where
   pub splits : List Bound
   pub limits : Limits
   pub workers : ℕ
-  pub locks : ℕ
-
--- the workers are numbered from 0 on, and have no receipts
-abbrev pub AreNew : List BookState → Type 0
-AreNew books = (number : ℕ) (book : BookState) → slice_get books number ≡ Some book → (book.worker ≡ number) × (book.receipts ≡ [])
 
 -- a refusal as a worker receives it: a full history with this limit, since nothing outside the lock knows the partition's own
 abbrev pub with_limit : ℕ → Refusal → Refusal

@@ -88,7 +88,7 @@ pub fn gather(alloc: Global, table: Table, workers: Vec<Worker>) -> Result<Close
 }
 
 /// Takes the partitions out of their locks, and checks whether they and the workers agree; otherwise the list that
-/// `settle` returns goes into the locks again.
+/// `conclude` returns goes into the locks again.
 fn close(
     alloc: Global,
     locks: &mut Vec<Mutex<Partition>>,
@@ -107,7 +107,7 @@ fn close(
 {
     let mut parts = Vec::with_capacity(alloc, locks.len())?;
     unlock(locks, &mut parts);
-    match settle(alloc, splits, limits, parts, workers) {
+    match conclude(alloc, splits, limits, parts, workers) {
         Ok(closed) => Ok(closed),
         Err((refusal, mut back)) => {
             lock(&mut back, locks);
@@ -118,7 +118,7 @@ fn close(
 
 /// Checks whether the partitions that were taken out of the locks, and the workers, agree. The list that
 /// goes into the locks again is the one that was taken out.
-fn settle(
+fn conclude(
     alloc: Global,
     splits: &[Bound],
     limits: Limits,

@@ -3,7 +3,7 @@ ghost use Rattle.std.specs.Prelude.{◌≡◌, ◌+◌, ◌<◌, ◌≤◌, leng
 ghost use Rattle.crack_row.specs.Limits.{AreLimits, of_history};
 ghost use Rattle.crack_core.specs.Routes.{AreSplits};
 ghost use Rattle.crack_table.specs.Opening.{table_fault, Opens};
-ghost use Rattle.crack_table.specs.Tables.{AreNew};
+ghost use Rattle.crack_table.specs.Keeps.{AreNew};
 
 use crate::MOST_WORKERS;
 use crate::locks::lock;
@@ -36,7 +36,6 @@ impl Model for Table {
       splits = t.splits.items;
       limits = t.limits;
       workers = t.workers;
-      locks = vec_len t.locks;
     } };
 
     ghost invariant = { λ t. IsTable t.splits.items t.limits t.workers (vec_len t.locks) };
@@ -85,9 +84,8 @@ impl Table {
         Ok((table, hands))
     }
 
-    /// States the invariants of every table, and does nothing: it has a lock for each partition of its splits.
+    /// States the invariants of every table, and does nothing.
     pub fn facts(&self)
-        ensures locks { self.now.locks ≡ length self.now.splits + 1 }
         ensures rising { AreSplits self.now.splits }
         ensures limited { AreLimits self.now.limits }
         ensures few { self.now.workers ≤ 64 }

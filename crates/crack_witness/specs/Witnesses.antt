@@ -1,5 +1,5 @@
 -- What contracts see of an opened book, and of witnessed partitions.
-use Rattle.std.specs.Prelude.{◌≡◌, ◌≢◌, ℕ, ◌+◌, ◌<◌, ◌≤◌, ◌⊎◌, List, [], ◌∷◌, ◌++◌, length, sum_by, take, All, Any, AllPairs, Contains, Some, slice_index_or}
+use Rattle.std.specs.Prelude.{◌≡◌, ◌≢◌, ℕ, ◌+◌, ◌<◌, ◌≤◌, ◌⊎◌, List, [], ◌∷◌, ◌++◌, length, sum_by, take, All, Any, AllPairs, Some, slice_index_or}
 use mathlib.Core.List.{IsPrefix}
 use Rattle.logbook.specs.Pages.{Book}
 use Rattle.crack_row.specs.declared.command.Entry.{Entry}
@@ -88,9 +88,9 @@ HasJustItsOwn owner a w = calls_at owner w.part a.worker w.log ≡ calls_at owne
 
 -- the part of a partition's history that a worker has seen is a prefix of it, and the history has exactly the worker's entries for which it received
 -- replies
-pub record IsSettledFor (owner : ℕ → ℕ) (a : AskerState) (w : WitnessedState) : Type 0 where
+pub record Agrees (owner : ℕ → ℕ) (a : AskerState) (w : WitnessedState) : Type 0 where
   pub covered : IsPrefix (history_of (owner w.part) a.seen) (history_of (owner w.part) w.log)
-  pub mine : HasJustItsOwn owner a w
+  pub mine : calls_at owner w.part a.worker w.log ≡ calls_at owner w.part a.worker (slice_index_or a.fronts w.part [])
 
 -- a partition's history has other entries of a worker than those for which it received replies, if each knows of the other
 abbrev pub Differs : (ℕ → ℕ) → AskerState → WitnessedState → Type 0
@@ -123,7 +123,7 @@ pub record MayDiffer (owner : ℕ → ℕ) (askers : List AskerState) (parts : L
   pub at : WitnessedState
   pub there : place < length parts
   pub is_at : slice_index_or parts place at ≡ at
-  pub earlier : All (λ (w : WitnessedState). All (λ (a : AskerState). IsSettledFor owner a w) askers) (take place parts)
+  pub earlier : All (λ (w : WitnessedState). All (λ (a : AskerState). Agrees owner a w) askers) (take place parts)
   pub position : ℕ
   pub differs : Any (λ (a : AskerState). Differs owner a at × (position ≡ replies_at a at.part)) askers
   pub cause : e ≡ StrangeReceipt at.part position

@@ -1,6 +1,6 @@
 //! The end of a book: its partitions and its workers are compared.
 ghost use Rattle.std.specs.Prelude.{◌≡◌, All, Any, IfNone, IfSome, IfErr, OnOk};
-ghost use Rattle.crack_witness.specs.Witnesses.{AskerState, WitnessedState, IsSettledFor, Differs, MayDiffer};
+ghost use Rattle.crack_witness.specs.Witnesses.{AskerState, WitnessedState, Agrees, Differs, MayDiffer};
 ghost use Rattle.crack_witness.specs.Witnesses.{replies_at};
 
 use crate::asker::Asker;
@@ -12,12 +12,12 @@ use crack_row::Refusal;
 /// numbers, pair by pair; then the part of it that the worker has seen is a prefix of it. Takes no memory. O(partitions
 /// × workers), however many entries there are. Refused with 16 at the first partition that differs from a worker, with
 /// its number, and the number of replies that it gave the first such worker.
-pub fn settle<J: Naming>(
+pub fn compare<J: Naming>(
     askers: &Vec<Asker<J>>,
     parts: &mut Vec<Witnessed<J>>,
 ) -> Result<(), Refusal>
     ensures same { parts.new.items ≡ parts.old.items }
-    ensures settled { OnOk result (All (λ (w : WitnessedState). All (λ (a : AskerState). IsSettledFor J.owner a w)
+    ensures agree { OnOk result (All (λ (w : WitnessedState). All (λ (a : AskerState). Agrees J.owner a w)
         askers.now.items) parts.old.items) }
     ensures differs { IfErr result (MayDiffer J.owner askers.now.items parts.old.items) }
 {
@@ -33,7 +33,7 @@ pub fn settle<J: Naming>(
 /// How many replies a partition gave the first worker that it differs from, if there is one.
 fn first_difference<J: Naming>(askers: &Vec<Asker<J>>, part: &mut Witnessed<J>) -> Option<u64>
     ensures same { part.new ≡ part.old }
-    ensures none { IfNone result (All (λ (a : AskerState). IsSettledFor J.owner a part.old) askers.now.items) }
+    ensures none { IfNone result (All (λ (a : AskerState). Agrees J.owner a part.old) askers.now.items) }
     ensures some { IfSome result (λ position. Any (λ (a : AskerState). Differs J.owner a part.old ×
         (position ≡ replies_at a part.old.part)) askers.now.items) }
 {

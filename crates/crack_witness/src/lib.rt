@@ -10,7 +10,7 @@ pub mod scribe;
 pub mod witnessed;
 
 pub use asker::Asker;
-pub use closing::settle;
+pub use closing::compare;
 pub use opening::{Naming, Opened};
 pub use scribe::Front;
 pub use witnessed::Witnessed;

@@ -1,5 +1,5 @@
 -- Witnessed partitions that are the table's, and their totals.
-use Rattle.std.proofs.Common.{◌≡◌, ◌<◌, ◌≤◌, ◌+◌, ◌*◌, ◌^◌, ◌⊎◌, ℕ, List, [], ◌∷◌, length, get_or, map, Some, refl, ap, sym, ◌∙◌, arith, ⊎_elim}
+use Rattle.std.proofs.Common.{◌≡◌, ◌<◌, ◌≤◌, ◌+◌, ◌^◌, ◌⊎◌, ℕ, List, [], ◌∷◌, length, get_or, map, Some, refl, ap, sym, ◌∙◌, arith, ⊎_elim}
 use Rattle.std.specs.Prelude.{All, sum_by}
 use Rattle.std.specs.List.{slice_get}
 use Rattle.std.proofs.lemmas.List.{length-map, get_or-map, get_or_default}
@@ -8,14 +8,15 @@ use Rattle.std.proofs.lemmas.List.Sums.{sum_by-cons}
 use Rattle.std.proofs.lemmas.Option.{slice_get_read, slice_get_within}
 use Rattle.crack_row.specs.declared.Bound.{Bound}
 use Rattle.crack_row.specs.declared.limit.Limits.{Limits}
-use Rattle.crack_plain.specs.Past.{accepted_in, inserted_in, deleted_in}
+use Rattle.crack_plain.specs.Past.{accepted_in, inserted_in}
 use Rattle.crack_state.specs.State.{live_rows}
 use Rattle.crack_part.specs.Parts.{Part, IsSound}
 use Rattle.crack_core.specs.Opening.{AreParts}
 use Rattle.crack_witness.specs.Witnesses.{WitnessedState}
 use Rattle.crack_table.specs.Gather.{IsTables, AreTotals}
 use Rattle.crack_table.proofs.Totals.{held_difference, held_are, accepted-bound, inserted-bound}
-use Rattle.crack_witness_table.specs.Gather.{held_by, AreNumbered, IsTablesAt, IsFirstStrange}
+use Rattle.crack_witness_table.specs.Gather.{held_by, IsTablesAt, IsFirstStrange}
+use Rattle.crack_witness_table.specs.Keeps.{AreNumbered}
 
 -- a sum over witnessed partitions is one over the partitions that they hold
 pub held_sum : (f : Part → ℕ) (ws : List WitnessedState) → sum_by (λ (w : WitnessedState). f w.held) ws ≡ sum_by f (held_by ws)

@@ -1,5 +1,6 @@
 -- The answers of a table that witnesses its replies to a worker.
-use Rattle.std.specs.Prelude.{◌≡◌, ℕ, ◌+◌, ◌<◌, ◌≤◌, ◌⊎◌, List, [], ◌∷◌, ◌++◌, length, Result, Err, IfOk, IfErr, OnOk, OnErr, slice_index_or, slice_set}
+use Rattle.std.specs.Prelude.{◌≡◌, ℕ, ◌+◌, ◌≤◌, ◌⊎◌, [], ◌∷◌, ◌++◌, length, Result, IfOk, OnOk, OnErr, slice_index_or, slice_set}
+use Rattle.std.specs.List.{sum}
 use mathlib.Core.List.{IsPrefix}
 use Rattle.crack_row.specs.declared.command.Command.{Command}
 use Rattle.crack_row.specs.declared.command.Reply.{Reply}
@@ -7,7 +8,7 @@ use Rattle.crack_row.specs.declared.refusal.Refusal.{Refusal}
 use Rattle.crack_row.specs.declared.refusal.Refusal.TheVariants.{NoSuchPartition, StrangeReceipt}
 use Rattle.crack_plain.specs.Plain.{IsSmall}
 use Rattle.crack_witness.specs.Histories.{calls_at, AreHistories}
-use Rattle.crack_witness.specs.Witnesses.{AskerState, IsGiven, replies_at, replies_to}
+use Rattle.crack_witness.specs.Witnesses.{AskerState, IsGiven}
 use Rattle.crack_table.specs.Tables.{TableState, AnswersAt, MayRefuse}
 
 -- why a partition that exists may refuse a worker: as `MayRefuse` says; 16 with the partition and the number of its replies there, or 5 if the worker
@@ -15,7 +16,7 @@ use Rattle.crack_table.specs.Tables.{TableState, AnswersAt, MayRefuse}
 abbrev pub MayRefuseAsker : TableState → (ℕ → Type 0) → ℕ → Command → AskerState → Refusal → Type 0
 MayRefuseAsker table may_refuse part command asker e =
     MayRefuse table may_refuse command e
-    ⊎ ((e ≡ StrangeReceipt part (replies_at asker part)) ⊎ ((e ≡ NoSuchPartition) × (length asker.fronts ≤ part)))
+    ⊎ ((e ≡ StrangeReceipt part (slice_index_or asker.counts part 0)) ⊎ ((e ≡ NoSuchPartition) × (length asker.fronts ≤ part)))
 
 -- A worker asks one partition. If it is answered, its entry ends the history of that partition, as far as the worker now sees it; all that it had
 -- seen before precedes the entry, every history is legal, and the worker's entries there are those of its replies. If it is refused, there is a
@@ -28,6 +29,6 @@ pub record AsksWitnessed (owner : ℕ → ℕ) (table : TableState) (may_refuse 
   pub small : IfOk result IsSmall
   pub at : AnswersAt table part (MayRefuseAsker table may_refuse part command old) result
   pub seen : IsPrefix old.seen new.seen
-  pub replies : OnOk result (replies_to new ≡ replies_to old + 1)
+  pub replies : OnOk result (sum new.counts ≡ sum old.counts + 1)
   pub worker : new.worker ≡ old.worker
   pub err : OnErr result (new ≡ old)

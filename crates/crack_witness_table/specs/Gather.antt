@@ -6,7 +6,7 @@ use Rattle.crack_row.specs.declared.refusal.Refusal.{Refusal}
 use Rattle.crack_row.specs.declared.refusal.Refusal.TheVariants.{OutOfMemory, StrangeReceipt, WorkersMissing}
 use Rattle.crack_part.specs.Parts.{Part}
 use Rattle.crack_core.specs.Opening.{AreParts}
-use Rattle.crack_witness.specs.Witnesses.{AskerState, WitnessedState, IsWhole, IsSettledFor, MayDiffer}
+use Rattle.crack_witness.specs.Witnesses.{AskerState, WitnessedState, IsWhole, Agrees, MayDiffer}
 use Rattle.crack_table.specs.Tables.{TableState}
 use Rattle.crack_table.specs.Gather.{IsTables, missing_below}
 
@@ -14,16 +14,13 @@ use Rattle.crack_table.specs.Gather.{IsTables, missing_below}
 abbrev pub held_by : List WitnessedState → List Part
 held_by parts = map (λ (w : WitnessedState). w.held) parts
 
--- each is at its number, and counts the entries of this many workers
-abbrev pub AreNumbered : ℕ → List WitnessedState → Type 0
-AreNumbered workers parts = (place : ℕ) (w : WitnessedState) → slice_get parts place ≡ Some w → (w.part ≡ place) × (w.workers ≡ workers)
-
--- these are the partitions of a table whose workers are gathered: they are the table's, each is whole, and each worker is settled there
+-- these are the partitions of a table whose workers are gathered: they are the table's, each has the number of its place and counts the entries of its
+-- workers, each is whole, and each worker agrees with each
 pub record AreGathered (owner : ℕ → ℕ) (splits : List Bound) (limits : Limits) (workers : ℕ) (askers : List AskerState) (parts : List WitnessedState) : Type 0 where
   pub tables : AreParts splits limits (held_by parts)
-  pub numbered : AreNumbered workers parts
+  pub numbered : (place : ℕ) (w : WitnessedState) → slice_get parts place ≡ Some w → (w.part ≡ place) × (w.workers ≡ workers)
   pub whole : All (λ (w : WitnessedState). IsWhole owner w) parts
-  pub settled : All (λ (w : WitnessedState). All (λ (a : AskerState). IsSettledFor owner a w) askers) parts
+  pub agree : All (λ (w : WitnessedState). All (λ (a : AskerState). Agrees owner a w) askers) parts
 
 -- a partition that has the number of its place, counts the table's workers, and has the table's keys and limits there
 pub record IsTablesAt (splits : List Bound) (limits : Limits) (workers place : ℕ) (w : WitnessedState) : Type 0 where

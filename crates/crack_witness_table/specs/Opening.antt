@@ -1,6 +1,6 @@
 -- When a table that witnesses its replies opens.
-use Rattle.std.specs.Prelude.{◌≡◌, ℕ, List, length, Some, slice_get}
-use Rattle.crack_witness.specs.Histories.{AreEmpty}
+use Rattle.std.specs.Prelude.{◌≡◌, ℕ, List, [], length, Some, slice_get}
+use Rattle.crack_witness.specs.Histories.{history_of}
 use Rattle.crack_witness.specs.Witnesses.{AskerState, OpenedState}
 use Rattle.crack_table.specs.Tables.{TableState}
 
@@ -12,4 +12,4 @@ pub record UnnamedState : Type 0 where
 -- this many workers, numbered from 0 on, which have seen nothing of this many partitions
 pub record AreNewAskers (workers parts : ℕ) (askers : List AskerState) : Type 0 where
   pub count : length askers ≡ workers
-  pub numbered : (number : ℕ) (asker : AskerState) → slice_get askers number ≡ Some asker → (asker.worker ≡ number) × (length asker.fronts ≡ parts) × AreEmpty asker.seen
+  pub numbered : (number : ℕ) (asker : AskerState) → slice_get askers number ≡ Some asker → (asker.worker ≡ number) × (length asker.fronts ≡ parts) × ((owner : ℕ) → history_of owner asker.seen ≡ [])

@@ -7,7 +7,8 @@ ghost use Rattle.crack_core.specs.Opening.{AreParts};
 ghost use Rattle.crack_core.specs.Routes.{AreSplits};
 ghost use Rattle.crack_witness.specs.Witnesses.{AskerState, WitnessedState, IsWhole};
 ghost use Rattle.crack_table.specs.Gather.{missing_below, AreTotals};
-ghost use Rattle.crack_witness_table.specs.Gather.{held_by, AreNumbered, AreGathered};
+ghost use Rattle.crack_witness_table.specs.Gather.{held_by, AreGathered};
+ghost use Rattle.crack_witness_table.specs.Keeps.{AreNumbered};
 ghost use Rattle.crack_witness_table.specs.Gather.{IsTablesAt, IsFirstStrange, MayNotMatch, MayNotGather};
 
 use crate::locks::{lock, unlock};
@@ -16,7 +17,7 @@ use crate::totals::{Sums, sums_of};
 use crack_row::{Bound, Limits, Refusal};
 use crack_table::account::is_tables;
 use crack_table::gathering::bit_unless;
-use crack_witness::{Asker, Naming, Witnessed, settle};
+use crack_witness::{Asker, Naming, Witnessed, compare};
 use std::alloc::Global;
 use std::sync::Mutex;
 
@@ -46,7 +47,7 @@ pub struct GatherRefused<J: Naming> {
 /// Ends a table whose workers are all handed back: each partition's history since its opening begins with all that the
 /// workers saw of it, and has exactly the entries of each worker for which it received replies, as both have counted.
 /// Refused with 15, one bit for each missing number, if a worker of the table is missing; then with 8 if it finds no
-/// memory; then with 16 at the first partition that isn't the table's, and then as `settle` of crack_witness is. The
+/// memory; then with 16 at the first partition that isn't the table's, and then as `compare` of crack_witness is. The
 /// table and the workers are then handed back. O(partitions × workers), however many entries there are.
 pub fn gather<J: Naming>(
     alloc: Global,
@@ -77,7 +78,7 @@ pub fn gather<J: Naming>(
         workers,
     } = table;
     match close(alloc, &mut locks, &splits, limits, workers, &askers) {
-        Ok(settled) => Ok(settled),
+        Ok(gathered) => Ok(gathered),
         Err(refusal) => Err(GatherRefused {
             refusal,
             table: WitnessedTable {
@@ -146,7 +147,7 @@ fn match_all<J: Naming>(
     if let Some(part) = first_strange(splits, limits, workers, parts) {
         return Err(Refusal::StrangeReceipt { part, position: 0 });
     }
-    settle(askers, parts)?;
+    compare(askers, parts)?;
     Ok(sums_of(parts))
 }
 

@@ -1,7 +1,7 @@
 //! The opening of a table in two steps: its book, and once that has its name, its partitions and its workers.
-ghost use Rattle.std.specs.Prelude.{◌≡◌, ◌+◌, ◌≤◌, length, IfOk, IfErr, OnOk, None};
+ghost use Rattle.std.specs.Prelude.{◌≡◌, ◌≢◌, ℕ, ◌+◌, ◌<◌, ◌≤◌, AllPairs, length, IfOk, IfErr, OnOk, None};
 ghost use Rattle.crack_witness.specs.Histories.{AreEmpty};
-ghost use Rattle.crack_witness.specs.Witnesses.{AreNames, AreApart, AreDistinct};
+ghost use Rattle.crack_witness.specs.Witnesses.{AreNames};
 ghost use Rattle.crack_core.specs.Opening.{MayFault};
 ghost use Rattle.crack_table.specs.Opening.{table_fault, opened_table};
 ghost use Rattle.crack_witness_table.specs.Opening.{AreNewAskers};
@@ -48,7 +48,7 @@ impl UnnamedTable {
     ) -> Result<UnnamedTable, Refusal>
         ensures table { IfOk result (λ t. t.table ≡ opened_table splits.now limits workers) }
         ensures owners { IfOk result (λ t. length t.opened.ids ≡ length splits.now + 1) }
-        ensures distinct { IfOk result (λ t. AreDistinct t.opened.ids) }
+        ensures distinct { IfOk result (λ t. AllPairs (λ (one other : ℕ). one ≢ other) t.opened.ids) }
         ensures none { OnOk result (table_fault splits.now limits workers ≡ None) }
         ensures fault { IfErr result (MayFault (table_fault splits.now limits workers)) }
     {
@@ -73,8 +73,9 @@ impl UnnamedTable {
     ) -> Result<(WitnessedTable<J>, Vec<Asker<J>>), Refusal>
         requires names { AreNames J.book J.owner self.opened }
         ensures table { IfOk result (λ r. r.0 ≡ self.table) }
-        ensures askers { IfOk result (λ r. AreNewAskers self.table.workers self.table.locks r.1.items) }
-        ensures apart { OnOk result (AreApart J.owner self.table.locks) }
+        ensures askers { IfOk result (λ r. AreNewAskers self.table.workers (length self.table.splits + 1) r.1.items) }
+        ensures apart { OnOk result ((one other : ℕ) → one < other → other < length self.table.splits + 1 →
+            J.owner one ≢ J.owner other) }
         ensures err { IfErr result (λ e. e ≡ Refusal.OutOfMemory) }
     {
         let UnnamedTable {

@@ -1,5 +1,5 @@
 -- The answers to a worker are in the histories, once it is gathered.
-use Rattle.std.proofs.Common.{slice_index_or, ◌≡◌, ◌≢◌, ℕ, ◌+◌, ◌<◌, ◌≤◌, ◌==◌, Bool, true, false, nat_lt, List, [], ◌∷◌, ◌++◌, length, get_or, Some, Option, Ok, Err, refl, sym, ap, ◌∙◌, subst, arith, inl, inr, append_assoc, append-nil, length-append}
+use Rattle.std.proofs.Common.{slice_index_or, ◌≡◌, ◌≢◌, ℕ, ◌+◌, ◌<◌, ◌≤◌, ◌==◌, Bool, true, false, nat_lt, List, [], ◌∷◌, ◌++◌, length, get_or, Some, Ok, Err, refl, sym, ap, ◌∙◌, subst, arith, append_assoc, append-nil, length-append}
 use Rattle.std.specs.Prelude.{All, map}
 use Rattle.std.specs.List.{slice_get}
 use Rattle.std.proofs.lemmas.Bool.Decides.{nat_tests}
@@ -16,7 +16,7 @@ use Rattle.crack_table.specs.Tables.{TableState}
 use Rattle.crack_witness.specs.declared.event.Event.{Event}
 use Rattle.crack_plain.specs.Plain.{AreReplies, no_rows}
 use Rattle.crack_witness.specs.Histories.{history_of, calls_by, calls_at}
-use Rattle.crack_witness.specs.Witnesses.{AskerState, WitnessedState, IsSettledFor}
+use Rattle.crack_witness.specs.Witnesses.{AskerState, WitnessedState, Agrees}
 use Rattle.crack_witness.proofs.Lists.{history_append, prefix_trans}
 use Rattle.crack_witness_table.specs.Asking.{AsksWitnessed}
 use Rattle.crack_worker_desk.specs.Histories.{histories, entries_at, StandIn, IsGathered}
@@ -147,7 +147,7 @@ module _ (owner : ℕ → ℕ) (table : TableState) (may : ℕ → ℕ → Type 
 
   module _ (parts : List WitnessedState) (last : AskerState) (gathered : IsGathered owner table parts last) where
     -- a partition of the table, and its history, as they were gathered
-    found : (part : ℕ) → part ≤ length table.splits → (w : WitnessedState) × (w.part ≡ part) × (slice_index_or (histories owner parts) part [] ≡ history_of (owner w.part) w.log) × IsSettledFor owner last w
+    found : (part : ℕ) → part ≤ length table.splits → (w : WitnessedState) × (w.part ≡ part) × (slice_index_or (histories owner parts) part [] ≡ history_of (owner w.part) w.log) × Agrees owner last w
     found part there =
         let count = gathered.2.tables.count in
         let less : part < length parts = omega (arith, there, count, length-map parts (λ (w : WitnessedState). w.held)) in
@@ -156,7 +156,7 @@ module _ (owner : ℕ → ℕ) (table : TableState) (may : ℕ → ℕ → Type 
           w,
           (gathered.2.numbered part w is).0,
           get_or-map (λ (v : WitnessedState). history_of (owner v.part) v.log) parts part (first_of parts part less) [] less,
-          All-contains (λ (a : AskerState). IsSettledFor owner a w) gathered.0 last (gathered.2.settled part (first_of parts part less) less) gathered.1,
+          All-contains (λ (a : AskerState). Agrees owner a w) gathered.0 last (gathered.2.agree part (first_of parts part less) less) gathered.1,
         )
 
     legal : All (AreReplies no_rows) (histories owner parts)

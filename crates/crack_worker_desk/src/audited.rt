@@ -61,7 +61,7 @@ impl<'a, R: Wait, G: Gate, J: Naming> Desk for AuditedDesk<'a, R, G, J> {
 
     ghost splits = { λ d. d.table.now.splits };
 
-    ghost receipts = { λ d. length d.worker.book.receipts };
+    ghost accepted = { λ d. length d.worker.book.receipts };
 
     ghost leads = { λ d call e. (e.table.now ≡ d.table.now) × (e.gate.now ≡ d.gate.now) × table_leads d.table.now
         (λ part. AsksAudited J.owner d.table.now (G.may_refuse d.gate.now part) part) d.worker call e.worker };
@@ -71,7 +71,7 @@ impl<'a, R: Wait, G: Gate, J: Naming> Desk for AuditedDesk<'a, R, G, J> {
         // and the book gains its receipt.
         ensures asks { AsksAudited J.owner self.old.table.now (G.may_refuse self.old.gate.now part) part command result
             self.old.worker self.new.worker }
-        ensures receipts { length self.new.worker.book.receipts ≡ (if is_ok result then length
+        ensures accepted { length self.new.worker.book.receipts ≡ (if is_ok result then length
             self.old.worker.book.receipts + 1 else length self.old.worker.book.receipts) }
         ensures table { (self.new.table.now ≡ self.old.table.now) × (self.new.gate.now ≡ self.old.gate.now) }
     {
@@ -98,7 +98,7 @@ impl<'a, R: Wait, G: Gate, J: Naming> Desk for AuditedDesk<'a, R, G, J> {
         self.table.splits()
     }
 
-    fn receipts(&self) -> u64 {
+    fn accepted(&self) -> u64 {
         self.worker.book().accepted()
     }
 }

@@ -52,7 +52,7 @@ impl<'a, R: Wait, G: Gate> Desk for WorkerDesk<'a, R, G> {
 
     ghost splits = { λ d. d.table.now.splits };
 
-    ghost receipts = { λ d. length d.worker.receipts };
+    ghost accepted = { λ d. length d.worker.receipts };
 
     ghost leads = { λ d call e. (e.table.now ≡ d.table.now) × (e.gate.now ≡ d.gate.now) × table_leads d.table.now
         (λ part. AsksTable d.table.now (G.may_refuse d.gate.now part) part) d.worker call e.worker };
@@ -61,7 +61,7 @@ impl<'a, R: Wait, G: Gate> Desk for WorkerDesk<'a, R, G> {
         // The worker asks its table; nothing is known of a reply except that it is small.
         ensures asks { AsksTable self.old.table.now (G.may_refuse self.old.gate.now part) part command result
             self.old.worker self.new.worker }
-        ensures receipts { length self.new.worker.receipts ≡ (if is_ok result then length self.old.worker.receipts + 1
+        ensures accepted { length self.new.worker.receipts ≡ (if is_ok result then length self.old.worker.receipts + 1
             else length self.old.worker.receipts) }
         ensures table { (self.new.table.now ≡ self.old.table.now) × (self.new.gate.now ≡ self.old.gate.now) }
     {
@@ -88,7 +88,7 @@ impl<'a, R: Wait, G: Gate> Desk for WorkerDesk<'a, R, G> {
         self.table.splits()
     }
 
-    fn receipts(&self) -> u64 {
+    fn accepted(&self) -> u64 {
         self.worker.book().accepted()
     }
 }

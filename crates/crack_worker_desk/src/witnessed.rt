@@ -53,7 +53,7 @@ impl<'a, R: Wait, G: Gate, J: Naming> WitnessedDesk<'a, R, G, J> {
 impl<'a, R: Wait, G: Gate, J: Naming> Desk for WitnessedDesk<'a, R, G, J> {
     ghost use Rattle.std.specs.Prelude.{◌≡◌, None};
     ghost use Rattle.crack_core.specs.Steps.{bounds_of};
-    ghost use Rattle.crack_witness.specs.Witnesses.{replies_to};
+    ghost use Rattle.std.specs.List.{sum};
     ghost use Rattle.crack_witness_table.specs.Asking.{AsksWitnessed};
     ghost use Rattle.crack_worker_desk.specs.Leads.{table_leads};
 
@@ -63,7 +63,7 @@ impl<'a, R: Wait, G: Gate, J: Naming> Desk for WitnessedDesk<'a, R, G, J> {
 
     ghost splits = { λ d. d.table.now.splits };
 
-    ghost receipts = { λ d. replies_to d.asker };
+    ghost accepted = { λ d. sum d.asker.counts };
 
     ghost leads = { λ d call e. (e.table.now ≡ d.table.now) × (e.gate.now ≡ d.gate.now) × table_leads d.table.now
         (λ part. AsksWitnessed J.owner d.table.now (G.may_refuse d.gate.now part) part) d.asker call e.asker };
@@ -101,7 +101,7 @@ impl<'a, R: Wait, G: Gate, J: Naming> Desk for WitnessedDesk<'a, R, G, J> {
     }
 
     /// O(partitions).
-    fn receipts(&self) -> u64 {
+    fn accepted(&self) -> u64 {
         self.asker.replies()
     }
 }

@@ -1,11 +1,10 @@
 -- The meaning of calls from C.
-use Rattle.std.specs.Prelude.{◌≡◌, ◌⊎◌, ◌<◌, ◌≤◌, ℕ, ◌==◌, Bool, true, false, All, List, [], ◌∷◌, map, length, Option, None, Some, IsSome, MatchOption, Result, MatchResult, slice_get, slice_index_or, if◌then◌else◌}
+use Rattle.std.specs.Prelude.{◌≡◌, ◌⊎◌, ◌<◌, ◌≤◌, ℕ, ◌==◌, true, false, All, List, map, length, Option, None, Some, IsSome, MatchOption, Result, MatchResult, slice_get, slice_index_or, if◌then◌else◌}
 use Rattle.std.specs.List.{AllByRecursion}
 use Rattle.std.specs.Option.{option_map_or}
 use Rattle.crack_row.specs.Refusals.{code_of}
 use Rattle.crack_row.specs.declared.TheConstants.{GREATEST_KEY}
 use Rattle.crack_row.specs.declared.Bound.{Bound}
-use Rattle.crack_row.specs.declared.RowNo.{RowNo}
 use Rattle.crack_row.specs.declared.command.Policy.{Policy}
 use Rattle.crack_row.specs.declared.command.Policy.TheVariants.{Complete, Gradual, Ripple, Auto}
 use Rattle.crack_row.specs.declared.layout.Layout.{Layout}
@@ -17,12 +16,12 @@ use Rattle.crack_plain.specs.Past.{no_past}
 use Rattle.crack_plain.specs.Plain.{PlainView, checkpointed}
 use Rattle.crack_part.specs.Parts.{Part}
 use Rattle.crack_core.specs.Asking.{lasting}
-use Rattle.crack_core.specs.Bulk.{Call, Went}
+use Rattle.crack_core.specs.Bulk.{NumberedCall, Went}
+use Rattle.crack_core.specs.Cores.{CoreState}
 use Rattle.crack_core.specs.Opening.{opening_fault, MayFault}
 use Rattle.crack_core.specs.Routes.{keys_of_part}
 use Rattle.crack_core.specs.Steps.{tables_of, changed_at, IsLayoutOutcome, IsFoldOutcome}
 use Rattle.crack_core.specs.declared.bulk.Progress.{Progress}
-use Rattle.crackd_c.specs.Handles.{CoreState}
 use Rattle.crackd_c.specs.declared.handle.Handle.{Handle}
 use Rattle.crackd_c.specs.declared.picture.Totals.{Totals}
 use Rattle.crackd_c.specs.declared.status.TheConstants.{CLOSED, LENGTHS_DIFFER, NO_SUCH_POLICY}
@@ -43,10 +42,6 @@ PiecesIn pieces lows sizes = (k : ℕ) (piece : PieceSize) → slice_get pieces 
 -- the return value of a call: 0, or the number of the refusal
 abbrev pub status_of : Option Refusal → ℕ
 status_of refusal = option_map_or code_of refusal 0
-
--- the number of a row
-abbrev pub row_number : ℕ → ℕ → RowNo
-row_number part serial = record { part = part; serial = record { 0 = serial } }
 
 -- splits as bounds
 abbrev pub bounds_at : List ℕ → List Bound
@@ -84,7 +79,7 @@ ComesOut {X} Asks Writes old new status unwritten = StaysOpen old new × ((outco
 
 -- the result of a list of this many calls on a table: its status is 0, or the number of the refusal at which it stopped, and this many calls were
 -- answered
-abbrev pub GoesOn : (Limits → List Bound → Call) → ℕ → ℕ → Handle → Handle → ℕ → Type 0 → Type 0
+abbrev pub GoesOn : (Limits → List Bound → NumberedCall) → ℕ → ℕ → Handle → Handle → ℕ → Type 0 → Type 0
 GoesOn call count done old new status unwritten = StaysOpen old new × ((progress : Progress) × (status ≡ status_of progress.refusal) × (done ≡ progress.done) × Went (call old.core.limits old.core.splits) count (rows_of old.core) progress (rows_of new.core))
 
 -- a partition's layout is written, or why there is none, and the table is as it was

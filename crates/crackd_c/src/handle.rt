@@ -1,6 +1,7 @@
 //! A core that C code holds.
 ghost use Rattle.std.specs.Prelude.{◌≡◌, ℕ, true, false};
-ghost use Rattle.crackd_c.specs.Handles.{CoreState, core_coded, handle_owns};
+ghost use Rattle.crack_core.specs.Cores.{CoreState};
+ghost use Rattle.crackd_c.specs.Handles.{core_coded, handle_owns};
 ghost use Rattle.std.specs.Borrow.{sem};
 
 use crate::parts::Parts;

@@ -3,11 +3,11 @@
 
 ghost use Rattle.std.specs.Prelude.{◌≡◌, true, false, MatchOption, length, [], ◌∷◌};
 ghost use Rattle.crack_core.specs.Asking.{Inserts, Deletes, Updates, Counts, Sums};
-ghost use Rattle.crack_core.specs.Bulk.{OverKeys, joined, flag, InsertsAt, DeletesAt, UpdatesAt, CountsAt, SumsAt};
+ghost use Rattle.crack_core.specs.Bulk.{OverKeys, of_halves, flag, row_number};
+ghost use Rattle.crack_core.specs.Bulk.{InsertsAt, DeletesAt, UpdatesAt, CountsAt, SumsAt};
 ghost use Rattle.crack_core.specs.Listing.{Selects};
 ghost use Rattle.crack_core.specs.Steps.{accepted_by};
 ghost use Rattle.crackd_c.specs.Calls.{OnTable, OnLists, ByPolicy, ComesOut, GoesOn, Shows, FoldsOne, OpensHandle};
-ghost use Rattle.crackd_c.specs.Calls.{row_number};
 
 pub mod handle;
 pub mod opening;
@@ -206,7 +206,7 @@ pub extern "C" fn crackd_sum(
     high: &mut i64,
 ) -> u32
     ensures sums { OnTable handle.old handle.new result ((low.new ≡ low.old) × (high.new ≡ high.old)) (ByPolicy policy
-        (ComesOut (λ limits splits. OverKeys (Sums limits splits) first last) (λ sum. joined low.new high.new ≡ sum))) }
+        (ComesOut (λ limits splits. OverKeys (Sums limits splits) first last) (λ s. of_halves low.new high.new ≡ s))) }
 {
     if !handle.is_open() {
         return CLOSED;

@@ -10,7 +10,7 @@ parts-preserved g c = record {
   listing = Listing-more _ _ _ _ _ c.in-Ok.rows _ _ _ c.parts.invariant.listing c.parts.invariant.splits c.in-Ok.ensures.asks;
   few = let small = c.in-Ok.ensures.small in let few = c.parts.invariant.few in omega (arith, small, few);
   unfailed = c.in-Ok.ensures.unfailed ∙ c.parts.invariant.unfailed;
-  receipts = let more = c.in-Ok.ensures.receipts in let was = c.parts.invariant.receipts in omega (arith, more, was);
+  accepted = let more = c.in-Ok.ensures.accepted in let was = c.parts.invariant.accepted in omega (arith, more, was);
   splits = c.export_part.ensures.splits ∙ c.parts.invariant.splits;
   bounds = c.export_part.ensures.bounds ∙ c.parts.invariant.bounds;
 }
@@ -27,7 +27,7 @@ returns-in-Err-clause-cut g c = λ tables e. header_unsent _ _ tables _ _ _ _ _ 
 
 pub returns-in-Err-export_part-clause-cut : goal.returns-in-Err-export_part-clause-cut
 returns-in-Err-export_part-clause-cut g c = λ tables e.
-    Exporting-cut _ _ _ _ _ _ _ _ (c.parts.invariant.exporting tables e) c.parts.invariant.receipts
+    Exporting-cut _ _ _ _ _ _ _ _ (c.parts.invariant.exporting tables e) c.parts.invariant.accepted
     (rw (c.parts.invariant.bounds, c.parts.invariant.splits, c.parts.invariant.unfailed) at c.in-Err-export_part.ensures.cut)
 
 pub returns-in-Err-flush-clause-cut : goal.returns-in-Err-flush-clause-cut
@@ -35,7 +35,7 @@ returns-in-Err-flush-clause-cut g c = λ tables e.
     let all : c.parts.part ≡ length tables =
     let cuts = ap length c.splits.ensures.value in let few = c.splits.ensures.partitions tables e in let ends = c.parts-test.false in let within = c.parts.auto.part-end in
     omega (arith, cuts, few, ends, within) in
-    Exporting-kept _ _ _ _ _ (c.parts.invariant.exporting tables e) c.parts.invariant.receipts all c.in-Err-flush.ensures.err c.flush.ensures.bytes
+    Exporting-kept _ _ _ _ _ (c.parts.invariant.exporting tables e) c.parts.invariant.accepted all c.in-Err-flush.ensures.err c.flush.ensures.bytes
 
 pub returns-in-Ok-flush-clause-asks : goal.returns-in-Ok-flush-clause-asks
 returns-in-Ok-flush-clause-asks g c =

@@ -11,7 +11,7 @@ invariant-parts g l = record {
   listing : Listing g.D.Desk.leads (g.D.Desk.splits l.fn.desk) l.fn.policy l.fn.desk (g.W.Write.contents (device l.fn.writer)) l.part l.count l.desk (g.W.Write.contents (device l.writer));
   few : l.count ≤ 4294967296 * l.part;
   unfailed : has_failed l.writer ≡ has_failed l.fn.writer;
-  receipts : g.D.Desk.receipts l.desk ≡ g.D.Desk.receipts l.fn.desk + l.part;
+  accepted : g.D.Desk.accepted l.desk ≡ g.D.Desk.accepted l.fn.desk + l.part;
   splits : g.D.Desk.splits l.desk ≡ g.D.Desk.splits l.fn.desk;
   bounds : g.D.Desk.bounds l.desk ≡ g.D.Desk.bounds l.fn.desk;
 }

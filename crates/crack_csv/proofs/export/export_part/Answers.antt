@@ -26,14 +26,14 @@ pub returns-in-Err-write_rows-clause-cut : goal.returns-in-Err-write_rows-clause
 returns-in-Err-write_rows-clause-cut g c = λ tables e.
     part_unwritten _ _ tables c.args.part c.keys_of_part-keys.result c.in-Ok.reply _ _ _ _ _ _ _ _
     (c.keys_of_part-keys.ensures ∙ ap (λ splits. keys_of_part splits c.args.part) c.splits.ensures.value)
-    (c.in-Ok.ensures.outcome tables e) (c.in-Ok.ensures.after tables e) c.in-Ok.ensures.receipts (rw (c.listed-rows.ensures) at c.in-Err-write_rows.ensures.cut)
+    (c.in-Ok.ensures.outcome tables e) (c.in-Ok.ensures.after tables e) c.in-Ok.ensures.accepted (rw (c.listed-rows.ensures) at c.in-Err-write_rows.ensures.cut)
 
 pub returns-in-Err-clause-cut : goal.returns-in-Err-clause-cut
 returns-in-Err-clause-cut g c = λ tables e.
     let within : c.args.part < length tables = let few = c.splits.ensures.partitions tables e in let there = c.requires in omega (arith, few, there) in
     part_unlisted _ _ tables c.args.part c.keys_of_part-keys.result _ _ _ _ _ _
     (c.keys_of_part-keys.ensures ∙ ap (λ splits. keys_of_part splits c.args.part) c.splits.ensures.value)
-    within (c.in-Err.ensures.outcome tables e) (c.in-Err.ensures.after tables e) c.in-Err.ensures.receipts (Keeps-refl _)
+    within (c.in-Err.ensures.outcome tables e) (c.in-Err.ensures.after tables e) c.in-Err.ensures.accepted (Keeps-refl _)
 
 -- a partition is asked for the rows of all its keys
 all_keys : {D : Type 0} (leads : D → Call → D → Type 0) (splits : List Bound) (policy : Policy) (part : ℕ) (outcome : Result Reply Refusal) (old new : D) (keys : Range) → keys ≡ keys_of_part splits part → leads old (Asked part (Select keys) policy outcome) new → AsksPart leads splits policy part outcome old new

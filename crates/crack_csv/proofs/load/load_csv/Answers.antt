@@ -21,7 +21,7 @@ records-init g c =
         ready = inr (inr (from.has_headers ∙ ap builder_names_headers flexible ∙ ap builder_names_headers none, from.headers));
       };
       few = omega arith;
-      receipts = omega arith;
+      accepted = omega arith;
       splits = refl;
       bounds = refl;
     }
@@ -42,7 +42,7 @@ records-preserved-then-is_header_at g c = record {
       (c.in-Ok-true.ensures.more c.in-Ok-true.field-0-test) (sym c.is_header_at.ensures ∙ c.if-is_header_at.true);
   ready = c.in-Ok-true.ensures.ready c.in-Ok-true.field-0-test;
   few = c.records.invariant.few;
-  receipts = c.records.invariant.receipts;
+  accepted = c.records.invariant.accepted;
   splits = c.records.invariant.splits;
   bounds = c.records.invariant.bounds;
 }
@@ -77,7 +77,7 @@ records-preserved g c = record {
       (c.in-Ok-true.ensures.more c.in-Ok-true.field-0-test) (sym c.is_header_at.ensures ∙ c.if-is_header_at.false) c.records.invariant.splits c.in-Ok.ensures.asks;
   ready = c.in-Ok-true.ensures.ready c.in-Ok-true.field-0-test;
   few = let few = c.records.invariant.few in let more = c.if-loaded-eq-MOST_RECORDS.false in omega (arith, few, more);
-  receipts = let more = c.in-Ok.ensures.receipts in let was = c.records.invariant.receipts in omega (arith, more, was);
+  accepted = let more = c.in-Ok.ensures.accepted in let was = c.records.invariant.accepted in omega (arith, more, was);
   splits = c.insert_record.ensures.splits ∙ c.records.invariant.splits;
   bounds = c.insert_record.ensures.bounds ∙ c.records.invariant.bounds;
 }

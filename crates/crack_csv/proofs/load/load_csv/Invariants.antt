@@ -12,7 +12,7 @@ invariant-records g l = record {
   inserting : (bytes : List ℕ) → g.R.Read.remaining l.fn.reader ≡ Some bytes → Inserting g.R.Read.remaining g.D.Desk.leads (g.D.Desk.splits l.fn.desk) l.fn.policy bytes l.fn.desk l.source l.number l.loaded l.desk;
   ready : IsReady l.source;
   few : l.loaded ≤ MOST_RECORDS;
-  receipts : g.D.Desk.receipts l.desk ≡ g.D.Desk.receipts l.fn.desk + l.loaded;
+  accepted : g.D.Desk.accepted l.desk ≡ g.D.Desk.accepted l.fn.desk + l.loaded;
   splits : g.D.Desk.splits l.desk ≡ g.D.Desk.splits l.fn.desk;
   bounds : g.D.Desk.bounds l.desk ≡ g.D.Desk.bounds l.fn.desk;
 }

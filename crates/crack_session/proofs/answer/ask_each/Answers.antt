@@ -1,6 +1,5 @@
 use Rattle.std.proofs.Common.{◌∙◌, Ok, Err, [], ◌∷◌, ◌++◌, length, arith, ap, refl}
 use Rattle.std.proofs.lemmas.List.Elements.{All-nil, All-push}
-use Rattle.crack_core.specs.Asking.{begins}
 use Rattle.crack_plain.specs.Plain.{IsSmall}
 use Rattle.crack_session.specs.declared.query.PartReply.{PartReply}
 use Rattle.crack_session.specs.Calls.{Asked}
@@ -10,8 +9,8 @@ use Rattle.crack_session.proofs.answer.ask_each.Goals as goal
 
 pub parts-init : goal.parts-init
 parts-init g c = record {
-  asked = λ tables e. (tables, rw c.requires.none begins, e);
-  called = ([], refl, rw c.requires.none begins);
+  asked = λ tables e. (tables, rw c.requires.none (refl, refl), e);
+  called = ([], refl, rw c.requires.none (refl, refl));
   small = rw c.requires.none (All-nil _);
   count = let none = ap length c.requires.none in omega (arith, none);
   room = c.requires.room;

@@ -28,7 +28,7 @@ returns-in-Ok g c =
       splits_are = asked.splits_are;
       calls = asked.calls;
       were = asked.were;
-      made = ArePartsAsked-several _ _ _ _ _ (rw c.splits.ensures.value at c.in_default.ensures.several) (rw all at asked.made);
+      made = ArePartsAsked-several _ _ _ _ _ _ (rw c.splits.ensures.value at c.in_default.ensures.several) (rw all at asked.made);
     }
 
 pub returns-in-Err : goal.returns-in-Err
@@ -38,5 +38,5 @@ returns-in-Err g c = record {
   splits_are = refl;
   calls = [];
   were = refl;
-  made = ArePartsAsked-several _ _ _ _ _ (rw c.splits.ensures.value at c.in_default.ensures.several) (inr (rw c.in-Err.ensures.err refl, refl));
+  made = ArePartsAsked-several _ _ _ _ _ _ (rw c.splits.ensures.value at c.in_default.ensures.several) (inr (rw c.in-Err.ensures.err refl, refl));
 }

@@ -94,8 +94,8 @@ returns-in-Ok-false-clause-written g c = finish-written g.D.Desk.leads (g.D.Desk
 pub returns-in-Ok-false-clause-written_in_part : goal.returns-in-Ok-false-clause-written_in_part
 returns-in-Ok-false-clause-written_in_part g c = finish-written_in_part g.D.Desk.leads (g.D.Desk.splits c.args.desk.now) c.args.policy c.args.desk.now c.finish.result c.lines.progress InputEnded c.finish.ensures.fault (made_at_end g c)
 
-pub returns-in-Ok-false-clause-counted : goal.returns-in-Ok-false-clause-counted
-returns-in-Ok-false-clause-counted g c = finish-counted c.finish.result c.lines.progress InputEnded c.finish.ensures.end (at_end g c)
+pub returns-in-Ok-false-clause-ends : goal.returns-in-Ok-false-clause-ends
+returns-in-Ok-false-clause-ends g c = finish-counted c.finish.result c.lines.progress InputEnded c.finish.ensures.end (at_end g c)
 
 pub returns-in-Ok-false-clause-served : goal.returns-in-Ok-false-clause-served
 returns-in-Ok-false-clause-served g c = finish-served c.finish.result c.lines.progress InputEnded c.finish.ensures.end (at_end g c)
@@ -136,8 +136,8 @@ returns-then-says_quit-clause-written g c = finish-written g.D.Desk.leads (g.D.D
 pub returns-then-says_quit-clause-written_in_part : goal.returns-then-says_quit-clause-written_in_part
 returns-then-says_quit-clause-written_in_part g c = finish-written_in_part g.D.Desk.leads (g.D.Desk.splits c.args.desk.now) c.args.policy c.args.desk.now c.finish-then-says_quit.result c.respond.new.progress Quit c.finish-then-says_quit.ensures.fault (made_at_quit g c)
 
-pub returns-then-says_quit-clause-counted : goal.returns-then-says_quit-clause-counted
-returns-then-says_quit-clause-counted g c = finish-counted c.finish-then-says_quit.result c.respond.new.progress Quit c.finish-then-says_quit.ensures.end (at_quit g c)
+pub returns-then-says_quit-clause-ends : goal.returns-then-says_quit-clause-ends
+returns-then-says_quit-clause-ends g c = finish-counted c.finish-then-says_quit.result c.respond.new.progress Quit c.finish-then-says_quit.ensures.end (at_quit g c)
 
 pub returns-then-says_quit-clause-served : goal.returns-then-says_quit-clause-served
 returns-then-says_quit-clause-served g c = finish-served c.finish-then-says_quit.result c.respond.new.progress Quit c.finish-then-says_quit.ensures.end (at_quit g c)

@@ -1,5 +1,5 @@
 use Rattle.std.proofs.Common.{◌≡◌, vec_len}
-use Rattle.crack_table.specs.Tables.{AreNew}
+use Rattle.crack_table.specs.Keeps.{AreNew}
 use Rattle.crack_table.proofs.table.hire.Given as goal
 
 abbrev pub invariant-numbers : goal.invariant-numbers

@@ -2,13 +2,13 @@ use Rattle.std.proofs.Common.{◌∙◌, length, arith, ap, refl}
 use Rattle.std.proofs.lemmas.List.Elements.{All-nil, All-push}
 use Rattle.crack_plain.specs.Plain.{IsSmall}
 use Rattle.crack_core.specs.Steps.{tables_of}
-use Rattle.crack_core.specs.Asking.{lasting, begins}
+use Rattle.crack_core.specs.Asking.{lasting}
 use Rattle.crack_core.proofs.AskLaws.{AsksInTurn-more, AsksInTurn-stops}
 use Rattle.crack_core.proofs.cores.Core.read_each.Goals as goal
 
 pub parts-init : goal.parts-init
 parts-init c = record {
-  asked = rw c.requires.none begins;
+  asked = rw c.requires.none (refl, refl);
   small = rw c.requires.none (All-nil _);
   count = let none = ap length c.requires.none in omega (arith, none);
   room = c.requires.room;

@@ -4,7 +4,7 @@ use Rattle.std.specs.Int.{w128}
 use Rattle.std.proofs.lemmas.Int.{ints}
 use Rattle.crack_core.specs.Steps.{tables_of}
 use Rattle.crack_core.specs.Asking.{lasting}
-use Rattle.crack_core.specs.Bulk.{none, stopped, joined}
+use Rattle.crack_core.specs.Bulk.{none, stopped, of_halves}
 use Rattle.crack_core.proofs.BulkLaws.{went-whole, sums-more}
 use Rattle.crack_core.proofs.cores.Core.sum_many.Goals as goal
 
@@ -28,7 +28,7 @@ each-preserved c =
     let written : to_z w64 (of_z w64 c.halves-halves.result.1) ≡ c.halves-halves.result.1 = omega (arith, ints, halves.0, halves.1) in record {
       so_far =
           sums-more c.args.self.now.limits c.args.self.now.splits c.args.firsts.now c.args.lasts.now c.each.lows c.each.highs c.each.i c.halves-halves.result.0 (to_z w64 (of_z w64 c.halves-halves.result.1)) c.in-Ok.sum (lasting (tables_of c.args.self.now.parts)) (lasting (tables_of c.each.self.parts)) (lasting (tables_of c.sum_keys.new.self.parts))
-          in_lows in_highs (sym read ∙ c.halves-halves.ensures.value ∙ ap (joined c.halves-halves.result.0) (sym written)) c.each.invariant.so_far (rw (c.each.invariant.opened.1, c.each.invariant.opened.0) at c.in-Ok.ensures.sums);
+          in_lows in_highs (sym read ∙ c.halves-halves.ensures.value ∙ ap (of_halves c.halves-halves.result.0) (sym written)) c.each.invariant.so_far (rw (c.each.invariant.opened.1, c.each.invariant.opened.0) at c.in-Ok.ensures.sums);
       opened = (c.in-Ok.ensures.opened.0 ∙ c.each.invariant.opened.0, c.in-Ok.ensures.opened.1 ∙ c.each.invariant.opened.1);
     }
 

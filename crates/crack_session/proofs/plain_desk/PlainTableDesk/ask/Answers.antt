@@ -9,6 +9,6 @@ returns c = record {
   small = search rules;
   splits = search rules;
   bounds = search rules;
-  receipts = search rules;
+  accepted = search rules;
   leads = plain-leads _ _ _ _ _ (search rules) (search rules);
 }

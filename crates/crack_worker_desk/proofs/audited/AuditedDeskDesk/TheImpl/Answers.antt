@@ -16,7 +16,7 @@ ask-tells g c = record {
   small = c.ensures.asks.asks.small;
   splits = ap (λ t. t.splits) c.ensures.table.0;
   bounds = ap (λ (t : TableState). bounds_of t.limits) c.ensures.table.0;
-  receipts = c.ensures.receipts;
+  accepted = c.ensures.accepted;
   leads = (c.ensures.table.0, c.ensures.table.1, c.ensures.asks);
 }
 
@@ -26,7 +26,7 @@ checkpoint-tells g c = record {
   after = λ tables known. unknown tables known;
   splits = ap (λ (t : TableState). t.splits) c.ensures.table.0;
   bounds = ap (λ (t : TableState). bounds_of t.limits) c.ensures.table.0;
-  receipts = ap (λ (w : AuditedState). length w.book.receipts) c.ensures.worker;
+  accepted = ap (λ (w : AuditedState). length w.book.receipts) c.ensures.worker;
   leads = (c.ensures.table.0, c.ensures.table.1, (c.ensures.folds, c.ensures.worker));
 }
 

@@ -31,7 +31,7 @@ use denote.Triple.Spec.{triple_of}
 use denote.Triple.Table.{entered}
 use denote.Triple.Walked.{says, Stays, walk_of, ends_at, walked, walk_Meets}
 use Rattle.crack_row.specs.declared.limit.Upkeep.TheVariants.{OnRequest}
-use Rattle.crackd_c.specs.Handles.{CoreState}
+use Rattle.crack_core.specs.Cores.{CoreState}
 use Rattle.crackd_c.specs.contracts.handle.Handle as Handle
 use Rattle.crackd_c.specs.contracts.handle.Handle.closed as F
 use Rattle.crackd_c.specs.contracts.handle.Handle.closed.Key.{name as #self}
