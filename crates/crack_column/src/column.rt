@@ -38,18 +38,18 @@ pub struct CrackerColumn {
 }
 
 impl Model for CrackerColumn {
-    ghost use Rattle.std.specs.Prelude.{length, vec_capacity};
+    ghost use Rattle.std.specs.Prelude.{drop, length, map, take, vec_capacity};
     ghost use Rattle.crack_column.specs.Column.{Column};
     ghost use Rattle.crack_column.specs.Keeps.{IsKept};
-    ghost use Rattle.crack_column.specs.Tickets.{handles_in, remembered_in, room_in, aside_in};
+    ghost use Rattle.crack_column.specs.Tickets.{tag_handle, memory_of, room_in, aside_of};
 
     ghost Value = { Column };
 
     ghost view = { λ c. record {
-      handles = handles_in c.generations.items c.tags.items c.len;
-      remembered = remembered_in c.tags.items c.len;
+      handles = map (tag_handle c.generations.items) (take c.len c.tags.items);
+      remembered = map memory_of (take c.len c.tags.items);
       room = room_in (length c.tags.items) (vec_capacity c.generations) c.tags.capacity c.len;
-      aside = aside_in c.generations.items c.tags.items c.len;
+      aside = map (aside_of c.generations.items) (drop c.len c.tags.items);
     } };
 
     ghost invariant = { λ c. IsKept c.generations.items c.tags.items c.len c.unread };

@@ -6,7 +6,6 @@ use Rattle.crack_row.specs.Replies.{IsFlat}
 use Rattle.crack_row.specs.Rows.{row_with, has_serial, is_other, replaced, sum_of}
 use Rattle.crack_row.specs.declared.TheConstants.{GREATEST_BOUND}
 use Rattle.crack_row.specs.declared.layout.Layout.{Layout}
-use Rattle.crack_row.specs.declared.Key.{Key}
 use Rattle.crack_row.specs.declared.Row.{Row}
 use Rattle.crack_row.specs.declared.Serial.{Serial}
 use Rattle.crack_row.specs.declared.command.Change.{Change}

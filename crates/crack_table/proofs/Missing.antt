@@ -1,5 +1,5 @@
 -- The bits of the missing workers.
-use Rattle.std.proofs.Common.{◌≡◌, ◌≢◌, ◌<◌, ◌≤◌, ◌+◌, ◌==◌, add-one, ◌*◌, ◌^◌, ℕ, zero, suc, List, Bool, true, false, arith, refl, inl, inr}
+use Rattle.std.proofs.Common.{◌≡◌, ◌<◌, ◌≤◌, ◌+◌, ◌==◌, add-one, ◌*◌, ◌^◌, ℕ, zero, suc, List, Bool, true, false, arith, refl, inl, inr}
 use Rattle.std.specs.Prelude.{if◌then◌else◌}
 use Rattle.std.proofs.Math.Pow.{pow-lt, pow_mono}
 use Rattle.std.proofs.lemmas.Bool.{cases_eq}

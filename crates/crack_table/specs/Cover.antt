@@ -1,5 +1,5 @@
 -- When receipts cover the pasts of partitions, and which place a fault names.
-use Rattle.std.specs.Prelude.{ℕ, Bool, List, [], ◌∷◌, ◌++◌, ◌≡◌, ◌+◌, ◌-◌, ◌<◌, ◌≤◌, ◌⊎◌, ◌&&◌, ◌==◌, nat_lt, nat_le, not, Option, Some, None, IfSome, is_some, slice_get, filter, find, All, AllPairs, if◌then◌else◌, true, false, length}
+use Rattle.std.specs.Prelude.{ℕ, Bool, List, [], ◌∷◌, ◌++◌, ◌≡◌, ◌+◌, ◌-◌, ◌<◌, ◌≤◌, ◌⊎◌, ◌&&◌, ◌==◌, nat_lt, nat_le, not, Option, Some, None, IfSome, is_some, slice_get, filter, find, All, AllPairs, if◌then◌else◌, true, length}
 use Rattle.std.specs.List.{list_any}
 use Rattle.std.specs.Option.{option_map, option_and_then}
 use Rattle.crack_row.specs.declared.command.Entry.{Entry}
