@@ -285,10 +285,10 @@ fn a_policy_holds_for_the_rest(rt: HostRuntime) {
 }
 
 /// 22 rows, merged into three pieces.
-const ROWS_IN_PIECES: &[u8] =
-    b"policy auto\ninsert 10 1\ninsert 20 1\ninsert 30 1\ninsert 40 1\ninsert 50 1\ninsert 60 1\ninsert 70 1\n\
-insert 80 1\ninsert 90 1\ninsert 100 1\ninsert 110 1\ninsert 120 1\ninsert 130 1\ninsert 140 1\ninsert 150 1\n\
-insert 160 1\ninsert 170 1\ninsert 180 1\ninsert 190 1\ninsert 200 1\ninsert 210 1\ninsert 220 1\ncount 15 25\n";
+const ROWS_IN_PIECES: &[u8] = b"policy auto\n\
+insert 10 1\ninsert 20 1\ninsert 30 1\ninsert 40 1\ninsert 50 1\ninsert 60 1\ninsert 70 1\ninsert 80 1\n\
+insert 90 1\ninsert 100 1\ninsert 110 1\ninsert 120 1\ninsert 130 1\ninsert 140 1\ninsert 150 1\ninsert 160 1\n\
+insert 170 1\ninsert 180 1\ninsert 190 1\ninsert 200 1\ninsert 210 1\ninsert 220 1\ncount 15 25\n";
 
 /// The answers to these.
 const ROWS_TOLD: &[u8] =

@@ -43,7 +43,7 @@ fn most_in_one(rt: &impl Abort, alloc: Global, groups: usize, step: u64, rows: u
 fn assert_neighbours(rt: &impl Abort, serial: u64) {
     for next in 1..4 {
         let other = serial.wrapping_add(next);
-        assert_eq!(rt; group_of(other, 512), group_of(serial, 512));
+        assert!(rt; group_of(other, 512) == group_of(serial, 512));
         assert!(rt; SerialHashing.hash_one(other) != SerialHashing.hash_one(serial));
     }
 }
@@ -70,15 +70,14 @@ fn rows_in_order_find_their_groups_free(rt: HostRuntime) {
 #[test]
 fn rows_kept_far_apart_do_not_pile_up(rt: HostRuntime) {
     let large = most_in_one(&rt, rt.alloc(), 131072, 8192, 123);
-    assert_eq!(rt; large, 1);
     let small = most_in_one(&rt, rt.alloc(), 512, 8192, 123);
-    assert_eq!(rt; small, 1);
+    assert_eq!(rt; [large, small], [1, 1]);
 }
 
 /// Asserts that a row with this serial is there, with this key.
 fn assert_there(rt: &impl Abort, store: &Store, serial: u64, key: KeyNumber) {
     let row = store.row_of(Serial(serial)).expect(rt, "the row");
-    assert_eq!(rt; row.key.number(), key);
+    assert!(rt; row.key.number() == key);
 }
 
 /// Rows whose serials are far apart are found by them, and none between them.
@@ -93,6 +92,6 @@ fn rows_kept_far_apart_are_found(rt: HostRuntime) {
     assert_there(&rt, &store, 8192, 20);
     assert_there(&rt, &store, 999424, 30);
     assert_there(&rt, &store, u64::MAX, 40);
-    assert_eq!(rt; store.row_of(Serial(4096)), None);
+    assert!(rt; store.row_of(Serial(4096)).is_none());
     drop(store);
 }

@@ -25,7 +25,7 @@ pub fn admit(rt: &impl Abort, store: &mut Store, serial: u64, key: u16)
         payload: Payload::from_number(PayloadNumber::from(key / 2)),
     });
     assert!(rt; admitted.is_ok());
-    assert_eq!(rt; store.is_pending(Serial(serial)), Some(true));
+    assert!(rt; store.is_pending(Serial(serial)) == Some(true));
 }
 
 /// A store of all keys with three rows among its pending insertions.
@@ -34,7 +34,7 @@ pub fn admit_three(rt: &impl Abort, alloc: Global, keys: [u16; 3]) -> Store
     ensures high { result.keys.high ≡ GREATEST_BOUND }
 {
     let mut store = Store::new(alloc, KeyRange::all());
-    assert_eq!(rt; store.is_pending(Serial(0)), None);
+    assert!(rt; store.is_pending(Serial(0)).is_none());
     admit(rt, &mut store, 0, keys[0]);
     admit(rt, &mut store, 1, keys[1]);
     admit(rt, &mut store, 2, keys[2]);
@@ -93,11 +93,10 @@ fn crack(rt: &impl Abort, store: &mut Store, low: u128, high: u128, rows: u64) {
 /// Asserts that all rows are counted, and that the pieces have these sizes.
 fn assert_sizes(rt: &impl Abort, store: &Store, sizes: &[u64]) {
     let layout = store.layout().expect(rt, "a layout");
-    assert_eq!(rt; layout.rows, 3);
     let pieces = layout.pieces.as_slice();
-    assert_eq!(rt; pieces.len(), sizes.len());
+    assert!(rt; layout.rows == 3 && pieces.len() == sizes.len());
     for i in 0..sizes.len() {
-        assert_eq!(rt; pieces[i].size, sizes[i], "piece {}", i);
+        assert!(rt; pieces[i].size == sizes[i], "piece {i}");
     }
 }
 
@@ -113,31 +112,32 @@ pub fn append_two(rt: &impl Abort, alloc: Global, keys: [u16; 3]) -> Store
 
 /// Asserts that three rows are pending insertions, and that there is nothing else.
 fn assert_three_pending(rt: &impl Abort, store: &Store) {
-    let rows = [store.pending_in(), store.pending_out(), store.column_len()];
-    assert_eq!(rt; rows, [3, 0, 0]);
-    let cells = [store.cells(), store.free_cells()];
-    assert_eq!(rt; cells, [3, 0]);
+    let told = [
+        store.pending_in(),
+        store.pending_out(),
+        store.column_len(),
+        store.cells(),
+        store.free_cells(),
+    ];
+    assert_eq!(rt; told, [3, 0, 0, 3, 0]);
 }
 
 /// Asserts which pending row is found first, and the next bounds.
 fn assert_found(rt: &impl Abort, store: &Store) {
     let range = KeyRange::new(20, 50).expect(rt, "a range");
-    assert_eq!(rt; store.first_in(range), Some(1));
-    assert_eq!(rt; store.first_out(KeyRange::all()), None);
-    assert_eq!(rt;
-        store.next_bound(Bound::from_number(20)).number(),
-        GREATEST_BOUND
-    );
+    let found = [store.first_in(range), store.first_out(KeyRange::all())];
+    assert_eq!(rt; found, [Some(1), None]);
+    let next = store.next_bound(Bound::from_number(20));
+    assert!(rt; next.number() == GREATEST_BOUND);
 }
 
 /// Pushes the first pending insertion on once, which takes a row of this key into the hand, and appends that.
 fn push_once(rt: &impl Abort, store: Store, key: KeyNumber) -> Store {
     let carrying = push_on(rt, lift_first(rt, store));
     let (_, row) = carrying.hand();
-    assert_eq!(rt; row.key.number(), key);
+    assert!(rt; row.key.number() == key);
     let tally = carrying.tally();
-    assert_eq!(rt; tally.put_in, 3);
-    assert_eq!(rt; tally.moved, 1);
+    assert!(rt; tally.put_in == 3 && tally.moved == 1);
     append(rt, carrying)
 }
 

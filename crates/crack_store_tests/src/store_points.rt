@@ -22,9 +22,9 @@ fn cancel(rt: &impl Abort, store: &mut Store, gone: Row) {
     assert!(rt; pending == Some(true));
     assert!(rt; freed < 1000);
     assert!(rt; doomed < 1000);
-    assert_eq!(rt; store.cancel(gone.serial), gone);
-    assert_eq!(rt; store.row_of(gone.serial), None);
-    assert_eq!(rt; store.freed(), freed + 1);
+    assert!(rt; store.cancel(gone.serial) == gone);
+    assert!(rt; store.row_of(gone.serial).is_none());
+    assert!(rt; store.freed() == freed + 1);
 }
 
 /// Dooms a row of the column, and asserts that it was this row, and that it is gone.
@@ -36,22 +36,23 @@ fn doom(rt: &impl Abort, store: &mut Store, gone: Row) {
     assert!(rt; freed < 1000);
     assert!(rt; doomed < 1000);
     let taken = store.doom(gone.serial).expect(rt, "memory");
-    assert_eq!(rt; taken, gone);
-    assert_eq!(rt; store.row_of(gone.serial), None);
-    assert_eq!(rt; store.pending_out(), doomed + 1);
+    assert!(rt; taken == gone);
+    assert!(rt; store.row_of(gone.serial).is_none());
+    assert!(rt; store.pending_out() == doomed + 1);
 }
 
-/// Removes a row by its serial, and returns it.
-fn remove(rt: &impl Abort, store: &mut Store, serial: u64) -> Option<Row> {
+/// Removes a row by its serial, and asserts that it was this one.
+fn remove(rt: &impl Abort, store: &mut Store, serial: u64, gone: Option<Row>) {
     let freed = store.freed();
     let doomed = store.pending_out();
     assert!(rt; freed < 1000);
     assert!(rt; doomed < 1000);
-    store.remove(Serial(serial)).expect(rt, "memory")
+    let removed = store.remove(Serial(serial)).expect(rt, "memory");
+    assert!(rt; removed == gone);
 }
 
-/// Puts a row in the place of the one of its serial in a store of all keys, and returns the row as it was.
-fn replace(rt: &impl Abort, store: &mut Store, new: Row) -> Option<Row>
+/// Puts a row in the place of the one of its serial in a store of all keys, and asserts that the row was this one.
+fn replace(rt: &impl Abort, store: &mut Store, new: Row, old: Option<Row>)
     requires low { store.old.keys.low ≡ 0 }
     requires high { store.old.keys.high ≡ GREATEST_BOUND }
     ensures low { store.new.keys.low ≡ 0 }
@@ -63,7 +64,8 @@ fn replace(rt: &impl Abort, store: &mut Store, new: Row) -> Option<Row>
     assert!(rt; freed < 1000);
     assert!(rt; doomed < 1000);
     assert!(rt; cells < 1000);
-    store.replace(new).expect(rt, "memory")
+    let replaced = store.replace(new).expect(rt, "memory");
+    assert!(rt; replaced == old);
 }
 
 /// Rewrites a row of a store of all keys, and asserts that it reads so.
@@ -81,8 +83,8 @@ fn rewrite(rt: &impl Abort, store: &mut Store, new: Row)
     assert!(rt; cells < 1000);
     let rewritten = store.rewrite(new.serial, new.key, new.payload);
     assert!(rt; rewritten.is_ok());
-    assert_eq!(rt; store.row_of(new.serial), Some(new));
-    assert_eq!(rt; store.is_pending(new.serial), Some(true));
+    assert!(rt; store.row_of(new.serial) == Some(new));
+    assert!(rt; store.is_pending(new.serial) == Some(true));
 }
 
 /// Asserts how many rows wait to be put in and to be taken out, how many cells there are, and how many of them are
@@ -97,13 +99,13 @@ fn assert_numbers(rt: &impl Abort, store: &Store, numbers: [usize; 4]) {
 /// Asserts that the first pending insertion of the keys from the low end up to the high end is at this place.
 fn assert_first_in(rt: &impl Abort, store: &Store, low: u128, high: u128, place: usize) {
     let range = KeyRange::new(low, high).expect(rt, "a range");
-    assert_eq!(rt; store.first_in(range), Some(place));
+    assert!(rt; store.first_in(range) == Some(place));
 }
 
 /// Asserts how many rows the layout counts.
 fn assert_rows(rt: &impl Abort, store: &Store, rows: u64) {
     let layout = store.layout().expect(rt, "a layout");
-    assert_eq!(rt; layout.rows, rows);
+    assert!(rt; layout.rows == rows);
 }
 
 /// Cracks by the range, and asserts the sum of its payloads and its rows.
@@ -150,11 +152,9 @@ fn rows_of_the_column_are_doomed(rt: HostRuntime) {
 #[test]
 fn a_replaced_row_comes_back(rt: HostRuntime) {
     let mut store = append_two(&rt, rt.alloc(), [10, 16, 24]);
-    let waiting = replace(&rt, &mut store, row(2, 25, 1));
-    assert_eq!(rt; waiting, Some(row(2, 24, 12)));
-    let stood = replace(&rt, &mut store, row(0, 11, 2));
-    assert_eq!(rt; stood, Some(row(0, 10, 5)));
-    assert_eq!(rt; replace(&rt, &mut store, row(7, 1, 1)), None);
+    replace(&rt, &mut store, row(2, 25, 1), Some(row(2, 24, 12)));
+    replace(&rt, &mut store, row(0, 11, 2), Some(row(0, 10, 5)));
+    replace(&rt, &mut store, row(7, 1, 1), None);
     assert_numbers(&rt, &store, [2, 1, 4, 0]);
     drop(store);
 }
@@ -164,14 +164,14 @@ fn a_replaced_row_comes_back(rt: HostRuntime) {
 #[test]
 fn a_row_is_removed_wherever_it_stands(rt: HostRuntime) {
     let mut store = append_two(&rt, rt.alloc(), [10, 16, 24]);
-    assert_eq!(rt; remove(&rt, &mut store, 2), Some(row(2, 24, 12)));
+    remove(&rt, &mut store, 2, Some(row(2, 24, 12)));
     assert_numbers(&rt, &store, [0, 0, 3, 1]);
-    assert_eq!(rt; remove(&rt, &mut store, 2), None);
-    assert_eq!(rt; remove(&rt, &mut store, 0), Some(row(0, 10, 5)));
+    remove(&rt, &mut store, 2, None);
+    remove(&rt, &mut store, 0, Some(row(0, 10, 5)));
     assert_numbers(&rt, &store, [0, 1, 3, 1]);
-    assert_eq!(rt; remove(&rt, &mut store, 0), None);
-    assert_eq!(rt; remove(&rt, &mut store, 7), None);
-    assert_eq!(rt; store.row_of(Serial(1)), Some(row(1, 16, 8)));
+    remove(&rt, &mut store, 0, None);
+    remove(&rt, &mut store, 7, None);
+    assert!(rt; store.row_of(Serial(1)) == Some(row(1, 16, 8)));
     assert_rows(&rt, &store, 1);
     drop(store);
 }

@@ -6,6 +6,8 @@ mod folds;
 #[cfg(test)]
 mod memory;
 #[cfg(test)]
+mod script;
+#[cfg(test)]
 mod tables;
 #[cfg(test)]
 mod threads;

@@ -1,37 +1,32 @@
 //! Tables and workers, on one thread.
-use crate::values::{ask, ask_by, count, insert, splits};
+use crate::script::{Script, assert_answers, assert_behind};
+use crate::values::{ask_by, assert_totals, give_back, open, splits, take_last};
 use crack_gates::{Counting, Shut, ShutAt, totals};
-use crack_row::{Bound, Command, KeyRange, Layout, Refusal, Reply};
+use crack_row::{Bound, Command, KeyRange, Refusal, Reply};
 use crack_table::{GatherRefused, Table, Worker, gather};
 use std::alloc::Global;
+use std::process::Abort;
 use std::sync::Wait;
-use std::test::Fail;
 
 #[test]
-fn a_shut_gate_keeps_a_worker_out(rt: HostRuntime) -> Result<(), Fail> {
+fn a_shut_gate_keeps_a_worker_out(rt: HostRuntime) {
+    const SCRIPT: Script = &[(0, 0, "count 7 8", "refused 7")];
     let alloc: Global = rt.alloc();
-    let (table, mut workers) = Table::open(alloc, &[], 10, 1)?;
-    let mut worker = workers.pop().ok_or("worker")?;
-    let answer = ask_by(&rt, &mut worker, &table, &Shut, 0, count(7)?);
-    assert!(rt; matches!(answer, Err(Refusal::GateGaveUp)));
-    workers.push(worker)?;
-    assert_eq!(rt; totals(alloc, table, workers), Ok([0, 0, 0, 0]));
-    Ok(())
+    let (table, mut workers) = open(&rt, alloc, &[], 10, 1);
+    assert_behind(&rt, alloc, &mut workers, &table, &Shut, SCRIPT);
+    assert_totals(&rt, alloc, table, workers, [0, 0, 0, 0]);
 }
 
 #[test]
-fn a_shut_gate_is_asked_at_a_thousand_turns_in_order(rt: HostRuntime) -> Result<(), Fail> {
+fn a_shut_gate_is_asked_at_a_thousand_turns_in_order(rt: HostRuntime) {
+    const SCRIPT: Script = &[(0, 1, "insert 1000007 1", "refused 7")];
     let alloc: Global = rt.alloc();
-    let (table, mut workers) = Table::open(alloc, &splits(), 10, 1)?;
-    let mut worker = workers.pop().ok_or("worker")?;
+    let (table, mut workers) = open(&rt, alloc, &splits(), 10, 1);
     let gate = Counting::new(1, u32::MAX);
-    let answer = ask_by(&rt, &mut worker, &table, &gate, 1, insert(1000007));
-    assert!(rt; matches!(answer, Err(Refusal::GateGaveUp)));
+    assert_behind(&rt, alloc, &mut workers, &table, &gate, SCRIPT);
     assert_eq!(rt; gate.asked(), 1000);
     assert!(rt; gate.is_orderly());
-    workers.push(worker)?;
-    assert_eq!(rt; totals(alloc, table, workers), Ok([0, 0, 0, 0]));
-    Ok(())
+    assert_totals(&rt, alloc, table, workers, [0, 0, 0, 0]);
 }
 
 /// Four partitions.
@@ -60,47 +55,54 @@ fn is_kept_out_there<R: Wait>(rt: &R, worker: &mut Worker, table: &Table, shut: 
     fine
 }
 
-/// Each partition's gate is its own: one that refuses at one partition keeps no worker out of another.
-#[test]
-fn a_gate_shut_at_one_partition_refuses_it_alone(rt: HostRuntime) -> Result<(), Fail> {
-    let alloc: Global = rt.alloc();
-    let (table, mut workers) = Table::open(alloc, &four(), 100, 1)?;
-    let mut worker = workers.pop().ok_or("worker")?;
-    let mut fine = true;
+/// Asserts that a worker is refused where each gate in turn is shut, and there alone.
+fn assert_kept_out_there<R: Wait + Abort>(rt: &R, worker: &mut Worker, table: &Table) {
     'rounds: for shut in 0..4u32 {
-        fine = is_kept_out_there(&rt, &mut worker, &table, shut) && fine;
+        assert!(rt; is_kept_out_there(rt, worker, table, shut));
     }
-    assert!(rt; fine);
-    workers.push(worker)?;
-    assert_eq!(rt; totals(alloc, table, workers), Ok([12, 0, 0, 0]));
-    Ok(())
 }
 
-/// How many rows a layout reports.
-fn rows_of(layout: Result<Layout, Refusal>) -> Option<u64> {
-    match layout {
-        Ok(layout) => Some(layout.rows),
-        Err(_) => None,
-    }
+/// Each partition's gate is its own: one that refuses at one partition keeps no worker out of another.
+#[test]
+fn a_gate_shut_at_one_partition_refuses_it_alone(rt: HostRuntime) {
+    let alloc: Global = rt.alloc();
+    let (table, mut workers) = open(&rt, alloc, &four(), 100, 1);
+    let mut worker = take_last(&rt, &mut workers);
+    assert_kept_out_there(&rt, &mut worker, &table);
+    give_back(&rt, &mut workers, worker);
+    assert_totals(&rt, alloc, table, workers, [12, 0, 0, 0]);
+}
+
+/// Asserts the answers that the workers of a fresh table of this limit get, and its totals.
+fn assert_limited<R: Wait + Abort>(
+    rt: &R,
+    alloc: Global,
+    splits: &[Bound],
+    limit: u64,
+    script: Script,
+    wanted: [u64; 4],
+) {
+    let (table, mut workers) = open(rt, alloc, splits, limit, 1);
+    assert_answers(rt, alloc, &mut workers, &table, script);
+    assert_totals(rt, alloc, table, workers, wanted);
 }
 
 /// A layout isn't kept, so a full history refuses none.
 #[test]
-fn a_worker_is_refused_as_its_partition_is(rt: HostRuntime) -> Result<(), Fail> {
-    let alloc: Global = rt.alloc();
-    let (table, mut workers) = Table::open(alloc, &splits(), 1, 1)?;
-    let mut worker = workers.pop().ok_or("worker")?;
-    let nowhere = ask(&rt, &mut worker, &table, 2, insert(7));
-    assert!(rt; matches!(nowhere, Err(Refusal::NoSuchPartition)));
-    let outside = ask(&rt, &mut worker, &table, 1, insert(7));
-    assert!(rt; matches!(outside, Err(Refusal::KeyOutside)));
-    assert!(rt; ask(&rt, &mut worker, &table, 0, insert(7)).is_ok());
-    let full = ask(&rt, &mut worker, &table, 0, insert(7));
-    assert!(rt; matches!(full, Err(Refusal::HistoryFull { length: 1 })));
-    assert_eq!(rt; rows_of(worker.layout(&rt, &table, 0)), Some(1));
-    workers.push(worker)?;
-    assert_eq!(rt; totals(alloc, table, workers), Ok([1, 1, 0, 1]));
-    Ok(())
+fn a_worker_is_refused_as_its_partition_is(rt: HostRuntime) {
+    const SCRIPT: Script = &[
+        (0, 2, "insert 7 1", "refused 5"),
+        (0, 1, "insert 7 1", "refused 4"),
+        (0, 0, "insert 7 1", "row 0.0"),
+        (0, 0, "insert 7 1", "refused 6 1"),
+        (
+            0,
+            0,
+            "layout 0",
+            "layout 0 rows 1 column 0 out 0 in 1 cells 1 free 0 pieces 1\npiece 0 1000000 0",
+        ),
+    ];
+    assert_limited(&rt, rt.alloc(), &splits(), 1, SCRIPT, [1, 1, 0, 1]);
 }
 
 /// The refusal of an opening.
@@ -118,142 +120,148 @@ fn refused(alloc: Global, splits: &[Bound], limit: u64, workers: u64) -> Option<
 fn openings_are_refused_in_order(rt: HostRuntime) {
     let alloc: Global = rt.alloc();
     let twice = [Bound::from_number(5), Bound::from_number(5)];
-    assert_eq!(rt; refused(alloc, &twice, 0, 0), Some(Refusal::BadSplits));
-    assert_eq!(rt;
+    let told = [
+        refused(alloc, &twice, 0, 0),
         refused(alloc, &splits(), 0, 0),
-        Some(Refusal::BadWorkerCount)
-    );
-    assert_eq!(rt;
         refused(alloc, &splits(), 0, 65),
-        Some(Refusal::BadWorkerCount)
-    );
-    assert_eq!(rt; refused(alloc, &splits(), 0, 64), Some(Refusal::BadLimit));
-    assert_eq!(rt; refused(alloc, &splits(), 1, 64), None);
+        refused(alloc, &splits(), 0, 64),
+        refused(alloc, &splits(), 1, 64),
+    ];
+    let wanted = [
+        Some(Refusal::BadSplits),
+        Some(Refusal::BadWorkerCount),
+        Some(Refusal::BadWorkerCount),
+        Some(Refusal::BadLimit),
+        None,
+    ];
+    assert_eq!(rt; told, wanted);
 }
 
-#[test]
-fn a_missing_worker_is_told_and_all_are_handed_back(rt: HostRuntime) -> Result<(), Fail> {
-    let alloc: Global = rt.alloc();
-    let (table, mut workers) = Table::open(alloc, &splits(), 10, 2)?;
-    let mut second = workers.pop().ok_or("second")?;
-    assert!(rt; ask(&rt, &mut second, &table, 0, insert(7)).is_ok());
-    let Err(refused) = gather(alloc, table, workers) else {
-        return Err("gathered".into());
-    };
-    let GatherRefused {
-        refusal,
-        table,
-        mut workers,
-    } = refused;
-    assert_eq!(rt; refusal, Refusal::WorkersMissing { missing: 2 });
-    workers.push(second)?;
-    assert_eq!(rt; totals(alloc, table, workers), Ok([1, 1, 0, 1]));
-    Ok(())
-}
-
-/// A worker of another table, with the number of one of this: its receipts are no entries here.
-#[test]
-fn a_stranger_of_the_same_number_is_found(rt: HostRuntime) -> Result<(), Fail> {
-    let alloc: Global = rt.alloc();
-    let (other, mut strangers) = Table::open(alloc, &[], 10, 1)?;
-    let mut stranger = strangers.pop().ok_or("stranger")?;
-    assert!(rt; ask(&rt, &mut stranger, &other, 0, insert(7)).is_ok());
-    drop(other);
-    let (table, mut workers) = Table::open(alloc, &[], 10, 1)?;
-    workers.push(stranger)?;
-    let strange = Refusal::StrangeReceipt {
-        part: 0,
-        position: 0,
-    };
-    assert_eq!(rt; totals(alloc, table, workers), Err(strange));
-    Ok(())
-}
-
-/// The refusal of a table with a stranger in the place of its one worker, and the table again.
-fn refused_with_a_stranger(alloc: Global, table: Table) -> Result<(Refusal, Table), Fail> {
-    let (other, strangers) = Table::open(alloc, &[], 10, 1)?;
-    drop(other);
-    match gather(alloc, table, strangers) {
-        Ok(closed) => {
-            drop(closed);
-            Err("gathered".into())
-        }
+/// Why a table isn't gathered by these workers, and both as they are handed back.
+fn refused_by(
+    rt: &impl Abort,
+    alloc: Global,
+    table: Table,
+    workers: Vec<Worker>,
+) -> (Refusal, Table, Vec<Worker>) {
+    match gather(alloc, table, workers) {
+        Ok(_) => panic!(rt; "gathered"),
         Err(refused) => {
             let GatherRefused {
                 refusal,
                 table,
                 workers,
             } = refused;
-            drop(workers);
-            Ok((refusal, table))
+            (refusal, table, workers)
         }
     }
 }
 
-/// The partitions that were taken out are in the locks again, in order: the receipts of the table's own worker agree.
 #[test]
-fn a_table_that_a_stranger_was_refused_is_gathered_by_its_own_worker(
-    rt: HostRuntime,
-) -> Result<(), Fail> {
+fn a_missing_worker_is_told_and_all_are_handed_back(rt: HostRuntime) {
+    const SCRIPT: Script = &[(1, 0, "insert 7 1", "row 0.0")];
     let alloc: Global = rt.alloc();
-    let (table, mut workers) = Table::open(alloc, &splits(), 10, 1)?;
-    let mut own = workers.pop().ok_or("own")?;
-    assert!(rt; ask(&rt, &mut own, &table, 0, insert(7)).is_ok());
-    assert!(rt; ask(&rt, &mut own, &table, 1, insert(1000007)).is_ok());
-    let (refusal, table) = refused_with_a_stranger(alloc, table)?;
-    let strange = Refusal::StrangeReceipt {
+    let (table, mut workers) = open(&rt, alloc, &splits(), 10, 2);
+    assert_answers(&rt, alloc, &mut workers, &table, SCRIPT);
+    let second = take_last(&rt, &mut workers);
+    let (refusal, table, mut workers) = refused_by(&rt, alloc, table, workers);
+    assert!(rt; refusal == Refusal::WorkersMissing { missing: 2 });
+    give_back(&rt, &mut workers, second);
+    assert_totals(&rt, alloc, table, workers, [1, 1, 0, 1]);
+}
+
+/// A receipt of the first row of a table that isn't its own worker's.
+fn strange() -> Refusal {
+    Refusal::StrangeReceipt {
         part: 0,
         position: 0,
-    };
-    assert_eq!(rt; refusal, strange);
-    workers.push(own)?;
-    assert_eq!(rt; totals(alloc, table, workers), Ok([2, 2, 0, 2]));
-    Ok(())
+    }
+}
+
+/// A worker of another table, with the number of one of this: its receipts are no entries here.
+#[test]
+fn a_stranger_of_the_same_number_is_found(rt: HostRuntime) {
+    const SCRIPT: Script = &[(0, 0, "insert 7 1", "row 0.0")];
+    let alloc: Global = rt.alloc();
+    let (other, mut strangers) = open(&rt, alloc, &[], 10, 1);
+    assert_answers(&rt, alloc, &mut strangers, &other, SCRIPT);
+    drop(other);
+    let stranger = take_last(&rt, &mut strangers);
+    let (table, mut workers) = open(&rt, alloc, &[], 10, 1);
+    give_back(&rt, &mut workers, stranger);
+    assert_eq!(rt; totals(alloc, table, workers), Err(strange()));
+}
+
+/// The table again, once it was refused with a stranger in the place of its one worker.
+fn refuse_a_stranger(rt: &impl Abort, alloc: Global, table: Table) -> Table {
+    let (other, strangers) = open(rt, alloc, &[], 10, 1);
+    drop(other);
+    let (refusal, table, strangers) = refused_by(rt, alloc, table, strangers);
+    drop(strangers);
+    assert!(rt; refusal == strange());
+    table
+}
+
+/// Asserts the answers to the one worker of a table before and after a stranger is refused in its place, and then the
+/// totals.
+fn assert_around_a_stranger<R: Wait + Abort>(
+    rt: &R,
+    alloc: Global,
+    before: Script,
+    after: Script,
+    wanted: [u64; 4],
+) {
+    let (table, mut workers) = open(rt, alloc, &splits(), 10, 1);
+    assert_answers(rt, alloc, &mut workers, &table, before);
+    let table = refuse_a_stranger(rt, alloc, table);
+    assert_answers(rt, alloc, &mut workers, &table, after);
+    assert_totals(rt, alloc, table, workers, wanted);
+}
+
+/// The partitions that were taken out are in the locks again, in order: the receipts of the table's own worker agree.
+#[test]
+fn a_table_that_a_stranger_was_refused_is_gathered_by_its_own_worker(rt: HostRuntime) {
+    const SCRIPT: Script = &[
+        (0, 0, "insert 7 1", "row 0.0"),
+        (0, 1, "insert 1000007 1", "row 1.0"),
+    ];
+    assert_around_a_stranger(&rt, rt.alloc(), SCRIPT, &[], [2, 2, 0, 2]);
 }
 
 /// A refused gathering makes no checkpoint: each partition still has its entries, which a checkpoint then counts.
 #[test]
-fn a_refused_gathering_folds_nothing(rt: HostRuntime) -> Result<(), Fail> {
-    let alloc: Global = rt.alloc();
-    let (table, mut workers) = Table::open(alloc, &splits(), 10, 1)?;
-    let mut own = workers.pop().ok_or("own")?;
-    assert!(rt; ask(&rt, &mut own, &table, 0, insert(7)).is_ok());
-    assert!(rt; ask(&rt, &mut own, &table, 0, insert(8)).is_ok());
-    assert!(rt; ask(&rt, &mut own, &table, 1, insert(1000007)).is_ok());
-    let (_, table) = refused_with_a_stranger(alloc, table)?;
-    assert_eq!(rt; own.checkpoint(&rt, &table, 0), Ok(2));
-    assert_eq!(rt; own.checkpoint(&rt, &table, 1), Ok(1));
-    workers.push(own)?;
-    assert_eq!(rt; totals(alloc, table, workers), Ok([3, 3, 0, 3]));
-    Ok(())
-}
-
-/// Inserts as many rows into one of four partitions as its number and one more.
-fn insert_rows<R: Wait>(rt: &R, worker: &mut Worker, table: &Table, part: u32) -> bool {
-    let mut fine = true;
-    'rows: for row in 0..=part {
-        let key = part.wrapping_mul(100).wrapping_add(row);
-        fine = ask(rt, worker, table, part, insert(key)).is_ok() && fine;
-    }
-    fine
+fn a_refused_gathering_folds_nothing(rt: HostRuntime) {
+    const INSERTS: Script = &[
+        (0, 0, "insert 7 1", "row 0.0"),
+        (0, 0, "insert 8 1", "row 0.1"),
+        (0, 1, "insert 1000007 1", "row 1.0"),
+    ];
+    const CHECKPOINTS: Script = &[
+        (0, 0, "checkpoint 0", "folded 2"),
+        (0, 1, "checkpoint 1", "folded 1"),
+    ];
+    assert_around_a_stranger(&rt, rt.alloc(), INSERTS, CHECKPOINTS, [3, 3, 0, 3]);
 }
 
 /// A checkpoint is of the partition that it names, and of no other: each still counts its own entries, in whatever
 /// order they are checkpointed.
 #[test]
-fn a_checkpoint_folds_its_own_partition_alone(rt: HostRuntime) -> Result<(), Fail> {
-    let alloc: Global = rt.alloc();
-    let (table, mut workers) = Table::open(alloc, &four(), 10, 1)?;
-    let mut own = workers.pop().ok_or("own")?;
-    let mut fine = true;
-    'fills: for part in 0..4u32 {
-        fine = insert_rows(&rt, &mut own, &table, part) && fine;
-    }
-    'folds: for part in [2u32, 0, 3, 1] {
-        fine = own.checkpoint(&rt, &table, part) == Ok(u64::from(part).wrapping_add(1)) && fine;
-    }
-    assert!(rt; fine);
-    workers.push(own)?;
-    assert_eq!(rt; totals(alloc, table, workers), Ok([10, 10, 0, 10]));
-    Ok(())
+fn a_checkpoint_folds_its_own_partition_alone(rt: HostRuntime) {
+    const SCRIPT: Script = &[
+        (0, 0, "insert 0 1", "row 0.0"),
+        (0, 1, "insert 100 1", "row 1.0"),
+        (0, 1, "insert 101 1", "row 1.1"),
+        (0, 2, "insert 200 1", "row 2.0"),
+        (0, 2, "insert 201 1", "row 2.1"),
+        (0, 2, "insert 202 1", "row 2.2"),
+        (0, 3, "insert 300 1", "row 3.0"),
+        (0, 3, "insert 301 1", "row 3.1"),
+        (0, 3, "insert 302 1", "row 3.2"),
+        (0, 3, "insert 303 1", "row 3.3"),
+        (0, 2, "checkpoint 2", "folded 3"),
+        (0, 0, "checkpoint 0", "folded 1"),
+        (0, 3, "checkpoint 3", "folded 4"),
+        (0, 1, "checkpoint 1", "folded 2"),
+    ];
+    assert_limited(&rt, rt.alloc(), &four(), 10, SCRIPT, [10, 10, 0, 10]);
 }

@@ -1,11 +1,13 @@
 //! Workers on threads of their own.
-use crate::values::{ask, ask_by, count, insert, splits};
-use crack_gates::{Alone, Meeting, Notes, Noting, totals};
+use crate::values::{
+    ask, ask_by, assert_totals, count, give_back, insert, open, splits, take_last,
+};
+use crack_gates::{Alone, Meeting, Notes, Noting};
 use crack_row::{Command, KeyRange, Layout, Refusal, Reply};
 use crack_table::{Table, Worker};
 use std::alloc::Global;
+use std::process::Abort;
 use std::sync::Wait;
-use std::test::Fail;
 use std::thread;
 
 /// Inserts a key after asking the gate, and returns whether it was placed first.
@@ -25,22 +27,21 @@ fn meet<R: Wait>(
 /// A table whose partitions are asked one after the other, or under one lock, never lets both threads inside: they are
 /// refused 7.
 #[test]
-fn two_partitions_at_once(rt: HostRuntime) -> Result<(), Fail> {
+fn two_partitions_at_once(rt: HostRuntime) {
     let alloc: Global = rt.alloc();
-    let (table, mut workers) = Table::open(alloc, &splits(), 10, 2)?;
+    let (table, mut workers) = open(&rt, alloc, &splits(), 10, 2);
     let gate = Meeting::new();
-    let second = workers.pop().ok_or("second")?;
-    let first = workers.pop().ok_or("first")?;
+    let second = take_last(&rt, &mut workers);
+    let first = take_last(&rt, &mut workers);
     let ((first, one), (second, two)) = thread::join(
         &rt,
         || meet(&rt, first, &table, &gate, 0, 50),
         || meet(&rt, second, &table, &gate, 1, 1000050),
     );
     assert!(rt; one && two);
-    workers.push(second)?;
-    workers.push(first)?;
-    assert_eq!(rt; totals(alloc, table, workers), Ok([2, 2, 0, 2]));
-    Ok(())
+    give_back(&rt, &mut workers, second);
+    give_back(&rt, &mut workers, first);
+    assert_totals(&rt, alloc, table, workers, [2, 2, 0, 2]);
 }
 
 /// Inserts a key into partition 0 after asking the gate, and returns whether it was placed.
@@ -57,23 +58,31 @@ fn enter<R: Wait>(
 
 /// If the gate were asked before its partition's lock is acquired, both threads would be inside.
 #[test]
-fn one_partition_lets_one_inside(rt: HostRuntime) -> Result<(), Fail> {
+fn one_partition_lets_one_inside(rt: HostRuntime) {
     let alloc: Global = rt.alloc();
-    let (table, mut workers) = Table::open(alloc, &[], 10, 2)?;
+    let (table, mut workers) = open(&rt, alloc, &[], 10, 2);
     let gate = Alone::new();
-    let second = workers.pop().ok_or("second")?;
-    let first = workers.pop().ok_or("first")?;
+    let second = take_last(&rt, &mut workers);
+    let first = take_last(&rt, &mut workers);
     let ((first, one), (second, two)) = thread::join(
         &rt,
         || enter(&rt, first, &table, &gate, 50),
         || enter(&rt, second, &table, &gate, 60),
     );
-    assert!(rt; one && two);
-    assert!(rt; !gate.met());
-    workers.push(second)?;
-    workers.push(first)?;
-    assert_eq!(rt; totals(alloc, table, workers), Ok([2, 2, 0, 2]));
-    Ok(())
+    assert!(rt; one && two && !gate.met());
+    give_back(&rt, &mut workers, second);
+    give_back(&rt, &mut workers, first);
+    assert_totals(&rt, alloc, table, workers, [2, 2, 0, 2]);
+}
+
+/// The workers of some that are done, each of which was answered as expected.
+fn all_fine(rt: &impl Abort, alloc: Global, done: Vec<(Worker, bool)>) -> Vec<Worker> {
+    let mut workers = Vec::new(alloc);
+    'done: for (worker, fine) in done {
+        assert!(rt; fine);
+        give_back(rt, &mut workers, worker);
+    }
+    workers
 }
 
 /// Inserts 1000 rows into partition 0 behind a gate that notes the worker, and checks for each row that the note at its
@@ -98,24 +107,19 @@ fn enter_noted<R: Wait>(
 /// If the lock were released between the gate's consent and the command, another worker's note would be at some row's
 /// place; if the gate were asked twice for a command, there would be more notes than rows.
 #[test]
-fn each_command_is_let_in_once_and_follows_at_once(rt: HostRuntime) -> Result<(), Fail> {
+fn each_command_is_let_in_once_and_follows_at_once(rt: HostRuntime) {
     let alloc: Global = rt.alloc();
-    let (table, workers) = Table::open(alloc, &[], 1000000, 4)?;
-    let notes = Notes::new(alloc, 4000)?;
+    let (table, workers) = open(&rt, alloc, &[], 1000000, 4);
+    let notes = Notes::new(alloc, 4000).expect(&rt, "memory");
     let (shared, runtime, noted) = (&table, &rt, &notes);
     let done = thread::map_vec(
         &rt,
         workers,
         &|worker| { enter_noted(runtime, worker, shared, noted) },
-    )?;
-    let mut back = Vec::new(alloc);
-    'done: for (worker, fine) in done {
-        assert!(rt; fine);
-        back.push(worker)?;
-    }
+    );
+    let back = all_fine(&rt, alloc, done.expect(&rt, "threads"));
     assert_eq!(rt; notes.entered(), 4000);
-    assert_eq!(rt; totals(alloc, table, back), Ok([4000, 4000, 0, 4000]));
-    Ok(())
+    assert_totals(&rt, alloc, table, back, [4000, 4000, 0, 4000]);
 }
 
 /// Ten counts of one worker: how many were answered, and how many were refused since the history has ten entries.
@@ -131,27 +135,37 @@ fn count_ten_times<R: Wait>(rt: &R, mut worker: Worker, table: &Table) -> (Worke
     (worker, [answered, refused])
 }
 
+/// The workers of some that are done, of whose counts so many were answered and refused in all.
+fn all_counted(
+    rt: &impl Abort,
+    alloc: Global,
+    done: Vec<(Worker, [u32; 2])>,
+    wanted: [u32; 2],
+) -> Vec<Worker> {
+    let mut workers = Vec::new(alloc);
+    let [mut answered, mut refused] = [0u32, 0u32];
+    'done: for (worker, [one, two]) in done {
+        answered = answered.wrapping_add(one);
+        refused = refused.wrapping_add(two);
+        give_back(rt, &mut workers, worker);
+    }
+    assert_eq!(rt; [answered, refused], wanted);
+    workers
+}
+
 /// If room in the history were found before the lock is acquired, more would be answered than it has room for.
 #[test]
-fn four_workers_fill_one_history(rt: HostRuntime) -> Result<(), Fail> {
+fn four_workers_fill_one_history(rt: HostRuntime) {
     let alloc: Global = rt.alloc();
-    let (table, workers) = Table::open(alloc, &[], 10, 4)?;
+    let (table, workers) = open(&rt, alloc, &[], 10, 4);
     let (shared, runtime) = (&table, &rt);
     let done = thread::map_vec(
         &rt,
         workers,
         &|worker| { count_ten_times(runtime, worker, shared) },
-    )?;
-    let mut back = Vec::new(alloc);
-    let [mut answered, mut refused] = [0u32, 0u32];
-    'done: for (worker, [one, two]) in done {
-        answered = answered.wrapping_add(one);
-        refused = refused.wrapping_add(two);
-        back.push(worker)?;
-    }
-    assert_eq!(rt; [answered, refused], [10, 30]);
-    assert_eq!(rt; totals(alloc, table, back), Ok([10, 0, 0, 0]));
-    Ok(())
+    );
+    let back = all_counted(&rt, alloc, done.expect(&rt, "threads"), [10, 30]);
+    assert_totals(&rt, alloc, table, back, [10, 0, 0, 0]);
 }
 
 /// Inserts the worker's key with this number, into the partitions in turn; each fourth row is deleted again.
@@ -232,38 +246,26 @@ fn work_and_fold<R: Wait>(rt: &R, mut worker: Worker, table: &Table) -> (Worker,
 }
 
 #[test]
-fn four_workers_come_to_one_account(rt: HostRuntime) -> Result<(), Fail> {
+fn four_workers_come_to_one_account(rt: HostRuntime) {
     let alloc: Global = rt.alloc();
-    let (table, workers) = Table::open(alloc, &splits(), 1000000, 4)?;
-    let shared = &table;
-    let runtime = &rt;
-    let done = thread::map_vec(&rt, workers, &|worker| work(runtime, worker, shared))?;
-    let mut back = Vec::new(alloc);
-    for (worker, fine) in done {
-        assert!(rt; fine);
-        back.push(worker)?;
-    }
-    assert_eq!(rt; totals(alloc, table, back), Ok([5004, 4000, 1000, 3000]));
-    Ok(())
+    let (table, workers) = open(&rt, alloc, &splits(), 1000000, 4);
+    let (shared, runtime) = (&table, &rt);
+    let done = thread::map_vec(&rt, workers, &|worker| work(runtime, worker, shared));
+    let back = all_fine(&rt, alloc, done.expect(&rt, "threads"));
+    assert_totals(&rt, alloc, table, back, [5004, 4000, 1000, 3000]);
 }
 
 /// The same totals if partitions are checkpointed during the work.
 #[test]
-fn four_workers_come_to_one_account_over_folded_histories(rt: HostRuntime) -> Result<(), Fail> {
+fn four_workers_come_to_one_account_over_folded_histories(rt: HostRuntime) {
     let alloc: Global = rt.alloc();
-    let (table, workers) = Table::open(alloc, &splits(), 1000000, 4)?;
-    let shared = &table;
-    let runtime = &rt;
+    let (table, workers) = open(&rt, alloc, &splits(), 1000000, 4);
+    let (shared, runtime) = (&table, &rt);
     let done = thread::map_vec(
         &rt,
         workers,
         &|worker| { work_and_fold(runtime, worker, shared) },
-    )?;
-    let mut back = Vec::new(alloc);
-    for (worker, fine) in done {
-        assert!(rt; fine);
-        back.push(worker)?;
-    }
-    assert_eq!(rt; totals(alloc, table, back), Ok([5004, 4000, 1000, 3000]));
-    Ok(())
+    );
+    let back = all_fine(&rt, alloc, done.expect(&rt, "threads"));
+    assert_totals(&rt, alloc, table, back, [5004, 4000, 1000, 3000]);
 }

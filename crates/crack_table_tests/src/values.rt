@@ -1,13 +1,60 @@
-//! The commands of the tests.
+//! Tables, commands and totals of the tests.
+use crack_gates::totals;
 use crack_row::{
-    Bound, BoundNumber, Command, Key, KeyNumber, KeyRange, Payload, Policy, Refusal, Reply,
+    Bound, BoundNumber, Command, Key, KeyNumber, KeyRange, Limits, Payload, Policy, Refusal, Reply,
 };
 use crack_table::{Gate, OpenGate, Table, Worker};
+use std::alloc::Global;
+use std::process::Abort;
 use std::sync::Wait;
 
 /// Two partitions, which meet at key 1000000.
 pub(crate) fn splits() -> [Bound; 1] {
     [Bound::from_number(1000000)]
+}
+
+/// A table and its workers. It promises nothing, so that no test carries the contract of `open`.
+pub(crate) fn open(
+    rt: &impl Abort,
+    alloc: Global,
+    splits: &[Bound],
+    limit: u64,
+    workers: u64,
+) -> (Table, Vec<Worker>) {
+    Table::open(alloc, splits, limit, workers).expect(rt, "a table")
+}
+
+/// The same within limits.
+pub(crate) fn open_within(
+    rt: &impl Abort,
+    alloc: Global,
+    splits: &[Bound],
+    limits: Limits,
+    workers: u64,
+) -> (Table, Vec<Worker>) {
+    Table::open_with(alloc, splits, limits, workers).expect(rt, "a table")
+}
+
+/// The last of some workers, which isn't among them then.
+pub(crate) fn take_last(rt: &impl Abort, workers: &mut Vec<Worker>) -> Worker {
+    workers.pop().expect(rt, "a worker")
+}
+
+/// Puts a worker after the others.
+pub(crate) fn give_back(rt: &impl Abort, workers: &mut Vec<Worker>, worker: Worker) {
+    assert!(rt; workers.push(worker).is_ok());
+}
+
+/// Gathers a table, and asserts how many commands were accepted, rows inserted, deleted and held.
+pub(crate) fn assert_totals(
+    rt: &impl Abort,
+    alloc: Global,
+    table: Table,
+    workers: Vec<Worker>,
+    wanted: [u64; 4],
+) {
+    let told = totals(alloc, table, workers);
+    assert_eq!(rt; told, Ok(wanted));
 }
 
 /// An insert of a key.

@@ -3,7 +3,7 @@ use Rattle.std.proofs.Crossing.{crosses}
 use Rattle.crack_table.proofs.Crosses.{table-sync}
 use Rattle.crack_table_tests.proofs.threads.four_workers_fill_one_history.Goals as goal
 
-pub map_vec-requires-sync-F : goal.map_vec-requires-sync-F
-map_vec-requires-sync-F g c κs within =
+pub map_vec-done-requires-sync-F : goal.map_vec-done-requires-sync-F
+map_vec-done-requires-sync-F g c κs within =
     let table = table-sync in
     search (sendable, crosses) depth 40

@@ -1,0 +1,154 @@
+//! Scripts: statements in the order in which workers put them to a table, each with its answer.
+use crate::values::{ask_by, assert_totals, open_within};
+use crack_commands::{
+    Statement, parse_statement, write_folded, write_layout, write_refusal, write_reply,
+};
+use crack_row::{Bound, Command, Limits, Refusal, Watched};
+use crack_table::{Gate, OpenGate, Table, Worker};
+use std::alloc::Global;
+use std::io::Write;
+use std::process::Abort;
+use std::sync::Wait;
+
+/// Statements, each with the place of its worker and the partition that is asked before it, and with its answer after
+/// it, which has no line feed at its end.
+pub(crate) type Script = &'static [(usize, u32, &'static str, &'static str)];
+
+/// The command of a statement, if it has one.
+fn command_of(statement: Statement) -> Option<Command> {
+    match statement {
+        Statement::Insert { key, payload } => Some(Command::Insert { key, payload }),
+        Statement::Delete(row) => Some(Command::Delete { serial: row.serial }),
+        Statement::Update { row, key, payload } => Some(Command::Update {
+            serial: row.serial,
+            key,
+            payload,
+        }),
+        Statement::Count(range) => Some(Command::Count(range)),
+        _ => None,
+    }
+}
+
+/// Writes the answer to a command.
+fn answer_command<R: Wait, G: Gate, W: Write>(
+    rt: &R,
+    worker: &mut Worker,
+    table: &Table,
+    gate: &G,
+    part: u32,
+    command: Command,
+    writer: &mut Watched<W>,
+) -> Result<(), Refusal> {
+    match ask_by(rt, worker, table, gate, part, command) {
+        Ok(reply) => write_reply(part, &reply, writer),
+        Err(refusal) => write_refusal(&refusal, writer),
+    }
+}
+
+/// Writes what a worker is told of a checkpoint.
+fn answer_checkpoint<R: Wait, W: Write>(
+    rt: &R,
+    worker: &Worker,
+    table: &Table,
+    part: u32,
+    writer: &mut Watched<W>,
+) -> Result<(), Refusal> {
+    match worker.checkpoint(rt, table, part) {
+        Ok(count) => write_folded(count, writer),
+        Err(refusal) => write_refusal(&refusal, writer),
+    }
+}
+
+/// Writes what a worker is told of a layout.
+fn answer_layout<R: Wait, W: Write>(
+    rt: &R,
+    worker: &Worker,
+    table: &Table,
+    part: u32,
+    writer: &mut Watched<W>,
+) -> Result<(), Refusal> {
+    match worker.layout(rt, table, part) {
+        Ok(layout) => write_layout(part, &layout, writer),
+        Err(refusal) => write_refusal(&refusal, writer),
+    }
+}
+
+/// The text of a worker's answer to a line.
+fn answer<R: Wait + Abort, G: Gate>(
+    rt: &R,
+    alloc: Global,
+    worker: &mut Worker,
+    table: &Table,
+    gate: &G,
+    part: u32,
+    line: &str,
+) -> Vec<u8> {
+    let mut writer = Watched::new(Vec::new(alloc));
+    let statement = parse_statement(line.as_bytes()).expect(rt, "a statement");
+    let told = match statement {
+        Statement::Checkpoint(part) => answer_checkpoint(rt, worker, table, part, &mut writer),
+        Statement::Layout(part) => answer_layout(rt, worker, table, part, &mut writer),
+        _ => {
+            let command = command_of(statement).expect(rt, "a command");
+            answer_command(rt, worker, table, gate, part, command, &mut writer)
+        }
+    };
+    assert!(rt; told.is_ok());
+    writer.into_inner()
+}
+
+/// Asserts that this is the text of the wanted answer to a line.
+fn assert_text(rt: &impl Abort, text: &[u8], line: &str, wanted: &str) {
+    let told = match text.split_last() {
+        Some((b'\n', told)) => told,
+        _ => text,
+    };
+    assert_eq!(rt; told, wanted.as_bytes(), "{line}");
+}
+
+/// Asserts the answers that workers get behind a gate.
+pub(crate) fn assert_behind<R: Wait + Abort, G: Gate>(
+    rt: &R,
+    alloc: Global,
+    workers: &mut Vec<Worker>,
+    table: &Table,
+    gate: &G,
+    script: Script,
+) {
+    'script: for place in 0..script.len() {
+        let (number, part, line, wanted) = script[place];
+        let Some(worker) = workers.get_mut(number) else {
+            panic!(rt; "no worker {number}");
+        };
+        let text = answer(rt, alloc, worker, table, gate, part, line);
+        assert_text(rt, &text, line, wanted);
+    }
+}
+
+/// Asserts the answers that workers get.
+pub(crate) fn assert_answers<R: Wait + Abort>(
+    rt: &R,
+    alloc: Global,
+    workers: &mut Vec<Worker>,
+    table: &Table,
+    script: Script,
+) {
+    assert_behind(rt, alloc, workers, table, &OpenGate, script);
+}
+
+/// Asserts the answers that the workers of a fresh table get, and its totals once they are gathered, the last one
+/// first.
+pub(crate) fn assert_table<R: Wait + Abort>(
+    rt: &R,
+    alloc: Global,
+    splits: &[Bound],
+    limits: Limits,
+    count: u64,
+    script: Script,
+    wanted: [u64; 4],
+) {
+    let (table, mut workers) = open_within(rt, alloc, splits, limits, count);
+    assert_answers(rt, alloc, &mut workers, &table, script);
+    workers.reverse();
+    assert_totals(rt, alloc, table, workers, wanted);
+}
