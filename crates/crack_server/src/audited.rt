@@ -1,9 +1,8 @@
 //! A server over a table that witnesses its replies, whose workers keep receipts for an audit at its end.
-use crate::host::Host;
 use crate::reporting::Reporting;
-use crate::server::{Terms, serve_desks};
 use crate::totals::audited_totals_of;
 use crack_row::Refusal;
+use crack_service::{Host, Terms, serve_desks};
 use crack_table::Gate;
 use crack_witness::{Asker, Naming};
 use crack_witness_table::{AuditedAsker, WitnessedTable};
@@ -36,16 +35,10 @@ pub fn run_audited_service<
     input: &mut I,
     writer: &mut W,
 ) -> Result<(), Refusal> {
-    let served = if terms.notes_checkpoints {
-        let reporting = Reporting::new(gate, host);
-        serve_table(
-            rt, alloc, listener, &table, askers, terms, &reporting, host, input,
-        )
-    } else {
-        serve_table(
-            rt, alloc, listener, &table, askers, terms, gate, host, input,
-        )
-    };
+    let reporting = Reporting::new(gate, host, terms.notes_checkpoints);
+    let served = serve_table(
+        rt, alloc, listener, &table, askers, terms, &reporting, host, input,
+    );
     match served {
         Ok(workers) => audited_totals_of(alloc, table, workers)?.write(writer),
         Err(refusal) => Err(refusal),

@@ -6,9 +6,9 @@ ghost use Rattle.crack_session.specs.Written.{AreWritten};
 ghost use Rattle.crack_table.specs.Tables.{AsksTable};
 ghost use Rattle.crack_worker_desk.specs.Leads.{table_leads};
 
-use crate::input::{divide, read_input};
 use crate::totals::totals_of;
 use crack_row::{Bound, Limits, Policy, Refusal, Watched};
+use crack_service::{divide, read_input};
 use crack_session::serve;
 use crack_table::{Gate, Table, Worker};
 use crack_worker_desk::WorkerDesk;

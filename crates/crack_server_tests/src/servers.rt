@@ -1,6 +1,7 @@
 //! A server over loopback.
 use crack_row::{Policy, Refusal};
-use crack_server::{Ending, Host, Notice, Terms, run_server, run_service};
+use crack_server::{run_server, run_service};
+use crack_service::{Ending, Host, Notice, Terms};
 use crack_table::{OpenGate, Table};
 use std::alloc::Global;
 use std::io::{Read, Write};

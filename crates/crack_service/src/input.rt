@@ -10,7 +10,7 @@ use std::io::Read;
 
 /// The whole input. Refused with 17 if the reader fails, or gives more than `MOST_INPUT_BYTES`, and with 8 if it
 /// finds no memory.
-pub(crate) fn read_input<R: Read>(alloc: Global, reader: &mut R) -> Result<Vec<u8>, Refusal> {
+pub fn read_input<R: Read>(alloc: Global, reader: &mut R) -> Result<Vec<u8>, Refusal> {
     let mut bytes = Vec::new(alloc);
     let mut watched = Watched::new(reader);
     let read = (&mut watched)
@@ -25,7 +25,7 @@ pub(crate) fn read_input<R: Read>(alloc: Global, reader: &mut R) -> Result<Vec<u
 
 /// Each worker's statements, in order, each with a line feed. The number in front of a line that isn't blank names its
 /// worker, modulo the number of workers. Refused with 1 if a line has none, and with 8 if it finds no memory.
-pub(crate) fn divide(alloc: Global, input: &[u8], workers: usize) -> Result<Vec<Vec<u8>>, Refusal>
+pub fn divide(alloc: Global, input: &[u8], workers: usize) -> Result<Vec<Vec<u8>>, Refusal>
     requires { 0 < workers }
 {
     let mut shares = empty_shares(alloc, workers)?;

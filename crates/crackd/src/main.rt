@@ -7,9 +7,8 @@ use crack_arguments::{ArgumentsError, Opening, Request, Service, Staffed, asks_f
 use crack_core::Core;
 use crack_csv::{export_csv, load_csv};
 use crack_row::{Policy, Refusal, Upkeep, Watched};
-use crack_server::{
-    Ending, Host, Notice, REPLY_BYTES, Terms, run_audited_service, run_batch, run_witnessed_service,
-};
+use crack_server::{run_audited_service, run_batch, run_witnessed_service};
+use crack_service::{Ending, Host, Notice, REPLY_BYTES, Terms};
 use crack_session::serve;
 use crack_table::OpenGate;
 use crack_witness::Naming;

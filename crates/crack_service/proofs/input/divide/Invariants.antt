@@ -1,5 +1,5 @@
 use Rattle.std.proofs.Common.{◌<◌, length, vec_len}
-use Rattle.crack_server.proofs.input.divide.Given as goal
+use Rattle.crack_service.proofs.input.divide.Given as goal
 
 abbrev pub invariant-lines : goal.invariant-lines
 invariant-lines l = 0 < vec_len l.shares

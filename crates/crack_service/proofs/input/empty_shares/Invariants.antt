@@ -1,5 +1,5 @@
 use Rattle.std.proofs.Common.{◌≡◌, vec_len}
-use Rattle.crack_server.proofs.input.empty_shares.Given as goal
+use Rattle.crack_service.proofs.input.empty_shares.Given as goal
 
 abbrev pub invariant-workers : goal.invariant-workers
 invariant-workers l = vec_len l.shares ≡ l.counter

@@ -1,6 +1,6 @@
 use denote.Param.Send.{sendable}
 use Rattle.std.proofs.Crossing.{crosses}
-use Rattle.crack_server.proofs.server.fn.serve_desks.scope.Goals as goal
+use Rattle.crack_service.proofs.connections.fn.serve_desks.scope.Goals as goal
 
 pub spawn-requires-send-F : goal.spawn-requires-send-F
 spawn-requires-send-F g c κs within =
