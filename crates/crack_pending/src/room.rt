@@ -36,6 +36,7 @@ impl<Kind> PendingList<Kind> {
     }
 
     /// Makes room for as many pushes; amortised O(1) for each of them. Refused only with 8.
+    #[inline(always)]
     pub fn reserve(&mut self, additional: usize) -> Result<(), Refusal>
         requires { length self.old.handles + additional ≤ 2 ^ 32 }
         ensures same { self.new ≡ record self.old { room = self.new.room } }
@@ -124,6 +125,7 @@ impl<Kind> PendingList<Kind> {
 
     /// Makes room for the handles of as many cells, counted from the first; amortised O(1) for each that is new.
     /// Refused only with 8.
+    #[inline(always)]
     pub fn make_places(&mut self, cells: usize) -> Result<(), Refusal>
         ensures same { self.new ≡ record self.old { covered = self.new.covered } }
         ensures covered { OnOk result (cells ≤ self.new.covered) }

@@ -35,10 +35,16 @@ pub fn run_audited_service<
     input: &mut I,
     writer: &mut W,
 ) -> Result<(), Refusal> {
-    let reporting = Reporting::new(gate, host, terms.notes_checkpoints);
-    let served = serve_table(
-        rt, alloc, listener, &table, askers, terms, &reporting, host, input,
-    );
+    let served = if terms.notes_checkpoints {
+        let reporting = Reporting::new(gate, host);
+        serve_table(
+            rt, alloc, listener, &table, askers, terms, &reporting, host, input,
+        )
+    } else {
+        serve_table(
+            rt, alloc, listener, &table, askers, terms, gate, host, input,
+        )
+    };
     match served {
         Ok(workers) => audited_totals_of(alloc, table, workers)?.write(writer),
         Err(refusal) => Err(refusal),

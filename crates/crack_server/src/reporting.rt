@@ -9,8 +9,6 @@ use std::sync::atomic::{AtomicU64, Ordering};
 pub(crate) struct Reporting<'a, G: Gate, H: Host> {
     gate: &'a G,
     host: &'a H,
-    /// Whether the host takes note of them.
-    is_on: bool,
     /// How many checkpoints were made since the last notice.
     count: AtomicU64,
     /// How many entries must be checkpointed before the next one.
@@ -18,29 +16,13 @@ pub(crate) struct Reporting<'a, G: Gate, H: Host> {
 }
 
 impl<'a, G: Gate, H: Host> Reporting<'a, G, H> {
-    /// A gate that consents when this one does. It reports checkpoints only if it is on.
-    pub(crate) fn new(gate: &'a G, host: &'a H, is_on: bool) -> Reporting<'a, G, H> {
+    /// A gate that consents when this one does.
+    pub(crate) fn new(gate: &'a G, host: &'a H) -> Reporting<'a, G, H> {
         Reporting {
             gate,
             host,
-            is_on,
             count: AtomicU64::new(0),
             entries_left: AtomicU64::new(0),
-        }
-    }
-
-    /// Counts a checkpoint, and notifies the host if a notice is due.
-    fn report(&self, part: u32, entries: u64) {
-        self.count.fetch_add(1, Ordering::SeqCst);
-        if self.is_notice_due(entries) {
-            let count = self.count.swap(0, Ordering::SeqCst);
-            if count > 0 {
-                self.host.note(Notice::Checkpoints {
-                    count,
-                    part,
-                    entries,
-                });
-            }
         }
     }
 
@@ -67,8 +49,16 @@ impl<'a, G: Gate, H: Host> Gate for Reporting<'a, G, H> {
 
     fn note_checkpoint(&self, part: u32, entries: u64) {
         self.gate.note_checkpoint(part, entries);
-        if self.is_on {
-            self.report(part, entries);
+        self.count.fetch_add(1, Ordering::SeqCst);
+        if self.is_notice_due(entries) {
+            let count = self.count.swap(0, Ordering::SeqCst);
+            if count > 0 {
+                self.host.note(Notice::Checkpoints {
+                    count,
+                    part,
+                    entries,
+                });
+            }
         }
     }
 }

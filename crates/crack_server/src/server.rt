@@ -55,10 +55,16 @@ pub fn run_service<Rt: Threads + Wait + Sync, G: Gate + Sync, H: Host + Sync, I:
     input: &mut I,
     writer: &mut W,
 ) -> Result<(), Refusal> {
-    let reporting = Reporting::new(gate, host, terms.notes_checkpoints);
-    let served = serve_table(
-        rt, alloc, listener, &table, workers, terms, &reporting, host, input,
-    );
+    let served = if terms.notes_checkpoints {
+        let reporting = Reporting::new(gate, host);
+        serve_table(
+            rt, alloc, listener, &table, workers, terms, &reporting, host, input,
+        )
+    } else {
+        serve_table(
+            rt, alloc, listener, &table, workers, terms, gate, host, input,
+        )
+    };
     match served {
         Ok(workers) => totals_of(alloc, table, workers)?.write(writer),
         Err(refusal) => Err(refusal),

@@ -15,11 +15,11 @@ use Rattle.crack_table.specs.declared.TheConstants.{MOST_WORKERS}
 abbrev pub table_fault : List Bound → Limits → ℕ → Option Refusal
 table_fault splits limits workers = option_or (splits_fault splits) (option_or (if nat_le 1 workers && nat_le workers MOST_WORKERS then None else Some BadWorkerCount) (limits_fault limits))
 
--- a table with what was requested
+-- a table with what was requested, and a lock for each partition
 abbrev pub opened_table : List Bound → Limits → ℕ → TableState
-opened_table splits limits workers = record { splits = splits; limits = limits; workers = workers }
+opened_table splits limits workers = record { splits = splits; limits = limits; workers = workers; locks = length splits + 1 }
 
--- A table opens exactly if there is no fault, except for lack of memory: with what was requested, and this many workers,
+-- A table opens exactly if there is no fault, except for lack of memory: with what was requested, a lock for each partition, and this many workers,
 -- numbered from 0 on, without receipts.
 pub record Opens (splits : List Bound) (limits : Limits) (workers : ℕ) (result : Result (TableState × Vec BookState) Refusal) : Type 0 where
   pub table : IfOk result (λ opened. opened.0 ≡ opened_table splits limits workers)

@@ -15,11 +15,12 @@ use Rattle.crack_part.specs.Refusals.{refusal_of}
 use Rattle.crack_core.specs.Receipts.{BookState}
 use Rattle.crack_table.specs.declared.TheConstants.{GATE_TURNS}
 
--- where one partition ends and the next begins, the limits of each partition, and how many workers there are
+-- where one partition ends and the next begins, the limits of each partition, how many workers there are, and how many locks
 pub record TableState : Type 0 where
   pub splits : List Bound
   pub limits : Limits
   pub workers : ℕ
+  pub locks : ℕ
 
 -- a refusal as a worker receives it: a full history with this limit, since nothing outside the lock knows the partition's own
 abbrev pub with_limit : ℕ → Refusal → Refusal

@@ -36,6 +36,7 @@ impl Model for Table {
       splits = t.splits.items;
       limits = t.limits;
       workers = t.workers;
+      locks = vec_len t.locks;
     } };
 
     ghost invariant = { λ t. IsTable t.splits.items t.limits t.workers (vec_len t.locks) };
@@ -84,8 +85,9 @@ impl Table {
         Ok((table, hands))
     }
 
-    /// States the invariants of every table, and does nothing.
+    /// States the invariants of every table, and does nothing: it has a lock for each partition of its splits.
     pub fn facts(&self)
+        ensures locks { self.now.locks ≡ length self.now.splits + 1 }
         ensures rising { AreSplits self.now.splits }
         ensures limited { AreLimits self.now.limits }
         ensures few { self.now.workers ≤ 64 }

@@ -21,7 +21,7 @@ pub record IsWitnessedTable (owner : ℕ → ℕ) (splits : List Bound) (limits 
   pub limited : AreLimits limits
   pub few : workers ≤ 64
   pub all : locks ≡ length splits + 1
-  pub apart : AreApart owner (length splits + 1)
+  pub apart : AreApart owner locks
 
 -- each is at its number, and counts the entries of this many workers
 abbrev pub AreNumbered : ℕ → List WitnessedState → Type 0

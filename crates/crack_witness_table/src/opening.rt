@@ -73,8 +73,8 @@ impl UnnamedTable {
     ) -> Result<(WitnessedTable<J>, Vec<Asker<J>>), Refusal>
         requires names { AreNames J.book J.owner self.opened }
         ensures table { IfOk result (λ r. r.0 ≡ self.table) }
-        ensures askers { IfOk result (λ r. AreNewAskers self.table.workers (length self.table.splits + 1) r.1.items) }
-        ensures apart { OnOk result ((one other : ℕ) → one < other → other < length self.table.splits + 1 →
+        ensures askers { IfOk result (λ r. AreNewAskers self.table.workers self.table.locks r.1.items) }
+        ensures apart { OnOk result ((one other : ℕ) → one < other → other < self.table.locks →
             J.owner one ≢ J.owner other) }
         ensures err { IfErr result (λ e. e ≡ Refusal.OutOfMemory) }
     {

@@ -35,18 +35,21 @@ impl<J: Naming> Model for WitnessedTable<J> {
       splits = t.splits.items;
       limits = t.limits;
       workers = t.workers;
+      locks = vec_len t.locks;
     } };
 
     ghost invariant = { λ t. IsWitnessedTable J.owner t.splits.items t.limits t.workers (vec_len t.locks) };
 }
 
 impl<J: Naming> WitnessedTable<J> {
-    /// States the invariants of every table, and does nothing: no two of its partitions have one history.
+    /// States the invariants of every table, and does nothing: it has a lock for each partition of its splits, and no
+    /// two of its partitions have one history.
     pub fn facts(&self)
+        ensures locks { self.now.locks ≡ length self.now.splits + 1 }
         ensures rising { AreSplits self.now.splits }
         ensures limited { AreLimits self.now.limits }
         ensures few { self.now.workers ≤ 64 }
-        ensures apart { AreApart J.owner (length self.now.splits + 1) }
+        ensures apart { AreApart J.owner self.now.locks }
     {
         let _ = &self.locks;
     }

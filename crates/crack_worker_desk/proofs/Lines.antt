@@ -8,7 +8,7 @@ use Rattle.crack_table.specs.Tables.{TableState}
 use Rattle.crack_witness.specs.Witnesses.{AskerState, WitnessedState}
 use Rattle.crack_witness_table.specs.Audit.{AuditedState}
 use Rattle.crack_worker_desk.specs.Histories.{IsGathered, AreOfHistories, AreLinesOfHistories}
-use Rattle.crack_worker_desk.proofs.Holding.{witnessed_leads, audited_leads, IsStep, Lead, Lead-all}
+use Rattle.crack_worker_desk.proofs.Holding.{witnessed_leads, audited_leads, IsStep, Lead, Lead-all, AreWritten-follows, AreWrittenThen-follows}
 use Rattle.crack_worker_desk.proofs.Standing.{stands}
 
 -- a call that has an effect with a book has it without one
@@ -31,5 +31,9 @@ module _ {D G : Type 0} (owner : ℕ → ℕ) (may_refuse : G → ℕ → ℕ �
         are.2,
       )
 
+  -- and so are the lines that it wrote
   pub lines : (last : D) → AreLinesOfHistories leads table worker owner last
-  lines last = λ old new later parts policy readings answers goes gathered. of_histories parts later policy old new last goes gathered readings answers
+  lines last = record {
+    written = λ old new later parts policy readings out short whole goes gathered. AreWritten-follows _ _ (of_histories parts later policy old new last goes gathered) readings out short whole;
+    written_in_part = λ old new later parts policy bytes out fault whole goes gathered. AreWrittenThen-follows _ _ (of_histories parts later policy old new last goes gathered) bytes out fault whole;
+  }

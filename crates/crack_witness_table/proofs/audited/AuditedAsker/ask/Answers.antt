@@ -1,4 +1,4 @@
-use Rattle.std.proofs.Common.{rules, ◌≡◌, ◌≤◌, ◌+◌, ◌∙◌, ap, sym, arith, ℕ, length, Ok, Err}
+use Rattle.std.proofs.Common.{rules, ◌≡◌, ◌≤◌, ◌+◌, ◌∙◌, ap, sym, arith, ℕ, length, Ok, Err, vec_len}
 use Rattle.crack_row.specs.declared.command.Entry.{Entry}
 use Rattle.crack_plain.specs.Past.{accepted_in}
 use Rattle.crack_witness.specs.Histories.{history_of}
@@ -15,7 +15,7 @@ returns-in_err-reply g c =
     let limited : c.with_table_limit.result ≡ Err e0 = search rules in
     let cause = answered-err c.in_ok-answered.answered c.with_table_limit.result c.table.inside.limits.history e0 c.with_table_limit.ensures limited in
     let same = rw (cause.1) at told.err in
-    let table : TableState = record { splits = c.table.inside.splits.items; limits = c.table.inside.limits; workers = c.table.inside.workers } in
+    let table : TableState = record { splits = c.table.inside.splits.items; limits = c.table.inside.limits; workers = c.table.inside.workers; locks = vec_len c.table.inside.locks } in
     let there : c.args.part ≤ length c.table.inside.splits.items = search rules in
     let causes = causes-witnessed g.J.Naming.owner table (g.G.Gate.may_refuse c.args.gate.now c.args.part) c.args.part c.deref_mut.result.now c.args.command c.self.inside.asker c.in_ok-answered.answered c.with_table_limit.result told.causes c.with_table_limit.ensures in
     rw (given, ← c.self.view_is, ← c.table.view_is) (record {

@@ -1,4 +1,4 @@
-use Rattle.std.proofs.Common.{◌≡◌, ◌+◌, ℕ, length, refl, subst, ◌∙◌, arith, vec_len}
+use Rattle.std.proofs.Common.{◌≡◌, ◌+◌, ◌≤◌, ℕ, length, ap, sym, subst, ◌∙◌, arith, vec_len}
 use Rattle.crack_witness.specs.Witnesses.{AreApart}
 use Rattle.crack_table.specs.Tables.{TableState}
 use Rattle.crack_witness_table.specs.Opening.{UnnamedState, AreNewAskers}
@@ -20,13 +20,16 @@ invariant_of-table g c =
       limited = c.self.invariant.limited;
       few = c.self.invariant.few;
       all = locks ∙ parts;
-      apart = subst (AreApart g.J.Naming.owner) parts c.in_ok-front.ensures.apart;
+      apart = subst (AreApart g.J.Naming.owner) (sym locks) c.in_ok-front.ensures.apart;
     }
 
 pub returns-clause-table : goal.returns-clause-table
 returns-clause-table g c =
-    let table : TableState = record { splits = c.self.inside.splits.items; limits = c.self.inside.limits; workers = c.self.inside.workers } in
-    subst (λ (t : UnnamedState). table ≡ t.table) c.self.view_is refl
+    let all : length c.in_ok-front.witnessed.items ≡ length c.in_ok-parts.parts.items = witnessed_count g.J.Naming.owner c.self.inside.workers 0 c.in_ok-parts.parts.items c.in_ok-front.witnessed.items c.in_ok-front.ensures.parts in
+    let parts : length c.in_ok-parts.parts.items ≡ length c.self.inside.splits.items + 1 = rw c.deref.ensures.value at c.in_ok-parts.ensures.parts.count in
+    let locks : vec_len c.lock.new.locks ≡ length c.self.inside.splits.items + 1 = omega (arith, all, parts, c.lock.ensures) in
+    let with : ℕ → TableState = λ n. record { splits = c.self.inside.splits.items; limits = c.self.inside.limits; workers = c.self.inside.workers; locks = n } in
+    subst (λ (t : UnnamedState). with (vec_len c.lock.new.locks) ≡ t.table) c.self.view_is (ap with locks)
 
 pub returns-clause-askers : goal.returns-clause-askers
 returns-clause-askers g c =
@@ -34,9 +37,9 @@ returns-clause-askers g c =
     let parts : length c.in_ok-parts.parts.items ≡ length c.self.inside.splits.items + 1 = rw c.deref.ensures.value at c.in_ok-parts.ensures.parts.count in
     let asked : c.len-2.result ≡ length c.self.inside.splits.items + 1 = omega (arith, all, parts, c.len-2.ensures) in
     let new : AreNewAskers c.self.inside.workers (length c.self.inside.splits.items + 1) c.in_ok-askers.askers.items = subst (λ (n : ℕ). AreNewAskers c.self.inside.workers n c.in_ok-askers.askers.items) asked c.in_ok-askers.ensures in
-    subst (λ (t : UnnamedState). AreNewAskers t.table.workers (length t.table.splits + 1) c.in_ok-askers.askers.items) c.self.view_is new
+    subst (λ (t : UnnamedState). AreNewAskers t.table.workers t.table.locks c.in_ok-askers.askers.items) c.self.view_is new
 
 pub returns-clause-apart : goal.returns-clause-apart
 returns-clause-apart g c =
     let parts : length c.in_ok-parts.parts.items ≡ length c.self.inside.splits.items + 1 = rw c.deref.ensures.value at c.in_ok-parts.ensures.parts.count in
-    subst (λ (t : UnnamedState). AreApart g.J.Naming.owner (length t.table.splits + 1)) c.self.view_is (subst (AreApart g.J.Naming.owner) parts c.in_ok-front.ensures.apart)
+    subst (λ (t : UnnamedState). AreApart g.J.Naming.owner t.table.locks) c.self.view_is (subst (AreApart g.J.Naming.owner) parts c.in_ok-front.ensures.apart)
