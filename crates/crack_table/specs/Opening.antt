@@ -1,5 +1,5 @@
 -- When a table opens.
-use Rattle.std.specs.Prelude.{ℕ, List, [], ◌≡◌, ◌&&◌, nat_le, slice_get, Option, Some, None, Result, vec_len, IfOk, IfErr, OnOk, if◌then◌else◌}
+use Rattle.std.specs.Prelude.{ℕ, List, [], length, ◌≡◌, ◌+◌, ◌&&◌, nat_le, slice_get, Option, Some, None, Result, vec_len, IfOk, IfErr, OnOk, if◌then◌else◌}
 use Rattle.std.specs.Global.{Vec}
 use Rattle.std.specs.Option.{option_or}
 use Rattle.crack_row.specs.declared.Bound.{Bound}
