@@ -28,12 +28,10 @@ def outcome(name: str) -> tuple[str, str, str]:
 
 
 def outcomes(checks: list[unittest.TestCase]) -> typing.Iterator[tuple[str, str, str]]:
-    """The outcomes of these checks: of those that aren't heavy, one at a time for each processor, and then of those
-    that are, one for each two."""
+    """The outcomes of these checks, run one for each processor at a time, and then of heavy ones, one for each two."""
     heavy = sorted(it.id() for it in checks if getattr(it, "is_heavy", False))
     others = sorted({it.id() for it in checks} - set(heavy), key=lambda it: (not it.startswith(LONGEST), it))
-    processors = os.cpu_count() or 1
-    for names, at_once in (others, processors), (heavy, max(processors // 2, 1)):
+    for names, at_once in (others, os.cpu_count()), (heavy, max(os.cpu_count() // 2, 1)):
         with concurrent.futures.ProcessPoolExecutor(at_once) as pool:
             yield from pool.map(outcome, names)
 

@@ -68,8 +68,6 @@ def sections(name: str) -> dict[str, str]:
 class Case(unittest.TestCase):
     """Checks of the program."""
 
-    # whether it takes more than one processor
-    is_heavy = False
     needs = "crackd"
 
     def setUp(self) -> None:

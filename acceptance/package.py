@@ -11,7 +11,6 @@ import pathlib
 import re
 import subprocess
 import sys
-import tempfile
 
 PACKAGE = pathlib.Path(__file__).resolve().parent.parent / "python"
 LIBRARY = PACKAGE / "crackd" / "libcrackd.so"
@@ -33,37 +32,28 @@ def interpreter() -> str:
     return sys.executable
 
 
-class Running:
-    """The tests, which run in a process of their own."""
+def start(program: str | pathlib.Path) -> subprocess.Popen:
+    """Starts all tests, in a process of their own."""
+    how = {"env": {**os.environ, "CRACKD": str(pathlib.Path(program).resolve())}, "stdout": subprocess.PIPE}
+    command = ["timeout", str(SECONDS), interpreter(), str(PACKAGE / "tests")]
+    return subprocess.Popen(command, stderr=subprocess.STDOUT, text=True, errors="replace", **how)
 
-    def __init__(self, program: str | pathlib.Path) -> None:
-        self.output = tempfile.TemporaryFile("w+", errors="replace")
-        how = {"env": {**os.environ, "CRACKD": str(pathlib.Path(program).resolve())}, "stdout": self.output}
-        self.process = subprocess.Popen([interpreter(), str(PACKAGE / "tests")], stderr=subprocess.STDOUT, **how)
 
-    def sums(self) -> tuple[int, int]:
-        """Waits for them. Returns how many passed, and how many failed. A run that fails without a count is one
-        failure."""
-        try:
-            status = self.process.wait(SECONDS)
-        except subprocess.TimeoutExpired:
-            self.process.kill()
-            status = self.process.wait()
-        with self.output:
-            self.output.seek(0)
-            output = self.output.read()
-        counted = COUNTED.findall(output)
-        passed, failed = map(int, counted[-1]) if counted else (0, 0)
-        failed = failed if failed or (counted and status == 0) else 1
-        for name, why in SKIPPED.findall(output):
-            print(f"package: {name} skipped, since {why}")
-        if failed:
-            print(output)
-        print(f"package: {passed} passed, {failed} failed", flush=True)
-        return passed, failed
+def sums(started: subprocess.Popen) -> tuple[int, int]:
+    """How many passed, and how many failed, once they have ended. A run that fails without a count is one failure."""
+    output, _ = started.communicate()
+    counted = COUNTED.findall(output)
+    passed, failed = map(int, counted[-1]) if counted else (0, 0)
+    failed = failed if failed or (counted and started.returncode == 0) else 1
+    for name, why in SKIPPED.findall(output):
+        print(f"package: {name} skipped, since {why}")
+    if failed:
+        print(output)
+    print(f"package: {passed} passed, {failed} failed", flush=True)
+    return passed, failed
 
 
 if __name__ == "__main__":
     if len(sys.argv) != 2:
         sys.exit(__doc__)
-    sys.exit(1 if Running(sys.argv[1]).sums()[1] else 0)
+    sys.exit(1 if sums(start(sys.argv[1]))[1] else 0)

@@ -30,8 +30,8 @@ def test_all() -> tuple[int, int]:
     failed += subprocess.run(library, check=False).returncode != 0
     os.environ["CRACKD"] = str(PROGRAM)
     if PROGRAM.exists():
-        of_package = package.Running(PROGRAM)
-        sums_of_all = [(passed, failed), run.run_all(PROGRAM), checks.run_all(), of_package.sums()]
+        of_package = package.start(PROGRAM)
+        sums_of_all = [(passed, failed), run.run_all(PROGRAM), checks.run_all(), package.sums(of_package)]
         passed, failed = (sum(it) for it in zip(*sums_of_all))
     else:
         print("acceptance: the gate left no program, so no case was run")

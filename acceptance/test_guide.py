@@ -94,8 +94,7 @@ def environment_for(program: str, folder: str) -> dict[str, str]:
         path.chmod(0o755)
     found = {it: folder for it in ("CPATH", "LIBRARY_PATH", "LD_LIBRARY_PATH")} | {"TOP": str(TOP)}
     found |= {"PATH": os.pathsep.join([folder, os.environ.get("PATH", "")]), "CRACKD": str(program)}
-    # (Dask warns if another cluster on this machine has the port of its page)
-    found |= {"PYTHONWARNINGS": "ignore:Port"}
+    found |= {"PYTHONWARNINGS": "ignore:Port"}  # (Dask warns if another cluster has the port of its page)
     return {**os.environ, **found, "PYTHONPATH": str(package.PACKAGE), "LC_ALL": "C.UTF-8"}
 
 
