@@ -1,5 +1,5 @@
 -- The progress of reading a line.
-use Rattle.std.proofs.Common.{◌≡◌, ℕ, ◌+◌, ◌-◌, ◌^◌, ◌<◌, ◌≤◌, min, Bool, true, false, eqb, Option, Some, None, Result, Ok, Err, IfErr, OnErr, List, [], ◌∷◌, ◌++◌, length, refl, sym, ap, ◌∙◌, arith, ⊎_elim, append_assoc, length-append, length-take, append-nil}
+use Rattle.std.proofs.Common.{◌≡◌, ℕ, ◌+◌, ◌-◌, ◌^◌, ◌<◌, ◌≤◌, min, true, false, eqb, Option, Some, None, Result, Ok, Err, IfErr, OnErr, List, [], ◌∷◌, ◌++◌, length, refl, sym, ap, ◌∙◌, arith, ⊎_elim, append_assoc, length-append, length-take, append-nil}
 use Rattle.std.proofs.lemmas.Bool.{cases_Bool, false≢true}
 use Rattle.std.specs.Io.KnownBytes.{prepend_known, Keeps, Consumes}
 use Rattle.crack_session.specs.declared.TheConstants.{MOST_READS}
@@ -77,14 +77,14 @@ SoFar-feed {u} {line} xs known s found =
     ap has_feed (s.split ∙ ap (λ z. s.front ++ z) known_is.2) ∙ has_feed-append s.front (xs ++ known_is.0) s.none ∙ has_feed-in xs known_is.0 found
 
 -- the input has ended with nothing taken
-SoFar-none : {u line : List ℕ} (known : Option (List ℕ)) → SoFar u known line → ((v : List ℕ) → known ≡ Some v → v ≡ []) → length line ≡ 0 → u ≡ []
+pub SoFar-none : {u line : List ℕ} (known : Option (List ℕ)) → SoFar u known line → ((v : List ℕ) → known ≡ Some v → v ≡ []) → length line ≡ 0 → u ≡ []
 SoFar-none {u} {line} known s ended empty =
     let e : s.rest ≡ [] = ended s.rest s.new_is in
     let l = sym (length-take 202 line) ∙ ap length s.kept ∙ length-take 202 s.front in
     no_length u (omega (arith, l, ap length s.split, length-append s.front s.rest, ap length e, empty))
 
 -- the input has ended in a line
-SoFar-last : {u line : List ℕ} (known : Option (List ℕ)) → SoFar u known line → ((v : List ℕ) → known ≡ Some v → v ≡ []) → 0 < length line → IsNextLine u true line (prepend_known [] known)
+pub SoFar-last : {u line : List ℕ} (known : Option (List ℕ)) → SoFar u known line → ((v : List ℕ) → known ≡ Some v → v ≡ []) → 0 < length line → IsNextLine u true line (prepend_known [] known)
 SoFar-last {u} {line} known s ended some =
     let e : s.rest ≡ [] = ended s.rest s.new_is in
     let whole : u ≡ s.front = s.split ∙ ap (λ z. s.front ++ z) e ∙ append-nil s.front in
@@ -94,11 +94,6 @@ SoFar-last {u} {line} known s ended some =
       s.kept ∙ ap kept_of (sym whole) ∙ ap kept_of (sym (all_first_line u none)),
       ap (prepend_known []) (s.new_is ∙ ap Some (e ∙ sym (none_after u none))),
     )
-
--- the input has ended
-pub SoFar-ended : {u line : List ℕ} (known : Option (List ℕ)) (found : Bool) → SoFar u known line → ((v : List ℕ) → known ≡ Some v → v ≡ []) → (found ≡ true → 0 < length line) → (found ≡ false → length line ≡ 0) → IsNextLine u found line (prepend_known [] known)
-SoFar-ended known true s ended some none = SoFar-last known s ended (some refl)
-SoFar-ended known false s ended some none = SoFar-none known s ended (none refl)
 
 -- the bytes that were taken are the beginning of a line
 pub SoFar-begun : {u line : List ℕ} (known known' : Option (List ℕ)) → SoFar u known line → Keeps known known' → IsBegun u known'

@@ -1,8 +1,12 @@
 -- What private clauses alone cite.
-use Rattle.std.specs.Prelude.{◌≡◌, ℕ, ◌+◌, ◌*◌, ◌<◌, ◌≤◌, Bool, true, false, List, [], ◌∷◌, ◌++◌, length, take, Option, Some, ◌==◌, if◌then◌else◌}
+use Rattle.std.specs.Prelude.{◌≡◌, ℕ, ◌+◌, ◌*◌, ◌<◌, ◌≤◌, Bool, true, false, List, [], ◌∷◌, ◌++◌, length, take, Option, Some, Ok, ◌==◌, if◌then◌else◌, ⊤}
 use Rattle.std.specs.Io.KnownBytes.{prepend_known}
 use Rattle.crack_session.specs.declared.input.TheConstants.{READ_BYTES, KEPT_BYTES}
 use Rattle.std.specs.List.{list_any}
+use Rattle.crack_commands.specs.declared.statement.Statement.TheVariants.{Insert}
+use Rattle.crack_session.specs.declared.input.NextLine.{NextLine}
+use Rattle.crack_session.specs.declared.input.NextLine.TheVariants.{Insert as InsertFound, Ended}
+use Rattle.crack_session.specs.Readings.{reading_of}
 
 -- whether there is a line feed
 abbrev pub has_feed : List ℕ → Bool
@@ -62,3 +66,13 @@ pub record IsBegun (bytes : List ℕ) (remaining : Option (List ℕ)) : Type 0 w
   pub split : bytes ≡ front ++ rest
   pub none : has_feed front ≡ false
   pub left : remaining ≡ Some rest
+
+-- whether there is a next line
+abbrev pub is_line : NextLine → Bool
+is_line Ended = false
+is_line _ = true
+
+-- If an insert was found, this line is read as an insert of its row.
+abbrev pub HasRowOf : List ℕ → NextLine → Type 0
+HasRowOf line (InsertFound key payload) = reading_of line ≡ Some (Ok (Insert key payload))
+HasRowOf line _ = ⊤

@@ -1,15 +1,14 @@
 //! The lines of a reader, in the buffer that they were read to.
 ghost use Rattle.std.specs.Prelude.{◌≡◌, ℕ, ◌+◌, ◌-◌, ◌^◌, ◌<◌, ◌≤◌, ◌++◌, ◌⊎◌, min, List, [], length, take, drop};
-ghost use Rattle.std.specs.Prelude.{slice_range, true, false, Some, MatchBool, IfOk, IfErr, OnErr, OnOk, IsTrue};
-ghost use Rattle.std.specs.Prelude.{IsFalse};
+ghost use Rattle.std.specs.Prelude.{slice_range, true, false, Some, Ok, MatchBool, IfOk, IfErr, IfSome, IfNone, OnErr};
+ghost use Rattle.std.specs.Prelude.{OnOk, OnSome};
 ghost use Rattle.std.specs.Io.KnownBytes.{Keeps};
 ghost use Rattle.crack_row.specs.Devices.{device, has_failed, reads_of};
 ghost use Rattle.crack_session.specs.Input.{has_feed, first_line, after_line, kept_of, ahead, left_of, IsNextLine};
-ghost use Rattle.crack_session.specs.Input.{IsBegun, IsPaid, KnowsEnd};
+ghost use Rattle.crack_session.specs.Input.{IsBegun, IsPaid, KnowsEnd, is_line, HasRowOf};
 ghost use Rattle.crack_session.specs.Readings.{reading_of};
 
 use crate::MOST_READS;
-use crate::line::read_line;
 use crate::output::flush;
 use crack_commands::{Statement, leading_insert};
 use crack_row::{Key, Payload, Refusal, Watched};
@@ -37,15 +36,22 @@ pub struct LineReader {
     end: usize,
     reads: u64,
     ended: bool,
-    /// The row of the line that was found last, if it was read as an insert in passing.
-    insert: Option<(Key, Payload)>,
+}
+
+/// What is next in the input.
+#[derive(Clone, Copy, Debug)]
+pub enum NextLine {
+    /// A line that is an insert in the usual form: its row was read while its end was looked for.
+    Insert { key: Key, payload: Payload },
+    /// Any other line, which isn't read yet. It may be blank, or an insert in another form.
+    Other,
+    /// No line: the input has ended.
+    Ended,
 }
 
 impl Model for LineReader {
-    ghost use Rattle.std.specs.Prelude.{◌≡◌, ◌≤◌, ◌==◌, slice_range, Some, Ok, IfSome};
-    ghost use Rattle.crack_commands.specs.declared.statement.Statement.TheVariants.{Insert};
+    ghost use Rattle.std.specs.Prelude.{◌≤◌, ◌==◌, slice_range};
     ghost use Rattle.crack_session.specs.Input.{Input};
-    ghost use Rattle.crack_session.specs.Readings.{reading_of};
     ghost use Rattle.crack_session.specs.declared.input.TheConstants.{ROOM_BYTES};
 
     ghost Value = { Input };
@@ -59,9 +65,7 @@ impl Model for LineReader {
     } };
 
     ghost invariant = { λ r. (r.line_start ≤ r.line_end) × (r.line_end ≤ r.at) × (r.at ≤ r.end)
-        × (r.end ≤ ROOM_BYTES)
-        × IfSome r.insert (λ row. reading_of (slice_range r.bytes r.line_start r.line_end) ≡
-        Some (Ok (Insert row.0 row.1))) };
+        × (r.end ≤ ROOM_BYTES) };
 }
 
 impl LineReader {
@@ -79,7 +83,6 @@ impl LineReader {
             end: 0,
             reads: MOST_READS,
             ended: false,
-            insert: None,
         }
     }
 
@@ -90,17 +93,6 @@ impl LineReader {
         &self.bytes[self.line_start..self.line_end]
     }
 
-    /// The meaning of the line that was found last, unless it is blank.
-    #[inline(always)]
-    pub fn reading(&self) -> Option<Result<Statement, Refusal>>
-        ensures { result ≡ reading_of self.now.line }
-    {
-        match self.insert {
-            Some((key, payload)) => Some(Ok(Statement::Insert { key, payload })),
-            None => read_line(self.line()),
-        }
-    }
-
     /// Begins a line at the first byte that isn't used yet.
     fn begin_line(&mut self)
         ensures line { (self.new.line ≡ []) × (self.new.joined ≡ true) }
@@ -109,28 +101,27 @@ impl LineReader {
     {
         self.line_start = self.at;
         self.line_end = self.at;
-        self.insert = None;
     }
 
-    /// Takes the next line if it is an insert in the usual form, and returns whether it is: its end isn't
-    /// searched for before it is read.
+    /// Takes the next line if it is an insert in the usual form, and returns its row: its end isn't searched for
+    /// before it is read.
     #[inline(always)]
-    fn take_insert(&mut self) -> bool
-        ensures found { IsTrue result → has_feed self.old.unread ≡ true }
-        ensures rest { IsTrue result → self.new.unread ≡ after_line self.old.unread }
-        ensures line { IsTrue result → self.new.line ≡ first_line self.old.unread }
+    fn take_insert(&mut self) -> Option<(Key, Payload)>
+        ensures found { OnSome result (has_feed self.old.unread ≡ true) }
+        ensures rest { OnSome result (self.new.unread ≡ after_line self.old.unread) }
+        ensures line { OnSome result (self.new.line ≡ first_line self.old.unread) }
+        ensures row { IfSome result (λ row. reading_of self.new.line ≡ Some (Ok (Statement.Insert row.0 row.1))) }
         ensures reads { (self.new.reads ≡ self.old.reads) × (self.new.ended ≡ self.old.ended) }
-        ensures same { IsFalse result → self.new ≡ self.old }
+        ensures same { IfNone result (self.new ≡ self.old) }
     {
         match leading_insert(&self.bytes[self.at..self.end]) {
             Some(found) => {
                 self.line_start = self.at;
                 self.line_end = self.at + found.len;
                 self.at = self.line_end + 1;
-                self.insert = Some((found.key, found.payload));
-                true
+                Some((found.key, found.payload))
             }
-            None => false,
+            None => None,
         }
     }
 
@@ -144,7 +135,6 @@ impl LineReader {
             (self.new.line ≡ self.old.line ++ self.old.unread) }
         ensures reads { (self.new.reads ≡ self.old.reads) × (self.new.ended ≡ self.old.ended) }
     {
-        self.insert = None;
         let place = feed_at(&self.bytes[self.at..self.end]);
         self.line_end = self.at + place;
         if self.line_end < self.end {
@@ -181,7 +171,6 @@ impl LineReader {
             return Err(Refusal::ReadFault);
         }
         self.reads -= 1;
-        self.insert = None;
         let kept = move_back(&mut self.bytes, self.line_start, self.line_end);
         self.line_start = KEPT_BYTES - kept;
         self.line_end = KEPT_BYTES;
@@ -198,20 +187,21 @@ impl LineReader {
     }
 }
 
-/// Finds the next line of a reader, and returns whether there is one. Nothing is read while a line is there,
-/// and output is flushed before each read.
+/// Finds the next line of a reader, and reads it if it is an insert in the usual form. Nothing is read from the reader
+/// while a line is there, and output is flushed before each read.
 pub fn next_line<R: Read, W: Write>(
     input: &mut LineReader,
     reader: &mut Watched<R>,
     writer: &mut Watched<W>,
-) -> Result<bool, Refusal>
+) -> Result<NextLine, Refusal>
     requires { KnowsEnd input.old (R.remaining (device reader.old)) }
-    ensures line { IfOk result (λ found. (u : List ℕ) →
+    ensures line { IfOk result (λ next. (u : List ℕ) →
         ahead input.old (R.remaining (device reader.old)) ≡ Some u →
-        IsNextLine u found input.new.line (ahead input.new (R.remaining (device reader.new)))) }
-    ensures falls { IfOk result (λ found. found ≡ true → left_of input.new < left_of input.old) }
+        IsNextLine u (is_line next) input.new.line (ahead input.new (R.remaining (device reader.new)))) }
+    ensures row { IfOk result (λ next. HasRowOf input.new.line next) }
+    ensures falls { IfOk result (λ next. is_line next ≡ true → left_of input.new < left_of input.old) }
     // A line without a line feed is the last one, and nothing is read after it.
-    ensures last { IfOk result (λ found. found ≡ true → (u : List ℕ) →
+    ensures last { IfOk result (λ next. is_line next ≡ true → (u : List ℕ) →
         ahead input.old (R.remaining (device reader.old)) ≡ Some u → has_feed u ≡ false → input.new.ended ≡ true) }
     ensures goes_on { OnErr result (input.old.ended ≡ false) }
     ensures end { KnowsEnd input.new (R.remaining (device reader.new)) }
@@ -234,16 +224,20 @@ pub fn next_line<R: Read, W: Write>(
         × IsPaid input.old input.new (R.remaining (device reader.old)) (R.remaining (device reader.new)))))) }
 {
     let _counted = reader.reads();
-    if input.take_insert() {
-        return Ok(true);
+    if let Some((key, payload)) = input.take_insert() {
+        return Ok(NextLine::Insert { key, payload });
     }
     input.begin_line();
     'reading: loop {
         if input.take_line() {
-            return Ok(true);
+            return Ok(NextLine::Other);
         }
         if input.ended {
-            return Ok(!input.line().is_empty());
+            return if input.line().is_empty() {
+                Ok(NextLine::Ended)
+            } else {
+                Ok(NextLine::Other)
+            };
         }
         flush(writer)?;
         input.refill(reader)?;

@@ -1,6 +1,6 @@
 //! A session: the statements of a reader, answered to a writer.
 ghost use Rattle.std.specs.Prelude.{◌≡◌, ℕ, ◌+◌, ◌<◌, ◌≤◌, ◌⊎◌, ◌^◌, ◌-◌, true, List, length, min, Ok, IfOk, IfErr};
-ghost use Rattle.std.specs.Prelude.{IfSome, OnErr, OnOk, Some};
+ghost use Rattle.std.specs.Prelude.{OnErr, OnOk, Some};
 ghost use Rattle.std.specs.Io.KnownBytes.{Keeps};
 ghost use Rattle.crack_row.specs.Devices.{device, has_failed, reads_of};
 ghost use Rattle.crack_plain.specs.Plain.{PlainView};
@@ -13,8 +13,8 @@ ghost use Rattle.crack_session.specs.Written.{AreWritten, AreWrittenThen};
 
 use crate::answer::{Answer, answer_reading, part_with_key};
 use crate::desk::Desk;
-use crate::input::{LineReader, next_line};
-use crate::line::says_quit;
+use crate::input::{LineReader, NextLine, next_line};
+use crate::line::{read_line, says_quit};
 use crate::output::flush;
 use crack_commands::{Statement, write_reply};
 use crack_row::{Command, Key, Payload, Policy, Refusal, Reply, Watched};
@@ -101,30 +101,9 @@ impl Progress {
     }
 }
 
-/// Answers a line, and writes the text. An insert, the most frequent statement, has a path of its own.
-#[inline(always)]
-fn respond<D: Desk, W: Write>(
-    alloc: Global,
-    desk: &mut D,
-    reading: Result<Statement, Refusal>,
-    progress: &mut Progress,
-    writer: &mut Watched<W>,
-) -> Result<(), Refusal>
-    requires { progress.old.statements + 1 < 2 ^ 64 }
-    ensures { Responds D.bounds D.splits D.tables D.leads W.contents reading progress.old progress.new result desk.old
-        desk.new writer.old writer.new }
-{
-    if let Some((key, payload)) = inserted(&reading) {
-        return respond_to_insert(desk, key, payload, progress, writer);
-    }
-    // a copy, so that the meaning of an insert isn't stored in memory
-    let said = reading;
-    respond_to_any(alloc, desk, said, progress, writer)
-}
-
-/// Answers any line, and writes the text.
+/// Answers a line, and writes the text.
 #[inline(never)]
-fn respond_to_any<D: Desk, W: Write>(
+fn respond<D: Desk, W: Write>(
     alloc: Global,
     desk: &mut D,
     reading: Result<Statement, Refusal>,
@@ -139,22 +118,8 @@ fn respond_to_any<D: Desk, W: Write>(
     tell(&answer, progress, writer)
 }
 
-/// The key and the payload of the row that an insert has; none if it is any other line.
-#[inline(always)]
-fn inserted(reading: &Result<Statement, Refusal>) -> Option<(Key, Payload)>
-    ensures { IfSome result (λ row. reading.now ≡ Ok (Statement.Insert row.0 row.1)) }
-{
-    match reading {
-        Ok(statement) => match statement {
-            Statement::Insert { key, payload } => Some((*key, *payload)),
-            _ => None,
-        },
-        Err(_) => None,
-    }
-}
-
-/// Answers an insert, and writes the text. The desk is asked in place, with a command that is known to be an insert,
-/// and the reply is written without becoming an `Answer`.
+/// Answers an insert, the most frequent statement, and writes the text. The desk is asked in place, with a command that
+/// is known to be an insert, and the reply is written without becoming an `Answer`.
 #[inline(always)]
 fn respond_to_insert<D: Desk, W: Write>(
     desk: &mut D,
@@ -321,15 +286,21 @@ pub fn serve<D: Desk, R: Read, W: Write>(
     'lines: loop {
         match next_line(&mut input, reader, writer) {
             Err(refusal) => return Err(progress.fault(refusal)),
-            Ok(false) => return finish(writer, progress, How::InputEnded),
-            Ok(true) => {}
-        }
-        if let Some(reading) = input.reading() {
-            if let Err(refusal) = respond(alloc, desk, reading, &mut progress, writer) {
-                return Err(progress.fault(refusal));
+            Ok(NextLine::Ended) => return finish(writer, progress, How::InputEnded),
+            Ok(NextLine::Insert { key, payload }) => {
+                if let Err(refusal) = respond_to_insert(desk, key, payload, &mut progress, writer) {
+                    return Err(progress.fault(refusal));
+                }
             }
-            if says_quit(&reading) {
-                return finish(writer, progress, How::Quit);
+            Ok(NextLine::Other) => {
+                if let Some(reading) = read_line(input.line()) {
+                    if let Err(refusal) = respond(alloc, desk, reading, &mut progress, writer) {
+                        return Err(progress.fault(refusal));
+                    }
+                    if says_quit(&reading) {
+                        return finish(writer, progress, How::Quit);
+                    }
+                }
             }
         }
     }

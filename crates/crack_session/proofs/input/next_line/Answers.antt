@@ -1,25 +1,27 @@
-use Rattle.std.proofs.Common.{rules, ◌≡◌, ℕ, List, [], Some, length, arith, refl, sym, ap, ◌∙◌, true, not}
+use Rattle.std.proofs.Common.{rules, ◌≡◌, ℕ, List, [], Some, length, arith, refl, sym, ap, ◌∙◌}
 use Rattle.std.proofs.lemmas.Bool.{false≢true}
 use Rattle.crack_row.specs.Devices.{device, reads_of}
-use Rattle.crack_session.specs.Input.{Input}
-use Rattle.crack_session.proofs.Reading.{SoFar-none_taken, SoFar-more, SoFar-found, SoFar-ended, SoFar-begun, SoFar-read, after_line-shorter, IsPaid-taken, IsPaid-then, Keeps-same, Keeps-then, counted-then, if_err_anyway, on_err_anyway, SoFar-feed}
+use Rattle.crack_session.specs.Input.{Input, ahead}
+use Rattle.crack_session.proofs.Reading.{SoFar-none_taken, SoFar-more, SoFar, SoFar-found, SoFar-none, SoFar-last, SoFar-begun, SoFar-read, after_line-shorter, IsPaid-taken, IsPaid-then, Keeps-same, Keeps-then, counted-then, if_err_anyway, on_err_anyway, SoFar-feed}
+use Rattle.crack_session.proofs.input.next_line.Given.{Over}
+use Rattle.crack_session.proofs.input.next_line.Goals.{Then-input}
 use Rattle.crack_session.proofs.input.next_line.Goals as goal
 
-pub returns-then-take_insert-clause-line : goal.returns-then-take_insert-clause-line
-returns-then-take_insert-clause-line g c = λ u e.
+pub returns-in-Some-clause-line : goal.returns-in-Some-clause-line
+returns-in-Some-clause-line g c = λ u e.
     SoFar-found c.args.input.now.unread (g.R.Read.remaining (device c.args.reader.now)) c.take_insert.new.self.line c.take_insert.new.self.unread
-    (SoFar-none_taken u _ [] e refl) (c.if-take_insert.ensures.found refl) (c.if-take_insert.ensures.line refl) (c.if-take_insert.ensures.rest refl)
+    (SoFar-none_taken u _ [] e refl) (c.in-Some.ensures.found) (c.in-Some.ensures.line) (c.in-Some.ensures.rest)
 
-pub returns-then-take_insert-clause-falls : goal.returns-then-take_insert-clause-falls
-returns-then-take_insert-clause-falls g c = λ _.
-    let shorter = after_line-shorter c.args.input.now.unread (c.if-take_insert.ensures.found refl) in
-    let rest = ap length (c.if-take_insert.ensures.rest refl) in
-    omega (arith, shorter, rest, c.if-take_insert.ensures.reads.0)
+pub returns-in-Some-clause-falls : goal.returns-in-Some-clause-falls
+returns-in-Some-clause-falls g c = λ _.
+    let shorter = after_line-shorter c.args.input.now.unread (c.in-Some.ensures.found) in
+    let rest = ap length (c.in-Some.ensures.rest) in
+    omega (arith, shorter, rest, c.take_insert.ensures.reads.0)
 
-pub returns-then-take_insert-clause-last : goal.returns-then-take_insert-clause-last
-returns-then-take_insert-clause-last g c = λ _ u e none.
+pub returns-in-Some-clause-last : goal.returns-in-Some-clause-last
+returns-in-Some-clause-last g c = λ _ u e none.
     absurd (false≢true (sym none ∙ SoFar-feed c.args.input.now.unread (g.R.Read.remaining (device c.args.reader.now))
-    (SoFar-none_taken u _ [] e refl) (c.if-take_insert.ensures.found refl)))
+    (SoFar-none_taken u _ [] e refl) (c.in-Some.ensures.found)))
 
 pub returns-then-take_line-clause-line : goal.returns-then-take_line-clause-line
 returns-then-take_line-clause-line g c = λ u e.
@@ -36,8 +38,8 @@ pub returns-then-take_line-clause-last : goal.returns-then-take_line-clause-last
 returns-then-take_line-clause-last g c = λ _ u e none.
     absurd (false≢true (sym none ∙ SoFar-feed c.reading.input.unread (g.R.Read.remaining (device c.reading.reader)) (c.reading.invariant.so_far u e) (sym c.if-take_line.ensures.found)))
 
-pub returns-then-input-clause-last : goal.returns-then-input-clause-last
-returns-then-input-clause-last g c = λ _ u e none. sym (ap (λ (i : Input). i.ended) c.input.view_is) ∙ c.if-input.true
+pub returns-else-is_empty-clause-last : goal.returns-else-is_empty-clause-last
+returns-else-is_empty-clause-last g c = λ _ u e none. sym (ap (λ (i : Input). i.ended) c.input.view_is) ∙ c.if-input.true
 
 pub returns-in_err-flush-clause-goes_on : goal.returns-in_err-flush-clause-goes_on
 returns-in_err-flush-clause-goes_on g c = on_err_anyway c.from_residual.result (c.reading.invariant.paid (sym c.take_line.ensures.reads.1 ∙ sym (ap (λ (i : Input). i.ended) c.input.view_is) ∙ c.if-input.false)).0
@@ -45,13 +47,22 @@ returns-in_err-flush-clause-goes_on g c = on_err_anyway c.from_residual.result (
 pub returns-in_err-refill-clause-goes_on : goal.returns-in_err-refill-clause-goes_on
 returns-in_err-refill-clause-goes_on g c = on_err_anyway c.from_residual-in_err-refill.result (c.reading.invariant.paid (sym c.take_line.ensures.reads.1 ∙ sym (ap (λ (i : Input). i.ended) c.input.view_is) ∙ c.if-input.false)).0
 
-pub returns-then-input-clause-line : goal.returns-then-input-clause-line
-returns-then-input-clause-line g c = λ u e.
-    let more = SoFar-more c.reading.input.unread (g.R.Read.remaining (device c.reading.reader)) c.take_line.new.self.line (c.reading.invariant.so_far u e) (sym c.if-take_line.ensures.found) c.if-take_line.ensures.line in
-    let over : c.reading.input.ended ≡ true = sym c.take_line.ensures.reads.1 ∙ sym (ap (λ (i : Input). i.ended) c.input.view_is) ∙ c.if-input.true in
-    let ended : (v : List ℕ) → g.R.Read.remaining (device c.reading.reader) ≡ Some v → v ≡ [] = c.reading.invariant.end over in
-    let known = SoFar-ended (g.R.Read.remaining (device c.reading.reader)) (not c.is_empty.result) more ended (search rules) (search rules) in
-    rw c.if-take_line.ensures.rest.0 known
+-- all that is left of the input is in the line
+all_taken : (g : Over) (c : Then-input g) (u : List ℕ) → ahead c.args.input.now (g.R.Read.remaining (device c.args.reader.now)) ≡ Some u → SoFar u (g.R.Read.remaining (device c.reading.reader)) c.take_line.new.self.line × ((v : List ℕ) → g.R.Read.remaining (device c.reading.reader) ≡ Some v → v ≡ [])
+all_taken g c u e = (
+  SoFar-more c.reading.input.unread (g.R.Read.remaining (device c.reading.reader)) c.take_line.new.self.line (c.reading.invariant.so_far u e) (sym c.if-take_line.ensures.found) c.if-take_line.ensures.line,
+  c.reading.invariant.end (sym c.take_line.ensures.reads.1 ∙ sym (ap (λ (i : Input). i.ended) c.input.view_is) ∙ c.if-input.true),
+)
+
+pub returns-then-is_empty-clause-line : goal.returns-then-is_empty-clause-line
+returns-then-is_empty-clause-line g c = λ u e.
+    let taken = all_taken g (goal.at.returns-then-is_empty-clause-line g c).Then-input u e in
+    SoFar-none (g.R.Read.remaining (device c.reading.reader)) taken.0 taken.1 (search rules)
+
+pub returns-else-is_empty-clause-line : goal.returns-else-is_empty-clause-line
+returns-else-is_empty-clause-line g c = λ u e.
+    let taken = all_taken g (goal.at.returns-else-is_empty-clause-line g c).Then-input u e in
+    rw c.if-take_line.ensures.rest.0 (SoFar-last (g.R.Read.remaining (device c.reading.reader)) taken.0 taken.1 (search rules))
 
 pub returns-in_err-flush-clause-begun : goal.returns-in_err-flush-clause-begun
 returns-in_err-flush-clause-begun g c = if_err_anyway c.from_residual.result _ (λ u e.

@@ -1,4 +1,4 @@
 use Rattle.crack_session.proofs.session.respond.Goals as goal
 
-pub returns-in-Some : goal.returns-in-Some
-returns-in-Some g c = rw c.in-Some.ensures c.respond_to_insert.ensures
+pub returns : goal.returns
+returns g c = record { answer = c.answer_reading-answer.result; asks = c.answer_reading-answer.ensures; tells = c.tell.ensures }

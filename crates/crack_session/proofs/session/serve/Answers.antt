@@ -1,8 +1,9 @@
-use Rattle.std.proofs.Common.{◌≡◌, [], ◌∙◌, ap, sym, arith, None, refl, length, true, false, rules}
+use Rattle.std.proofs.Common.{◌≡◌, [], ◌∙◌, ap, sym, arith, None, Ok, refl, length, true, false, rules}
 use Rattle.crack_row.specs.Devices.{device, reads_of}
 use Rattle.crack_session.specs.declared.session.Fault.{Fault}
 use Rattle.crack_session.specs.declared.session.How.TheVariants.{Quit, InputEnded}
-use Rattle.crack_session.specs.Input.{after_line}
+use Rattle.crack_commands.specs.declared.statement.Statement.TheVariants.{Insert}
+use Rattle.crack_session.specs.Input.{after_line, is_line}
 use Rattle.crack_session.specs.Readings.{statements, reading_of, is_quit}
 use Rattle.crack_session.proofs.Reading.{start_input, IsPaid-then, counted-then}
 use Rattle.crack_session.proofs.Following.{next_blank}
@@ -55,11 +56,11 @@ returns-in-Err-clause-splits g c = c.lines.invariant.splits
 pub returns-in-Err-clause-bounds : goal.returns-in-Err-clause-bounds
 returns-in-Err-clause-bounds g c = c.lines.invariant.bounds
 
-pub returns-in-Ok-false-clause-splits : goal.returns-in-Ok-false-clause-splits
-returns-in-Ok-false-clause-splits g c = c.lines.invariant.splits
+pub returns-in-Ok-Ended-clause-splits : goal.returns-in-Ok-Ended-clause-splits
+returns-in-Ok-Ended-clause-splits g c = c.lines.invariant.splits
 
-pub returns-in-Ok-false-clause-bounds : goal.returns-in-Ok-false-clause-bounds
-returns-in-Ok-false-clause-bounds g c = c.lines.invariant.bounds
+pub returns-in-Ok-Ended-clause-bounds : goal.returns-in-Ok-Ended-clause-bounds
+returns-in-Ok-Ended-clause-bounds g c = c.lines.invariant.bounds
 
 pub returns-then-says_quit-clause-splits : goal.returns-then-says_quit-clause-splits
 returns-then-says_quit-clause-splits g c = c.respond.ensures.asks.splits_are ∙ c.lines.invariant.splits
@@ -70,49 +71,55 @@ returns-then-says_quit-clause-bounds g c = c.respond.ensures.asks.bounds_are ∙
 pub returns-in-Err-respond-clause-splits : goal.returns-in-Err-respond-clause-splits
 returns-in-Err-respond-clause-splits g c = c.respond.ensures.asks.splits_are ∙ c.lines.invariant.splits
 
+pub returns-in-Err-respond_to_insert-clause-splits : goal.returns-in-Err-respond_to_insert-clause-splits
+returns-in-Err-respond_to_insert-clause-splits g c = c.respond_to_insert.ensures.asks.splits_are ∙ c.lines.invariant.splits
+
 pub returns-in-Err-respond-clause-bounds : goal.returns-in-Err-respond-clause-bounds
 returns-in-Err-respond-clause-bounds g c = c.respond.ensures.asks.bounds_are ∙ c.lines.invariant.bounds
+
+pub returns-in-Err-respond_to_insert-clause-bounds : goal.returns-in-Err-respond_to_insert-clause-bounds
+returns-in-Err-respond_to_insert-clause-bounds g c = c.respond_to_insert.ensures.asks.bounds_are ∙ c.lines.invariant.bounds
 
 -- the input has ended
 at_end : (g : Over) (c : After-finish g) → IsOver (g.D.Desk.bounds c.args.desk.now) (g.D.Desk.splits c.args.desk.now) (g.R.Read.remaining (device c.args.reader.now)) c.lines.progress InputEnded (g.D.Desk.tables c.args.desk.now) (g.D.Desk.tables c.lines.desk) (g.W.Write.contents (device c.args.writer.now)) (g.W.Write.contents (device c.finish.new.writer))
 at_end g c = λ bytes e.
     let inv = c.lines.invariant.going bytes e in
-    let none = rw c.in-Ok-false.field-0-test at c.in-Ok-false.ensures.line in
+    let none = rw c.in-Ok-Ended.field-0-is at c.in-Ok-Ended.ensures.line in
     let empty : inv.0 ≡ [] = none inv.0 inv.1 in
     Going-kept _ _ (Going-left [] (Going-kept _ _ inv.2 c.next_line.ensures.bytes) (ap statements empty)) c.finish.ensures.bytes
 
 made_at_end : (g : Over) (c : After-finish g) → IsMade g.D.Desk.leads (g.D.Desk.splits c.args.desk.now) c.args.policy c.args.desk.now (g.R.Read.remaining (device c.args.reader.now)) c.lines.progress c.lines.desk (g.W.Write.contents (device c.args.writer.now)) (g.W.Write.contents (device c.finish.new.writer))
 made_at_end g c = λ bytes e.
     let inv = c.lines.invariant.made bytes e in
-    let none = rw c.in-Ok-false.field-0-test at c.in-Ok-false.ensures.line in
+    let none = rw c.in-Ok-Ended.field-0-is at c.in-Ok-Ended.ensures.line in
     let empty : inv.0 ≡ [] = none inv.0 inv.1 in
     Making-kept g.D.Desk.leads (g.D.Desk.splits c.args.desk.now) c.args.policy c.args.desk.now (statements bytes) _ _ _ (Making-left g.D.Desk.leads (g.D.Desk.splits c.args.desk.now) c.args.policy c.args.desk.now (statements bytes) _ [] (Making-kept g.D.Desk.leads (g.D.Desk.splits c.args.desk.now) c.args.policy c.args.desk.now (statements bytes) _ _ _ inv.2 c.next_line.ensures.bytes) (ap statements empty)) c.finish.ensures.bytes
 
-pub returns-in-Ok-false-clause-written : goal.returns-in-Ok-false-clause-written
-returns-in-Ok-false-clause-written g c = finish-written g.D.Desk.leads (g.D.Desk.splits c.args.desk.now) c.args.policy c.args.desk.now c.finish.result c.lines.progress InputEnded c.finish.ensures.end (made_at_end g c)
+pub returns-in-Ok-Ended-clause-written : goal.returns-in-Ok-Ended-clause-written
+returns-in-Ok-Ended-clause-written g c = finish-written g.D.Desk.leads (g.D.Desk.splits c.args.desk.now) c.args.policy c.args.desk.now c.finish.result c.lines.progress InputEnded c.finish.ensures.end (made_at_end g c)
 
-pub returns-in-Ok-false-clause-written_in_part : goal.returns-in-Ok-false-clause-written_in_part
-returns-in-Ok-false-clause-written_in_part g c = finish-written_in_part g.D.Desk.leads (g.D.Desk.splits c.args.desk.now) c.args.policy c.args.desk.now c.finish.result c.lines.progress InputEnded c.finish.ensures.fault (made_at_end g c)
+pub returns-in-Ok-Ended-clause-written_in_part : goal.returns-in-Ok-Ended-clause-written_in_part
+returns-in-Ok-Ended-clause-written_in_part g c = finish-written_in_part g.D.Desk.leads (g.D.Desk.splits c.args.desk.now) c.args.policy c.args.desk.now c.finish.result c.lines.progress InputEnded c.finish.ensures.fault (made_at_end g c)
 
-pub returns-in-Ok-false-clause-ends : goal.returns-in-Ok-false-clause-ends
-returns-in-Ok-false-clause-ends g c = finish-counted c.finish.result c.lines.progress InputEnded c.finish.ensures.end (at_end g c)
+pub returns-in-Ok-Ended-clause-ends : goal.returns-in-Ok-Ended-clause-ends
+returns-in-Ok-Ended-clause-ends g c = finish-counted c.finish.result c.lines.progress InputEnded c.finish.ensures.end (at_end g c)
 
-pub returns-in-Ok-false-clause-served : goal.returns-in-Ok-false-clause-served
-returns-in-Ok-false-clause-served g c = finish-served c.finish.result c.lines.progress InputEnded c.finish.ensures.end (at_end g c)
+pub returns-in-Ok-Ended-clause-served : goal.returns-in-Ok-Ended-clause-served
+returns-in-Ok-Ended-clause-served g c = finish-served c.finish.result c.lines.progress InputEnded c.finish.ensures.end (at_end g c)
 
-pub returns-in-Ok-false-clause-done : goal.returns-in-Ok-false-clause-done
-returns-in-Ok-false-clause-done g c = finish-done c.finish.result c.lines.progress InputEnded _ c.finish.ensures.fault (at_end g c)
+pub returns-in-Ok-Ended-clause-done : goal.returns-in-Ok-Ended-clause-done
+returns-in-Ok-Ended-clause-done g c = finish-done c.finish.result c.lines.progress InputEnded _ c.finish.ensures.fault (at_end g c)
 
-pub returns-in-Ok-false-clause-cut_off : goal.returns-in-Ok-false-clause-cut_off
-returns-in-Ok-false-clause-cut_off g c = finish-cut_off c.finish.result c.lines.progress InputEnded c.finish.ensures.fault (at_end g c)
+pub returns-in-Ok-Ended-clause-cut_off : goal.returns-in-Ok-Ended-clause-cut_off
+returns-in-Ok-Ended-clause-cut_off g c = finish-cut_off c.finish.result c.lines.progress InputEnded c.finish.ensures.fault (at_end g c)
 
 -- the statement was a quit
 at_quit : (g : Over) (c : After-finish-then-says_quit g) → IsOver (g.D.Desk.bounds c.args.desk.now) (g.D.Desk.splits c.args.desk.now) (g.R.Read.remaining (device c.args.reader.now)) c.respond.new.progress Quit (g.D.Desk.tables c.args.desk.now) (g.D.Desk.tables c.respond.new.desk) (g.W.Write.contents (device c.args.writer.now)) (g.W.Write.contents (device c.finish-then-says_quit.new.writer))
 at_quit g c = λ bytes e.
     let inv = c.lines.invariant.going bytes e in
-    let some = rw c.in-Ok-true.field-0-test at c.in-Ok-true.ensures.line in
+    let some = rw c.in-Ok-Other.field-0-is at c.in-Ok-Other.ensures.line in
     let next = some inv.0 inv.1 in
-    let said = sym c.in-Some.ensures in
+    let said = ap reading_of (sym c.line.ensures) ∙ sym c.in-Some.ensures in
     let more = Going-answered g.W.Write.contents inv.0 c.next_line.new.input.line c.in-Some.reading c.in_default-respond.ensures.answer c.lines.progress c.respond.new.progress _ c.next_line.new.writer c.respond.new.writer inv.2 c.next_line.ensures.bytes next.0 next.1 said
     (Answered-desk c.in-Some.reading c.in_default-respond.ensures.answer c.in_default-respond.ensures.asks.is c.lines.invariant.bounds c.lines.invariant.splits) c.in_default-respond.ensures.tells in
     let quit : is_quit c.in-Some.reading ≡ true = sym c.says_quit.ensures ∙ c.if-says_quit.true in
@@ -121,9 +128,9 @@ at_quit g c = λ bytes e.
 made_at_quit : (g : Over) (c : After-finish-then-says_quit g) → IsMade g.D.Desk.leads (g.D.Desk.splits c.args.desk.now) c.args.policy c.args.desk.now (g.R.Read.remaining (device c.args.reader.now)) c.respond.new.progress c.respond.new.desk (g.W.Write.contents (device c.args.writer.now)) (g.W.Write.contents (device c.finish-then-says_quit.new.writer))
 made_at_quit g c = λ bytes e.
     let inv = c.lines.invariant.made bytes e in
-    let some = rw c.in-Ok-true.field-0-test at c.in-Ok-true.ensures.line in
+    let some = rw c.in-Ok-Other.field-0-is at c.in-Ok-Other.ensures.line in
     let next = some inv.0 inv.1 in
-    let said = sym c.in-Some.ensures in
+    let said = ap reading_of (sym c.line.ensures) ∙ sym c.in-Some.ensures in
     let line = Making-line g.D.Desk.leads (g.D.Desk.splits c.args.desk.now) c.args.policy c.args.desk.now (statements bytes) _ _ _ inv.0 c.next_line.new.input.line c.in-Some.reading inv.2 c.next_line.ensures.bytes next.0 next.1 said in
     let asks = c.in_default-respond.ensures.asks in
     let more = Making-more g.D.Desk.leads (g.D.Desk.splits c.args.desk.now) c.args.policy c.args.desk.now (statements bytes) _ g.W.Write.contents c.in-Some.reading c.in_default-respond.ensures.answer c.lines.progress c.respond.new.progress c.respond.new.desk c.next_line.new.writer c.respond.new.writer _ asks.calls line c.lines.invariant.splits asks.were asks.made c.in_default-respond.ensures.tells in
@@ -153,92 +160,155 @@ returns-in-Err-respond-clause-done g c = λ bytes e.
     let inv = c.lines.invariant.going bytes e in
     Going-done bytes c.fault-in-Err-respond.result _ inv.2 (ap (λ (x : Fault). x.done) c.fault-in-Err-respond.ensures ∙ c.in-Err-respond.ensures.tells.count) (ap (λ (x : Fault). x.refusal) c.fault-in-Err-respond.ensures ∙ c.in-Err-respond.ensures.tells.writes.err.0)
 
+pub returns-in-Err-respond_to_insert-clause-done : goal.returns-in-Err-respond_to_insert-clause-done
+returns-in-Err-respond_to_insert-clause-done g c = λ bytes e.
+    let inv = c.lines.invariant.going bytes e in
+    Going-done bytes c.fault-in-Err-respond_to_insert.result _ inv.2 (ap (λ (x : Fault). x.done) c.fault-in-Err-respond_to_insert.ensures ∙ c.in-Err-respond_to_insert.ensures.tells.count) (ap (λ (x : Fault). x.refusal) c.fault-in-Err-respond_to_insert.ensures ∙ c.in-Err-respond_to_insert.ensures.tells.writes.err.0)
+
 pub returns-in-Err-respond-clause-cut_off : goal.returns-in-Err-respond-clause-cut_off
 returns-in-Err-respond-clause-cut_off g c = λ bytes out s e f h.
     let inv = c.lines.invariant.going bytes e in
-    let some = rw c.in-Ok-true.field-0-test at c.in-Ok-true.ensures.line in
+    let some = rw c.in-Ok-Other.field-0-is at c.in-Ok-Other.ensures.line in
     let next = some inv.0 inv.1 in
-    let said = sym c.in-Some.ensures in
+    let said = ap reading_of (sym c.line.ensures) ∙ sym c.in-Some.ensures in
     let left = Going-line _ _ inv.0 c.next_line.new.input.line c.in-Some.reading inv.2 c.next_line.ensures.bytes next.0 next.1 said in
     Going-cut_in g.W.Write.contents bytes out s c.fault-in-Err-respond.result c.in-Some.reading c.in-Err-respond.ensures.answer c.lines.progress c.respond.new.progress c.in-Err-respond.refusal _ c.next_line.new.writer c.respond.new.writer left
     (Answered-desk c.in-Some.reading c.in-Err-respond.ensures.answer c.in-Err-respond.ensures.asks.is c.lines.invariant.bounds c.lines.invariant.splits) c.in-Err-respond.ensures.tells
     (ap (λ (x : Fault). x.done) c.fault-in-Err-respond.ensures) (ap (λ (x : Fault). x.first_short) c.fault-in-Err-respond.ensures) (ap (λ (x : Fault). x.refusal) c.fault-in-Err-respond.ensures) h f
 
+pub returns-in-Err-respond_to_insert-clause-cut_off : goal.returns-in-Err-respond_to_insert-clause-cut_off
+returns-in-Err-respond_to_insert-clause-cut_off g c = λ bytes out s e f h.
+    let inv = c.lines.invariant.going bytes e in
+    let some = rw c.in-Ok-Insert.field-0-is at c.in-Ok-Insert.ensures.line in
+    let next = some inv.0 inv.1 in
+    let said = rw c.in-Ok-Insert.field-0-is at c.in-Ok-Insert.ensures.row in
+    let left = Going-line _ _ inv.0 c.next_line.new.input.line (Ok (Insert c.in-Ok-Insert.key c.in-Ok-Insert.payload)) inv.2 c.next_line.ensures.bytes next.0 next.1 said in
+    Going-cut_in g.W.Write.contents bytes out s c.fault-in-Err-respond_to_insert.result (Ok (Insert c.in-Ok-Insert.key c.in-Ok-Insert.payload)) c.in-Err-respond_to_insert.ensures.answer c.lines.progress c.respond_to_insert.new.progress c.in-Err-respond_to_insert.refusal _ c.next_line.new.writer c.respond_to_insert.new.writer left
+    (Answered-desk (Ok (Insert c.in-Ok-Insert.key c.in-Ok-Insert.payload)) c.in-Err-respond_to_insert.ensures.answer c.in-Err-respond_to_insert.ensures.asks.is c.lines.invariant.bounds c.lines.invariant.splits) c.in-Err-respond_to_insert.ensures.tells
+    (ap (λ (x : Fault). x.done) c.fault-in-Err-respond_to_insert.ensures) (ap (λ (x : Fault). x.first_short) c.fault-in-Err-respond_to_insert.ensures) (ap (λ (x : Fault). x.refusal) c.fault-in-Err-respond_to_insert.ensures) h f
+
 pub returns-in-Err-respond-clause-written_in_part : goal.returns-in-Err-respond-clause-written_in_part
 returns-in-Err-respond-clause-written_in_part g c = λ bytes out e f.
     let inv = c.lines.invariant.made bytes e in
-    let some = rw c.in-Ok-true.field-0-test at c.in-Ok-true.ensures.line in
+    let some = rw c.in-Ok-Other.field-0-is at c.in-Ok-Other.ensures.line in
     let next = some inv.0 inv.1 in
-    let said = sym c.in-Some.ensures in
+    let said = ap reading_of (sym c.line.ensures) ∙ sym c.in-Some.ensures in
     let line = Making-line g.D.Desk.leads (g.D.Desk.splits c.args.desk.now) c.args.policy c.args.desk.now (statements bytes) _ _ _ inv.0 c.next_line.new.input.line c.in-Some.reading inv.2 c.next_line.ensures.bytes next.0 next.1 said in
     let asks = c.in-Err-respond.ensures.asks in
     Making-cut_in g.D.Desk.leads (g.D.Desk.splits c.args.desk.now) c.args.policy c.args.desk.now g.W.Write.contents bytes out c.fault-in-Err-respond.result c.in-Some.reading c.in-Err-respond.ensures.answer c.lines.progress c.respond.new.progress c.in-Err-respond.refusal c.respond.new.desk c.next_line.new.writer c.respond.new.writer _ asks.calls line c.lines.invariant.splits asks.were asks.made c.in-Err-respond.ensures.tells
     (ap (λ (x : Fault). x.done) c.fault-in-Err-respond.ensures) (ap (λ (x : Fault). x.first_short) c.fault-in-Err-respond.ensures) (ap (λ (x : Fault). x.refusal) c.fault-in-Err-respond.ensures) f
+
+pub returns-in-Err-respond_to_insert-clause-written_in_part : goal.returns-in-Err-respond_to_insert-clause-written_in_part
+returns-in-Err-respond_to_insert-clause-written_in_part g c = λ bytes out e f.
+    let inv = c.lines.invariant.made bytes e in
+    let some = rw c.in-Ok-Insert.field-0-is at c.in-Ok-Insert.ensures.line in
+    let next = some inv.0 inv.1 in
+    let said = rw c.in-Ok-Insert.field-0-is at c.in-Ok-Insert.ensures.row in
+    let line = Making-line g.D.Desk.leads (g.D.Desk.splits c.args.desk.now) c.args.policy c.args.desk.now (statements bytes) _ _ _ inv.0 c.next_line.new.input.line (Ok (Insert c.in-Ok-Insert.key c.in-Ok-Insert.payload)) inv.2 c.next_line.ensures.bytes next.0 next.1 said in
+    let asks = c.in-Err-respond_to_insert.ensures.asks in
+    Making-cut_in g.D.Desk.leads (g.D.Desk.splits c.args.desk.now) c.args.policy c.args.desk.now g.W.Write.contents bytes out c.fault-in-Err-respond_to_insert.result (Ok (Insert c.in-Ok-Insert.key c.in-Ok-Insert.payload)) c.in-Err-respond_to_insert.ensures.answer c.lines.progress c.respond_to_insert.new.progress c.in-Err-respond_to_insert.refusal c.respond_to_insert.new.desk c.next_line.new.writer c.respond_to_insert.new.writer _ asks.calls line c.lines.invariant.splits asks.were asks.made c.in-Err-respond_to_insert.ensures.tells
+    (ap (λ (x : Fault). x.done) c.fault-in-Err-respond_to_insert.ensures) (ap (λ (x : Fault). x.first_short) c.fault-in-Err-respond_to_insert.ensures) (ap (λ (x : Fault). x.refusal) c.fault-in-Err-respond_to_insert.ensures) f
 
 pub lines-preserved-else-says_quit : goal.lines-preserved-else-says_quit
 lines-preserved-else-says_quit g c =
     record {
       going = λ bytes e.
           let inv = c.lines.invariant.going bytes e in
-          let some = rw c.in-Ok-true.field-0-test at c.in-Ok-true.ensures.line in
-          let last = rw c.in-Ok-true.field-0-test at c.in-Ok-true.ensures.last in
+          let some = rw c.in-Ok-Other.field-0-is at c.in-Ok-Other.ensures.line in
+          let last = rw c.in-Ok-Other.field-0-is at c.in-Ok-Other.ensures.last in
           let next = some inv.0 inv.1 in
-          let said = sym c.in-Some.ensures in
+          let said = ap reading_of (sym c.line.ensures) ∙ sym c.in-Some.ensures in
           let more = Going-answered g.W.Write.contents inv.0 c.next_line.new.input.line c.in-Some.reading c.in_default-respond.ensures.answer c.lines.progress c.respond.new.progress _ c.next_line.new.writer c.respond.new.writer inv.2 c.next_line.ensures.bytes next.0 next.1 said
           (Answered-desk c.in-Some.reading c.in_default-respond.ensures.answer c.in_default-respond.ensures.asks.is c.lines.invariant.bounds c.lines.invariant.splits) c.in_default-respond.ensures.tells in
           let goes : is_quit c.in-Some.reading ≡ false = sym c.says_quit.ensures ∙ c.if-says_quit.false in (
             after_line inv.0,
             next.2,
             Going-on (statements (after_line inv.0)) (is_quit c.in-Some.reading) more goes,
-            λ goes_on. AreUsed-more inv.0 c.next_line.new.input.line c.in-Some.reading c.respond.new.progress.statements (inv.3 (c.in-Ok-true.ensures.paid goes_on).0)
+            λ goes_on. AreUsed-more inv.0 c.next_line.new.input.line c.in-Some.reading c.respond.new.progress.statements (inv.3 (c.in-Ok-Other.ensures.paid goes_on).0)
                 (line_feeds inv.0 c.next_line.new.input.ended (last refl inv.0 inv.1) goes_on) next.1 said goes c.in_default-respond.ensures.tells.count,
           );
       made = λ bytes e.
           let inv = c.lines.invariant.made bytes e in
-          let some = rw c.in-Ok-true.field-0-test at c.in-Ok-true.ensures.line in
+          let some = rw c.in-Ok-Other.field-0-is at c.in-Ok-Other.ensures.line in
           let next = some inv.0 inv.1 in
-          let said = sym c.in-Some.ensures in
+          let said = ap reading_of (sym c.line.ensures) ∙ sym c.in-Some.ensures in
           let line = Making-line g.D.Desk.leads (g.D.Desk.splits c.args.desk.now) c.args.policy c.args.desk.now (statements bytes) _ _ _ inv.0 c.next_line.new.input.line c.in-Some.reading inv.2 c.next_line.ensures.bytes next.0 next.1 said in
           let asks = c.in_default-respond.ensures.asks in
           let more = Making-more g.D.Desk.leads (g.D.Desk.splits c.args.desk.now) c.args.policy c.args.desk.now (statements bytes) _ g.W.Write.contents c.in-Some.reading c.in_default-respond.ensures.answer c.lines.progress c.respond.new.progress c.respond.new.desk c.next_line.new.writer c.respond.new.writer _ asks.calls line c.lines.invariant.splits asks.were asks.made c.in_default-respond.ensures.tells in
           let goes : is_quit c.in-Some.reading ≡ false = sym c.says_quit.ensures ∙ c.if-says_quit.false in
           (after_line inv.0, next.2, Making-on g.D.Desk.leads (g.D.Desk.splits c.args.desk.now) c.args.policy c.args.desk.now (statements bytes) _ (statements (after_line inv.0)) (is_quit c.in-Some.reading) more goes);
-      reader = let ok = c.in-Ok-true.ensures.unfailed in ok.0 ∙ c.lines.invariant.reader;
-      writer = let ok = c.in-Ok-true.ensures.unfailed in c.in_default-respond.ensures.tells.writes.unfailed ∙ ok.1 ∙ c.lines.invariant.writer;
+      reader = let ok = c.in-Ok-Other.ensures.unfailed in ok.0 ∙ c.lines.invariant.reader;
+      writer = let ok = c.in-Ok-Other.ensures.unfailed in c.in_default-respond.ensures.tells.writes.unfailed ∙ ok.1 ∙ c.lines.invariant.writer;
       splits = c.respond.ensures.asks.splits_are ∙ c.lines.invariant.splits;
       bounds = c.respond.ensures.asks.bounds_are ∙ c.lines.invariant.bounds;
       end = c.next_line.ensures.end;
-      paid = IsPaid-then start_input c.lines.input c.next_line.new.input _ _ _ c.lines.invariant.paid c.in-Ok-true.ensures.paid;
+      paid = IsPaid-then start_input c.lines.input c.next_line.new.input _ _ _ c.lines.invariant.paid c.in-Ok-Other.ensures.paid;
       reads = counted-then (reads_of c.args.reader.now) c.lines.input.reads c.next_line.new.input.reads 1000000000 (reads_of c.lines.reader) _ c.lines.invariant.reads.0 c.lines.invariant.reads.1 c.next_line.ensures.counted.0 c.next_line.ensures.counted.1;
-      room = let falls = c.in-Ok-true.ensures.falls c.in-Ok-true.field-0-test in omega (arith, falls, c.lines.invariant.room, c.in_default-respond.ensures.tells.count);
+      room = let falls = c.in-Ok-Other.ensures.falls (ap is_line c.in-Ok-Other.field-0-is) in omega (arith, falls, c.lines.invariant.room, c.in_default-respond.ensures.tells.count);
+    }
+
+pub lines-preserved-in_default : goal.lines-preserved-in_default
+lines-preserved-in_default g c =
+    record {
+      going = λ bytes e.
+          let inv = c.lines.invariant.going bytes e in
+          let some = rw c.in-Ok-Insert.field-0-is at c.in-Ok-Insert.ensures.line in
+          let last = rw c.in-Ok-Insert.field-0-is at c.in-Ok-Insert.ensures.last in
+          let next = some inv.0 inv.1 in
+          let said = rw c.in-Ok-Insert.field-0-is at c.in-Ok-Insert.ensures.row in
+          let more = Going-answered g.W.Write.contents inv.0 c.next_line.new.input.line (Ok (Insert c.in-Ok-Insert.key c.in-Ok-Insert.payload)) c.in_default.ensures.answer c.lines.progress c.respond_to_insert.new.progress _ c.next_line.new.writer c.respond_to_insert.new.writer inv.2 c.next_line.ensures.bytes next.0 next.1 said
+          (Answered-desk (Ok (Insert c.in-Ok-Insert.key c.in-Ok-Insert.payload)) c.in_default.ensures.answer c.in_default.ensures.asks.is c.lines.invariant.bounds c.lines.invariant.splits) c.in_default.ensures.tells in (
+            after_line inv.0,
+            next.2,
+            Going-on (statements (after_line inv.0)) (is_quit (Ok (Insert c.in-Ok-Insert.key c.in-Ok-Insert.payload))) more refl,
+            λ goes_on. AreUsed-more inv.0 c.next_line.new.input.line (Ok (Insert c.in-Ok-Insert.key c.in-Ok-Insert.payload)) c.respond_to_insert.new.progress.statements (inv.3 (c.in-Ok-Insert.ensures.paid goes_on).0)
+                (line_feeds inv.0 c.next_line.new.input.ended (last refl inv.0 inv.1) goes_on) next.1 said refl c.in_default.ensures.tells.count,
+          );
+      made = λ bytes e.
+          let inv = c.lines.invariant.made bytes e in
+          let some = rw c.in-Ok-Insert.field-0-is at c.in-Ok-Insert.ensures.line in
+          let next = some inv.0 inv.1 in
+          let said = rw c.in-Ok-Insert.field-0-is at c.in-Ok-Insert.ensures.row in
+          let line = Making-line g.D.Desk.leads (g.D.Desk.splits c.args.desk.now) c.args.policy c.args.desk.now (statements bytes) _ _ _ inv.0 c.next_line.new.input.line (Ok (Insert c.in-Ok-Insert.key c.in-Ok-Insert.payload)) inv.2 c.next_line.ensures.bytes next.0 next.1 said in
+          let asks = c.in_default.ensures.asks in
+          let more = Making-more g.D.Desk.leads (g.D.Desk.splits c.args.desk.now) c.args.policy c.args.desk.now (statements bytes) _ g.W.Write.contents (Ok (Insert c.in-Ok-Insert.key c.in-Ok-Insert.payload)) c.in_default.ensures.answer c.lines.progress c.respond_to_insert.new.progress c.respond_to_insert.new.desk c.next_line.new.writer c.respond_to_insert.new.writer _ asks.calls line c.lines.invariant.splits asks.were asks.made c.in_default.ensures.tells in
+          (after_line inv.0, next.2, Making-on g.D.Desk.leads (g.D.Desk.splits c.args.desk.now) c.args.policy c.args.desk.now (statements bytes) _ (statements (after_line inv.0)) (is_quit (Ok (Insert c.in-Ok-Insert.key c.in-Ok-Insert.payload))) more refl);
+      reader = let ok = c.in-Ok-Insert.ensures.unfailed in ok.0 ∙ c.lines.invariant.reader;
+      writer = let ok = c.in-Ok-Insert.ensures.unfailed in c.in_default.ensures.tells.writes.unfailed ∙ ok.1 ∙ c.lines.invariant.writer;
+      splits = c.respond_to_insert.ensures.asks.splits_are ∙ c.lines.invariant.splits;
+      bounds = c.respond_to_insert.ensures.asks.bounds_are ∙ c.lines.invariant.bounds;
+      end = c.next_line.ensures.end;
+      paid = IsPaid-then start_input c.lines.input c.next_line.new.input _ _ _ c.lines.invariant.paid c.in-Ok-Insert.ensures.paid;
+      reads = counted-then (reads_of c.args.reader.now) c.lines.input.reads c.next_line.new.input.reads 1000000000 (reads_of c.lines.reader) _ c.lines.invariant.reads.0 c.lines.invariant.reads.1 c.next_line.ensures.counted.0 c.next_line.ensures.counted.1;
+      room = let falls = c.in-Ok-Insert.ensures.falls (ap is_line c.in-Ok-Insert.field-0-is) in omega (arith, falls, c.lines.invariant.room, c.in_default.ensures.tells.count);
     }
 
 pub lines-preserved : goal.lines-preserved
 lines-preserved g c = record {
   going = λ bytes e.
       let inv = c.lines.invariant.going bytes e in
-      let some = rw c.in-Ok-true.field-0-test at c.in-Ok-true.ensures.line in
-      let last = rw c.in-Ok-true.field-0-test at c.in-Ok-true.ensures.last in
+      let some = rw c.in-Ok-Other.field-0-is at c.in-Ok-Other.ensures.line in
+      let last = rw c.in-Ok-Other.field-0-is at c.in-Ok-Other.ensures.last in
       let next = some inv.0 inv.1 in
       let blank : reading_of c.next_line.new.input.line ≡ None = search rules in (
         after_line inv.0,
         next.2,
         Going-left _ (Going-kept _ _ inv.2 c.next_line.ensures.bytes) (next_blank inv.0 c.next_line.new.input.line next.0 next.1 blank),
-        λ goes_on. AreUsed-blank inv.0 c.next_line.new.input.line (inv.3 (c.in-Ok-true.ensures.paid goes_on).0)
+        λ goes_on. AreUsed-blank inv.0 c.next_line.new.input.line (inv.3 (c.in-Ok-Other.ensures.paid goes_on).0)
             (line_feeds inv.0 c.next_line.new.input.ended (last refl inv.0 inv.1) goes_on) next.1 blank,
       );
   made = λ bytes e.
       let inv = c.lines.invariant.made bytes e in
-      let some = rw c.in-Ok-true.field-0-test at c.in-Ok-true.ensures.line in
+      let some = rw c.in-Ok-Other.field-0-is at c.in-Ok-Other.ensures.line in
       let next = some inv.0 inv.1 in
       let blank : reading_of c.next_line.new.input.line ≡ None = search rules in
       (after_line inv.0, next.2, Making-left g.D.Desk.leads (g.D.Desk.splits c.args.desk.now) c.args.policy c.args.desk.now (statements bytes) _ _ (Making-kept g.D.Desk.leads (g.D.Desk.splits c.args.desk.now) c.args.policy c.args.desk.now (statements bytes) _ _ _ inv.2 c.next_line.ensures.bytes) (next_blank inv.0 c.next_line.new.input.line next.0 next.1 blank));
-  reader = let ok = c.in-Ok-true.ensures.unfailed in ok.0 ∙ c.lines.invariant.reader;
-  writer = let ok = c.in-Ok-true.ensures.unfailed in ok.1 ∙ c.lines.invariant.writer;
+  reader = let ok = c.in-Ok-Other.ensures.unfailed in ok.0 ∙ c.lines.invariant.reader;
+  writer = let ok = c.in-Ok-Other.ensures.unfailed in ok.1 ∙ c.lines.invariant.writer;
   splits = c.lines.invariant.splits;
   bounds = c.lines.invariant.bounds;
   end = c.next_line.ensures.end;
-  paid = IsPaid-then start_input c.lines.input c.next_line.new.input _ _ _ c.lines.invariant.paid c.in-Ok-true.ensures.paid;
+  paid = IsPaid-then start_input c.lines.input c.next_line.new.input _ _ _ c.lines.invariant.paid c.in-Ok-Other.ensures.paid;
   reads = counted-then (reads_of c.args.reader.now) c.lines.input.reads c.next_line.new.input.reads 1000000000 (reads_of c.lines.reader) _ c.lines.invariant.reads.0 c.lines.invariant.reads.1 c.next_line.ensures.counted.0 c.next_line.ensures.counted.1;
-  room = let falls = c.in-Ok-true.ensures.falls c.in-Ok-true.field-0-test in omega (arith, falls, c.lines.invariant.room);
+  room = let falls = c.in-Ok-Other.ensures.falls (ap is_line c.in-Ok-Other.field-0-is) in omega (arith, falls, c.lines.invariant.room);
 }

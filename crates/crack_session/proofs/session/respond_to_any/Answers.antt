@@ -1,4 +1,0 @@
-use Rattle.crack_session.proofs.session.respond_to_any.Goals as goal
-
-pub returns : goal.returns
-returns g c = record { answer = c.answer_reading-answer.result; asks = c.answer_reading-answer.ensures; tells = c.tell.ensures }
