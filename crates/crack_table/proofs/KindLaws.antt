@@ -12,7 +12,7 @@ use Rattle.crack_core.specs.Receipts.{entry_of}
 use Rattle.crack_table.specs.declared.kept.Kept.{Kept}
 use Rattle.crack_table.specs.declared.kinds.KindsLeft.{KindsLeft}
 use Rattle.crack_table.specs.Cover.{KeptState, told, IsKept, folded_entries, IsCounted}
-use Rattle.crack_table.specs.Marks.{left_after, LeftIs, AreLeft, in_folded, Counted}
+use Rattle.crack_table.specs.Coverage.{left_after, LeftIs, AreLeft, in_folded, Counted}
 use Rattle.crack_table.proofs.Places.{get_set_same, get_set_other}
 
 -- whether a receipt names a checkpointed place
@@ -36,10 +36,10 @@ left_more (Some zero) wanted came true is = omega (arith, is)
 left_more (Some (suc n)) wanted came true is = omega (arith, is)
 
 -- the receipts still missing after one more
-abbrev pub noted_left : KindsLeft → Receipt → KindsLeft
-noted_left left r = record { placed = left_after (is_placed r.reply) left.placed; gone = left_after (is_gone r.reply) left.gone }
+abbrev pub left_by : KindsLeft → Receipt → KindsLeft
+left_by left r = record { placed = left_after (is_placed r.reply) left.placed; gone = left_after (is_gone r.reply) left.gone }
 
-one_left : (left : KindsLeft) (done : List Receipt) (r : Receipt) (part : ℕ) (k : KeptState) → names_folded part k.folded r ≡ true → AreLeft left done part k → AreLeft (noted_left left r) (done ++ r ∷ []) part k
+one_left : (left : KindsLeft) (done : List Receipt) (r : Receipt) (part : ℕ) (k : KeptState) → names_folded part k.folded r ≡ true → AreLeft left done part k → AreLeft (left_by left r) (done ++ r ∷ []) part k
 one_left left done r part k is are =
     rw (folded_one done r part k.folded is, inserted-push (folded_entries done part k.folded) (entry_of r), deleted-push (folded_entries done part k.folded) (entry_of r)) (
       left_more left.placed k.placed (inserted (folded_entries done part k.folded)) (is_placed r.reply) are.0,
@@ -51,29 +51,29 @@ still_left left done r part k is are = rw (folded_still done r part k.folded is)
 
 counted_at : (kept : List KeptState) (kinds : List KindsLeft) (done : List Receipt) (r : Receipt) (k : KeptState) (left : KindsLeft)
     → slice_get kept r.part ≡ Some k → slice_get kinds r.part ≡ Some left → nat_lt r.position k.folded ≡ true → Counted kept kinds done
-    → (q : ℕ) (t : Bool) → (r.part == q) ≡ t → (j : KeptState) (other : KindsLeft) → slice_get kept q ≡ Some j → slice_get (set kinds r.part (noted_left left r)) q ≡ Some other → AreLeft other (done ++ r ∷ []) q j
+    → (q : ℕ) (t : Bool) → (r.part == q) ≡ t → (j : KeptState) (other : KindsLeft) → slice_get kept q ≡ Some j → slice_get (set kinds r.part (left_by left r)) q ≡ Some other → AreLeft other (done ++ r ∷ []) q j
 counted_at kept kinds done r k left k_is left_is folded counted q true same j other j_is other_is =
     let e : r.part ≡ q = grind (arith, nat_tests) in
     let there : slice_get kept r.part ≡ Some j = rw e j_is in
     let one : k ≡ j = cc in
-    let now : slice_get (set kinds r.part (noted_left left r)) r.part ≡ Some other = subst (λ (x : ℕ). slice_get (set kinds r.part (noted_left left r)) x ≡ Some other) (sym e) other_is in
-    let was : slice_get (set kinds r.part (noted_left left r)) r.part ≡ Some (noted_left left r) = get_set_same kinds r.part left (noted_left left r) left_is in
-    let two : noted_left left r ≡ other = cc in
+    let now : slice_get (set kinds r.part (left_by left r)) r.part ≡ Some other = subst (λ (x : ℕ). slice_get (set kinds r.part (left_by left r)) x ≡ Some other) (sym e) other_is in
+    let was : slice_get (set kinds r.part (left_by left r)) r.part ≡ Some (left_by left r) = get_set_same kinds r.part left (left_by left r) left_is in
+    let two : left_by left r ≡ other = cc in
     let named : names_folded r.part k.folded r ≡ true = grind (arith, nat_tests, folded) in
-    let here : AreLeft (noted_left left r) (done ++ r ∷ []) r.part k = one_left left done r r.part k named (counted r.part k left k_is left_is) in
+    let here : AreLeft (left_by left r) (done ++ r ∷ []) r.part k = one_left left done r r.part k named (counted r.part k left k_is left_is) in
     let P : KindsLeft → Type 0 = λ x. AreLeft x (done ++ r ∷ []) r.part k in
     let Q : KeptState → Type 0 = λ x. AreLeft other (done ++ r ∷ []) r.part x in
     let R : ℕ → Type 0 = λ x. AreLeft other (done ++ r ∷ []) x j in
     subst R e (subst Q one (subst P two here))
 counted_at kept kinds done r k left k_is left_is folded counted q false same j other j_is other_is =
     let ne : q ≢ r.part = λ h. grind (arith, nat_tests) in
-    let was : slice_get kinds q ≡ Some other = sym (get_set_other kinds q r.part (noted_left left r) ne) ∙ other_is in
+    let was : slice_get kinds q ≡ Some other = sym (get_set_other kinds q r.part (left_by left r) ne) ∙ other_is in
     let named : names_folded q j.folded r ≡ false = rw same refl in
     still_left other done r q j named (counted q j other j_is was)
 
 -- one more receipt of a checkpointed place
 pub counted_more : (kept : List KeptState) (kinds : List KindsLeft) (done : List Receipt) (r : Receipt) (left : KindsLeft)
-    → slice_get kinds r.part ≡ Some left → in_folded (slice_get kept r.part) r.position ≡ true → Counted kept kinds done → Counted kept (set kinds r.part (noted_left left r)) (done ++ r ∷ [])
+    → slice_get kinds r.part ≡ Some left → in_folded (slice_get kept r.part) r.position ≡ true → Counted kept kinds done → Counted kept (set kinds r.part (left_by left r)) (done ++ r ∷ [])
 counted_more kept kinds done r left left_is folded counted q j other j_is other_is =
     let there = found (slice_get kept r.part) refl folded in
     counted_at kept kinds done r there.0 left there.1 left_is there.2 counted q (r.part == q) refl j other j_is other_is
@@ -124,7 +124,7 @@ none_read ks kinds i k lt long read counted =
     let l : length (map told (take i ks)) ≡ length kinds = simp (length-map, length-take) (omega arith) in
     rw (take_more ks i k lt, ← read, map-append) (none_counted (map told (take i ks)) kinds (told k) l counted)
 
--- if none is missing, exactly as many were noted as the partition says
+-- if none is missing, exactly as many were counted as the partition says
 left_none : (o : Option ℕ) (wanted came : ℕ) → LeftIs o wanted came → o ≡ Some 0 → came ≡ wanted
 left_none None wanted came is none = cc
 left_none (Some n) wanted came is none = let e : n ≡ 0 = cc in omega (arith, e, is)

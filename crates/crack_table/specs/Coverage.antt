@@ -1,5 +1,5 @@
 -- What private clauses alone cite.
--- The notes about receipts that lead to a cover.
+-- How far receipts cover what is kept of the partitions.
 use Rattle.std.specs.Prelude.{ℕ, zero, suc, Bool, true, false, List, [], ◌∷◌, length, ◌≡◌, ◌≢◌, ◌+◌, ◌<◌, ◌==◌, ◌&&◌, nat_lt, nat_le, Option, Some, None, IfSome, filter, slice_get}
 use Rattle.std.specs.List.{list_any}
 use Rattle.std.specs.Option.{option_and_then}
@@ -10,8 +10,8 @@ use Rattle.crack_plain.specs.Totals.{inserted, deleted}
 use Rattle.crack_core.specs.declared.receipt.Receipt.{Receipt}
 use Rattle.crack_core.specs.Receipts.{entry_of}
 use Rattle.crack_table.specs.declared.kinds.KindsLeft.{KindsLeft}
-use Rattle.crack_table.specs.declared.marks.PlaceState.{PlaceState}
-use Rattle.crack_table.specs.declared.marks.PlaceState.TheVariants.{Unnamed, Met, Failed}
+use Rattle.crack_table.specs.declared.states.PlaceState.{PlaceState}
+use Rattle.crack_table.specs.declared.states.PlaceState.TheVariants.{Unnamed, Met, Failed}
 use Rattle.crack_table.specs.Cover.{KeptState, place_at, folded_entries, is_late}
 
 -- what is known of a place: its entry, or nothing if that is checkpointed
@@ -34,30 +34,30 @@ names part position r = (r.part == part) && (r.position == position)
 abbrev pub at : {X : Type 0} → List (List X) → ℕ → ℕ → Option X
 at lists part position = option_and_then (λ list. slice_get list position) (slice_get lists part)
 
--- the mark of a place after one more receipt that names it, by whether its entry is right there
-abbrev pub mark_after : PlaceState → Bool → PlaceState
-mark_after Unnamed true = Met
-mark_after _ _ = Failed
+-- the state of a place after one more receipt that names it, by whether its entry is right there
+abbrev pub state_after : PlaceState → Bool → PlaceState
+state_after Unnamed true = Met
+state_after _ _ = Failed
 
 -- there is exactly one receipt, and its entry is right for the place
 abbrev pub IsSole : Place → List Receipt → Type 0
 IsSole place named = (r : Receipt) × (named ≡ r ∷ []) × IsRight place (entry_of r)
 
--- the meaning of a mark for the receipts that name its place
-abbrev pub MarkIs : PlaceState → Place → List Receipt → Type 0
-MarkIs Unnamed place named = named ≡ []
-MarkIs Met place named = IsSole place named
-MarkIs Failed place named = (named ≢ []) × (¬ IsSole place named)
+-- the meaning of a state for the receipts that name its place
+abbrev pub IsState : PlaceState → Place → List Receipt → Type 0
+IsState Unnamed place named = named ≡ []
+IsState Met place named = IsSole place named
+IsState Failed place named = (named ≢ []) × (¬ IsSole place named)
 
--- there is a mark if there is a place, and its meaning is true
-abbrev pub MarkIsAt : Option Place → Option PlaceState → List Receipt → Type 0
-MarkIsAt (Some place) (Some mark) named = MarkIs mark place named
-MarkIsAt None None named = Unit {0}
-MarkIsAt _ _ named = ⊥
+-- there is a state if there is a place, and its meaning is true
+abbrev pub IsStateAt : Option Place → Option PlaceState → List Receipt → Type 0
+IsStateAt (Some place) (Some state) named = IsState state place named
+IsStateAt None None named = Unit {0}
+IsStateAt _ _ named = ⊥
 
--- the marks are those of these receipts
-abbrev pub Marked : List KeptState → List (List PlaceState) → List Receipt → Type 0
-Marked kept marks receipts = (part position : ℕ) → MarkIsAt (place_in kept part position) (at marks part position) (filter (names part position) receipts)
+-- the states are those of these receipts
+abbrev pub AreStatesOf : List KeptState → List (List PlaceState) → List Receipt → Type 0
+AreStatesOf kept states receipts = (part position : ℕ) → IsStateAt (place_in kept part position) (at states part position) (filter (names part position) receipts)
 
 -- how many are still missing, after one more that counts or doesn't; nothing if there were too many
 abbrev pub left_after : Bool → Option ℕ → Option ℕ
@@ -86,19 +86,19 @@ in_folded (Some kept) position = nat_lt position kept.folded
 abbrev pub Counted : List KeptState → List KindsLeft → List Receipt → Type 0
 Counted kept kinds receipts = (part : ℕ) (k : KeptState) (left : KindsLeft) → slice_get kept part ≡ Some k → slice_get kinds part ≡ Some left → AreLeft left receipts part k
 
--- a partition's list of marks, and what is still missing, are those of these receipts
-pub record RowNoted (kept : KeptState) (row : List PlaceState) (left : KindsLeft) (part : ℕ) (receipts : List Receipt) : Type 0 where
-  pub marked : (position : ℕ) → MarkIsAt (place_at kept position) (slice_get row position) (filter (names part position) receipts)
+-- the states of a partition's places, and what is still missing, are those of these receipts
+pub record IsRowCoverage (kept : KeptState) (row : List PlaceState) (left : KindsLeft) (part : ℕ) (receipts : List Receipt) : Type 0 where
+  pub by_place : (position : ℕ) → IsStateAt (place_at kept position) (slice_get row position) (filter (names part position) receipts)
   pub counted : AreLeft left receipts part kept
 
--- the receipts that were noted are these
-pub record AreNoted (kept : List KeptState) (marks : List (List PlaceState)) (kinds : List KindsLeft) (receipts : List Receipt) : Type 0 where
-  pub rows : length marks ≡ length kept
+-- the receipts cover this much: the states and the kinds are theirs
+pub record IsCoverage (kept : List KeptState) (states : List (List PlaceState)) (kinds : List KindsLeft) (receipts : List Receipt) : Type 0 where
+  pub rows : length states ≡ length kept
   pub counts : length kinds ≡ length kept
-  pub marked : Marked kept marks receipts
+  pub by_place : AreStatesOf kept states receipts
   pub counted : Counted kept kinds receipts
 
--- the first place of a list whose mark isn't Met
+-- the first place of a list whose state isn't Met
 abbrev pub IsOpenIn : List PlaceState → ℕ → Type 0
 IsOpenIn row place = (m : PlaceState) × (slice_get row place ≡ Some m) × (m ≢ Met) × ((n : ℕ) (k : PlaceState) → n < place → slice_get row n ≡ Some k → k ≡ Met)
 
