@@ -1,7 +1,7 @@
 use Rattle.std.proofs.Common.{length, drop, ap}
 use Rattle.std.proofs.lemmas.List.{take-map, drop-map, length-map}
 use Rattle.crack_arena.specs.Links.{cell_of, cells_of}
-use Rattle.crack_arena.proofs.arena.Arena.stretch_from.Goals as goal
+use Rattle.crack_arena.proofs.arena.Arena.cells_from.Goals as goal
 
 pub returns-clause-cells : goal.returns-clause-cells
 returns-clause-cells g c =

@@ -1,10 +1,10 @@
--- Laws of what a column remembers of its rows.
+-- Laws of what is remembered of the rows of handles.
 use Rattle.std.proofs.Common.{ℕ, ◌≤◌, List, [], ◌∷◌, ◌++◌, length, set, take, sym, ◌∙◌, inl, inr, arith, length-append, length-set}
 use Rattle.std.proofs.lemmas.List.{get_or_append_left, get_or_push, get_or-set_same, get_or-set_other, get_or-take, length-take-le}
 use Rattle.std.proofs.lemmas.Bool.{cases_eq}
 use Rattle.crack_arena.specs.Arena.{Cell, Handle}
 use Rattle.crack_row.specs.declared.Row.{Row}
-use Rattle.crack_column.specs.Column.{Memory, nothing, Agrees, Remembers}
+use Rattle.crack_arena.specs.Memories.{Memory, nothing, Agrees, Remembers}
 
 -- after an append
 pub Remembers-append : (cells : List (Cell Row)) (handles : List Handle) (remembered : List Memory) (h : Handle) (m : Memory) → Agrees cells h m → Remembers cells handles remembered → Remembers cells (handles ++ h ∷ []) (remembered ++ m ∷ [])

@@ -3,8 +3,8 @@ use Rattle.std.proofs.lemmas.Bool.{cases_eq, eq-eqb, ne_eqb}
 use Rattle.crack_arena.specs.Arena.{times}
 use Rattle.crack_arena.proofs.Times.{times_head, times-nil, times_other}
 use Rattle.crack_arena.specs.Rows.{unknown}
-use Rattle.crack_column.specs.Column.{Memory}
-use Rattle.crack_column.proofs.remembered.Remembered.unread.Goals as goal
+use Rattle.crack_arena.specs.Memories.{Memory}
+use Rattle.crack_arena.proofs.remembered.Remembered.unread.Goals as goal
 
 pub returns : goal.returns
 returns c =

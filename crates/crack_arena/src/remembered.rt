@@ -1,15 +1,15 @@
-//! What a cracker column remembers about a row.
+//! What is remembered about a row beside its handle.
 ghost use Rattle.std.specs.Prelude.{◌≡◌, ◌≢◌, ◌<◌, ◌↔◌, [], ◌∷◌, IsTrue};
 ghost use Rattle.crack_arena.specs.Arena.{times};
 ghost use Rattle.crack_arena.specs.Rows.{key_at, unknown};
-ghost use Rattle.crack_column.specs.Column.{nothing, memory_at, Agrees};
+ghost use Rattle.crack_arena.specs.Memories.{nothing, memory_at, Agrees};
 
-use crack_arena::{Arena, Handle, key_of};
+use crate::{Arena, Handle, key_of};
 use crack_row::{Bound, GREATEST_KEY, Key, KeyNumber, Payload, Row};
 use std::marker::Model;
 
-/// The value for a key that isn't remembered.
-pub(crate) const UNKNOWN: KeyNumber = GREATEST_KEY;
+/// The number in place of a key that isn't remembered.
+pub const UNKNOWN_KEY: KeyNumber = GREATEST_KEY;
 
 /// The key and the payload of a row, or that the row isn't known.
 #[derive(Clone, Copy)]
@@ -19,7 +19,7 @@ pub struct Remembered {
 }
 
 impl Model for Remembered {
-    ghost use Rattle.crack_column.specs.Column.{Memory};
+    ghost use Rattle.crack_arena.specs.Memories.{Memory};
 
     ghost Value = { Memory };
 
@@ -44,7 +44,7 @@ impl Remembered {
         ensures { result ≡ nothing }
     {
         Remembered {
-            key: UNKNOWN,
+            key: UNKNOWN_KEY,
             payload: Payload::from_number(0),
         }
     }
@@ -54,7 +54,7 @@ impl Remembered {
         requires { Agrees arena.now.cells handle self.now }
         ensures { result.0 ≡ key_at arena.now.cells handle }
     {
-        if self.key == UNKNOWN {
+        if self.key == UNKNOWN_KEY {
             key_of(arena, handle)
         } else {
             Key::from_number(self.key)
@@ -66,11 +66,13 @@ impl Remembered {
     pub fn is_known_below(&self, bound: Bound) -> bool
         ensures { IsTrue result ↔ ((self.now.key ≢ unknown) × (self.now.key < bound.0)) }
     {
-        self.key != UNKNOWN && bound.is_above(Key::from_number(self.key))
+        self.key != UNKNOWN_KEY && bound.is_above(Key::from_number(self.key))
     }
 
-    /// What is to be remembered about the row that the handle reads.
-    pub(crate) fn read(arena: &Arena<Row>, handle: Handle<Row>) -> Remembered
+    /// What is to be remembered about the row that the handle reads: the key 0 and the payload 0 if it reads none.
+    /// O(1).
+    #[inline]
+    pub fn read(arena: &Arena<Row>, handle: Handle<Row>) -> Remembered
         ensures { result ≡ memory_at arena.now.cells handle }
     {
         match arena.get(handle) {
@@ -84,14 +86,15 @@ impl Remembered {
         requires { Agrees arena.now.cells handle self }
         ensures { result ≡ memory_at arena.now.cells handle }
     {
-        if self.key == UNKNOWN {
+        if self.key == UNKNOWN_KEY {
             return Remembered::read(arena, handle);
         }
         self
     }
 
-    /// For a row with this key and this payload.
-    pub(crate) fn new(key: KeyNumber, payload: Payload) -> Remembered
+    /// For a row with this key and this payload. O(1).
+    #[inline]
+    pub fn new(key: KeyNumber, payload: Payload) -> Remembered
         ensures { result ≡ record { key = key; payload = payload } }
     {
         Remembered { key, payload }
@@ -105,16 +108,19 @@ impl Remembered {
         self.key
     }
 
-    pub(crate) fn payload(&self) -> Payload
+    /// The row's payload; 0 if the row isn't known. O(1).
+    #[inline]
+    pub fn payload(&self) -> Payload
         ensures { result ≡ self.now.payload }
     {
         self.payload
     }
 
-    /// 1 if the row isn't known, else 0.
-    pub(crate) fn unread(&self) -> usize
+    /// 1 if the row isn't known, else 0. O(1).
+    #[inline]
+    pub fn unread(&self) -> usize
         ensures { result ≡ times unknown (self.now.key ∷ []) }
     {
-        (self.key == UNKNOWN) as usize
+        (self.key == UNKNOWN_KEY) as usize
     }
 }

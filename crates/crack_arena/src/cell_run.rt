@@ -9,11 +9,11 @@ use std::marker::Model;
 /// Adjacent cells of an arena, to be read one after the other. Contracts see a
 /// list of cells.
 #[derive(Drop)]
-pub struct Stretch<'a, T> {
+pub struct CellRun<'a, T> {
     cells: &'a [Cell<T>],
 }
 
-impl<'a, T> Model for Stretch<'a, T> {
+impl<'a, T> Model for CellRun<'a, T> {
     ghost use Rattle.std.specs.Prelude.{List};
     ghost use Rattle.std.specs.Coded.{coded_list};
     ghost use Rattle.crack_arena.specs.Arena.{Cell as Seen, cell_code};
@@ -26,12 +26,12 @@ impl<'a, T> Model for Stretch<'a, T> {
     ghost view = { λ s. cells_of s.cells.now };
 }
 
-impl<'a, T> Stretch<'a, T> {
-    /// The stretch of these cells.
-    pub(crate) fn of(cells: &'a [Cell<T>]) -> Stretch<'a, T>
+impl<'a, T> CellRun<'a, T> {
+    /// These cells.
+    pub(crate) fn of(cells: &'a [Cell<T>]) -> CellRun<'a, T>
         ensures { result ≡ cells_of cells.now }
     {
-        Stretch { cells }
+        CellRun { cells }
     }
 
     /// How many cells there are.
@@ -41,7 +41,7 @@ impl<'a, T> Stretch<'a, T> {
         self.cells.len()
     }
 
-    /// The value of the cell at this place of the stretch, from 0, if it has one: a free cell has none, and neither
+    /// The value of the cell at this place among these, from 0, if it has one: a free cell has none, and neither
     /// has a place from `len()` on. O(1), takes no memory.
     pub fn value_at(&self, place: usize) -> Option<&'a T>
         ensures { option_copied result ≡ (cell_at self.now place).value }
