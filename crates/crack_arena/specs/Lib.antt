@@ -4,4 +4,5 @@ pub mod Links
 pub mod Listed
 pub mod Pages
 pub mod Rows
+pub mod Memories
 pub mod Keeps

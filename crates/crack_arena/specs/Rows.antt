@@ -41,6 +41,6 @@ amount_at cells h = amount_of_row (read cells h)
 abbrev pub keys_at : List (Cell Row) → List Handle → List ℕ
 keys_at cells handles = map (key_at cells) handles
 
--- the mark beside a handle whose key isn't remembered; the greatest key is never remembered
+-- what stands for a key that isn't remembered; the greatest key is never remembered
 abbrev pub unknown : ℕ
 unknown = GREATEST_KEY

@@ -6,9 +6,9 @@ ghost use Rattle.crack_arena.specs.Arena.{read, freed, CanPut, handle_for, put_i
 ghost use Rattle.crack_arena.specs.Arena.{IsSpent, KeepsSpent, Call, after_calls};
 
 use crate::cell_list::CellList;
+use crate::cell_run::CellRun;
 use crate::cells::{Cell, Content};
 use crate::handles::Handle;
-use crate::stretch::Stretch;
 use crack_row::Refusal;
 use std::alloc::Global;
 use std::marker::Model;
@@ -131,11 +131,11 @@ impl<T> Arena<T> {
 
     /// The adjacent cells from this number on, up to 256 of them: those of a page. None from `cells()`
     /// on. O(1).
-    pub fn stretch_from(&self, slot: u32) -> Stretch<'_, T>
+    pub fn cells_from(&self, slot: u32) -> CellRun<'_, T>
         ensures cells { result ≡ take (length result) (drop slot self.now.cells) }
         ensures some { slot < length self.now.cells → 0 < length result }
     {
-        Stretch::of(self.cells.side_by_side(slot as usize))
+        CellRun::of(self.cells.side_by_side(slot as usize))
     }
 
     /// Makes room for as many puts, which then need no memory.

@@ -6,16 +6,18 @@
 
 mod arena;
 mod cell_list;
+mod cell_run;
 mod cells;
 mod handles;
 mod page;
+mod remembered;
 mod rows;
-mod stretch;
 
 pub use arena::{Arena, PutRefused};
+pub use cell_run::CellRun;
 pub use handles::Handle;
+pub use remembered::{Remembered, UNKNOWN_KEY};
 pub use rows::{amount_of, key_of, payload_of};
-pub use stretch::Stretch;
 
 /// The greatest number of cells of an arena.
 pub const MOST_CELLS: u64 = 4294967295;

@@ -177,28 +177,28 @@ fn cells_of_a_second_page(rt: HostRuntime) {
 }
 
 /// The values of adjacent cells, from the one with this number on: this many cells.
-fn assert_stretch(rt: &impl Abort, arena: &Arena<char>, slot: u32, len: u32) {
-    let stretch = arena.stretch_from(slot);
-    let after = stretch.value_at(len as usize);
-    assert!(rt; stretch.len() == len as usize && after.is_none());
+fn assert_run(rt: &impl Abort, arena: &Arena<char>, slot: u32, len: u32) {
+    let run = arena.cells_from(slot);
+    let after = run.value_at(len as usize);
+    assert!(rt; run.len() == len as usize && after.is_none());
     for place in 0..len {
         let handle = Handle::new(slot.saturating_add(place), 0);
-        let value = stretch.value_at(place as usize).copied();
+        let value = run.value_at(place as usize).copied();
         assert!(rt; value == arena.get(handle).copied(), "at {place}");
     }
 }
 
 #[test]
-fn a_stretch_ends_with_its_page(rt: HostRuntime) {
+fn a_run_ends_with_its_page(rt: HostRuntime) {
     let mut arena = Arena::new(rt.alloc());
-    assert_stretch(&rt, &arena, 0, 0);
+    assert_run(&rt, &arena, 0, 0);
     put_in_order(&rt, &mut arena, 300);
     assert_frees(&rt, &mut arena, Handle::new(3, 0), Some('a'));
-    assert_stretch(&rt, &arena, 0, 256);
-    assert_stretch(&rt, &arena, 255, 1);
-    assert_stretch(&rt, &arena, 256, 44);
-    assert_stretch(&rt, &arena, 300, 0);
-    assert_stretch(&rt, &arena, 4294967295, 0);
+    assert_run(&rt, &arena, 0, 256);
+    assert_run(&rt, &arena, 255, 1);
+    assert_run(&rt, &arena, 256, 44);
+    assert_run(&rt, &arena, 300, 0);
+    assert_run(&rt, &arena, 4294967295, 0);
     drop(arena);
 }
 

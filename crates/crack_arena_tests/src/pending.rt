@@ -2,10 +2,9 @@
 ghost use Rattle.std.specs.Prelude.{List};
 ghost use Rattle.crack_row.specs.declared.Row.{Row};
 ghost use Rattle.crack_arena.specs.Arena.{Cell};
-ghost use Rattle.crack_column.specs.Column.{Remembers};
+ghost use Rattle.crack_arena.specs.Memories.{Remembers};
 
-use crack_arena::{Arena, Handle, key_of};
-use crack_column::Remembered;
+use crack_arena::{Arena, Handle, Remembered, key_of};
 use crack_pending::{PendingIn, PendingList, PendingOut};
 use crack_row::{
     Bound, BoundNumber, GREATEST_BOUND, GREATEST_KEY, Key, KeyNumber, KeyRange, Payload, Row,

@@ -1,6 +1,6 @@
 //! Cracks of a column whose handles are in random order.
 ghost use Rattle.std.specs.Prelude.{◌≡◌, length, IfOk};
-ghost use Rattle.crack_column.specs.Column.{Remembers};
+ghost use Rattle.crack_arena.specs.Memories.{Remembers};
 
 use crate::arena::Filled;
 use crate::index::bound_at;

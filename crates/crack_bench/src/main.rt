@@ -11,7 +11,7 @@
 #![tactic(auto)]
 
 ghost use Rattle.std.specs.Prelude.{◌<◌, All};
-ghost use Rattle.crack_column.specs.Column.{Remembers};
+ghost use Rattle.crack_arena.specs.Memories.{Remembers};
 
 mod arena;
 mod column;

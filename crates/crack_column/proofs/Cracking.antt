@@ -10,7 +10,8 @@ use Rattle.std.proofs.lemmas.Bool.{cases_lt}
 use Rattle.crack_arena.specs.Arena.{Cell, Handle, no_handle}
 use Rattle.crack_row.specs.declared.Row.{Row}
 use Rattle.crack_arena.specs.Rows.{key_at}
-use Rattle.crack_column.specs.Column.{Memory, nothing, memory_at, Remembers, IsDividedAt, Cracks}
+use Rattle.crack_arena.specs.Memories.{Memory, nothing, memory_at, Remembers}
+use Rattle.crack_column.specs.Column.{IsDividedAt, Cracks}
 
 -- what is at each place of a list whose middle was replaced
 pub record Replaced {X : Type 0} (from to : ℕ) (old piece new : List X) : Type 0 where

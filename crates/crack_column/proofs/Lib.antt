@@ -7,6 +7,5 @@ mod Passes
 mod SiftLaws
 mod Sifting
 mod SwapLaws
-pub mod Remembering
 mod TicketLaws
 mod Thirds

@@ -14,7 +14,8 @@ use Rattle.crack_column.specs.declared.tag.Tag.{Tag}
 use Rattle.crack_row.specs.Rows.{amount, total_by}
 use Rattle.crack_row.proofs.Totals.{total_by-agree}
 use Rattle.crack_arena.specs.Rows.{payload_of_row, amount_of_row, amount_at, unknown}
-use Rattle.crack_column.specs.Column.{Memory, memory_at, IsDividedAt}
+use Rattle.crack_arena.specs.Memories.{Memory, memory_at}
+use Rattle.crack_column.specs.Column.{IsDividedAt}
 use Rattle.crack_column.specs.Tickets.{tag_handle}
 use Rattle.crack_column.specs.Keeps.{remembered_key}
 use Rattle.crack_column.specs.Inside.{no_tag, forgotten, shifted, Knows, Read}

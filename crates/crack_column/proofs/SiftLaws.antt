@@ -16,7 +16,7 @@ use Rattle.crack_row.specs.declared.Row.{Row}
 use Rattle.crack_row.specs.declared.Payload.{Payload}
 use Rattle.crack_column.specs.declared.tag.Label.{Label}
 use Rattle.crack_column.specs.declared.tag.Tag.{Tag}
-use Rattle.crack_column.specs.Column.{Memory, nothing, memory_at, Remembers}
+use Rattle.crack_arena.specs.Memories.{Memory, nothing, memory_at, Remembers}
 use Rattle.crack_column.specs.Tickets.{memory_of, tag_handle, handles_in, remembered_in}
 use Rattle.crack_column.specs.Keeps.{remembered_key, unread_in, AreDrawn}
 use Rattle.crack_column.specs.Inside.{no_tag, forgotten, Knows, Read, SiftsTags}

@@ -9,11 +9,12 @@ use Rattle.crack_arena.specs.Rows.{unknown}
 use Rattle.crack_arena.proofs.Times.{times-IsPermutation}
 use Rattle.crack_row.specs.declared.Row.{Row}
 use Rattle.crack_column.specs.declared.tag.Tag.{Tag}
-use Rattle.crack_column.specs.Column.{Memory, nothing, Remembers, swapped}
+use Rattle.crack_arena.specs.Memories.{Memory, nothing, Remembers}
+use Rattle.crack_column.specs.Column.{swapped}
 use Rattle.crack_column.specs.Tickets.{memory_of, tag_handle, handles_in, remembered_in, aside_of, aside_in}
 use Rattle.crack_column.specs.Keeps.{ticket_of, remembered_key, unread_in, AreDrawn}
 use Rattle.crack_column.specs.Inside.{no_tag}
-use Rattle.crack_column.proofs.Remembering.{Remembers-set}
+use Rattle.crack_arena.proofs.Remembering.{Remembers-set}
 
 module _ {X : Type 0} (d : X) (i j : ℕ) (xs : List X) (first : i < length xs) (second : j < length xs) where
   pub length-swapped : length (swapped d i j xs) ≡ length xs

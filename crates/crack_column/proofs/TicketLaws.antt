@@ -15,7 +15,8 @@ use Rattle.crack_arena.proofs.Times.{times-map-remove, times_map_at, times_head,
 use Rattle.crack_row.specs.declared.Row.{Row}
 use Rattle.crack_column.specs.declared.tag.Tag.{Tag}
 use Rattle.crack_arena.specs.Rows.{key_at, unknown}
-use Rattle.crack_column.specs.Column.{Memory, Aside, no_aside, nothing, memory_at, Remembers, Cracks}
+use Rattle.crack_arena.specs.Memories.{Memory, nothing, memory_at, Remembers}
+use Rattle.crack_column.specs.Column.{Aside, no_aside, Cracks}
 use Rattle.crack_column.proofs.Cracking.{Replaced, replaced}
 use Rattle.crack_column.specs.Tickets.{memory_of, tag_handle, handles_in, remembered_in, aside_of, aside_in}
 use Rattle.crack_column.specs.Keeps.{ticket_of, remembered_key, unread_in, AreDrawn}

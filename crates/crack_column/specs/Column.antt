@@ -1,28 +1,11 @@
 -- What a column holds, and what a crack does to it.
-use Rattle.std.specs.Prelude.{◌≡◌, ℕ, ◌+◌, ◌-◌, ◌<◌, ◌≤◌, ◌⊎◌, List, [], ◌∷◌, ◌++◌, length, map, take, drop, slice_index, slice_index_or, slice_set}
+use Rattle.std.specs.Prelude.{◌≡◌, ℕ, ◌+◌, ◌-◌, ◌<◌, ◌≤◌, List, [], ◌∷◌, ◌++◌, length, map, take, drop, slice_index, slice_index_or, slice_set}
 use Rattle.std.specs.List.{between}
 use Rattle.std.specs.List.Sorted.{IsPermutation}
-use Rattle.crack_arena.specs.Arena.{Cell, Handle, no_handle}
-use Rattle.crack_row.specs.declared.Payload.{Payload}
-use Rattle.crack_arena.specs.Rows.{key_at, no_payload, payload_at, unknown}
 use Rattle.crack_row.specs.declared.Row.{Row}
-
--- what a column remembers of a row
-pub record Memory : Type 0 where
-  pub key : ℕ
-  pub payload : Payload
-
--- what is remembered of a row that isn't known
-abbrev pub nothing : Memory
-nothing = record { key = unknown; payload = no_payload }
-
--- what is to be remembered about the row that the handle reads
-abbrev pub memory_at : List (Cell Row) → Handle → Memory
-memory_at cells h = record { key = key_at cells h; payload = payload_at cells h }
-
--- the row isn't known, or both its key and its payload are remembered
-abbrev pub Agrees : List (Cell Row) → Handle → Memory → Type 0
-Agrees cells h m = (m.key ≡ unknown) ⊎ (m ≡ memory_at cells h)
+use Rattle.crack_arena.specs.Arena.{Cell, Handle, no_handle}
+use Rattle.crack_arena.specs.Rows.{key_at, no_payload}
+use Rattle.crack_arena.specs.Memories.{Memory, nothing, memory_at, Agrees, Remembers}
 
 -- a handle that is aside, and what is remembered about its row
 pub record Aside : Type 0 where
@@ -82,11 +65,6 @@ popped_aside c = record {
 -- the handles at two places are exchanged
 abbrev pub swapped : {X : Type 0} → X → ℕ → ℕ → List X → List X
 swapped d one other xs = slice_set (slice_set xs one (slice_index_or xs other d)) other (slice_index_or xs one d)
-
--- what is remembered about each handle's row is right
-pub record Remembers (cells : List (Cell Row)) (handles : List Handle) (remembered : List Memory) : Type 0 where
-  pub beside : length remembered ≡ length handles
-  pub right : (k : ℕ) (d : Handle) → k < length handles → Agrees cells (slice_index_or handles k d) (slice_index_or remembered k nothing)
 
 -- with any cells, if the first column remembers its rows correctly, so does the second
 abbrev pub StillRemembers : Column → Column → Type 0

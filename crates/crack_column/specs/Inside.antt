@@ -7,7 +7,8 @@ use Rattle.crack_arena.specs.Rows.{no_payload, unknown}
 use Rattle.crack_row.specs.declared.Row.{Row}
 use Rattle.crack_column.specs.declared.tag.Label.{Label}
 use Rattle.crack_column.specs.declared.tag.Tag.{Tag}
-use Rattle.crack_column.specs.Column.{Memory, memory_at, Agrees, IsDividedAt}
+use Rattle.crack_arena.specs.Memories.{Memory, memory_at, Agrees}
+use Rattle.crack_column.specs.Column.{IsDividedAt}
 use Rattle.crack_column.specs.Tickets.{memory_of, tag_handle}
 use Rattle.crack_column.specs.Keeps.{remembered_key, unread_in}
 use Rattle.crack_column.specs.Sifts.{below_bound, queued, made_way}

@@ -4,7 +4,8 @@ use Rattle.std.specs.List.{between}
 use Rattle.crack_arena.specs.Arena.{Cell}
 use Rattle.crack_arena.specs.Rows.{key_at}
 use Rattle.crack_row.specs.declared.Row.{Row}
-use Rattle.crack_column.specs.Column.{Column, memory_at}
+use Rattle.crack_arena.specs.Memories.{memory_at}
+use Rattle.crack_column.specs.Column.{Column}
 
 -- the first goes after the last
 abbrev pub turned_once : {X : Type 0} → List X → List X

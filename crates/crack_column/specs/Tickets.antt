@@ -2,7 +2,8 @@
 use Rattle.std.specs.Prelude.{ℕ, ◌+◌, ◌-◌, ◌^◌, List, map, take, drop, slice_index, min}
 use Rattle.crack_arena.specs.Arena.{Handle}
 use Rattle.crack_column.specs.declared.tag.Tag.{Tag}
-use Rattle.crack_column.specs.Column.{Memory, Aside}
+use Rattle.crack_arena.specs.Memories.{Memory}
+use Rattle.crack_column.specs.Column.{Aside}
 
 -- what a tag remembers
 abbrev pub memory_of : Tag → Memory

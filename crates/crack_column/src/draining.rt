@@ -1,7 +1,8 @@
 //! Pulls of doomed rows out of a piece, one after the other, as far as they reach it.
 ghost use Rattle.std.specs.Prelude.{◌≡◌, ◌-◌, ◌<◌, ◌≤◌, length, take, drop};
 ghost use Rattle.crack_arena.specs.Arena.{no_handle};
-ghost use Rattle.crack_column.specs.Column.{nothing, StillRemembers, swapped};
+ghost use Rattle.crack_arena.specs.Memories.{nothing};
+ghost use Rattle.crack_column.specs.Column.{StillRemembers, swapped};
 ghost use Rattle.crack_column.specs.Drains.{is_under, count_below, Drains};
 ghost use Rattle.crack_column.specs.Inside.{DrainsOnce};
 

@@ -3,9 +3,9 @@ ghost use Rattle.std.specs.Prelude.{◌≡◌, ◌<◌, length};
 ghost use Rattle.crack_column.specs.Column.{first_aside, exchanged_aside};
 
 use crate::CrackerColumn;
-use crate::remembered::Remembered;
 use crate::tag::Tag;
 use crate::tags::Tags;
+use crack_arena::Remembered;
 use std::marker::Model;
 
 /// A column whose row aside is in hand, for a walk on which it is exchanged at place after place: an exchange reads and

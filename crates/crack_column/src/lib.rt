@@ -4,14 +4,12 @@
 pub mod column;
 pub mod draining;
 pub mod held;
-pub mod remembered;
 mod tag;
 mod tags;
 
 pub use column::CrackerColumn;
 pub use draining::Doomed;
 pub use held::HeldColumn;
-pub use remembered::Remembered;
 
 /// The greatest number of places of a column.
 pub const MOST_PLACES: u64 = 4294967296;

@@ -14,8 +14,7 @@ ghost use Rattle.crack_column.specs.Labels.{tag_of, tags_of};
 ghost use Rattle.crack_column.specs.Sifts.{below_bound, queued, made_way};
 ghost use Rattle.crack_column.specs.Inside.{tag_for, label_of, label_handle, forgotten, shifted, turned, Knows, Read};
 
-use crate::remembered::{Remembered, UNKNOWN};
-use crack_arena::{Arena, Handle, amount_of, key_of};
+use crack_arena::{Arena, Handle, Remembered, UNKNOWN_KEY, amount_of, key_of};
 use crack_row::{InnerBound, Key, KeyNumber, Payload, Row};
 
 /// What is at a place: what is remembered about a row, its handle's slot, and the ticket under which its generation is
@@ -102,7 +101,7 @@ impl Tag {
         requires known { Knows arena.now.cells generations.now self.now }
         ensures { result.0 ≡ key_at arena.now.cells (tag_handle generations.now self.now) }
     {
-        if self.key == UNKNOWN {
+        if self.key == UNKNOWN_KEY {
             return key_of(arena, self.label().handle(generations));
         }
         Key::from_number(self.key)
@@ -116,7 +115,7 @@ impl Tag {
         ensures least { neg_ℤ (pos farthest_amount) ≤ℤ result }
         ensures most { result ≤ℤ pos farthest_amount }
     {
-        if self.key == UNKNOWN {
+        if self.key == UNKNOWN_KEY {
             return amount_of(arena, self.label().handle(generations));
         }
         self.payload.amount()
@@ -201,14 +200,14 @@ fn learn(
 {
     let mut learned = 0;
     'tags: for i in 0..labels.len() {
-        if labels[i].key == UNKNOWN {
+        if labels[i].key == UNKNOWN_KEY {
             let read = Remembered::read(arena, labels[i].handle(generations));
             labels[i] = Label {
                 key: read.key(),
                 ..labels[i]
             };
             payloads[i] = read.payload();
-            learned += (read.key() != UNKNOWN) as usize;
+            learned += (read.key() != UNKNOWN_KEY) as usize;
         }
     }
     learned

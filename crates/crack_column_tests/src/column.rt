@@ -2,10 +2,10 @@
 ghost use Rattle.std.specs.Prelude.{◌≡◌, List};
 ghost use Rattle.crack_arena.specs.Arena.{Cell};
 ghost use Rattle.crack_row.specs.declared.Row.{Row as RowValue};
-ghost use Rattle.crack_column.specs.Column.{Agrees, Remembers};
+ghost use Rattle.crack_arena.specs.Memories.{Agrees, Remembers};
 
-use crack_arena::{Arena, Handle};
-use crack_column::{CrackerColumn, Remembered};
+use crack_arena::{Arena, Handle, Remembered};
+use crack_column::CrackerColumn;
 use crack_row::{
     Bound, GREATEST_KEY, GREATEST_PAYLOAD, InnerBound, Key, KeyNumber, LEAST_PAYLOAD, Payload,
     PayloadNumber, Row, Serial,

@@ -1,5 +1,5 @@
-//! Gates that refuse: always, at one partition, or until another worker is inside; and gates that consent, and note to
-//! whom, or which checkpoints were due.
+//! Gates that refuse: always, at one partition, or until another worker is inside; and gates that consent, and list to
+//! whom, or count the checkpoints that were due.
 ghost use Rattle.std.specs.Prelude.{◌≡◌, ◌<◌, not, false, nat_eq};
 ghost use Rattle.std.specs.Bool.{OnFalse};
 
@@ -40,7 +40,7 @@ impl Gate for ShutAt {
 }
 
 /// A gate that refuses until it was asked this often, and consents from then on. It counts how often it is asked, by
-/// any worker, and notes whether that is at one partition, with the turns of one call, in order.
+/// any worker, and records whether that is at one partition, with the turns of one call, in order.
 #[derive(Drop)]
 pub struct Counting {
     part: u32,
@@ -122,7 +122,7 @@ impl Gate for Meeting {
     }
 }
 
-/// A gate that notes whether it is asked while another worker is inside. It refuses twenty times, and yields before
+/// A gate that records whether it is asked while another worker is inside. It refuses twenty times, and yields before
 /// each answer.
 #[derive(Drop)]
 pub struct Alone {
@@ -158,31 +158,31 @@ impl Gate for Alone {
     }
 }
 
-/// Who was let in by the gates that share these notes, in order.
+/// Who was let in by the gates that share this list, in order.
 #[derive(Drop)]
-pub struct Notes {
+pub struct Visitors {
     entered: AtomicU32,
     workers: Vec<AtomicU32>,
 }
 
-impl Notes {
-    /// Notes with room for this many.
-    pub fn new(alloc: Global, room: u32) -> Result<Notes, AllocError> {
+impl Visitors {
+    /// None yet, with room for this many.
+    pub fn new(alloc: Global, room: u32) -> Result<Visitors, AllocError> {
         let mut workers = Vec::new(alloc);
         'places: for _ in 0..room {
             workers.push(AtomicU32::new(u32::MAX))?;
         }
-        Ok(Notes {
+        Ok(Visitors {
             entered: AtomicU32::new(0),
             workers,
         })
     }
 
-    /// Notes a worker after those that are noted; if there is no room, it is counted alone.
-    fn note(&self, worker: u32) {
+    /// Adds a worker after those that are listed; if there is no room, it is counted alone.
+    fn add(&self, worker: u32) {
         let place = self.entered.fetch_add(1, Ordering::SeqCst);
-        if let Some(noted) = self.workers.get(place as usize) {
-            noted.store(worker, Ordering::SeqCst);
+        if let Some(listed) = self.workers.get(place as usize) {
+            listed.store(worker, Ordering::SeqCst);
         }
     }
 
@@ -194,31 +194,31 @@ impl Notes {
     /// Whether this worker was let in when this many others had been.
     pub fn has(&self, place: u64, worker: u32) -> bool {
         match self.workers.get(place as usize) {
-            Some(noted) => noted.load(Ordering::SeqCst) == worker,
+            Some(listed) => listed.load(Ordering::SeqCst) == worker,
             None => false,
         }
     }
 }
 
-/// A gate that consents, and notes its worker each time. All gates of one partition share their notes, which then are
+/// A gate that consents, and lists its worker each time. All gates of one partition share a list, which then is
 /// in the order of its history, as long as each command is let in once and no other comes between a gate's consent and
 /// the command.
 #[derive(Clone, Copy, Drop)]
-pub struct Noting<'a> {
+pub struct Listing<'a> {
     pub worker: u32,
-    pub notes: &'a Notes,
+    pub visitors: &'a Visitors,
 }
 
-impl Gate for Noting<'_> {
+impl Gate for Listing<'_> {
     ghost may_refuse = { λ gate part turn. ⊥ };
 
     fn inside(&self, _part: u32, _turn: u32) -> bool {
-        self.notes.note(self.worker);
+        self.visitors.add(self.worker);
         true
     }
 }
 
-/// A gate that consents, and notes the checkpoints that were due: how many, how many entries they took, and the
+/// A gate that consents, and counts the checkpoints that were due: how many, how many entries they took, and the
 /// partition of the last one.
 #[derive(Drop)]
 pub struct Due {
@@ -228,7 +228,7 @@ pub struct Due {
 }
 
 impl Due {
-    /// A gate that has noted none.
+    /// A gate that has counted none.
     pub fn new() -> Due {
         Due {
             count: AtomicU64::new(0),
@@ -238,7 +238,7 @@ impl Due {
     }
 
     /// How many there were, and how many entries they took.
-    pub fn noted(&self) -> [u64; 2] {
+    pub fn counts(&self) -> [u64; 2] {
         [
             self.count.load(Ordering::SeqCst),
             self.entries.load(Ordering::SeqCst),

@@ -6,8 +6,8 @@ use Rattle.crack_row.specs.Ranges.{Range, IsIn, is_in}
 use Rattle.crack_row.specs.declared.Row.{Row}
 use Rattle.crack_arena.specs.Arena.{Cell, Handle, times, no_handle}
 use Rattle.crack_arena.specs.Rows.{key_at, unknown}
-use Rattle.crack_column.specs.Column.{Memory, nothing, Remembers}
-use Rattle.crack_column.proofs.Remembering.{Remembers-append}
+use Rattle.crack_arena.specs.Memories.{Memory, nothing, Remembers}
+use Rattle.crack_arena.proofs.Remembering.{Remembers-append}
 use Rattle.crack_pending.proofs.Remembering.{Remembers-remove}
 use Rattle.crack_pending.specs.Ahead.{AreAhead, IsAmong}
 use Rattle.crack_pending.specs.Codes.{Coding, AreCoded, IsWindow}

@@ -9,7 +9,7 @@ use Rattle.crack_row.specs.declared.TheConstants.{GREATEST_BOUND}
 use Rattle.crack_row.specs.declared.Row.{Row}
 use Rattle.crack_arena.specs.Arena.{Cell, Handle}
 use Rattle.crack_arena.specs.Rows.{unknown}
-use Rattle.crack_column.specs.Column.{Memory, nothing}
+use Rattle.crack_arena.specs.Memories.{Memory, nothing}
 use Rattle.crack_pending.specs.Inside.{KnowRows, AreKnown, Lies, IsMissed}
 
 -- if no flag was set, the last wasn't

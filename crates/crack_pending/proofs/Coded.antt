@@ -9,7 +9,7 @@ use Rattle.crack_row.specs.Ranges.{Range, IsIn}
 use Rattle.crack_row.specs.declared.Row.{Row}
 use Rattle.crack_arena.specs.Arena.{Cell, Handle, no_handle}
 use Rattle.crack_arena.specs.Rows.{key_at, unknown}
-use Rattle.crack_column.specs.Column.{Memory, nothing}
+use Rattle.crack_arena.specs.Memories.{Memory, nothing}
 use Rattle.crack_pending.specs.Codes.{Coding, code_of, AreCoded, IsWindow}
 use Rattle.crack_pending.specs.Keeps.{HasRow}
 use Rattle.crack_pending.specs.Inside.{KnowRows, AreKnown, Lies, IsMissed, IsHit}
@@ -134,11 +134,11 @@ module _ (remembered : List Memory) (stands : List Bool) (coding : Coding) (code
 
   -- a spot whose code is below that of a hole has a row
   pub coded_row : (spot : ℕ) → spot < length coding.codes → get_or coding.codes spot 0 < 65535 → HasRow stands spot
-  coded_row spot within small = by_mark (get_or stands spot false) refl
+  coded_row spot within small = by_case (get_or stands spot false) refl
     where
-      by_mark : (b : Bool) → get_or stands spot false ≡ b → HasRow stands spot
-      by_mark true e = e
-      by_mark false e = absurd (omega (arith, small, coded.holes spot within e))
+      by_case : (b : Bool) → get_or stands spot false ≡ b → HasRow stands spot
+      by_case true e = e
+      by_case false e = absurd (omega (arith, small, coded.holes spot within e))
 
   module _ (range : Range) (cells : List (Cell Row)) (handles : List Handle) (first last beyond : ℕ) (w : IsWindow coding.base coding.shift range first last beyond) (known : KnowRows cells handles remembered stands) where
     -- a row whose code is none that is looked for has its key outside of the range

@@ -15,13 +15,13 @@ place_at-more (b ∷ bs) (suc n) within =
     let one : suc n + 1 ≡ suc (n + 1) = omega arith in
     rw one (omega (arith, place_at-more bs n (omega (arith, within))))
 
--- the same if a mark is added as a number
+-- the same if what stands at the spot is added as a number
 pub place_at-counted : (bs : List Bool) (spot : ℕ) → spot < length bs → place_at bs (spot + 1) ≡ place_at bs spot + bool_byte (get_or bs spot false)
-place_at-counted bs spot within = by_mark (get_or bs spot false) (place_at-more bs spot within)
+place_at-counted bs spot within = by_case (get_or bs spot false) (place_at-more bs spot within)
   where
-    by_mark : (b : Bool) → place_at bs (spot + 1) ≡ place_at bs spot + cond b 1 0 → place_at bs (spot + 1) ≡ place_at bs spot + bool_byte b
-    by_mark true one = one
-    by_mark false none = none
+    by_case : (b : Bool) → place_at bs (spot + 1) ≡ place_at bs spot + cond b 1 0 → place_at bs (spot + 1) ≡ place_at bs spot + bool_byte b
+    by_case true one = one
+    by_case false none = none
 
 pub place_at-le : (bs : List Bool) (m n : ℕ) → m ≤ n → place_at bs m ≤ place_at bs n
 place_at-le bs zero n order = omega arith

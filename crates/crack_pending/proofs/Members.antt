@@ -8,7 +8,7 @@ use Rattle.std.proofs.lemmas.List.{get_or-set_same, get_or-set_other, get_or_pas
 use Rattle.std.proofs.lemmas.Nat.Bits.{bit_at-zero, shr_and_one, bit_at_set_same, bit_at_set_other, bit_at_clear_same, bit_at_clear_other}
 use Rattle.crack_arena.specs.Arena.{Handle, times, slots, no_handle}
 use Rattle.crack_arena.proofs.Times.{times-nil, times_head, times_other, times-map-append, times-map-remove}
-use Rattle.crack_pending.specs.Keeps.{Has, AreMarked}
+use Rattle.crack_pending.specs.Keeps.{Has, AreMembers}
 
 -- what the test of a bit shows
 pub tested : (words : List ℕ) (number : ℕ) → (eqb (bit_and (get_or words (number / 64) 0 / 2 ^ (number % 64)) 1) 1 ≡ true) ↔ Has words number
@@ -76,17 +76,17 @@ module _ (words : List ℕ) (number : ℕ) (within : number < 64 * length words)
 
 -- the bits of a list's cells
 
-pub marked_none : AreMarked [] [] 0
-marked_none = record {
+pub members_none : AreMembers [] [] 0
+members_none = record {
   within = omega arith;
   right = λ slot. (λ has. absurd (omega (arith, Has-within [] slot has)), λ some. absurd (omega (arith, some, times-nil slot)));
 }
 
-module _ (words words' : List ℕ) (handles : List Handle) (covered : ℕ) (marked : AreMarked words handles covered) where
+module _ (words words' : List ℕ) (handles : List Handle) (covered : ℕ) (members : AreMembers words handles covered) where
   -- one more handle
-  pub marked_more : (h : Handle) → length words' ≡ length words → Has words' h.slot → ((other : ℕ) → other ≢ h.slot → Has words' other ↔ Has words other) → AreMarked words' (handles ++ h ∷ []) covered
-  marked_more h long there others = record {
-    within = omega (arith, marked.within, long);
+  pub members_more : (h : Handle) → length words' ≡ length words → Has words' h.slot → ((other : ℕ) → other ≢ h.slot → Has words' other ↔ Has words other) → AreMembers words' (handles ++ h ∷ []) covered
+  members_more h long there others = record {
+    within = omega (arith, members.within, long);
     right = λ slot.
         let more = times-map-append slot (λ (x : Handle). x.slot) handles (h ∷ []) in
         elim (cases_eq slot h.slot) [
@@ -95,16 +95,16 @@ module _ (words words' : List ℕ) (handles : List Handle) (covered : ℕ) (mark
               (λ _. omega (arith, more, one), λ _. rw e there)
           | inr ne ↦
               let none : times slot (h.slot ∷ []) ≡ 0 = times_other slot h.slot (λ e. ne (sym e)) in (
-                λ has. omega (arith, (marked.right slot).0 ((others slot ne).0 has), more, none),
-                λ some. (others slot ne).1 ((marked.right slot).1 (omega (arith, some, more, none))),
+                λ has. omega (arith, (members.right slot).0 ((others slot ne).0 has), more, none),
+                λ some. (others slot ne).1 ((members.right slot).1 (omega (arith, some, more, none))),
               )
         ];
   }
 
   -- one handle less
-  pub marked_less : (place slot : ℕ) → place < length handles → (get_or handles place no_handle).slot ≡ slot → ((n : ℕ) → times n (slots handles) ≤ 1) → length words' ≡ length words → ¬ Has words' slot → ((other : ℕ) → other ≢ slot → Has words' other ↔ Has words other) → AreMarked words' (remove handles place) covered
-  marked_less place slot inside at once long gone others = record {
-    within = omega (arith, marked.within, long);
+  pub members_less : (place slot : ℕ) → place < length handles → (get_or handles place no_handle).slot ≡ slot → ((n : ℕ) → times n (slots handles) ≤ 1) → length words' ≡ length words → ¬ Has words' slot → ((other : ℕ) → other ≢ slot → Has words' other ↔ Has words other) → AreMembers words' (remove handles place) covered
+  members_less place slot inside at once long gone others = record {
+    within = omega (arith, members.within, long);
     right = λ n.
         let less : times n (slots (remove handles place)) + times n (slot ∷ []) ≡ times n (slots handles) = rw at at (times-map-remove n (λ (x : Handle). x.slot) handles place no_handle inside) in
         elim (cases_eq n slot) [
@@ -113,15 +113,15 @@ module _ (words words' : List ℕ) (handles : List Handle) (covered : ℕ) (mark
               (λ has. absurd (gone (rw e at has)), λ some. absurd (omega (arith, some, less, one, once n)))
           | inr ne ↦
               let none : times n (slot ∷ []) ≡ 0 = times_other n slot (λ e. ne (sym e)) in (
-                λ has. omega (arith, (marked.right n).0 ((others n ne).0 has), less, none),
-                λ some. (others n ne).1 ((marked.right n).1 (omega (arith, some, less, none))),
+                λ has. omega (arith, (members.right n).0 ((others n ne).0 has), less, none),
+                λ some. (others n ne).1 ((members.right n).1 (omega (arith, some, less, none))),
               )
         ];
   }
 
   -- place for more cells
-  pub marked_longer : (covered' : ℕ) → covered' ≤ 64 * length words' → ((number : ℕ) → Has words' number ↔ Has words number) → AreMarked words' handles covered'
-  marked_longer covered' within same = record {
+  pub members_longer : (covered' : ℕ) → covered' ≤ 64 * length words' → ((number : ℕ) → Has words' number ↔ Has words number) → AreMembers words' handles covered'
+  members_longer covered' within same = record {
     within = within;
-    right = λ slot. (λ has. (marked.right slot).0 ((same slot).0 has), λ some. (same slot).1 ((marked.right slot).1 some));
+    right = λ slot. (λ has. (members.right slot).0 ((same slot).0 has), λ some. (same slot).1 ((members.right slot).1 some));
   }

@@ -6,7 +6,7 @@ use Rattle.std.proofs.lemmas.List.Edits.{get_or-remove_below, get_or-remove_abov
 use Rattle.std.proofs.lemmas.Bool.{cases_eq, cases_lt}
 use Rattle.crack_row.specs.declared.Row.{Row}
 use Rattle.crack_arena.specs.Arena.{Cell, Handle, no_handle}
-use Rattle.crack_column.specs.Column.{Memory, nothing, memory_at, Agrees, Remembers}
+use Rattle.crack_arena.specs.Memories.{Memory, nothing, memory_at, Agrees, Remembers}
 
 pub Remembers-none : (cells : List (Cell Row)) → Remembers cells [] []
 Remembers-none cells = record { beside = refl; right = λ k d within. absurd (omega (arith, within)) }

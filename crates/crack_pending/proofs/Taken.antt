@@ -4,7 +4,7 @@ use Rattle.std.proofs.lemmas.Bool.{cases_Bool, cases_eq, true≢false}
 use Rattle.std.proofs.lemmas.List.{get_or-set_same, get_or-set_other}
 use Rattle.crack_arena.specs.Arena.{Handle, times, slots}
 use Rattle.crack_arena.proofs.Times.{times-nil, times-cons}
-use Rattle.crack_column.specs.Column.{Memory}
+use Rattle.crack_arena.specs.Memories.{Memory}
 use Rattle.crack_pending.specs.Spots.{kept}
 use Rattle.crack_pending.specs.Keeps.{place_at, HasRow, AreKept}
 use Rattle.crack_pending.proofs.Kept.{Stands-within}

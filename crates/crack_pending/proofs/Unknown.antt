@@ -5,7 +5,7 @@ use mir.Val.{bool_byte}
 use Rattle.crack_arena.specs.Arena.{times}
 use Rattle.crack_arena.specs.Rows.{unknown}
 use Rattle.crack_arena.proofs.Times.{times-nil, times_one, times_head, times-map-append, times-set, times-map-remove, times-le-length}
-use Rattle.crack_column.specs.Column.{Memory, nothing}
+use Rattle.crack_arena.specs.Memories.{Memory, nothing}
 use Rattle.crack_pending.specs.Spots.{kept}
 use Rattle.crack_pending.specs.Keeps.{place_at, HasRow, keys_of}
 use Rattle.crack_pending.specs.Inside.{AreKnown}

@@ -10,7 +10,7 @@ use Rattle.crack_arena.specs.Rows.{key_at, keys_at}
 use Rattle.crack_arena.proofs.Times.{times_map_at}
 use Rattle.crack_pending.proofs.Remembering.{Remembers-anew, Remembers-remove}
 use Rattle.crack_arena.proofs.Places.{place_in-within, place_in-slot, place_in-is, times_apart_once}
-use Rattle.crack_column.specs.Column.{Memory, nothing, memory_at, Agrees, Remembers}
+use Rattle.crack_arena.specs.Memories.{Memory, nothing, memory_at, Agrees, Remembers}
 use Rattle.std.specs.Prelude.{Result, Ok, Err, OnOk, min}
 use Rattle.crack_pending.specs.Pending.{Pending, NoneIn, IsFirstIn}
 use Rattle.crack_pending.specs.Spots.{kept, spot_room}
@@ -120,7 +120,7 @@ module _ (handles : List Handle) (stands : List Bool) (spots : List ℕ) (slot :
   ]
 
 module _ {handles : List Handle} {remembered : List Memory} {stands : List Bool} {spots : List ℕ} {rows noted hint_place hint_spot : ℕ} (are : AreKept handles remembered stands spots rows noted hint_place hint_spot) where
-  -- a mark beside what is remembered
+  -- as many spots are said to have a row or none as have something remembered
   pub memories-beside : length stands ≡ length remembered
   memories-beside = are.stands_beside ∙ sym are.remembered_beside
 

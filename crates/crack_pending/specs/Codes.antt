@@ -3,7 +3,7 @@
 use Rattle.std.specs.Prelude.{◌≡◌, ℕ, ◌/◌, ◌-◌, ◌^◌, ◌<◌, ◌≤◌, Bool, false, List, length, min, slice_index, slice_index_or}
 use Rattle.crack_row.specs.Ranges.{Range}
 use Rattle.crack_arena.specs.Rows.{unknown}
-use Rattle.crack_column.specs.Column.{Memory, nothing}
+use Rattle.crack_arena.specs.Memories.{Memory, nothing}
 use Rattle.crack_pending.specs.Keeps.{HasRow}
 
 -- the codes of the first spots, and how a key is coded

@@ -4,7 +4,7 @@ use Rattle.crack_row.specs.Ranges.{Range, IsIn}
 use Rattle.crack_row.specs.declared.Row.{Row}
 use Rattle.crack_arena.specs.Arena.{Cell, Handle, no_handle}
 use Rattle.crack_arena.specs.Rows.{key_at, unknown}
-use Rattle.crack_column.specs.Column.{Memory, nothing, Agrees}
+use Rattle.crack_arena.specs.Memories.{Memory, nothing, Agrees}
 use Rattle.crack_pending.specs.Keeps.{HasRow, LeadsTo}
 
 -- a key that lies between the two

@@ -3,7 +3,7 @@
 use Rattle.std.specs.Prelude.{◌≡◌, ℕ, ◌/◌, ◌%◌, ◌*◌, ◌<◌, ◌≤◌, ◌↔◌, List, length, slice_index, zero, suc, ◌+◌, ◌^◌, Bool, true, false, cond, [], ◌∷◌, slice_index_or, map}
 use Rattle.std.specs.Int.{bit_at}
 use Rattle.crack_arena.specs.Arena.{Handle, times, slots, no_handle}
-use Rattle.crack_column.specs.Column.{Memory}
+use Rattle.crack_arena.specs.Memories.{Memory}
 use Rattle.crack_pending.specs.Spots.{kept}
 
 -- the bit of the number is set
@@ -11,7 +11,7 @@ unfoldable pub Has : List ℕ → ℕ → Type 0
 Has words number = bit_at (slice_index words (number / 64)) (number % 64) ≡ 1
 
 -- there is a bit for each of this many cells, and those of the cells that have a handle in the list are set
-pub record AreMarked (words : List ℕ) (handles : List Handle) (covered : ℕ) : Type 0 where
+pub record AreMembers (words : List ℕ) (handles : List Handle) (covered : ℕ) : Type 0 where
   pub within : covered ≤ 64 * length words
   pub right : (slot : ℕ) → Has words slot ↔ (0 < times slot (slots handles))
 
@@ -47,7 +47,7 @@ StandApart handles stands =
 abbrev pub AreCovered : List Handle → List Bool → ℕ → Type 0
 AreCovered handles stands cells = (spot : ℕ) → HasRow stands spot → (slice_index_or handles spot no_handle).slot < cells
 
--- each handle has what is remembered and a mark beside it, the rows are counted, no two are of one cell, the cells of those at the first spots lead to
+-- beside each handle is what is remembered, and whether a row is there; the rows are counted, no two are of one cell, the cells of those at the first spots lead to
 -- their spots, and this many rows are before the spot at which the last row was taken
 pub record AreKept (handles : List Handle) (remembered : List Memory) (stands : List Bool) (spots : List ℕ) (rows noted hint_place hint_spot : ℕ) : Type 0 where
   pub remembered_beside : length remembered ≡ length handles

@@ -5,7 +5,7 @@ use Rattle.crack_row.specs.Ranges.{Range}
 use Rattle.crack_row.specs.declared.Row.{Row}
 use Rattle.crack_arena.specs.Arena.{Cell, Handle, times}
 use Rattle.crack_arena.specs.Rows.{unknown}
-use Rattle.crack_column.specs.Column.{Memory, Remembers}
+use Rattle.crack_arena.specs.Memories.{Memory, Remembers}
 use Rattle.crack_pending.specs.Codes.{Coding, AreCoded}
 use Rattle.crack_pending.specs.Inside.{IsMissed}
 use Rattle.crack_pending.specs.Keeps.{place_at, HasRow, keys_of}

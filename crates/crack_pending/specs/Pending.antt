@@ -4,7 +4,7 @@ use Rattle.crack_row.specs.Ranges.{Range, IsIn, is_in}
 use Rattle.crack_row.specs.declared.Row.{Row}
 use Rattle.crack_arena.specs.Arena.{Cell, Handle, place_in, no_handle}
 use Rattle.crack_arena.specs.Rows.{key_at}
-use Rattle.crack_column.specs.Column.{Memory, memory_at, Agrees, Remembers}
+use Rattle.crack_arena.specs.Memories.{Memory, memory_at, Agrees, Remembers}
 
 -- the handles in order of arrival, what is remembered of their rows, how many more need no memory, and how many
 -- cells, from the first, may have a handle here

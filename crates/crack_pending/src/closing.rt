@@ -3,8 +3,7 @@ ghost use Rattle.std.specs.Prelude.{◌≡◌, ◌≤◌, length, vec_len, vec_c
 ghost use Rattle.crack_pending.specs.Keeps.{place_at, IsClosed};
 ghost use Rattle.crack_pending.specs.Spots.{kept};
 
-use crack_arena::Handle;
-use crack_column::Remembered;
+use crack_arena::{Handle, Remembered};
 use crack_row::Row;
 
 /// Closes all holes up: the rows are in their order without any. No cell leads to the new spots until they are noted.
@@ -29,7 +28,7 @@ pub(crate) fn close_up(
     }
     close_up_handles(handles, stands);
     close_up_remembered(remembered, stands);
-    close_up_marks(stands, rows);
+    close_up_stands(stands, rows);
 }
 
 /// Moves the handles of rows to the front, in order.
@@ -64,8 +63,8 @@ fn close_up_remembered(remembered: &mut Vec<Remembered>, stands: &[bool])
     remembered.truncate(low);
 }
 
-/// Marks this many spots, and no more, as those of rows.
-fn close_up_marks(stands: &mut Vec<bool>, rows: usize)
+/// Leaves this many spots, each with a row.
+fn close_up_stands(stands: &mut Vec<bool>, rows: usize)
     requires { rows ≤ vec_len stands.old }
     ensures length { vec_len stands.new ≡ rows }
     ensures full { place_at stands.new.items rows ≡ rows }

@@ -9,10 +9,9 @@ ghost use Rattle.crack_pending.specs.Keeps.{HasRow};
 ghost use Rattle.crack_pending.specs.Codes.{AreCoded, IsWindow};
 ghost use Rattle.crack_pending.specs.Inside.{Lies, AreKnown, IsMissed, IsHit, KnowRows};
 
-use crate::codes::{Codes, UNKNOWN};
+use crate::codes::Codes;
 use crate::pass::Wanted;
-use crack_arena::{Arena, Handle};
-use crack_column::Remembered;
+use crack_arena::{Arena, Handle, Remembered, UNKNOWN_KEY};
 use crack_row::{KeyRange, Row};
 
 /// Read at once, without a branch for each.
@@ -42,7 +41,7 @@ impl Window {
         Window {
             first: codes.code(wanted.low),
             last: codes.code(wanted.last),
-            beyond: codes.code(UNKNOWN),
+            beyond: codes.code(UNKNOWN_KEY),
             some_unknown: wanted.some_unknown,
         }
     }

@@ -4,17 +4,13 @@ ghost use Rattle.crack_pending.specs.Ahead.{IsNext};
 ghost use Rattle.crack_pending.specs.Codes.{AreCoded, code_of};
 
 use crate::ahead::Ahead;
-use crack_arena::{Arena, Handle};
-use crack_column::Remembered;
-use crack_row::{GREATEST_KEY, KeyNumber, Row};
+use crack_arena::{Arena, Handle, Remembered, UNKNOWN_KEY};
+use crack_row::{KeyNumber, Row};
 use std::alloc::Global;
 use std::marker::Model;
 
 /// What a pass looks for.
 pub(crate) type StoredKey = KeyNumber;
-
-/// Marks a key that isn't remembered. A row with this very key is always looked up.
-pub(crate) const UNKNOWN: StoredKey = GREATEST_KEY;
 
 /// The code of a spot without a row. It is above all codes.
 pub(crate) const HOLE: u16 = 65535;
@@ -116,7 +112,7 @@ impl Codes {
         self.ahead.give_back();
     }
 
-    /// Notes that the row at the spot was removed.
+    /// Leaves a hole in place of the code of a row that was removed.
     pub(crate) fn leave_hole(&mut self, spot: usize)
         ensures { self.new ≡ record self.old { codes = slice_set self.old.codes spot 65535 } }
     {
@@ -125,7 +121,7 @@ impl Codes {
         }
     }
 
-    /// Notes that the row at the spot has another key.
+    /// Codes the row at the spot again, since it has another key.
     pub(crate) fn recode(&mut self, spot: usize, key: StoredKey)
         ensures { self.new ≡ record self.old {
           codes = slice_set self.old.codes spot (code_of self.old.base
@@ -232,12 +228,12 @@ fn scale_of(remembered: &[Remembered]) -> Scale
 
 /// The least of some keys, and the greatest of those that are known.
 fn least_and_greatest(remembered: &[Remembered]) -> (StoredKey, StoredKey) {
-    let mut least = UNKNOWN;
+    let mut least = UNKNOWN_KEY;
     let mut greatest = 0;
     'keys: for i in 0..remembered.len() {
         let key = remembered[i].key();
         least = least.min(key);
-        greatest = greatest.max(if key == UNKNOWN { 0 } else { key });
+        greatest = greatest.max(if key == UNKNOWN_KEY { 0 } else { key });
     }
     (least, greatest)
 }

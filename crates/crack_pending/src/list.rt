@@ -3,24 +3,23 @@ ghost use Rattle.std.specs.Prelude.{◌≡◌, ◌+◌, ◌-◌, ◌<◌, ◌≤
 ghost use Rattle.std.specs.Prelude.{List, slice_set};
 ghost use Rattle.crack_row.specs.declared.Row.{Row};
 ghost use Rattle.crack_arena.specs.Arena.{Cell, StandsAt, times, slots, place_in};
-ghost use Rattle.crack_column.specs.Column.{nothing, Memory, Remembers};
+ghost use Rattle.crack_arena.specs.Memories.{nothing, Memory, Remembers};
 ghost use Rattle.crack_pending.specs.Pending.{StillRemembersRows, RemembersOneMore, RemembersAnew};
 
 use crate::bits::BitSet;
-use crate::codes::{Codes, UNKNOWN};
+use crate::codes::Codes;
 use crate::noting::spot_noted;
 use crate::rows::{spot_of, unknowns_without};
-use crack_arena::Handle;
-use crack_column::Remembered;
+use crack_arena::{Handle, Remembered, UNKNOWN_KEY};
 use crack_row::Row;
 use std::alloc::Global;
 use std::marker::{Model, PhantomData};
 
-/// Marks a list whose rows are to be inserted.
+/// The kind of a list whose rows are to be inserted.
 #[derive(Drop)]
 pub struct Insertions;
 
-/// Marks a list whose rows are to be deleted.
+/// The kind of a list whose rows are to be deleted.
 #[derive(Drop)]
 pub struct Deletions;
 
@@ -55,7 +54,7 @@ pub struct PendingList<Kind> {
     pub(crate) hint_place: usize,
     pub(crate) hint_spot: usize,
     /// The numbers of the cells that have a handle here.
-    pub(crate) marks: BitSet,
+    pub(crate) members: BitSet,
     kind: PhantomData<Kind>,
 }
 
@@ -65,7 +64,7 @@ impl<Kind> Model for PendingList<Kind> {
     ghost use Rattle.crack_arena.specs.Rows.{unknown};
     ghost use Rattle.crack_pending.specs.Pending.{Pending};
     ghost use Rattle.crack_pending.specs.Codes.{AreCoded};
-    ghost use Rattle.crack_pending.specs.Keeps.{AreKept, AreMarked, keys_of};
+    ghost use Rattle.crack_pending.specs.Keeps.{AreKept, AreMembers, keys_of};
     ghost use Rattle.crack_pending.specs.Spots.{kept, spot_room};
 
     ghost Value = { Pending };
@@ -82,7 +81,7 @@ impl<Kind> Model for PendingList<Kind> {
         AreKept p.handles.items p.remembered.items p.stands.items p.spots.items p.rows p.noted p.hint_place p.hint_spot
         × (p.unknowns ≡ times unknown (keys_of (kept p.stands.items p.remembered.items)))
         × AreCoded p.remembered.items p.stands.items p.codes
-        × AreMarked p.marks (kept p.stands.items p.handles.items) (length p.spots.items) };
+        × AreMembers p.members (kept p.stands.items p.handles.items) (length p.spots.items) };
 }
 
 impl<Kind> PendingList<Kind> {
@@ -102,7 +101,7 @@ impl<Kind> PendingList<Kind> {
             noted: 0,
             hint_place: 0,
             hint_spot: 0,
-            marks: BitSet::new(alloc),
+            members: BitSet::new(alloc),
             kind: PhantomData,
         }
     }
@@ -144,16 +143,16 @@ impl<Kind> PendingList<Kind> {
         } }
         ensures remembered { RemembersOneMore handle remembered self.old self.new }
     {
-        self.marks.put(handle.slot());
+        self.members.put(handle.slot());
         self.handles.push_reserved(handle);
         self.remembered.push_reserved(remembered);
         self.stands.push_reserved(true);
         self.rows += 1;
-        self.unknowns += (remembered.key() == UNKNOWN) as usize;
+        self.unknowns += (remembered.key() == UNKNOWN_KEY) as usize;
     }
 
     /// The handle at the place, counted from the first arrival. O(1) if there are no holes, and else one pass over
-    /// the marks of the spots from where the last row was taken.
+    /// the spots from where the last row was taken.
     pub fn at(&self, place: usize) -> Handle<Row>
         requires { place < length self.now.handles }
         ensures { StandsAt self.now.handles place result }
@@ -199,7 +198,7 @@ impl<Kind> PendingList<Kind> {
             handle.slot(),
         ) {
             self.unknowns = unknowns_without(&self.remembered, self.unknowns, spot)
-                + (remembered.key() == UNKNOWN) as usize;
+                + (remembered.key() == UNKNOWN_KEY) as usize;
             self.remembered[spot] = remembered;
             self.codes.recode(spot, remembered.key());
         }
@@ -210,7 +209,7 @@ impl<Kind> PendingList<Kind> {
     pub fn contains(&self, slot: u32) -> bool
         ensures { IsTrue result ↔ (0 < times slot (slots self.now.handles)) }
     {
-        self.marks.has(slot)
+        self.members.has(slot)
     }
 
     /// How many handles. O(1).

@@ -2,14 +2,13 @@
 ghost use Rattle.std.specs.Prelude.{◌≡◌, ◌≢◌, ◌+◌, ◌<◌, ◌≤◌, ℕ, length, slice_index_or, MatchOption, IsTrue, IsFalse};
 ghost use Rattle.std.specs.Bool.{OnFalse};
 ghost use Rattle.crack_arena.specs.Rows.{unknown};
-ghost use Rattle.crack_column.specs.Column.{nothing};
+ghost use Rattle.crack_arena.specs.Memories.{nothing};
 ghost use Rattle.crack_pending.specs.Codes.{AreCoded};
 ghost use Rattle.crack_pending.specs.Inside.{Lies, AreKnown, IsMissed, IsHit, KnowRows};
 
 use crate::code_pass::{Window, hit_in_codes, is_hit};
-use crate::codes::{Codes, StoredKey, UNKNOWN};
-use crack_arena::{Arena, Handle};
-use crack_column::Remembered;
+use crate::codes::{Codes, StoredKey};
+use crack_arena::{Arena, Handle, Remembered, UNKNOWN_KEY};
 use crack_row::{KeyRange, Row};
 
 /// Read at once, without a branch for each.
@@ -44,7 +43,7 @@ fn any_unknown(remembered: &[Remembered]) -> bool
 {
     let mut any = 0u32;
     'keys: for i in 0..BLOCK {
-        any |= (remembered[i].key() == UNKNOWN) as u32;
+        any |= (remembered[i].key() == UNKNOWN_KEY) as u32;
     }
     any != 0
 }

@@ -2,7 +2,7 @@
 ghost use Rattle.std.specs.Prelude.{◌≡◌, ◌+◌, ◌<◌, ◌≤◌, ◌↔◌, [], ◌++◌, ℕ, length, drop, vec_len, vec_capacity};
 ghost use Rattle.std.specs.List.{remove};
 ghost use Rattle.crack_arena.specs.Arena.{StandsAt, times, slots, place_in};
-ghost use Rattle.crack_column.specs.Column.{Memory, Remembers};
+ghost use Rattle.crack_arena.specs.Memories.{Memory, Remembers};
 ghost use Rattle.crack_pending.specs.Keeps.{Has};
 ghost use Rattle.crack_pending.specs.Pending.{StillRemembersRows, rows_inside, rows_outside};
 
@@ -12,8 +12,7 @@ use crate::list::PendingList;
 use crate::noting::spot_noted;
 use crate::rows::{hint_without, spot_of, unknowns_without};
 use crate::taking::take_hits;
-use crack_arena::{Arena, Handle};
-use crack_column::Remembered;
+use crack_arena::{Arena, Handle, Remembered};
 use crack_row::{KeyRange, Row};
 
 impl<Kind> PendingList<Kind> {
@@ -36,7 +35,7 @@ impl<Kind> PendingList<Kind> {
             place,
         );
         let handle = self.handles[spot];
-        self.marks.strike(handle.slot());
+        self.members.strike(handle.slot());
         self.stands[spot] = false;
         self.codes.leave_hole(spot);
         self.rows -= 1;
@@ -67,7 +66,7 @@ impl<Kind> PendingList<Kind> {
         ) else {
             return;
         };
-        self.marks.strike(slot);
+        self.members.strike(slot);
         self.hint_place = hint_without(&self.stands, self.hint_place, self.hint_spot, spot);
         self.stands[spot] = false;
         self.codes.leave_hole(spot);
@@ -113,7 +112,7 @@ impl<Kind> PendingList<Kind> {
             taken,
             known,
         );
-        strike_from(&mut self.marks, taken, from);
+        strike_from(&mut self.members, taken, from);
         self.rows -= left.taken;
         self.unknowns = left.unknowns;
         self.hint_place = 0;
@@ -134,7 +133,7 @@ impl<Kind> PendingList<Kind> {
             &mut self.stands,
             self.rows,
         );
-        strike_from(&mut self.marks, &self.handles, 0);
+        strike_from(&mut self.members, &self.handles, 0);
         self.handles.clear();
         self.remembered.clear();
         self.codes.clear();
@@ -148,13 +147,13 @@ impl<Kind> PendingList<Kind> {
 }
 
 /// Takes the cells of some handles out of the set: of those from a place of the list on. O(1) for each.
-fn strike_from(marks: &mut BitSet, handles: &[Handle<Row>], from: usize)
-    requires { (slot : ℕ) → 0 < times slot (slots (drop from handles.now)) → Has marks.old slot }
-    ensures struck { (slot : ℕ) → Has marks.new slot ↔ (Has marks.old slot ×
+fn strike_from(members: &mut BitSet, handles: &[Handle<Row>], from: usize)
+    requires { (slot : ℕ) → 0 < times slot (slots (drop from handles.now)) → Has members.old slot }
+    ensures struck { (slot : ℕ) → Has members.new slot ↔ (Has members.old slot ×
         (times slot (slots (drop from handles.now)) ≡ 0)) }
-    ensures long { length marks.new ≡ length marks.old }
+    ensures long { length members.new ≡ length members.old }
 {
     'handles: for place in from..handles.len() {
-        marks.strike(handles[place].slot());
+        members.strike(handles[place].slot());
     }
 }

@@ -7,8 +7,7 @@ ghost use Rattle.crack_pending.specs.Pending.{StillRemembersRows};
 use crate::bits::BitSet;
 use crate::closing::close_up;
 use crate::list::PendingList;
-use crack_arena::Handle;
-use crack_column::Remembered;
+use crack_arena::{Handle, Remembered};
 use crack_row::{Refusal, Row};
 
 /// A spot is numbered by 32 bits.
@@ -138,7 +137,7 @@ impl<Kind> PendingList<Kind> {
         if cells <= self.spots.len() {
             return Ok(());
         }
-        lengthen(&mut self.spots, &mut self.marks, cells)
+        lengthen(&mut self.spots, &mut self.members, cells)
     }
 
     /// Closes all holes up, so that `at` is O(1) at each place. O(rows and holes); O(1) if there are no holes.
@@ -199,21 +198,21 @@ fn grow(
 }
 
 /// Puts zeros at the end until there are this many numbers, and as many more as their memory holds; makes room for a
-/// mark of each before.
+/// bit of each before.
 #[inline(never)]
-fn lengthen(spots: &mut Vec<u32>, marks: &mut BitSet, cells: usize) -> Result<(), Refusal>
+fn lengthen(spots: &mut Vec<u32>, members: &mut BitSet, cells: usize) -> Result<(), Refusal>
     requires more { vec_len spots.old < cells }
-    requires marked { vec_len spots.old ≤ 64 * length marks.old }
+    requires covered { vec_len spots.old ≤ 64 * length members.old }
     ensures same { (k : ℕ) → k < vec_len spots.old → slice_index spots.new.items k ≡ slice_index spots.old.items k }
     ensures long { OnOk result (cells ≤ vec_len spots.new) }
     ensures kept { vec_len spots.old ≤ vec_len spots.new }
     ensures unchanged { OnErr result (spots.new.items ≡ spots.old.items) }
     ensures err { IfErr result (λ e. e ≡ Refusal.OutOfMemory) }
-    ensures marks { (slot : ℕ) → Has marks.new slot ↔ Has marks.old slot }
-    ensures marked { vec_len spots.new ≤ 64 * length marks.new }
+    ensures members { (slot : ℕ) → Has members.new slot ↔ Has members.old slot }
+    ensures covered { vec_len spots.new ≤ 64 * length members.new }
 {
     spots.reserve((cells - spots.len()).max(MORE_PLACES))?;
-    marks.make_places(spots.capacity())?;
+    members.make_places(spots.capacity())?;
     'cells: while spots.len() < spots.capacity() {
         spots.push_reserved(0);
     }

@@ -2,11 +2,10 @@
 ghost use Rattle.std.specs.Prelude.{◌≡◌, ◌+◌, ◌<◌, ◌≤◌, ◌∷◌, [], length, false, slice_set, slice_index_or};
 ghost use Rattle.crack_arena.specs.Arena.{times};
 ghost use Rattle.crack_arena.specs.Rows.{unknown};
-ghost use Rattle.crack_column.specs.Column.{nothing};
+ghost use Rattle.crack_arena.specs.Memories.{nothing};
 ghost use Rattle.crack_pending.specs.Keeps.{place_at, HasRow};
 
-use crate::codes::UNKNOWN;
-use crack_column::Remembered;
+use crack_arena::{Remembered, UNKNOWN_KEY};
 
 /// How many are counted at once, in 8 bits.
 const BLOCK: usize = 64;
@@ -172,7 +171,7 @@ pub(crate) fn unknowns_without(remembered: &[Remembered], unknowns: usize, spot:
     if unknowns == 0 {
         return 0;
     }
-    if remembered[spot].key() == UNKNOWN {
+    if remembered[spot].key() == UNKNOWN_KEY {
         unknowns - 1
     } else {
         unknowns

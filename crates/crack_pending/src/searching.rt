@@ -2,7 +2,7 @@
 ghost use Rattle.std.specs.Prelude.{◌≡◌, MatchOption};
 ghost use Rattle.crack_arena.specs.Rows.{keys_at};
 ghost use Rattle.crack_arena.specs.Arena.{IsFirstAt, IsAbsent};
-ghost use Rattle.crack_column.specs.Column.{Memory, Remembers};
+ghost use Rattle.crack_arena.specs.Memories.{Memory, Remembers};
 ghost use Rattle.crack_pending.specs.Pending.{Finds};
 
 use crate::list::PendingList;

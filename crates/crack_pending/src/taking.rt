@@ -2,7 +2,7 @@
 ghost use Rattle.std.specs.Prelude.{◌≡◌, ◌+◌, ◌≤◌, ◌^◌, ◌++◌, ℕ, length, vec_len, vec_capacity};
 ghost use Rattle.crack_arena.specs.Arena.{times};
 ghost use Rattle.crack_arena.specs.Rows.{unknown};
-ghost use Rattle.crack_column.specs.Column.{Memory, Remembers};
+ghost use Rattle.crack_arena.specs.Memories.{Memory, Remembers};
 ghost use Rattle.crack_pending.specs.Ahead.{AreAhead};
 ghost use Rattle.crack_pending.specs.Codes.{AreCoded, IsWindow};
 ghost use Rattle.crack_pending.specs.Inside.{IsMissed};
@@ -16,8 +16,7 @@ use crate::code_pass::{Window, is_hit};
 use crate::codes::Codes;
 use crate::pass::{Wanted, next_hit};
 use crate::rows::unknowns_without;
-use crack_arena::{Arena, Handle};
-use crack_column::Remembered;
+use crack_arena::{Arena, Handle, Remembered};
 use crack_row::{KeyRange, Row};
 
 /// The counts of a list after the rows of a range were taken.

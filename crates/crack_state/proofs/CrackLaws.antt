@@ -15,7 +15,8 @@ use Rattle.crack_index.specs.declared.mark.Mark.{Mark}
 use Rattle.crack_index.specs.Marks.{Rising, added, next_mark, last_mark, start_of, end_of, HasBound}
 use Rattle.crack_index.proofs.MarkLaws.{next_mark-is, last_mark-is, Fits-piece, All-added, Contains-kept, HasBound-added, Rising-added, HasBound-mark, HasBound-contains}
 use Rattle.crack_arena.specs.Rows.{key_at}
-use Rattle.crack_column.specs.Column.{Memory, IsDividedAt, Cracks}
+use Rattle.crack_arena.specs.Memories.{Memory}
+use Rattle.crack_column.specs.Column.{IsDividedAt, Cracks}
 use Rattle.crack_column.proofs.Divisions.{IsDividedAt-zero, IsDividedAt-end}
 use Rattle.crack_column.proofs.Cracking.{length-Cracks, Cracks-apart, Cracks-around, Cracks-whole, Cracks-divides, Cracks-keeps}
 use Rattle.crack_state.specs.State.{State, Reads, IsObeyed, IsIntact, live_rows}

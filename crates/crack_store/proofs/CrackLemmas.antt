@@ -16,7 +16,8 @@ use Rattle.crack_index.specs.declared.index.Piece.{Piece}
 use Rattle.crack_index.specs.declared.mark.Mark.{Mark}
 use Rattle.crack_index.specs.Marks.{Rising, HasBound, added, next_mark, last_mark, start_of, end_of, Fits}
 use Rattle.crack_index.proofs.MarkLaws.{next_mark-is, next_mark-none, last_mark-is, last_mark-none, HasBound-mark, HasBound-contains, HasBound-added, Fits-piece}
-use Rattle.crack_column.specs.Column.{Memory, nothing, memory_at, Cracks}
+use Rattle.crack_arena.specs.Memories.{Memory, nothing, memory_at}
+use Rattle.crack_column.specs.Column.{Cracks}
 use Rattle.crack_column.proofs.Cracking.{Replaced, replaced, length-Cracks}
 use Rattle.crack_state.specs.State.{State, IsIntact}
 use Rattle.crack_state.specs.Steps.{piece_start, piece_end}

@@ -11,9 +11,10 @@ use Rattle.crack_row.specs.declared.Row.{Row}
 use Rattle.crack_arena.specs.Arena.{Cell, Handle, read, cell_at, empty_cell}
 use Rattle.crack_arena.specs.Rows.{key_at}
 use Rattle.crack_column.specs.declared.draining.Doomed.{Doomed}
-use Rattle.crack_column.specs.Column.{Memory, Remembers, StillRemembers}
+use Rattle.crack_arena.specs.Memories.{Memory, Remembers}
+use Rattle.crack_column.specs.Column.{StillRemembers}
 use Rattle.crack_column.specs.Drains.{count_below, doomed_key, doomed_handle, drained_once, drained, drawn_once, drawn, is_under, left_by}
-use Rattle.crack_column.proofs.Remembering.{Remembers-take}
+use Rattle.crack_arena.proofs.Remembering.{Remembers-take}
 use Rattle.crack_index.specs.declared.mark.Mark.{Mark}
 use Rattle.crack_index.specs.Marks.{Rising}
 use Rattle.crack_index.specs.Places.{Places, at_place}

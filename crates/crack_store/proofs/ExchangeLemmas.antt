@@ -12,7 +12,8 @@ use Rattle.crack_arena.specs.Arena.{Cell, Handle, no_handle, times, slots}
 use Rattle.crack_arena.specs.Rows.{key_at}
 use Rattle.crack_arena.proofs.Times.{times-cons, times-map-append}
 use Rattle.crack_bulk.specs.Carried.{inside_of}
-use Rattle.crack_column.specs.Column.{Column, Memory, Remembers, memory_at}
+use Rattle.crack_arena.specs.Memories.{Memory, Remembers, memory_at}
+use Rattle.crack_column.specs.Column.{Column}
 use Rattle.crack_pending.specs.Pending.{Pending}
 use Rattle.crack_state.specs.Merge.{outside_of}
 use Rattle.crack_store.specs.Evictions.{AreApart, ArePut, IsPut, IsExchanged}

@@ -10,7 +10,7 @@ use Rattle.crack_row.specs.declared.Row.{Row}
 use Rattle.crack_arena.specs.Arena.{Handle, same_handle, StandsAt, IsFirstAt, IsAbsent, no_handle}
 use Rattle.crack_arena.proofs.Times.{times-nil, times_head, times_map_at}
 use Rattle.crack_column.specs.Column.{Column, first_aside, exchanged_aside}
-use Rattle.crack_column.proofs.Remembering.{Remembers-set}
+use Rattle.crack_arena.proofs.Remembering.{Remembers-set}
 use Rattle.crack_index.specs.Marks.{Index}
 use Rattle.crack_state.specs.declared.MergeReport.{MergeReport}
 use Rattle.crack_state.specs.State.{State, Carried, IsIntact}

@@ -20,9 +20,9 @@ seen-next seen rows after slot o shown so_far added =
     let more : filter_map seen (range_with_len 0 (slot + 1)) ≡ filter_map seen (range_with_len 0 slot) ++ filter_map seen (slot ∷ []) = ap (filter_map seen) (longer slot) ∙ filter_map-append seen (range_with_len 0 slot) (slot ∷ []) in
     rw (added, so_far, one, more) refl
 
--- a place of a stretch that begins at a cell is a cell after it
-pub cell_in-stretch : (cells part : List (Cell Row)) (slot place : ℕ) → part ≡ take (length part) (drop slot cells) → place < length part → cell_at part place ≡ cell_at cells (slot + place)
-cell_in-stretch cells part slot place is within =
+-- a place of a run that begins at a cell is a cell after it
+pub cell_in-run : (cells part : List (Cell Row)) (slot place : ℕ) → part ≡ take (length part) (drop slot cells) → place < length part → cell_at part place ≡ cell_at cells (slot + place)
+cell_in-run cells part slot place is within =
     ap (λ (xs : List (Cell Row)). cell_at xs place) is
     ∙ get_or-take (length part) (drop slot cells) place empty_cell within
     ∙ get_or-drop slot cells place empty_cell

@@ -2,7 +2,8 @@
 use Rattle.std.proofs.Common.{◌≡◌, ◌≢◌, ℕ, List, [], Some, get_or, refl}
 use Rattle.crack_row.specs.declared.Row.{Row}
 use Rattle.crack_arena.specs.Arena.{Cell, Handle, read, times, slots, cells_with}
-use Rattle.crack_column.specs.Column.{Column, Memory, memory_at, Remembers}
+use Rattle.crack_arena.specs.Memories.{Memory, memory_at, Remembers}
+use Rattle.crack_column.specs.Column.{Column}
 use Rattle.crack_index.specs.Marks.{Index}
 use Rattle.crack_state.specs.declared.MergeReport.{MergeReport}
 use Rattle.crack_state.specs.State.{State, IsIntact}

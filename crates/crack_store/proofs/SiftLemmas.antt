@@ -10,7 +10,7 @@ use Rattle.crack_row.specs.Ranges.{Range}
 use Rattle.crack_row.specs.declared.Row.{Row}
 use Rattle.crack_arena.specs.Arena.{Cell, Handle}
 use Rattle.crack_arena.specs.Rows.{key_at, keys_at}
-use Rattle.crack_column.specs.Column.{Remembers}
+use Rattle.crack_arena.specs.Memories.{Remembers}
 use Rattle.crack_column.specs.Sifts.{below_bound, queued, made_way, AreRead}
 use Rattle.crack_index.specs.declared.mark.Mark.{Mark}
 use Rattle.crack_index.specs.Marks.{InOrder, Rising}

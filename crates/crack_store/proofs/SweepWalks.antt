@@ -11,7 +11,7 @@ use Rattle.crack_row.specs.declared.InnerBound.{InnerBound}
 use Rattle.crack_row.specs.declared.Row.{Row}
 use Rattle.crack_arena.specs.Arena.{Cell, Handle}
 use Rattle.crack_arena.specs.Rows.{key_at}
-use Rattle.crack_column.specs.Column.{Remembers}
+use Rattle.crack_arena.specs.Memories.{Remembers}
 use Rattle.crack_index.specs.declared.mark.Mark.{Mark}
 use Rattle.crack_index.specs.Marks.{Rising}
 use Rattle.crack_index.specs.Places.{Places, at_place}

@@ -12,7 +12,8 @@ use Rattle.crack_arena.specs.Arena.{Cell, Handle, no_handle}
 use Rattle.crack_arena.specs.Rows.{key_at, keys_at}
 use Rattle.crack_pending.specs.Pending.{Finds, NoneIn}
 use Rattle.crack_pending.proofs.Searches.{is_in-true, is_in-false}
-use Rattle.crack_column.specs.Column.{Column, memory_at}
+use Rattle.crack_arena.specs.Memories.{memory_at}
+use Rattle.crack_column.specs.Column.{Column}
 use Rattle.crack_column.specs.Sifts.{AreRead}
 use Rattle.crack_bulk.specs.Carried.{inside_of}
 use Rattle.crack_state.specs.Merge.{outside_of}

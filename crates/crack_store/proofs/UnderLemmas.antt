@@ -8,7 +8,8 @@ use Rattle.crack_row.specs.Ranges.{Range}
 use Rattle.crack_arena.specs.Arena.{Handle, times, slots, read}
 use Rattle.crack_arena.specs.Rows.{key_at, keys_at}
 use Rattle.crack_arena.proofs.Times.{times-nil, times-map-append}
-use Rattle.crack_column.specs.Column.{Column, Remembers}
+use Rattle.crack_arena.specs.Memories.{Remembers}
+use Rattle.crack_column.specs.Column.{Column}
 use Rattle.crack_column.specs.Sifts.{AreRead}
 use Rattle.crack_index.specs.declared.mark.Mark.{Mark}
 use Rattle.crack_index.specs.Marks.{Rising}

@@ -2,7 +2,8 @@
 use Rattle.std.proofs.Common.{◌≡◌, ℕ, ◌-◌, ◌<◌, ◌≤◌, ◌∷◌, [], List, map, length, Option, Some, None, refl, sym, ap, subst, ◌∙◌, inl, inr, arith}
 use Rattle.std.proofs.lemmas.Bool.{cases_lt}
 use Rattle.crack_row.specs.declared.Bound.{Bound}
-use Rattle.crack_column.specs.Column.{Memory, Agrees, first_aside}
+use Rattle.crack_arena.specs.Memories.{Memory, Agrees}
+use Rattle.crack_column.specs.Column.{first_aside}
 use Rattle.crack_index.specs.declared.mark.Mark.{Mark}
 use Rattle.crack_index.specs.Marks.{Index, next_mark, last_mark, first_behind, last_before, raised, lowered, start_of}
 use Rattle.crack_index.specs.Walks.{Climbs, Descends}
@@ -86,7 +87,7 @@ bounds_above-pushes ceiling c d (PushesOn.stays e) intact = omega arith
 bounds_above-pushes ceiling c d (PushesOn.pushes e f lasting below room rest) intact =
     omega (arith, bounds_above-pushes ceiling (pushed_on e) f rest (IsIntact-pushed_on e room intact), bounds_above-pushed_on e room intact)
 
--- one stretch of pushes and then another
+-- pushes, and then more of them
 pub pushes_then : (ceiling : Option ℕ) (c d e : Carried) → PushesOn ceiling c d → PushesOn ceiling d e → PushesOn ceiling c e
 pushes_then ceiling c d e (PushesOn.stays f) rest = rest
 pushes_then ceiling c d e (PushesOn.pushes f g lasting below room first) rest = PushesOn.pushes f e lasting below room (pushes_then ceiling (pushed_on f) g e first rest)

@@ -6,7 +6,8 @@ use Rattle.crack_arena.specs.Arena.{Cell, Handle, times, slots, place_in}
 use Rattle.crack_arena.specs.Rows.{key_at}
 use Rattle.crack_row.specs.declared.Row.{Row}
 use Rattle.crack_column.specs.declared.draining.Doomed.{Doomed}
-use Rattle.crack_column.specs.Column.{Column, Remembers, StillRemembers}
+use Rattle.crack_arena.specs.Memories.{Remembers}
+use Rattle.crack_column.specs.Column.{Column, StillRemembers}
 use Rattle.crack_column.specs.Drains.{count_below, doomed_handle, Drains}
 use Rattle.crack_index.specs.declared.mark.Mark.{Mark}
 use Rattle.crack_state.specs.State.{State, Reads, IsIntact, freed_of, greatest}

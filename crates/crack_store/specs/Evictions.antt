@@ -6,7 +6,8 @@ use Rattle.crack_row.specs.Ranges.{Range}
 use Rattle.crack_row.specs.declared.Row.{Row}
 use Rattle.crack_arena.specs.Arena.{Cell, Handle, times, slots}
 use Rattle.crack_bulk.specs.Carried.{inside_of}
-use Rattle.crack_column.specs.Column.{Column, Remembers, memory_at}
+use Rattle.crack_arena.specs.Memories.{Remembers, memory_at}
+use Rattle.crack_column.specs.Column.{Column}
 use Rattle.crack_column.specs.Sifts.{AreRead}
 use Rattle.crack_index.specs.declared.mark.Mark.{Mark}
 use Rattle.crack_index.specs.Raises.{Raises}

@@ -11,7 +11,8 @@ use Rattle.crack_bulk.specs.Carried.{inside_of}
 use Rattle.crack_bulk.specs.Pulled.{pulled, itself}
 use Rattle.crack_bulk.specs.Filled.{lacking, pieces_under, filled_from}
 use Rattle.crack_column.specs.declared.draining.Doomed.{Doomed}
-use Rattle.crack_column.specs.Column.{Column, Remembers}
+use Rattle.crack_arena.specs.Memories.{Remembers}
+use Rattle.crack_column.specs.Column.{Column}
 use Rattle.crack_column.specs.Drains.{count_below, doomed_handle}
 use Rattle.crack_index.specs.declared.mark.Mark.{Mark}
 use Rattle.crack_pending.specs.Pending.{Pending}

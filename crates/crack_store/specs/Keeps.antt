@@ -3,7 +3,8 @@
 use Rattle.std.specs.Prelude.{◌≡◌, ⊤, ◌<◌, ℕ, List, [], ◌∷◌, length, ◌≤◌}
 use Rattle.crack_arena.specs.Arena.{Handle}
 use Rattle.crack_arena.specs.Rows.{key_at}
-use Rattle.crack_column.specs.Column.{Agrees, first_aside, Remembers}
+use Rattle.crack_arena.specs.Memories.{Agrees, Remembers}
+use Rattle.crack_column.specs.Column.{first_aside}
 use Rattle.crack_index.specs.declared.mark.Mark.{Mark}
 use Rattle.crack_index.specs.Marks.{next_mark, last_mark}
 use Rattle.crack_state.specs.State.{IsIntact}

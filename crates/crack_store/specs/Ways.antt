@@ -4,7 +4,8 @@ use Rattle.std.specs.Prelude.{◌≡◌, ◌≢◌, ⊤, ◌<◌, ◌≤◌, ℕ
 use Rattle.crack_row.specs.declared.Bound.{Bound}
 use Rattle.crack_arena.specs.Arena.{times, slots}
 use Rattle.crack_arena.specs.Rows.{unknown}
-use Rattle.crack_column.specs.Column.{Memory, first_aside, exchanged_aside}
+use Rattle.crack_arena.specs.Memories.{Memory}
+use Rattle.crack_column.specs.Column.{first_aside, exchanged_aside}
 use Rattle.crack_state.specs.Steps.{more}
 use Rattle.crack_store.specs.declared.ascent.Ascent.{Ascent}
 use Rattle.crack_store.specs.declared.ascent.Descent.{Descent}

@@ -1,13 +1,13 @@
 //! Appending all pending insertions to the column, if there is no bound.
 ghost use Rattle.std.specs.Prelude.{◌≡◌, ◌↔◌, ◌≤◌, ◌++◌, [], length, All, IsTrue, IfErr, OnOk, OnErr};
-ghost use Rattle.crack_column.specs.Column.{Remembers};
+ghost use Rattle.crack_arena.specs.Memories.{Remembers};
 ghost use Rattle.crack_state.specs.State.{Reads, live_rows};
 ghost use Rattle.crack_state.specs.Steps.{SameButRoom, all_appended};
 
 use crate::Store;
 use crate::points::row_at;
-use crack_arena::Arena;
-use crack_column::{CrackerColumn, Remembered};
+use crack_arena::{Arena, Remembered};
+use crack_column::CrackerColumn;
 use crack_pending::PendingIn;
 use crack_row::{Refusal, Row};
 

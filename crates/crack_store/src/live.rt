@@ -8,7 +8,7 @@ ghost use Rattle.crack_state.specs.Stretch.{serial_of};
 ghost use Rattle.crack_store.specs.Found.{KeepsOrder, live_below};
 
 use crate::Store;
-use crack_arena::Stretch;
+use crack_arena::CellRun;
 use crack_row::{Refusal, Row};
 
 /// The rows that a pass over the cells has found so far.
@@ -75,10 +75,10 @@ impl Store {
             last: 0,
         };
         let mut slot = 0;
-        'stretches: while slot < self.inside.arena.cells() {
-            let stretch = self.inside.arena.stretch_from(slot as u32);
-            self.add_live(&mut found, slot as u32, &stretch)?;
-            slot += stretch.len();
+        'runs: while slot < self.inside.arena.cells() {
+            let run = self.inside.arena.cells_from(slot as u32);
+            self.add_live(&mut found, slot as u32, &run)?;
+            slot += run.len();
         }
         Ok(found)
     }
@@ -89,7 +89,7 @@ impl Store {
         &self,
         found: &mut Found,
         slot: u32,
-        cells: &Stretch<'_, Row>,
+        cells: &CellRun<'_, Row>,
     ) -> Result<(), Refusal>
         requires cells { cells.now ≡ take (length cells.now) (drop slot self.now.cells) }
         requires within { slot + length cells.now ≤ length self.now.cells }
@@ -106,9 +106,9 @@ impl Store {
         Ok(())
     }
 
-    /// The row at this place of a stretch, which begins with the cell with this number, if commands see one. O(1).
+    /// The row at this place of a run, which begins with the cell with this number, if commands see one. O(1).
     #[inline(always)]
-    fn live_at(&self, slot: u32, cells: &Stretch<'_, Row>, place: usize) -> Option<Row>
+    fn live_at(&self, slot: u32, cells: &CellRun<'_, Row>, place: usize) -> Option<Row>
         requires cells { cells.now ≡ take (length cells.now) (drop slot self.now.cells) }
         requires there { place < length cells.now }
         requires few { slot + place < 4294967296 }

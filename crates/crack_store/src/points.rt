@@ -13,8 +13,7 @@ ghost use Rattle.crack_state.specs.Points.{Cancels, Dooms, Removes, Renews, Rewr
 
 use crate::Store;
 use crate::inside::Serials;
-use crack_arena::{Arena, Handle};
-use crack_column::Remembered;
+use crack_arena::{Arena, Handle, Remembered};
 use crack_row::{Key, Payload, Refusal, Row, Serial};
 
 impl Store {

@@ -7,17 +7,17 @@ use std::hash::{BuildHasher, Hasher};
 /// How many consecutive serials share a group of the map's table.
 const NEIGHBOURS: u64 = 4;
 
-/// How many adjacent groups are filled one after the other.
-const STRETCH: u64 = 8;
+/// How many adjacent groups are filled by one series of consecutive serials.
+const ADJACENT_GROUPS: u64 = 8;
 
-/// Odd, so that consecutive stretches have different places for each power of two, and spread over all of them.
+/// Odd, so that consecutive series have different places for each power of two, and spread over all of them.
 const SPREAD: u64 = 0x9e37_79b9_7f4a_7c15;
 
 /// Hashes serials for `indexmap`: its table has a power of two of groups, of 12 rows each and 9 on average once it is
 /// full. The low bits of a hash choose the group, and the highest eight of its 32 distinguish rows of one group.
 ///
 /// A partition gives its serials in order, so rows that are admitted one after the other go into a group whose line is
-/// in the cache, and a growth copies the table stretch by stretch. A client can't choose serials, so the hash needs no
+/// in the cache, and a growth copies the table series by series. A client can't choose serials, so the hash needs no
 /// secret against deliberate collisions; and a worse hash would only cost time, since a look-up compares serials.
 #[derive(Clone, Copy)]
 pub struct SerialHashing;
@@ -46,12 +46,12 @@ impl Hasher for SerialHasher {
         + s.serial * 16777216 % 2 ^ 64) % 2 ^ 64 % 4294967296 };
 
     fn finish(&self) -> u64 {
-        let stretch = self.serial / (NEIGHBOURS * STRETCH);
+        let series = self.serial / (NEIGHBOURS * ADJACENT_GROUPS);
         // serials that are far apart differ in their higher bits, which move down here
-        let place = (stretch ^ stretch / 256).wrapping_mul(SPREAD);
-        let group = (self.serial / NEIGHBOURS ^ place >> 58) % STRETCH;
+        let place = (series ^ series / 256).wrapping_mul(SPREAD);
+        let group = (self.serial / NEIGHBOURS ^ place >> 58) % ADJACENT_GROUPS;
         place
-            .wrapping_mul(STRETCH)
+            .wrapping_mul(ADJACENT_GROUPS)
             .wrapping_add(group)
             .wrapping_add(self.serial.wrapping_mul(16777216))
             % 4294967296

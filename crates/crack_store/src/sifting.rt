@@ -2,7 +2,7 @@
 //! through its pieces from the highest down.
 ghost use Rattle.std.specs.Prelude.{◌≡◌, ◌≤◌, ◌^◌, [], None, Some, length, vec_capacity, IsTrue, IsFalse};
 ghost use Rattle.crack_arena.specs.Rows.{keys_at};
-ghost use Rattle.crack_column.specs.Column.{Remembers};
+ghost use Rattle.crack_arena.specs.Memories.{Remembers};
 ghost use Rattle.crack_bulk.specs.Carried.{carried_in_bulk, inside_of};
 ghost use Rattle.crack_pending.specs.Pending.{Finds};
 ghost use Rattle.crack_state.specs.Merge.{outside_of};
@@ -16,8 +16,8 @@ use crate::Store;
 use crate::inside::Inside;
 use crate::sweeping::carry_by_sweeping;
 use crate::taking::take_rows;
-use crack_arena::{Arena, Handle, key_of};
-use crack_column::{CrackerColumn, Remembered};
+use crack_arena::{Arena, Handle, Remembered, key_of};
+use crack_column::CrackerColumn;
 use crack_index::{Mark, Piece, Raiser};
 use crack_pending::PendingIn;
 use crack_row::{KeyRange, Row};

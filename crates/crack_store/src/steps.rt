@@ -13,7 +13,7 @@ ghost use Rattle.crack_store.specs.Hand.{hand_of, carried_of};
 use crate::carrying::Near;
 use crate::inside::Inside;
 use crate::points::row_at;
-use crack_column::Remembered;
+use crack_arena::Remembered;
 use crack_index::{CrackerIndex, Mark};
 
 /// Takes the pending insertion at this place into the hand, with what is to be remembered of its row. No bound is

@@ -1,4 +1,4 @@
--- From marks, strangers and late receipts to a cover, or to the place of its fault.
+-- From states, strangers and late receipts to a cover, or to the place of its fault.
 use Rattle.std.proofs.Common.{◌≡◌, ◌<◌, ◌≤◌, ℕ, List, [], ◌∷◌, ◌++◌, length, Bool, true, false, cond, ◌||◌, not, Option, Some, None, refl, ap, arith, sym, get_or, zero, suc, ◌∙◌, subst, append-nil, inl, inr, ⊎_elim, ◌⊎◌, length-append, append_assoc}
 use Rattle.std.specs.Prelude.{All, AllPairs, if◌then◌else◌}
 use Rattle.std.specs.List.{list_any}
@@ -9,8 +9,8 @@ use Rattle.std.proofs.lemmas.List.{get_or_append_left, get_or_at, get_or_default
 use Rattle.std.proofs.lemmas.Bool.Decides.{nat_tests}
 use Rattle.std.proofs.lemmas.List.Quantifiers.{all_pairs_push}
 use Rattle.crack_core.specs.declared.receipt.Receipt.{Receipt}
-use Rattle.crack_table.specs.Cover.{KeptState, has_place, SettledBelow, IsSettled, IsGap, first_stranger, first_late, is_late, IsFault, Covers}
-use Rattle.crack_table.specs.Marks.{named_place}
+use Rattle.crack_table.specs.Cover.{KeptState, has_place, CoveredBelow, IsCovered, IsGap, first_stranger, first_late, is_late, IsFault, Covers}
+use Rattle.crack_table.specs.Coverage.{named_place}
 
 tail_none : (b : Bool) (r : Receipt) (o : Option Receipt) → cond (not b) (Some r) o ≡ None → (b ≡ true) × (o ≡ None)
 tail_none true r o is = (refl, is)
@@ -53,10 +53,10 @@ from_map : (o : Option Receipt) (place : ℕ × ℕ) → Some place ≡ option_m
 from_map None place is = cc
 from_map (Some r) place is = let e : place ≡ named_place r = cc in (r, refl, sym (ap (λ p. p.0) e), sym (ap (λ p. p.1) e))
 
-pub stranger_fault : (kept : List KeptState) (rs : List Receipt) (place : ℕ × ℕ) → SettledBelow kept rs (length kept) → Some place ≡ option_map named_place (first_stranger kept rs) → IsFault kept rs place.0 place.1
+pub stranger_fault : (kept : List KeptState) (rs : List Receipt) (place : ℕ × ℕ) → CoveredBelow kept rs (length kept) → Some place ≡ option_map named_place (first_stranger kept rs) → IsFault kept rs place.0 place.1
 stranger_fault kept rs place met is = inr (inl (met, from_map (first_stranger kept rs) place is))
 
-pub late_fault : (kept : List KeptState) (rs : List Receipt) (place : ℕ × ℕ) → SettledBelow kept rs (length kept) → first_stranger kept rs ≡ None → Some place ≡ option_map named_place (first_late [] rs) → IsFault kept rs place.0 place.1
+pub late_fault : (kept : List KeptState) (rs : List Receipt) (place : ℕ × ℕ) → CoveredBelow kept rs (length kept) → first_stranger kept rs ≡ None → Some place ≡ option_map named_place (first_late [] rs) → IsFault kept rs place.0 place.1
 late_fault kept rs place met none is = inr (inr (met, none, from_map (first_late [] rs) place is))
 
 found_absurd : (b : Bool) (r s : Receipt) (o : Option Receipt) → b ≡ true → cond (not b) (Some s) o ≡ Some r → o ≡ Some r
@@ -92,8 +92,8 @@ late_absurd done (x ∷ rs) r is rises =
     (λ later. late_absurd (done ++ x ∷ []) rs r later (subst P (sym (append_assoc done (x ∷ []) rs)) rises))
     (if_some (list_any (λ a. is_late a x) done) r x (first_late (done ++ x ∷ []) rs) is)
 
-gap_absurd : (rs : List Receipt) (p : ℕ) (k : KeptState) (n : ℕ) → IsGap rs p k n → IsSettled rs p k → ⊥
-gap_absurd rs p k n gap settled = ⊎_elim (λ unmet. unmet.2 (settled.met n unmet.0 unmet.1)) (λ miscount. miscount.1 settled.counted) gap
+gap_absurd : (rs : List Receipt) (p : ℕ) (k : KeptState) (n : ℕ) → IsGap rs p k n → IsCovered rs p k → ⊥
+gap_absurd rs p k n gap covered = ⊎_elim (λ unmet. unmet.2 (covered.met n unmet.0 unmet.1)) (λ miscount. miscount.1 covered.counted) gap
 
 -- receipts of one worker in one partition name rising places exactly if none is late
 abbrev RisesTo : Receipt → Receipt → Type 0
@@ -120,7 +120,7 @@ all_punctual rs all i j d before within = punctual_to (get_or rs i d) (get_or rs
 pub fault_uncovered : (kept : List KeptState) (rs : List Receipt) (p n : ℕ) → IsFault kept rs p n → Covers kept rs → ⊥
 fault_uncovered kept rs p n fault covers =
     ⊎_elim
-    (λ first. gap_absurd rs p first.0 n first.2 (covers.settled p first.0 first.1))
+    (λ first. gap_absurd rs p first.0 n first.2 (covers.covered p first.0 first.1))
     (λ other. ⊎_elim
     (λ strange. stranger_absurd kept rs strange.1.0 strange.1.1 covers.placed)
     (λ late. late_absurd [] rs late.2.0 late.2.1 (all_punctual rs covers.rising))

@@ -10,9 +10,9 @@ use Rattle.crack_row.specs.declared.command.Entry.{Entry}
 use Rattle.crack_core.specs.declared.receipt.Receipt.{Receipt}
 use Rattle.crack_core.specs.Receipts.{entry_of}
 use Rattle.crack_plain.specs.Totals.{is_placed, is_gone, inserted, deleted}
-use Rattle.crack_table.specs.Cover.{KeptState, place_at, has_place, IsMetBy, folded_entries, IsSettled, Covers}
-use Rattle.crack_table.specs.Marks.{Place, place_in, names}
-use Rattle.crack_table.specs.Marks.{IsSole}
+use Rattle.crack_table.specs.Cover.{KeptState, place_at, has_place, IsMetBy, folded_entries, IsCovered, Covers}
+use Rattle.crack_table.specs.Coverage.{Place, place_in, names}
+use Rattle.crack_table.specs.Coverage.{IsSole}
 use Rattle.crack_table.proofs.Places.{part_of, places}
 
 -- g 0 + .. + g (n - 1)
@@ -106,7 +106,7 @@ by_key_from key F rs base n all = ap (λ l. sum_by F l) (sym (filter_always (λ 
 
 -- what a cover implies for the places
 record AreMet (kept : List KeptState) (rs : List Receipt) : Type 0 where
-  settled : (p : ℕ) (k : KeptState) → slice_get kept p ≡ Some k → IsSettled rs p k
+  covered : (p : ℕ) (k : KeptState) → slice_get kept p ≡ Some k → IsCovered rs p k
   placed : All (λ r. has_place kept r ≡ true) rs
 
 place_row : (kept : List KeptState) (r : Receipt) → has_place kept r ≡ true → (k : KeptState) × (slice_get kept r.part ≡ Some k) × (nat_lt r.position (k.folded + length k.tail) ≡ true)
@@ -158,7 +158,7 @@ part_counted f kept rs are p k k_is =
     let whole = by_key_from (λ r. r.position) (λ r. f (entry_of r)) (filter (λ r. r.part == p) rs) k.folded (length k.tail) (positions_within kept p k k_is rs are.placed) in
     let rest = sum_list f k.tail (λ n. sum_by (λ r. f (entry_of r)) (filter (λ r. r.position == k.folded + n) (filter (λ r. r.part == p) rs)))
     (λ n e e_is.
-    let met = (are.settled p k k_is).met (k.folded + n) (Some e) (standing_at k n e e_is) in
+    let met = (are.covered p k k_is).met (k.folded + n) (Some e) (standing_at k n e e_is) in
     place_sum f rs p (k.folded + n) (Some e) met ∙ ap f met.2) in
     whole ∙ ap (λ s. sum_by (λ r. f (entry_of r)) (filter (λ r. nat_lt r.position k.folded) (filter (λ r. r.part == p) rs)) + s) rest
 
@@ -172,7 +172,7 @@ folded_once : (kept : List KeptState) (rs : List Receipt) → AreMet kept rs →
 folded_once kept rs are p k k_is =
     split_upto (λ r. r.position) (λ r. 1) (filter (λ r. r.part == p) rs) k.folded
     ∙ (sum_upto_same (λ n. sum_by (λ r. 1) (filter (λ r. r.position == n) (filter (λ r. r.part == p) rs))) (λ n. 1) k.folded
-    (λ n lt. place_sum (λ e. 1) rs p n None ((are.settled p k k_is).met n None (folded_at k n lt)))
+    (λ n lt. place_sum (λ e. 1) rs p n None ((are.covered p k k_is).met n None (folded_at k n lt)))
     ∙ sum_ones k.folded)
 
 -- the checkpointed receipts, by their entries
@@ -191,7 +191,7 @@ counted f base kept rs are folded =
     (λ p k k_is. part_counted f kept rs are p k k_is ∙ ap (λ s. s + sum_by f k.tail) (folded p k k_is))
 
 met_by : (kept : List KeptState) (rs : List Receipt) → Covers kept rs → AreMet kept rs
-met_by kept rs covers = record { settled = covers.settled; placed = covers.placed }
+met_by kept rs covers = record { covered = covers.covered; placed = covers.placed }
 
 pub all_counted : (kept : List KeptState) (rs : List Receipt) → Covers kept rs → sum_by (λ r. 1) rs ≡ sum_by (λ k. k.folded + sum_by (λ (e : Entry). 1) k.tail) kept
 all_counted kept rs covers = counted (λ e. 1) (λ k. k.folded) kept rs (met_by kept rs covers) (folded_once kept rs (met_by kept rs covers))
@@ -199,9 +199,9 @@ all_counted kept rs covers = counted (λ e. 1) (λ k. k.folded) kept rs (met_by 
 pub placed_counted : (kept : List KeptState) (rs : List Receipt) → Covers kept rs → sum_by (λ r. cond (is_placed (entry_of r).reply) 1 0) rs ≡ sum_by (λ k. k.placed + inserted k.tail) kept
 placed_counted kept rs covers =
     counted (λ e. cond (is_placed e.reply) 1 0) (λ k. k.placed) kept rs (met_by kept rs covers)
-    (λ p k k_is. folded_sum (λ e. cond (is_placed e.reply) 1 0) rs p k.folded ∙ ((met_by kept rs covers).settled p k k_is).counted.0)
+    (λ p k k_is. folded_sum (λ e. cond (is_placed e.reply) 1 0) rs p k.folded ∙ ((met_by kept rs covers).covered p k k_is).counted.0)
 
 pub gone_counted : (kept : List KeptState) (rs : List Receipt) → Covers kept rs → sum_by (λ r. cond (is_gone (entry_of r).reply) 1 0) rs ≡ sum_by (λ k. k.gone + deleted k.tail) kept
 gone_counted kept rs covers =
     counted (λ e. cond (is_gone e.reply) 1 0) (λ k. k.gone) kept rs (met_by kept rs covers)
-    (λ p k k_is. folded_sum (λ e. cond (is_gone e.reply) 1 0) rs p k.folded ∙ ((met_by kept rs covers).settled p k k_is).counted.1)
+    (λ p k k_is. folded_sum (λ e. cond (is_gone e.reply) 1 0) rs p k.folded ∙ ((met_by kept rs covers).covered p k k_is).counted.1)

@@ -9,11 +9,11 @@ use Rattle.std.proofs.lemmas.List.{append-nil, drop_more, take-append-drop}
 use Rattle.std.proofs.lemmas.List.Concat.{flat_map-append}
 use denote.Ref.{Bor}
 use Rattle.std.specs.Prelude.{if◌then◌else◌, is_some}
-use Rattle.crack_table.proofs.Marking.{flat_read}
+use Rattle.crack_table.proofs.StateLaws.{flat_read}
 use Rattle.std.proofs.lemmas.List.Folds.{list_any-append}
 use Rattle.crack_core.specs.declared.receipt.Receipt.{Receipt}
 use Rattle.crack_table.specs.Cover.{is_late, first_late}
-use Rattle.crack_table.specs.Marks.{named_place, is_late_at, pair_cmp, Tracks}
+use Rattle.crack_table.specs.Coverage.{named_place, is_late_at, pair_cmp, Tracks}
 
 same_nat : (x y : ℕ) → is_eq (nat_cmp x y) ≡ (x == y)
 same_nat x y = unsigned_tied x y

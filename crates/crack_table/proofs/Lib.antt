@@ -1,6 +1,6 @@
 mod Places
-mod Marking
-mod Tallies
+mod StateLaws
+mod KindLaws
 mod Causes
 mod Opens
 mod Lates

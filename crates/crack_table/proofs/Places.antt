@@ -6,8 +6,8 @@ use Rattle.std.proofs.lemmas.Bool.Decides.{nat_tests}
 use Rattle.std.specs.Prelude.{map, nat_lt, is_some, if◌then◌else◌}
 use Rattle.crack_table.specs.declared.kept.Kept.{Kept}
 use Rattle.crack_table.specs.Cover.{KeptState, told, place_at}
-use Rattle.crack_table.specs.Marks.{Place, place_in}
-use Rattle.crack_table.specs.Marks.{at}
+use Rattle.crack_table.specs.Coverage.{Place, place_in}
+use Rattle.crack_table.specs.Coverage.{at}
 
 pub get_set_same : {X : Type 0} (xs : List X) (k : ℕ) (x y : X) → slice_get xs k ≡ Some x → slice_get (set xs k y) k ≡ Some y
 get_set_same [] k x y is = cc

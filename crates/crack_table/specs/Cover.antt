@@ -52,14 +52,14 @@ folded_entries receipts part folded = entries_of (filter (λ r. (r.part == part)
 abbrev pub IsCounted : List Receipt → ℕ → KeptState → Type 0
 IsCounted receipts part kept = (inserted (folded_entries receipts part kept.folded) ≡ kept.placed) × (deleted (folded_entries receipts part kept.folded) ≡ kept.gone)
 
--- the receipts settle a partition: each place is met, and the checkpointed ones are counted
-pub record IsSettled (receipts : List Receipt) (part : ℕ) (kept : KeptState) : Type 0 where
+-- the receipts cover a partition: each place is met, and the checkpointed ones are counted
+pub record IsCovered (receipts : List Receipt) (part : ℕ) (kept : KeptState) : Type 0 where
   pub met : (position : ℕ) (place : Option Entry) → place_at kept position ≡ Some place → IsMetBy receipts part position place
   pub counted : IsCounted receipts part kept
 
--- each partition below a bound is settled
-abbrev pub SettledBelow : List KeptState → List Receipt → ℕ → Type 0
-SettledBelow kept receipts bound = (part : ℕ) (k : KeptState) → part < bound → slice_get kept part ≡ Some k → IsSettled receipts part k
+-- each partition below a bound is covered
+abbrev pub CoveredBelow : List KeptState → List Receipt → ℕ → Type 0
+CoveredBelow kept receipts bound = (part : ℕ) (k : KeptState) → part < bound → slice_get kept part ≡ Some k → IsCovered receipts part k
 
 -- whether a receipt names an existing place
 abbrev pub has_place : List KeptState → Receipt → Bool
@@ -69,10 +69,10 @@ has_place kept r = is_some (option_and_then (λ k. place_at k r.position) (slice
 abbrev pub is_late : Receipt → Receipt → Bool
 is_late earlier r = (earlier.worker == r.worker) && (earlier.part == r.part) && nat_le r.position earlier.position
 
--- the receipts cover what is kept of the partitions: each partition is settled, no receipt names another place, and the receipts of one
+-- the receipts cover what is kept of the partitions: each partition is covered, no receipt names another place, and the receipts of one
 -- worker in one partition name rising places
 pub record Covers (kept : List KeptState) (receipts : List Receipt) : Type 0 where
-  pub settled : (part : ℕ) (k : KeptState) → slice_get kept part ≡ Some k → IsSettled receipts part k
+  pub covered : (part : ℕ) (k : KeptState) → slice_get kept part ≡ Some k → IsCovered receipts part k
   pub placed : All (λ r. has_place kept r ≡ true) receipts
   pub rising : AllPairs (λ earlier r. earlier.worker ≡ r.worker → earlier.part ≡ r.part → earlier.position < r.position) receipts
 
@@ -84,9 +84,9 @@ IsGap receipts part kept position =
     × MetBelow receipts part kept position × (kept.folded ≤ position → IsCounted receipts part kept))
     ⊎ ((position + 1 ≡ kept.folded) × (¬ IsCounted receipts part kept) × MetBelow receipts part kept kept.folded)
 
--- the gap of the first partition that isn't settled
+-- the gap of the first partition that isn't covered
 abbrev pub IsFirstGap : List KeptState → List Receipt → ℕ → ℕ → Type 0
-IsFirstGap kept receipts part position = (k : KeptState) × (slice_get kept part ≡ Some k) × IsGap receipts part k position × SettledBelow kept receipts part
+IsFirstGap kept receipts part position = (k : KeptState) × (slice_get kept part ≡ Some k) × IsGap receipts part k position × CoveredBelow kept receipts part
 
 -- the first receipt whose place doesn't exist
 abbrev pub first_stranger : List KeptState → List Receipt → Option Receipt
@@ -106,8 +106,8 @@ IsPlaceOf found part position = (r : Receipt) × (found ≡ Some r) × (r.part �
 abbrev pub IsFault : List KeptState → List Receipt → ℕ → ℕ → Type 0
 IsFault kept receipts part position =
     IsFirstGap kept receipts part position
-    ⊎ (SettledBelow kept receipts (length kept) × IsPlaceOf (first_stranger kept receipts) part position)
-    ⊎ (SettledBelow kept receipts (length kept) × (first_stranger kept receipts ≡ None) × IsPlaceOf (first_late [] receipts) part position)
+    ⊎ (CoveredBelow kept receipts (length kept) × IsPlaceOf (first_stranger kept receipts) part position)
+    ⊎ (CoveredBelow kept receipts (length kept) × (first_stranger kept receipts ≡ None) × IsPlaceOf (first_late [] receipts) part position)
 
 -- why a cover may be refused: 8, or 16 at the place of a fault
 abbrev pub MayNotCover : List KeptState → List Receipt → Refusal → Type 0

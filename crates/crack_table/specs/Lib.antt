@@ -1,7 +1,7 @@
 pub mod Tables
 pub mod Opening
 pub mod Cover
-pub mod Marks
+pub mod Coverage
 pub mod Gather
 pub mod Keeps
 pub mod Repeats

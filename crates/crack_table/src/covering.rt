@@ -6,25 +6,25 @@ ghost use Rattle.std.specs.List.{flat_map};
 ghost use Rattle.std.specs.Option.{option_map};
 ghost use Rattle.crack_core.specs.declared.receipt.Receipt.{Receipt};
 ghost use Rattle.crack_core.specs.Receipts.{entry_of};
-ghost use Rattle.crack_table.specs.Cover.{told, KeptState, IsKept, SettledBelow, IsFirstGap};
-ghost use Rattle.crack_table.specs.Marks.{Place, place_in, IsRight};
+ghost use Rattle.crack_table.specs.Cover.{told, KeptState, IsKept, CoveredBelow, IsFirstGap};
+ghost use Rattle.crack_table.specs.Coverage.{Place, place_in, IsRight};
 ghost use Rattle.crack_table.specs.Cover.{first_stranger, Covers, IsFault, MayNotCover};
-ghost use Rattle.crack_table.specs.Marks.{named_place, in_folded, Marked, Counted, AreNoted};
+ghost use Rattle.crack_table.specs.Coverage.{named_place, in_folded, AreStatesOf, Counted, IsCoverage};
 
 use crate::gaps::gap_in;
 use crate::kept::Kept;
 use crate::kinds::KindsLeft;
-use crate::marks::MarkRow;
 use crate::order::first_late;
+use crate::states::PlaceStates;
 use crack_core::Receipt;
 use crack_row::Refusal;
 use std::alloc::{AllocError, Global};
 
-/// Notes about the receipts: a list of marks for each partition, and how many receipts of its checkpointed commands
-/// are still missing.
+/// How far the receipts so far cover the partitions: the states of each one's places, and how many receipts of its
+/// checkpointed commands are still missing.
 #[derive(Drop)]
-pub(crate) struct Notes {
-    marks: Vec<MarkRow>,
+pub(crate) struct Coverage {
+    states: Vec<PlaceStates>,
     kinds: Vec<KindsLeft>,
 }
 
@@ -44,9 +44,9 @@ pub fn cover(alloc: Global, kept: &[Kept<'_>], receipts: &[&[Receipt]]) -> Resul
     ensures covers { OnOk result (Covers (map told kept.now) (flat_map (λ r. r.now) receipts.now)) }
     ensures fault { IfErr result (MayNotCover (map told kept.now) (flat_map (λ r. r.now) receipts.now)) }
 {
-    let mut notes = blank(alloc, kept)?;
-    let stranger = note_lists(kept, &mut notes, receipts);
-    if let Some((part, position)) = first_gap(kept, &notes) {
+    let mut coverage = blank(alloc, kept)?;
+    let stranger = add_lists(kept, &mut coverage, receipts);
+    if let Some((part, position)) = first_gap(kept, &coverage) {
         return Err(Refusal::StrangeReceipt { part, position });
     }
     if let Some((part, position)) = stranger {
@@ -65,28 +65,28 @@ pub fn a_fault_is_no_cover()
         position → ¬ Covers kept receipts }
 {}
 
-/// The notes without receipts.
-fn blank(alloc: Global, kept: &[Kept<'_>]) -> Result<Notes, Refusal>
-    ensures noted { IfOk result (λ n. AreNoted (map told kept.now) n.marks.items n.kinds.items []) }
+/// The coverage by no receipts.
+fn blank(alloc: Global, kept: &[Kept<'_>]) -> Result<Coverage, Refusal>
+    ensures coverage { IfOk result (λ n. IsCoverage (map told kept.now) n.states.items n.kinds.items []) }
     ensures err { IfErr result (λ e. e ≡ Refusal.OutOfMemory) }
 {
-    let marks = blank_marks(alloc, kept)?;
+    let states = blank_states(alloc, kept)?;
     let kinds = all_kinds(alloc, kept)?;
-    Ok(Notes { marks, kinds })
+    Ok(Coverage { states, kinds })
 }
 
-/// A mark for each place, which no receipt names yet.
-fn blank_marks(alloc: Global, kept: &[Kept<'_>]) -> Result<Vec<MarkRow>, Refusal>
+/// The states of all places, which no receipt names yet.
+fn blank_states(alloc: Global, kept: &[Kept<'_>]) -> Result<Vec<PlaceStates>, Refusal>
     ensures long { IfOk result (λ v. length v.items ≡ length kept.now) }
-    ensures marked { IfOk result (λ v. Marked (map told kept.now) v.items []) }
+    ensures by_place { IfOk result (λ v. AreStatesOf (map told kept.now) v.items []) }
     ensures err { IfErr result (λ e. e ≡ Refusal.OutOfMemory) }
 {
-    let mut marks = Vec::with_capacity(alloc, kept.len())?;
+    let mut states = Vec::with_capacity(alloc, kept.len())?;
     'parts: for each in kept {
-        let row = MarkRow::new(alloc, each.places()?)?;
-        marks.push(row)?;
+        let row = PlaceStates::new(alloc, each.places()?)?;
+        states.push(row)?;
     }
-    Ok(marks)
+    Ok(states)
 }
 
 /// For each partition all checkpointed receipts are still missing.
@@ -104,46 +104,54 @@ fn all_kinds(alloc: Global, kept: &[Kept<'_>]) -> Result<Vec<KindsLeft>, AllocEr
     Ok(kinds)
 }
 
-/// Notes the receipts of all lists, and returns the place of the first one whose place doesn't exist.
-fn note_lists(kept: &[Kept<'_>], notes: &mut Notes, receipts: &[&[Receipt]]) -> Option<(u32, u64)>
-    requires { AreNoted (map told kept.now) notes.old.marks.items notes.old.kinds.items [] }
-    ensures noted { AreNoted (map told kept.now) notes.new.marks.items notes.new.kinds.items (flat_map (λ r.
+/// Adds the receipts of all lists, and returns the place of the first one whose place doesn't exist.
+fn add_lists(
+    kept: &[Kept<'_>],
+    coverage: &mut Coverage,
+    receipts: &[&[Receipt]],
+) -> Option<(u32, u64)>
+    requires { IsCoverage (map told kept.now) coverage.old.states.items coverage.old.kinds.items [] }
+    ensures coverage { IsCoverage (map told kept.now) coverage.new.states.items coverage.new.kinds.items (flat_map (λ r.
         r.now) receipts.now) }
     ensures stranger { result ≡ option_map named_place (first_stranger (map told kept.now) (flat_map (λ r.
         r.now) receipts.now)) }
 {
     let mut stranger = None;
     'lists: for list in receipts {
-        let found = note_all(kept, notes, list);
+        let found = add_all(kept, coverage, list);
         stranger = stranger.or(found);
     }
     stranger
 }
 
-/// Notes the receipts of one list, and returns the place of the first one whose place doesn't exist.
-fn note_all(kept: &[Kept<'_>], notes: &mut Notes, list: &[Receipt]) -> Option<(u32, u64)>
-    requires { (done : List Receipt) × AreNoted (map told kept.now) notes.old.marks.items notes.old.kinds.items done }
-    ensures noted { (done : List Receipt) → AreNoted (map told kept.now) notes.old.marks.items notes.old.kinds.items
-        done → AreNoted (map told kept.now) notes.new.marks.items notes.new.kinds.items (done ++ list.now) }
+/// Adds the receipts of one list, and returns the place of the first one whose place doesn't exist.
+fn add_all(kept: &[Kept<'_>], coverage: &mut Coverage, list: &[Receipt]) -> Option<(u32, u64)>
+    requires { (done : List Receipt) × IsCoverage (map told kept.now) coverage.old.states.items
+        coverage.old.kinds.items done }
+    ensures coverage { (done : List Receipt) → IsCoverage (map told kept.now) coverage.old.states.items
+        coverage.old.kinds.items done → IsCoverage (map told kept.now) coverage.new.states.items
+        coverage.new.kinds.items (done ++ list.now) }
     ensures stranger { result ≡ option_map named_place (first_stranger (map told kept.now) list.now) }
 {
     let mut stranger = None;
     'list: for receipt in list {
-        let found = note(kept, notes, receipt);
+        let found = add(kept, coverage, receipt);
         stranger = stranger.or(found);
     }
     stranger
 }
 
-/// Notes one receipt, and returns its place if that doesn't exist.
-fn note(kept: &[Kept<'_>], notes: &mut Notes, receipt: &Receipt) -> Option<(u32, u64)>
-    requires { (done : List Receipt) × AreNoted (map told kept.now) notes.old.marks.items notes.old.kinds.items done }
-    ensures noted { (done : List Receipt) → AreNoted (map told kept.now) notes.old.marks.items notes.old.kinds.items
-        done → AreNoted (map told kept.now) notes.new.marks.items notes.new.kinds.items (done ++ receipt.now ∷ []) }
+/// Adds one receipt, and returns its place if that doesn't exist.
+fn add(kept: &[Kept<'_>], coverage: &mut Coverage, receipt: &Receipt) -> Option<(u32, u64)>
+    requires { (done : List Receipt) × IsCoverage (map told kept.now) coverage.old.states.items
+        coverage.old.kinds.items done }
+    ensures coverage { (done : List Receipt) → IsCoverage (map told kept.now) coverage.old.states.items
+        coverage.old.kinds.items done → IsCoverage (map told kept.now) coverage.new.states.items
+        coverage.new.kinds.items (done ++ receipt.now ∷ []) }
     ensures stranger { result ≡ option_map named_place (first_stranger (map told kept.now) (receipt.now ∷ [])) }
 {
-    count(kept, &mut notes.kinds, receipt);
-    mark(kept, &mut notes.marks, receipt)
+    count(kept, &mut coverage.kinds, receipt);
+    update_state(kept, &mut coverage.states, receipt)
 }
 
 /// Counts one receipt, if it names a checkpointed place.
@@ -155,7 +163,7 @@ fn count(kept: &[Kept<'_>], kinds: &mut Vec<KindsLeft>, receipt: &Receipt)
 {
     if is_folded(kept, receipt) {
         let left = &mut kinds[receipt.part as usize];
-        left.note(&receipt.reply);
+        left.count(&receipt.reply);
     }
 }
 
@@ -169,19 +177,23 @@ fn is_folded(kept: &[Kept<'_>], receipt: &Receipt) -> bool
     }
 }
 
-/// Marks the place of one receipt, and returns it if it doesn't exist.
-fn mark(kept: &[Kept<'_>], marks: &mut Vec<MarkRow>, receipt: &Receipt) -> Option<(u32, u64)>
-    requires { (done : List Receipt) × Marked (map told kept.now) marks.old.items done }
-    ensures long { length marks.new.items ≡ length marks.old.items }
-    ensures marked { (done : List Receipt) → Marked (map told kept.now) marks.old.items done →
-        Marked (map told kept.now) marks.new.items (done ++ receipt.now ∷ []) }
+/// Updates the state of the place that one receipt names, and returns the place if it doesn't exist.
+fn update_state(
+    kept: &[Kept<'_>],
+    states: &mut Vec<PlaceStates>,
+    receipt: &Receipt,
+) -> Option<(u32, u64)>
+    requires { (done : List Receipt) × AreStatesOf (map told kept.now) states.old.items done }
+    ensures long { length states.new.items ≡ length states.old.items }
+    ensures by_place { (done : List Receipt) → AreStatesOf (map told kept.now) states.old.items done →
+        AreStatesOf (map told kept.now) states.new.items (done ++ receipt.now ∷ []) }
     ensures stranger { result ≡ option_map named_place (first_stranger (map told kept.now) (receipt.now ∷ [])) }
 {
     let Some(right) = is_right(kept, receipt) else {
         return Some((receipt.part, receipt.position));
     };
-    let row = &mut marks[receipt.part as usize];
-    row.note(receipt.position as usize, right);
+    let row = &mut states[receipt.part as usize];
+    row.update(receipt.position as usize, right);
     None
 }
 
@@ -195,19 +207,19 @@ fn is_right(kept: &[Kept<'_>], receipt: &Receipt) -> Option<bool>
 }
 
 /// The place of the first gap.
-fn first_gap(kept: &[Kept<'_>], notes: &Notes) -> Option<(u32, u64)>
+fn first_gap(kept: &[Kept<'_>], coverage: &Coverage) -> Option<(u32, u64)>
     requires few { length kept.now ≤ 2 ^ 32 }
     requires kept { All IsKept (map told kept.now) }
-    requires noted { (receipts : List Receipt) × AreNoted (map told kept.now) notes.now.marks.items
-        notes.now.kinds.items receipts }
-    ensures none { IfNone result ((receipts : List Receipt) → AreNoted (map told kept.now) notes.now.marks.items
-        notes.now.kinds.items receipts → SettledBelow (map told kept.now) receipts (length (map told kept.now))) }
-    ensures some { IfSome result (λ place. (receipts : List Receipt) → AreNoted (map told kept.now)
-        notes.now.marks.items notes.now.kinds.items receipts → IsFirstGap (map told kept.now) receipts
+    requires coverage { (receipts : List Receipt) × IsCoverage (map told kept.now) coverage.now.states.items
+        coverage.now.kinds.items receipts }
+    ensures none { IfNone result ((receipts : List Receipt) → IsCoverage (map told kept.now) coverage.now.states.items
+        coverage.now.kinds.items receipts → CoveredBelow (map told kept.now) receipts (length (map told kept.now))) }
+    ensures some { IfSome result (λ place. (receipts : List Receipt) → IsCoverage (map told kept.now)
+        coverage.now.states.items coverage.now.kinds.items receipts → IsFirstGap (map told kept.now) receipts
         place.0 place.1) }
 {
     'parts: for (part, each) in kept.iter().enumerate() {
-        if let Some(position) = gap_in(each, &notes.marks[part], &notes.kinds[part]) {
+        if let Some(position) = gap_in(each, &coverage.states[part], &coverage.kinds[part]) {
             return Some((part as u32, position));
         }
     }

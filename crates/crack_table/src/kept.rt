@@ -3,7 +3,7 @@ ghost use Rattle.std.specs.Prelude.{◌≡◌, ◌+◌, length, None, Some, IfOk
 ghost use Rattle.std.specs.Bool.{Decides};
 ghost use Rattle.crack_core.specs.Receipts.{entry_of};
 ghost use Rattle.crack_table.specs.Cover.{told, place_at};
-ghost use Rattle.crack_table.specs.Marks.{IsRight, Place};
+ghost use Rattle.crack_table.specs.Coverage.{IsRight, Place};
 
 use crack_core::Receipt;
 use crack_row::{Entry, Refusal};

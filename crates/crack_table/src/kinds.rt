@@ -1,7 +1,7 @@
 //! How many checkpointed receipts of each kind are still missing.
 ghost use Rattle.std.specs.Prelude.{◌≡◌, Some, IsTrue, ◌↔◌, true};
 ghost use Rattle.crack_plain.specs.Totals.{is_placed, is_gone};
-ghost use Rattle.crack_table.specs.Marks.{left_after};
+ghost use Rattle.crack_table.specs.Coverage.{left_after};
 
 use crack_row::Reply;
 
@@ -14,8 +14,8 @@ pub(crate) struct KindsLeft {
 }
 
 impl KindsLeft {
-    /// Notes a receipt with this reply.
-    pub(crate) fn note(&mut self, reply: &Reply)
+    /// Counts a receipt with this reply.
+    pub(crate) fn count(&mut self, reply: &Reply)
         ensures { self.new ≡ record {
           placed = left_after (is_placed reply.now) self.old.placed;
           gone = left_after
@@ -29,7 +29,7 @@ impl KindsLeft {
         }
     }
 
-    /// Whether all were noted, and no more.
+    /// Whether all were counted, and no more.
     pub(crate) fn are_none(&self) -> bool
         ensures { IsTrue result ↔ ((self.now.placed ≡ Some 0) × (self.now.gone ≡ Some 0)) }
     {

@@ -11,9 +11,9 @@ pub mod gathering;
 pub mod kept;
 mod kinds;
 mod locks;
-mod marks;
 mod order;
 pub mod repeating;
+mod states;
 pub mod table;
 pub mod worker;
 

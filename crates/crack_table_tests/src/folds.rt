@@ -122,12 +122,12 @@ fn a_checkpoint_that_is_due_is_noted(rt: HostRuntime) {
     let (table, mut workers) = open_within(&rt, alloc, &splits(), limits, 1);
     let gate = Due::new();
     assert_behind(&rt, alloc, &mut workers, &table, &gate, THREE);
-    let [none, empty] = gate.noted();
+    let [none, empty] = gate.counts();
     assert_behind(&rt, alloc, &mut workers, &table, &gate, FOUR);
-    let [two, six] = gate.noted();
+    let [two, six] = gate.counts();
     let part = u64::from(gate.part());
     assert_behind(&rt, alloc, &mut workers, &table, &gate, ASKED);
-    let [again, entries] = gate.noted();
+    let [again, entries] = gate.counts();
     assert_eq!(rt;
         [none, empty, two, six, part, again, entries],
         [0, 0, 2, 6, 1, 2, 6]

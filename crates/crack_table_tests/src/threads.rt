@@ -2,7 +2,7 @@
 use crate::values::{
     ask, ask_by, assert_totals, count, give_back, insert, open, splits, take_last,
 };
-use crack_gates::{Alone, Meeting, Notes, Noting};
+use crack_gates::{Alone, Listing, Meeting, Visitors};
 use crack_row::{Command, KeyRange, Layout, Refusal, Reply};
 use crack_table::{Table, Worker};
 use std::alloc::Global;
@@ -85,40 +85,43 @@ fn all_fine(rt: &impl Abort, alloc: Global, done: Vec<(Worker, bool)>) -> Vec<Wo
     workers
 }
 
-/// Inserts 1000 rows into partition 0 behind a gate that notes the worker, and checks for each row that the note at its
-/// place in the history, which is its serial, is the worker's.
-fn enter_noted<R: Wait>(
+/// Inserts 1000 rows into partition 0 behind a gate that lists the worker, and checks for each row that this worker is
+/// listed at its place in the history, which is its serial.
+fn enter_listed<R: Wait>(
     rt: &R,
     mut worker: Worker,
     table: &Table,
-    notes: &Notes,
+    visitors: &Visitors,
 ) -> (Worker, bool) {
     let own = worker.book().worker();
-    let gate = Noting { worker: own, notes };
+    let gate = Listing {
+        worker: own,
+        visitors,
+    };
     let mut fine = true;
     'rows: for key in 0..1000u32 {
         let reply = ask_by(rt, &mut worker, table, &gate, 0, insert(key));
-        let noted = matches!(reply, Ok(Reply::Placed(serial)) if notes.has(serial.0, own));
-        fine = noted && fine;
+        let listed = matches!(reply, Ok(Reply::Placed(serial)) if visitors.has(serial.0, own));
+        fine = listed && fine;
     }
     (worker, fine)
 }
 
-/// If the lock were released between the gate's consent and the command, another worker's note would be at some row's
-/// place; if the gate were asked twice for a command, there would be more notes than rows.
+/// If the lock were released between the gate's consent and the command, another worker would be at some row's
+/// place; if the gate were asked twice for a command, there would be more visitors than rows.
 #[test]
 fn each_command_is_let_in_once_and_follows_at_once(rt: HostRuntime) {
     let alloc: Global = rt.alloc();
     let (table, workers) = open(&rt, alloc, &[], 1000000, 4);
-    let notes = Notes::new(alloc, 4000).expect(&rt, "memory");
-    let (shared, runtime, noted) = (&table, &rt, &notes);
+    let visitors = Visitors::new(alloc, 4000).expect(&rt, "memory");
+    let (shared, runtime, listed) = (&table, &rt, &visitors);
     let done = thread::map_vec(
         &rt,
         workers,
-        &|worker| { enter_noted(runtime, worker, shared, noted) },
+        &|worker| { enter_listed(runtime, worker, shared, listed) },
     );
     let back = all_fine(&rt, alloc, done.expect(&rt, "threads"));
-    assert_eq!(rt; notes.entered(), 4000);
+    assert_eq!(rt; visitors.entered(), 4000);
     assert_totals(&rt, alloc, table, back, [4000, 4000, 0, 4000]);
 }
 

@@ -1,4 +1,4 @@
-use Rattle.crack_column.specs.Column.{Remembers}
+use Rattle.crack_arena.specs.Memories.{Remembers}
 use Rattle.crack_arena_tests.proofs.pending.take_ranges.Given as goal
 
 abbrev pub invariant-rounds : goal.invariant-rounds

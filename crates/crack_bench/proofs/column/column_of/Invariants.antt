@@ -1,5 +1,5 @@
 use Rattle.std.proofs.Common.{◌+◌, ◌≤◌}
-use Rattle.crack_column.specs.Column.{Remembers}
+use Rattle.crack_arena.specs.Memories.{Remembers}
 use Rattle.crack_bench.proofs.column.column_of.Given as goal
 
 -- each handle that is left has room, and what is remembered is right

@@ -1,4 +1,4 @@
-use Rattle.crack_column.specs.Column.{Remembers}
+use Rattle.crack_arena.specs.Memories.{Remembers}
 use Rattle.crack_bench.proofs.column.crack_on.Given as goal
 
 -- what is remembered is right

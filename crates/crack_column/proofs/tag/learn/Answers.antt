@@ -2,7 +2,7 @@ use Rattle.std.proofs.Common.{◌≡◌, arith, ap, sym, ◌∙◌, refl, inl, i
 use Rattle.std.proofs.lemmas.Bool.{cases_eq, eq-eqb, ne_eqb}
 use Rattle.crack_arena.specs.Rows.{unknown}
 use Rattle.crack_column.specs.declared.tag.Tag.{Tag}
-use Rattle.crack_column.specs.Column.{memory_at}
+use Rattle.crack_arena.specs.Memories.{memory_at}
 use Rattle.crack_column.specs.Tickets.{tag_handle}
 use Rattle.crack_column.specs.Inside.{no_tag}
 use Rattle.crack_column.specs.Labels.{tags_of}

@@ -1,6 +1,7 @@
 use Rattle.std.proofs.Common.{◌<◌, length, arith, length-append}
 use Rattle.crack_arena.specs.Arena.{Handle, no_handle}
-use Rattle.crack_column.specs.Column.{Agrees, Remembers, first_aside}
+use Rattle.crack_arena.specs.Memories.{Agrees, Remembers}
+use Rattle.crack_column.specs.Column.{first_aside}
 use Rattle.crack_column_tests.proofs.column.go_aside.Goals as goal
 
 pub assert_sum-requires : goal.assert_sum-requires

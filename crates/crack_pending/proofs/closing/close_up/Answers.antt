@@ -3,8 +3,8 @@ use Rattle.crack_pending.specs.Keeps.{place_at}
 use Rattle.crack_pending.proofs.Kept.{place_at-few, kept-full}
 use Rattle.crack_pending.proofs.closing.close_up.Goals as goal
 
-pub close_up_marks-requires : goal.close_up_marks-requires
-close_up_marks-requires c =
+pub close_up_stands-requires : goal.close_up_stands-requires
+close_up_stands-requires c =
     omega (arith, c.requires.rows, place_at-few c.args.stands.now.items (vec_len c.args.stands.now))
 
 pub returns-then-rows-len-clause-closed : goal.returns-then-rows-len-clause-closed
@@ -24,6 +24,6 @@ pub returns-clause-closed : goal.returns-clause-closed
 returns-clause-closed c = record {
   handles_are = rw (c.deref.ensures.value) at c.close_up_handles.ensures.kept;
   remembered_are = rw (c.deref-2.ensures.value) at c.close_up_remembered.ensures.kept;
-  long = omega (arith, c.close_up_marks.ensures.length);
-  full = c.close_up_marks.ensures.full;
+  long = omega (arith, c.close_up_stands.ensures.length);
+  full = c.close_up_stands.ensures.full;
 }

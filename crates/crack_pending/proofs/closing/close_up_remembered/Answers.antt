@@ -1,5 +1,5 @@
 use Rattle.std.proofs.Common.{◌≡◌, length, refl, arith}
-use Rattle.crack_column.specs.Column.{nothing}
+use Rattle.crack_arena.specs.Memories.{nothing}
 use Rattle.crack_pending.proofs.Kept.{place_at-few}
 use Rattle.crack_pending.proofs.Moves.{moved_none, moved_row, moved_hole, moved_all}
 use Rattle.crack_pending.proofs.closing.close_up_remembered.Goals as goal

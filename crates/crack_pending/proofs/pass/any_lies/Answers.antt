@@ -1,7 +1,7 @@
 use Rattle.std.proofs.Common.{◌≡◌, get_or, sym, ◌∙◌, inl, inr, arith}
 use Rattle.std.proofs.lemmas.Bool.{cases_lt}
 use Rattle.std.proofs.lemmas.List.{get_or_default}
-use Rattle.crack_column.specs.Column.{nothing}
+use Rattle.crack_arena.specs.Memories.{nothing}
 use Rattle.crack_pending.proofs.Blocks.{no_flag, apart}
 use Rattle.crack_pending.proofs.pass.any_lies.Goals as goal
 

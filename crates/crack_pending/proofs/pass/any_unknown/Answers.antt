@@ -2,7 +2,7 @@ use Rattle.std.proofs.Common.{◌≡◌, get_or, sym, ap, ◌∙◌, inl, inr, t
 use Rattle.std.proofs.lemmas.Bool.{cases_lt}
 use Rattle.std.proofs.lemmas.List.{get_or_default}
 use Rattle.crack_arena.specs.Rows.{unknown}
-use Rattle.crack_column.specs.Column.{Memory, nothing}
+use Rattle.crack_arena.specs.Memories.{Memory, nothing}
 use Rattle.crack_pending.proofs.Blocks.{no_flag}
 use Rattle.crack_pending.proofs.pass.any_unknown.Goals as goal
 

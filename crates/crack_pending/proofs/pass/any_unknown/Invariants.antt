@@ -1,6 +1,6 @@
 use Rattle.std.proofs.Common.{◌≡◌, ◌≢◌, ◌<◌, ℕ}
 use Rattle.std.specs.Prelude.{slice_index_or}
-use Rattle.crack_column.specs.Column.{nothing}
+use Rattle.crack_arena.specs.Memories.{nothing}
 use Rattle.crack_arena.specs.Rows.{unknown}
 use Rattle.crack_pending.proofs.pass.any_unknown.Given as goal
 

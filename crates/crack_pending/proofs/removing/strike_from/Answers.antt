@@ -37,7 +37,7 @@ strike-requires c =
     let next = is_next (goal.at.strike-requires c).After-slot in
     let behind = drop c.args.from c.args.handles.now in
     let listed : 0 < times c.slot.result (slots behind) = times_map_at c.slot.result (λ (h : Handle). h.slot) behind (c.handles.place - c.args.from) no_handle next.within next.is in
-    omega (arith, Has-within c.args.marks.now c.slot.result (c.requires c.slot.result listed), c.handles.invariant.long)
+    omega (arith, Has-within c.args.members.now c.slot.result (c.requires c.slot.result listed), c.handles.invariant.long)
 
 pub handles-preserved : goal.handles-preserved
 handles-preserved c =

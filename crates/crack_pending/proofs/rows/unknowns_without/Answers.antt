@@ -3,7 +3,7 @@ use Rattle.std.proofs.lemmas.Bool.{cases_eq}
 use Rattle.std.proofs.lemmas.List.{get_or_default}
 use Rattle.crack_arena.specs.Rows.{unknown}
 use Rattle.crack_arena.proofs.Times.{times_other}
-use Rattle.crack_column.specs.Column.{Memory, nothing}
+use Rattle.crack_arena.specs.Memories.{Memory, nothing}
 use Rattle.crack_pending.proofs.Unknown.{one_less}
 use Rattle.crack_pending.proofs.rows.unknowns_without.Goals as goal
 use Rattle.crack_pending.proofs.rows.unknowns_without.Goals.{After-key}

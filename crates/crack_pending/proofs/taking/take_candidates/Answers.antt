@@ -2,7 +2,7 @@ use Rattle.std.proofs.Common.{◌≡◌, ℕ, length, get_or, sym, ap, ◌∙◌
 use Rattle.std.proofs.lemmas.Bool.{cases_lt}
 use Rattle.std.proofs.lemmas.List.{get_or_default}
 use Rattle.crack_arena.specs.Arena.{no_handle}
-use Rattle.crack_column.specs.Column.{nothing}
+use Rattle.crack_arena.specs.Memories.{nothing}
 use Rattle.crack_pending.specs.Inside.{IsMissed}
 use Rattle.crack_pending.specs.Keeps.{HasRow}
 use Rattle.crack_pending.specs.Pending.{rows_inside}

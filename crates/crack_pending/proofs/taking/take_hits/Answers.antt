@@ -3,8 +3,8 @@ use Rattle.std.proofs.lemmas.List.{append-nil, append_assoc, get_or_default}
 use Rattle.crack_row.specs.Ranges.{is_in}
 use Rattle.crack_arena.specs.Arena.{Handle, no_handle}
 use Rattle.crack_arena.specs.Rows.{key_at}
-use Rattle.crack_column.specs.Column.{nothing}
-use Rattle.crack_column.proofs.Remembering.{Remembers-append}
+use Rattle.crack_arena.specs.Memories.{nothing}
+use Rattle.crack_arena.proofs.Remembering.{Remembers-append}
 use Rattle.crack_pending.proofs.Remembering.{Remembers-remove}
 use Rattle.crack_pending.specs.Inside.{IsHit, IsMissed}
 use Rattle.crack_pending.specs.Pending.{rows_inside}

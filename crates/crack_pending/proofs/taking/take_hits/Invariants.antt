@@ -1,7 +1,7 @@
 use Rattle.std.proofs.Common.{◌≡◌, ◌+◌, ◌-◌, ◌≤◌, ◌++◌, ℕ, length, vec_len, vec_capacity}
 use Rattle.crack_arena.specs.Arena.{times}
 use Rattle.crack_arena.specs.Rows.{unknown}
-use Rattle.crack_column.specs.Column.{Remembers}
+use Rattle.crack_arena.specs.Memories.{Remembers}
 use Rattle.crack_pending.specs.Codes.{AreCoded}
 use Rattle.crack_pending.specs.Inside.{IsMissed}
 use Rattle.crack_pending.specs.Keeps.{place_at, HasRow, keys_of}

@@ -1,5 +1,5 @@
 use Rattle.std.proofs.Common.{◌≡◌, ◌+◌, ◌++◌, take}
-use Rattle.crack_column.specs.Column.{Remembers}
+use Rattle.crack_arena.specs.Memories.{Remembers}
 use Rattle.crack_store.proofs.appending.append_rows.Given as goal
 
 -- the first rows, this many, are after the others

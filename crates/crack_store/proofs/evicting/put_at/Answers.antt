@@ -3,7 +3,8 @@ use Rattle.std.proofs.lemmas.List.{length-set}
 use Rattle.std.proofs.lemmas.List.Elements.{All-head}
 use Rattle.crack_arena.specs.Arena.{Handle, slots}
 use Rattle.crack_arena.proofs.Times.{times_head}
-use Rattle.crack_column.specs.Column.{Column, memory_at}
+use Rattle.crack_arena.specs.Memories.{memory_at}
+use Rattle.crack_column.specs.Column.{Column}
 use Rattle.crack_pending.specs.Pending.{Pending}
 use Rattle.crack_store.proofs.ExchangeLemmas.{got, set_parts}
 use Rattle.crack_store.proofs.evicting.put_at.Goals as goal

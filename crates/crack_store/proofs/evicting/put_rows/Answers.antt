@@ -1,7 +1,7 @@
 use Rattle.std.proofs.Common.{◌≡◌, get_or, sym, ◌∙◌, arith}
 use Rattle.std.proofs.lemmas.List.{get_or_default}
 use Rattle.crack_arena.specs.Arena.{no_handle}
-use Rattle.crack_column.specs.Column.{nothing}
+use Rattle.crack_arena.specs.Memories.{nothing}
 use Rattle.crack_store.proofs.ExchangeLemmas.{begins, within_column, has_column_room, has_in_room, IsOnWay-next, ArePut-ends}
 use Rattle.crack_store.proofs.evicting.put_rows.Goals as goal
 use Rattle.crack_store.proofs.evicting.put_rows.Goals.{After-index-handles-i}

@@ -9,7 +9,8 @@ use Rattle.crack_bulk.specs.Filled.{lacking, pieces_under}
 use Rattle.crack_bulk.proofs.FillLaws.{edge-within}
 use Rattle.crack_bulk.proofs.SiftedLaws.{min_and}
 use Rattle.crack_column.specs.Drains.{doomed_handle}
-use Rattle.crack_column.specs.Column.{Column, Remembers}
+use Rattle.crack_arena.specs.Memories.{Remembers}
+use Rattle.crack_column.specs.Column.{Column}
 use Rattle.crack_pending.specs.Pending.{Pending}
 use Rattle.crack_state.specs.State.{State, IsIntact, greatest}
 use Rattle.crack_store.specs.declared.draining.Drain.{Drain}

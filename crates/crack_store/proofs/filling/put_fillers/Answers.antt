@@ -1,7 +1,8 @@
 use Rattle.std.proofs.Common.{◌≡◌, get_or, sym, ap, ◌∙◌, inr}
 use Rattle.std.proofs.lemmas.List.{get_or_default}
 use Rattle.crack_arena.specs.Arena.{no_handle}
-use Rattle.crack_column.specs.Column.{Column, memory_at}
+use Rattle.crack_arena.specs.Memories.{memory_at}
+use Rattle.crack_column.specs.Column.{Column}
 use Rattle.crack_store.proofs.FillLemmas.{one-is-left, IsFilling-next, IsStocked-ends}
 use Rattle.crack_store.proofs.filling.put_fillers.Goals as goal
 

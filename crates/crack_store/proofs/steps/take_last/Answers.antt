@@ -1,6 +1,6 @@
 use Rattle.std.proofs.Common.{◌-◌, ◌<◌, [], length, refl, arith}
 use Rattle.crack_arena.specs.Arena.{no_handle}
-use Rattle.crack_column.proofs.Remembering.{Remembers-take}
+use Rattle.crack_arena.proofs.Remembering.{Remembers-take}
 use Rattle.crack_state.proofs.PullLaws.{IsIntact-lifted_last}
 use Rattle.crack_store.specs.Inside.{lists_of}
 use Rattle.crack_store.proofs.RememberLemmas.{KeepsIntact-column}

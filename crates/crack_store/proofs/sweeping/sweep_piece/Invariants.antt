@@ -1,6 +1,6 @@
 use Rattle.std.proofs.Common.{◌≡◌, ◌+◌, ◌≤◌, take, drop, length}
 use Rattle.std.specs.List.{between}
-use Rattle.crack_column.specs.Column.{Remembers}
+use Rattle.crack_arena.specs.Memories.{Remembers}
 use Rattle.crack_store.proofs.SweepLemmas.{IsOn}
 use Rattle.crack_store.proofs.sweeping.sweep_piece.Given as goal
 

@@ -4,7 +4,7 @@ use Rattle.std.proofs.lemmas.Bool.{cases_lt, lt-ltb, le-ltb, false≢true}
 use Rattle.crack_arena.specs.Arena.{Handle, no_handle, times, slots}
 use Rattle.crack_column.specs.Column.{Column}
 use Rattle.crack_column.specs.Drains.{doomed_handle}
-use Rattle.crack_column.proofs.Remembering.{Remembers-take}
+use Rattle.crack_arena.proofs.Remembering.{Remembers-take}
 use Rattle.crack_store.specs.Sweepings.{ends_in}
 use Rattle.crack_store.proofs.SweepLemmas.{IsParting-end, IsParting-doomed, IsParting-stays, nearest, length-swapped}
 use Rattle.crack_store.proofs.sweeping.take_doomed.Goals.{then-contains, else-contains}

@@ -1,5 +1,5 @@
 use Rattle.std.proofs.Common.{◌≡◌, ◌-◌, ◌≤◌, length, drop, take, map, vec_capacity}
-use Rattle.crack_column.specs.Column.{Remembers}
+use Rattle.crack_arena.specs.Memories.{Remembers}
 use Rattle.crack_column.specs.Drains.{doomed_handle}
 use Rattle.crack_store.proofs.SweepLemmas.{IsParting}
 use Rattle.crack_store.proofs.sweeping.take_doomed.Given as goal

@@ -1,7 +1,8 @@
 use Rattle.std.proofs.Common.{◌≡◌, ◌+◌, ◌++◌, ◌∷◌, [], length, map, get_or, take, drop, sym, ap, ◌∙◌, inr, arith}
 use Rattle.std.proofs.lemmas.List.{append-nil, append_assoc, map-append, length_push, drop_all, take_all, take_more, get_or_default}
 use Rattle.crack_arena.specs.Arena.{no_handle}
-use Rattle.crack_column.specs.Column.{Column, memory_at, nothing}
+use Rattle.crack_arena.specs.Memories.{memory_at, nothing}
+use Rattle.crack_column.specs.Column.{Column}
 use Rattle.crack_store.proofs.TakeLemmas.{drop-push, behind-read}
 use Rattle.crack_store.proofs.taking.append_taken.Goals as goal
 

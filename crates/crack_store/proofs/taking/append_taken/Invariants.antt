@@ -1,5 +1,5 @@
 use Rattle.std.proofs.Common.{◌≡◌, ◌+◌, ◌≤◌, ◌++◌, length, take, drop, map}
-use Rattle.crack_column.specs.Column.{Remembers, memory_at}
+use Rattle.crack_arena.specs.Memories.{Remembers, memory_at}
 use Rattle.crack_store.proofs.taking.append_taken.Given as goal
 
 -- those that were passed are after the others in the column, and are remembered

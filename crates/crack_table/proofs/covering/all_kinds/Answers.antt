@@ -1,7 +1,7 @@
 use Rattle.std.proofs.Common.{arith, length, ap, [], ◌∷◌}
 use Rattle.std.proofs.lemmas.List.{take_all, length-append}
 use Rattle.crack_table.specs.Cover.{told}
-use Rattle.crack_table.proofs.Tallies.{all_left, none_read}
+use Rattle.crack_table.proofs.KindLaws.{all_left, none_read}
 use Rattle.crack_table.proofs.covering.all_kinds.Goals as goal
 
 pub parts-preserved : goal.parts-preserved

@@ -1,6 +1,6 @@
 use Rattle.std.proofs.Common.{◌≡◌, [], length, map, take}
 use Rattle.crack_table.specs.Cover.{told}
-use Rattle.crack_table.specs.Marks.{Counted}
+use Rattle.crack_table.specs.Coverage.{Counted}
 use Rattle.crack_table.proofs.covering.all_kinds.Given as goal
 
 abbrev pub invariant-parts : goal.invariant-parts

@@ -1,5 +1,5 @@
 use Rattle.std.proofs.Common.{sym}
-use Rattle.crack_table.proofs.Marking.{flat_read}
+use Rattle.crack_table.proofs.StateLaws.{flat_read}
 use Rattle.crack_table.proofs.Lates.{late_found, flat_split, none_from_test, none_more}
 use Rattle.crack_table.proofs.order.first_late.Goals as goal
 

@@ -1,8 +1,8 @@
 use Rattle.std.proofs.Common.{List, sym, ap, ◌∙◌}
 use Rattle.std.specs.BTreeMap.{get}
 use Rattle.std.specs.Option.{option_map}
-use Rattle.crack_table.specs.Marks.{named_place, pair_cmp}
-use Rattle.crack_table.proofs.Marking.{take_read}
+use Rattle.crack_table.specs.Coverage.{named_place, pair_cmp}
+use Rattle.crack_table.proofs.StateLaws.{take_read}
 use Rattle.crack_table.proofs.Lates.{track_more, late_step, late_now}
 use Rattle.crack_table.proofs.order.first_late_in.Goals as goal
 

@@ -2,11 +2,11 @@ use Rattle.std.proofs.Common.{◌≡◌, ◌<◌, ◌+◌, length, take, get_or,
 use Rattle.crack_arena.specs.Arena.{times}
 use Rattle.crack_arena.proofs.Times.{times-le-length}
 use Rattle.crack_arena.specs.Rows.{unknown}
-use Rattle.crack_column.specs.Column.{Agrees}
+use Rattle.crack_arena.specs.Memories.{Agrees}
 use Rattle.crack_column.specs.Tickets.{tag_handle, memory_of, handles_in, remembered_in}
 use Rattle.crack_column.specs.Keeps.{remembered_key, unread_in}
 use Rattle.crack_column.specs.Inside.{no_tag}
-use Rattle.crack_column.proofs.Remembering.{Remembers-append}
+use Rattle.crack_arena.proofs.Remembering.{Remembers-append}
 use Rattle.crack_column.proofs.TicketLaws.{length-aside, first-aside, unread-le, unread-last, handles-last, remembered-last}
 use Rattle.crack_column.proofs.column.CrackerColumn.append_aside.Goals as goal
 use Rattle.crack_column.proofs.column.CrackerColumn.append_aside.Goals.{After-unread}

@@ -1,5 +1,6 @@
 use Rattle.std.proofs.Common.{◌≡◌, ◌≤◌, ◌+◌, length, take, arith, refl}
-use Rattle.crack_column.specs.Column.{Remembers, Cracks}
+use Rattle.crack_arena.specs.Memories.{Remembers}
+use Rattle.crack_column.specs.Column.{Cracks}
 use Rattle.crack_column.proofs.Cracking.{Cracks-remembers, length-Cracks}
 use Rattle.crack_column.specs.Tickets.{handles_in, remembered_in}
 use Rattle.crack_column.specs.Keeps.{AreDrawn, unread_in}

@@ -3,12 +3,12 @@ use Rattle.crack_arena.specs.Arena.{times, no_handle}
 use Rattle.crack_arena.proofs.Times.{times-le-length}
 use Rattle.crack_arena.specs.Rows.{unknown}
 use Rattle.crack_column.specs.declared.tag.Tag.{Tag}
-use Rattle.crack_column.specs.Column.{Agrees, nothing}
+use Rattle.crack_arena.specs.Memories.{Agrees, nothing}
 use Rattle.crack_column.specs.Tickets.{tag_handle, memory_of, handles_in, remembered_in}
 use Rattle.crack_column.specs.Keeps.{unread_in}
 use Rattle.crack_column.specs.Inside.{no_tag}
 use Rattle.crack_column.specs.Labels.{TagVector}
-use Rattle.crack_column.proofs.Remembering.{Remembers-set}
+use Rattle.crack_arena.proofs.Remembering.{Remembers-set}
 use Rattle.crack_column.proofs.TicketLaws.{length-in, length-aside, first-aside, handle_in, memory_in, unread-le, AreDrawn-exchange, length-exchange, handles-exchange, remembered-exchange, unread-exchange, aside-exchange}
 use Rattle.crack_column.proofs.column.CrackerColumn.exchange.Goals as goal
 use Rattle.crack_column.proofs.column.CrackerColumn.exchange.Goals.{After-unread-2}

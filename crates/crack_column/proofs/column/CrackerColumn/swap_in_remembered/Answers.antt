@@ -2,9 +2,9 @@ use Rattle.std.proofs.Common.{◌≡◌, ◌<◌, ◌+◌, length, take, ◌∷�
 use Rattle.crack_arena.specs.Arena.{Handle, times}
 use Rattle.crack_arena.proofs.Times.{times-le-length}
 use Rattle.crack_arena.specs.Rows.{unknown}
-use Rattle.crack_column.specs.Column.{Memory}
+use Rattle.crack_arena.specs.Memories.{Memory}
 use Rattle.crack_column.specs.Keeps.{unread_in}
-use Rattle.crack_column.proofs.Remembering.{Remembers-set}
+use Rattle.crack_arena.proofs.Remembering.{Remembers-set}
 use Rattle.crack_column.proofs.TicketLaws.{length-in, unread-le, AreDrawn-Kept, length-Kept, handles-swapped, remembered-swapped, unread-swapped, aside-behind, stands_at, remembered_at}
 use Rattle.crack_column.proofs.column.CrackerColumn.swap_in_remembered.Goals as goal
 use Rattle.crack_column.proofs.column.CrackerColumn.swap_in_remembered.Goals.{After-keep-out}

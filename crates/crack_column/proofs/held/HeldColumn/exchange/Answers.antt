@@ -1,6 +1,6 @@
 use Rattle.std.proofs.Common.{◌≡◌, ◌<◌, length, get_or, set, arith, refl, ap, length-set}
 use Rattle.crack_arena.specs.Arena.{no_handle}
-use Rattle.crack_column.specs.Column.{nothing}
+use Rattle.crack_arena.specs.Memories.{nothing}
 use Rattle.crack_column.specs.Inside.{no_tag}
 use Rattle.crack_column.specs.Labels.{TagVector}
 use Rattle.crack_column.specs.Held.{tags_with}

@@ -2,7 +2,7 @@ use Rattle.std.proofs.Common.{[], sym}
 use Rattle.crack_arena.specs.Rows.{unknown}
 use Rattle.crack_arena.proofs.Times.{times-nil}
 use Rattle.crack_pending.proofs.Coded.{coded_none}
-use Rattle.crack_pending.proofs.Marked.{marked_clear}
+use Rattle.crack_pending.proofs.MemberSpots.{members_clear}
 use Rattle.crack_pending.proofs.Views.{kept_none}
 use Rattle.crack_pending.proofs.list.PendingList.clear.Goals as goal
 
@@ -18,5 +18,5 @@ invariant_of-self g c =
       kept_none c.self.inside.spots.items,
       sym (times-nil unknown),
       coded_none [] [] c.clear-3.new.self c.clear-3.ensures,
-      marked_clear c.self.invariant.3 c.strike_from.new.marks c.strike_from.ensures.long struck,
+      members_clear c.self.invariant.3 c.strike_from.new.members c.strike_from.ensures.long struck,
     )

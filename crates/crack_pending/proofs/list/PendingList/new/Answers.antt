@@ -2,10 +2,10 @@ use Rattle.std.proofs.Common.{[], sym}
 use Rattle.crack_arena.specs.Rows.{unknown}
 use Rattle.crack_arena.proofs.Times.{times-nil}
 use Rattle.crack_pending.proofs.Coded.{coded_none}
-use Rattle.crack_pending.proofs.Members.{marked_none}
+use Rattle.crack_pending.proofs.Members.{members_none}
 use Rattle.crack_pending.proofs.Views.{kept_none}
 use Rattle.crack_pending.proofs.list.PendingList.new.Goals as goal
 
 pub invariant_of-result : goal.invariant_of-result
 invariant_of-result g c =
-    rw (c.new.ensures.items, c.new-2.ensures.items, c.new-4.ensures.items, c.new-5.ensures.items, c.new-6.ensures) (kept_none [], sym (times-nil unknown), coded_none [] [] c.new-3.result c.new-3.ensures, marked_none)
+    rw (c.new.ensures.items, c.new-2.ensures.items, c.new-4.ensures.items, c.new-5.ensures.items, c.new-6.ensures) (kept_none [], sym (times-nil unknown), coded_none [] [] c.new-3.result c.new-3.ensures, members_none)

@@ -1,5 +1,5 @@
 use Rattle.std.proofs.Common.{ap, inl, rules}
-use Rattle.crack_column.specs.Column.{Memory}
+use Rattle.crack_arena.specs.Memories.{Memory}
 use Rattle.crack_pending.proofs.list.PendingList.push.Goals as goal
 
 pub returns-clause-after : goal.returns-clause-after

@@ -1,11 +1,11 @@
 use Rattle.std.proofs.Common.{◌≡◌, ◌+◌, ◌-◌, ◌∷◌, [], ◌++◌, length, nat_eq, vec_capacity, refl, ap, ◌∙◌, arith, length-append}
-use Rattle.crack_column.proofs.Remembering.{Remembers-append}
+use Rattle.crack_arena.proofs.Remembering.{Remembers-append}
 use Rattle.crack_arena.specs.Arena.{times}
 use Rattle.crack_arena.specs.Rows.{unknown}
 use Rattle.crack_pending.specs.Spots.{kept, spot_room}
 use Rattle.crack_pending.proofs.Kept.{kept-push}
 use Rattle.crack_pending.proofs.Coded.{coded_push}
-use Rattle.crack_pending.proofs.Marked.{marked_push}
+use Rattle.crack_pending.proofs.MemberSpots.{members_push}
 use Rattle.crack_pending.proofs.Views.{kept_more, view_after, room-less, room-some, memories-beside, few-rows}
 use Rattle.crack_pending.proofs.Unknown.{counted_one, counted_push, counted_few, byte_few}
 use Rattle.crack_pending.proofs.list.PendingList.push_remembered.Goals as goal
@@ -37,7 +37,7 @@ invariant_of-self g c =
       kept_more a c.args.handle c.args.remembered (room-some _ _ _ _ room).0 covered absent,
       omega (arith, c.self.invariant.1, counted_one c.key.result ∙ ap (λ k. times unknown (k ∷ [])) c.key.ensures, counted_push i.remembered.items i.stands.items (memories-beside a) c.args.remembered),
       coded_push i.remembered.items i.stands.items i.codes c.self.invariant.2 c.args.remembered (memories-beside a),
-      marked_push a c.self.invariant.3 c.put.new.self c.put.ensures.long c.args.handle (rw c.slot.ensures at c.put.ensures.there) (rw c.slot.ensures at c.put.ensures.others),
+      members_push a c.self.invariant.3 c.put.new.self c.put.ensures.long c.args.handle (rw c.slot.ensures at c.put.ensures.there) (rw c.slot.ensures at c.put.ensures.others),
     )
 
 pub returns-clause-after : goal.returns-clause-after

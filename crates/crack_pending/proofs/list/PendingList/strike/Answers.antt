@@ -2,7 +2,7 @@ use Rattle.std.proofs.Common.{◌≡◌, length, ap, ◌∙◌, arith}
 use Rattle.crack_pending.specs.Pending.{Pending}
 use Rattle.crack_pending.proofs.Kept.{place_at-before, Stands-within}
 use Rattle.crack_pending.proofs.Coded.{coded_hole}
-use Rattle.crack_pending.proofs.Marked.{marked_hole}
+use Rattle.crack_pending.proofs.MemberSpots.{members_hole}
 use Rattle.crack_pending.proofs.Views.{kept_hole, kept_noted, struck, nowhere-times, memories-beside, remembers-others}
 use Rattle.crack_pending.proofs.Unknown.{counted_hole, counted_some}
 use Rattle.crack_pending.proofs.list.PendingList.strike.Goals as goal
@@ -69,7 +69,7 @@ invariant_of-self-2 g c =
       kept_hole noted c.in-Some.spot c.hint_without-self-inside.result i.hint_spot with.stands_there a.near hint,
       omega (arith, c.self.invariant.1, less, counted_hole i.remembered.items i.stands.items (memories-beside a) c.in-Some.spot with.stands_there),
       rw (c.leave_hole.ensures) (coded_hole i.remembered.items i.stands.items i.codes c.self.invariant.2 c.in-Some.spot with.stands_there),
-      rw covered (marked_hole a c.self.invariant.3 c.strike.new.self c.strike.ensures.long with (rw c.slot-slot.ensures at c.strike.ensures.gone) (rw c.slot-slot.ensures at c.strike.ensures.others)),
+      rw covered (members_hole a c.self.invariant.3 c.strike.new.self c.strike.ensures.long with (rw c.slot-slot.ensures at c.strike.ensures.gone) (rw c.slot-slot.ensures at c.strike.ensures.others)),
     )
 
 pub returns-clause-handles : goal.returns-clause-handles

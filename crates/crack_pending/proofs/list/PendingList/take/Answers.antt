@@ -3,7 +3,7 @@ use Rattle.crack_pending.specs.Inside.{IsSpotWith}
 use Rattle.crack_pending.specs.Pending.{Pending}
 use Rattle.crack_pending.proofs.Kept.{place_at-hole_behind, Stands-within, kept-hole}
 use Rattle.crack_pending.proofs.Coded.{coded_hole}
-use Rattle.crack_pending.proofs.Marked.{marked_hole}
+use Rattle.crack_pending.proofs.MemberSpots.{members_hole}
 use Rattle.crack_pending.proofs.Views.{kept_hole, place-StandsAt, spot-with, memories-beside, length-rows, remembers-others}
 use Rattle.crack_pending.proofs.Unknown.{counted_hole, counted_some}
 use Rattle.crack_pending.proofs.list.PendingList.take.Goals as goal
@@ -53,7 +53,7 @@ invariant_of-self g c =
       kept_hole a spot c.args.place spot stands (omega (arith, Stands-within i.stands.items spot stands, a.stands_beside)) (sym place ∙ sym (place_at-hole_behind i.stands.items spot spot (omega arith))),
       omega (arith, c.self.invariant.1, less, counted_hole i.remembered.items i.stands.items (memories-beside a) spot stands),
       rw (c.leave_hole.ensures) (coded_hole i.remembered.items i.stands.items i.codes c.self.invariant.2 spot stands),
-      marked_hole a c.self.invariant.3 c.strike.new.self c.strike.ensures.long (spot_with g (goal.at.invariant_of-self g c).After-slot) c.strike.ensures.gone c.strike.ensures.others,
+      members_hole a c.self.invariant.3 c.strike.new.self c.strike.ensures.long (spot_with g (goal.at.invariant_of-self g c).After-slot) c.strike.ensures.gone c.strike.ensures.others,
     )
 
 pub returns-clause-value : goal.returns-clause-value

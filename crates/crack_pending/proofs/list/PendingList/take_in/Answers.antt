@@ -4,7 +4,7 @@ use Rattle.crack_arena.specs.Arena.{Handle, times, slots}
 use Rattle.crack_arena.specs.Rows.{key_at}
 use Rattle.crack_pending.specs.Pending.{Pending, rows_inside}
 use Rattle.crack_pending.specs.Spots.{kept}
-use Rattle.crack_pending.proofs.Marked.{marked_parted}
+use Rattle.crack_pending.proofs.MemberSpots.{members_parted}
 use Rattle.crack_pending.proofs.Taken.{drop-after, kept_taken, times-parted}
 use Rattle.crack_pending.proofs.Views.{once}
 use Rattle.crack_pending.proofs.list.PendingList.take_in.Goals as goal
@@ -39,7 +39,7 @@ invariant_of-self g c =
       kept_taken a c.take_hits-left.new.stands.items (i.rows - c.take_hits-left.result.taken) e.long e.stood (omega (arith, a.counted, e.counted)),
       rw (c.deref-4.ensures.value) at e.unknowns,
       rw (c.deref-4.ensures.value) at e.coded,
-      rw left (marked_parted c.self.invariant.3 c.strike_from.new.marks c.strike_from.ensures.long (λ h. is_in c.args.range (key_at c.args.arena.now.cells h)) (once i.handles.items i.stands.items a.stands_beside a.apart) struck),
+      rw left (members_parted c.self.invariant.3 c.strike_from.new.members c.strike_from.ensures.long (λ h. is_in c.args.range (key_at c.args.arena.now.cells h)) (once i.handles.items i.stands.items a.stands_beside a.apart) struck),
     )
 
 pub returns-clause-taken : goal.returns-clause-taken

@@ -1,5 +1,5 @@
 use Rattle.std.proofs.Common.{◌≡◌, false, [], Some, refl, ap, ◌∙◌, inr, arith}
-use Rattle.crack_column.specs.Column.{memory_at}
+use Rattle.crack_arena.specs.Memories.{memory_at}
 use Rattle.crack_pending.specs.Pending.{Pending}
 use Rattle.crack_state.specs.State.{handle_of}
 use Rattle.crack_state.specs.Points.{pending_by, MayFree, doomed_too}

@@ -1,7 +1,7 @@
 use Rattle.std.proofs.Common.{◌≡◌, ◌≢◌, ◌≤◌, false, [], length, Some, refl, sym, ap, ◌∙◌, inr, arith}
 use Rattle.crack_row.specs.Ranges.{IsIn}
 use Rattle.crack_arena.specs.Arena.{cells_with, read}
-use Rattle.crack_column.specs.Column.{memory_at}
+use Rattle.crack_arena.specs.Memories.{memory_at}
 use Rattle.crack_pending.specs.Pending.{Pending}
 use Rattle.crack_state.specs.State.{handle_of}
 use Rattle.crack_state.specs.Steps.{SameButRoom, next_handle}

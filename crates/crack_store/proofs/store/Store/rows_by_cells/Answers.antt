@@ -4,39 +4,39 @@ use Rattle.crack_store.specs.Found.{live_below}
 use Rattle.crack_store.proofs.LiveLemmas.{rising-none}
 use Rattle.crack_store.proofs.store.Store.rows_by_cells.Goals as goal
 
-pub stretches-init : goal.stretches-init
-stretches-init c = (omega arith, c.in_ok-with_capacity.ensures.items, λ _. rw c.in_ok-with_capacity.ensures.items (rising-none 0))
+pub runs-init : goal.runs-init
+runs-init c = (omega arith, c.in_ok-with_capacity.ensures.items, λ _. rw c.in_ok-with_capacity.ensures.items (rising-none 0))
 
 pub add_live-requires-clause-rows : goal.add_live-requires-clause-rows
-add_live-requires-clause-rows c = c.stretches.invariant.1
+add_live-requires-clause-rows c = c.runs.invariant.1
 
 pub add_live-requires-clause-order : goal.add_live-requires-clause-order
-add_live-requires-clause-order c = c.stretches.invariant.2
+add_live-requires-clause-order c = c.runs.invariant.2
 
-pub stretches-smaller : goal.stretches-smaller
-stretches-smaller c =
+pub runs-smaller : goal.runs-smaller
+runs-smaller c =
     let same : length c.args.self.now.cells ≡ length c.self.inside.inside.arena.cells = rw (← c.self.view_is) refl in
-    let here : c.stretches.slot < length c.self.inside.inside.arena.cells = omega (arith, c.stretches-test.true, c.cells.ensures) in
-    omega (arith, same, here, c.len-in-stretches.ensures, c.stretch_from-stretch.ensures.some here)
+    let here : c.runs.slot < length c.self.inside.inside.arena.cells = omega (arith, c.runs-test.true, c.cells.ensures) in
+    omega (arith, same, here, c.len-in-runs.ensures, c.cells_from-run.ensures.some here)
 
-pub stretches-preserved : goal.stretches-preserved
-stretches-preserved c =
+pub runs-preserved : goal.runs-preserved
+runs-preserved c =
     let same : length c.args.self.now.cells ≡ length c.self.inside.inside.arena.cells = rw (← c.self.view_is) refl in
-    let here : c.stretches.slot < length c.self.inside.inside.arena.cells = omega (arith, c.stretches-test.true, c.cells.ensures) in
-    let part = ap length c.stretch_from-stretch.ensures.cells in
+    let here : c.runs.slot < length c.self.inside.inside.arena.cells = omega (arith, c.runs-test.true, c.cells.ensures) in
+    let part = ap length c.cells_from-run.ensures.cells in
     let whole = c.self.inside.inside.arena.cells in
-    let long = length-take (length c.stretch_from-stretch.result) (drop c.stretches.slot whole) in
-    let behind = length-drop c.stretches.slot whole in (
-      omega (arith, same, here, part, long, behind, c.len-in-stretches.ensures),
-      rw c.len-in-stretches.ensures c.in_ok-add_live.ensures.rows,
+    let long = length-take (length c.cells_from-run.result) (drop c.runs.slot whole) in
+    let behind = length-drop c.runs.slot whole in (
+      omega (arith, same, here, part, long, behind, c.len-in-runs.ensures),
+      rw c.len-in-runs.ensures c.in_ok-add_live.ensures.rows,
       c.in_ok-add_live.ensures.order,
     )
 
 pub returns-clause-rows : goal.returns-clause-rows
 returns-clause-rows c =
     let same : length c.args.self.now.cells ≡ length c.self.inside.inside.arena.cells = rw (← c.self.view_is) refl in
-    let all : c.stretches.slot ≡ length c.args.self.now.cells = omega (arith, same, c.stretches.invariant.0, c.stretches-test.false, c.cells.ensures) in
-    c.stretches.invariant.1 ∙ ap (λ slot. live_below slot c.args.self.now) all
+    let all : c.runs.slot ≡ length c.args.self.now.cells = omega (arith, same, c.runs.invariant.0, c.runs-test.false, c.cells.ensures) in
+    c.runs.invariant.1 ∙ ap (λ slot. live_below slot c.args.self.now) all
 
 pub returns-clause-order : goal.returns-clause-order
-returns-clause-order c = c.stretches.invariant.2
+returns-clause-order c = c.runs.invariant.2

@@ -2,7 +2,7 @@ use Rattle.std.proofs.Common.{◌≡◌, ◌<◌, ◌-◌, length, nat_lt, false
 use Rattle.std.proofs.lemmas.Bool.Decides.{nat_tests}
 use Rattle.std.proofs.lemmas.Option.{slice_get_read}
 use Rattle.crack_table.specs.Cover.{told}
-use Rattle.crack_table.proofs.Marking.{right_here}
+use Rattle.crack_table.proofs.StateLaws.{right_here}
 use Rattle.crack_table.proofs.kept.Kept.is_right.Goals as goal
 
 pub returns : goal.returns
