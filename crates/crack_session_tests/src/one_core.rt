@@ -14,8 +14,6 @@ use crack_row::{Bound, Policy, Refusal, Watched};
 use crack_session::{End, serve};
 use std::alloc::Global;
 use std::io::{Read, Write};
-use std::process::Abort;
-use std::test::Fail;
 
 /// Serves one session and then another. Both have the limit and the splits that the core had before, and the second
 /// has the rows and the bytes that the first left.
@@ -84,12 +82,12 @@ fn tell_all(alloc: Global, core: &mut Core) -> Result<Vec<u8>, Refusal> {
 }
 
 #[test]
-fn one_core_is_served_and_then_exported(rt: HostRuntime) -> Result<(), Fail> {
-    let mut core = Core::open(rt.alloc(), &[Bound::from_number(100)], 10)?;
+fn one_core_is_served_and_then_exported(rt: HostRuntime) {
+    let splits = [Bound::from_number(100)];
+    let mut core = Core::open(rt.alloc(), &splits, 10).expect(&rt, "a core");
     let told = tell_all(rt.alloc(), &mut core);
     drop(core);
-    let text = told?;
+    let text = told.expect(&rt, "three outputs");
     let wanted = b"row 1.0\nbye\nrow 0.0\ncount 2\ngone 150 6\nrow 1.1\nkey,payload\n50,5\n160,7\n";
-    assert_eq!(rt; text.as_slice(), wanted.as_slice());
-    Ok(())
+    assert!(rt; text.as_slice() == wanted.as_slice());
 }

@@ -1,7 +1,7 @@
 use Rattle.std.proofs.Common.{◌++◌, refl}
 use Rattle.std.specs.List.{concat}
 use Rattle.crack_core.specs.Steps.{tables_of}
-use Rattle.crack_csv_tests.proofs.one_core.serve_both.Goals as goal
+use Rattle.crack_session_tests.proofs.one_core.serve_both.Goals as goal
 
 pub returns-in-Ok-serve : goal.returns-in-Ok-serve
 returns-in-Ok-serve g c = λ bytes more out e f h.

@@ -1,7 +1,7 @@
 use Rattle.std.proofs.Common.{◌++◌, refl}
 use Rattle.std.specs.List.{concat}
 use Rattle.crack_core.specs.Steps.{tables_of}
-use Rattle.crack_csv_tests.proofs.one_core.serve_and_export.Goals as goal
+use Rattle.crack_session_tests.proofs.one_core.serve_and_export.Goals as goal
 
 pub returns-in-Ok-export_csv : goal.returns-in-Ok-export_csv
 returns-in-Ok-export_csv g c = λ bytes out e h.
