@@ -1,5 +1,5 @@
-//! A crack puts the rows below its bound first, and nothing else moves.
-ghost use Rattle.std.specs.Prelude.{◌≡◌, List};
+//! A crack puts the rows below its bound first, and nothing else moves. Tests are lists of steps over rows.
+ghost use Rattle.std.specs.Prelude.{◌≡◌, List, IfSome};
 ghost use Rattle.crack_arena.specs.Arena.{Cell};
 ghost use Rattle.crack_row.specs.declared.Row.{Row as RowValue};
 ghost use Rattle.crack_arena.specs.Memories.{Agrees, Remembers};
@@ -10,23 +10,166 @@ use crack_row::{
     Bound, GREATEST_KEY, GREATEST_PAYLOAD, InnerBound, Key, KeyNumber, LEAST_PAYLOAD, Payload,
     PayloadNumber, Row, Serial,
 };
+use std::alloc::Global;
 use std::process::Abort;
 
-fn put(
-    rt: &impl Abort,
-    arena: &mut Arena<Row>,
-    serial: u64,
-    key: KeyNumber,
-    payload: PayloadNumber,
-) -> Handle<Row> {
-    let cells = arena.cells();
-    assert!(rt; cells < 1000);
-    let row = Row {
-        serial: Serial(serial),
-        key: Key::from_number(key),
-        payload: Payload::from_number(payload),
-    };
-    arena.put(row).expect(rt, "memory")
+/// A step of a test on a column. A row is given by its place in the list of rows, which is also its cell.
+#[derive(Clone, Copy)]
+enum Step {
+    /// Appends a row; with what is to be remembered about it.
+    Append(u32),
+    Remember(u32),
+    /// Puts the second row at a place, where the third was; with what is to be remembered about it.
+    SwapIn(usize, u32, u32),
+    SwapInRemembered(usize, u32, u32),
+    /// Takes the last row out, which is this one.
+    Pop(Option<u32>),
+    /// Takes the last row out, with what is remembered about it.
+    PopRemembered,
+    /// Cracks a stretch at a bound, which is at the place then.
+    Crack([usize; 2], KeyNumber, usize),
+    /// Cracks a stretch at two bounds, which are at the places then.
+    CrackInThree([usize; 2], [KeyNumber; 2], (usize, usize)),
+    /// Looks how many rows there are.
+    Len(usize),
+    /// Looks which row is at a place.
+    At(usize, u32),
+    /// Looks where a row is: anywhere, and in a stretch.
+    Place(u32, Option<usize>),
+    PlaceBetween([usize; 2], u32, Option<usize>),
+    /// Looks at the key at a place, and at those of two places, in any order.
+    Key(usize, KeyNumber),
+    Keys([usize; 2], [KeyNumber; 2]),
+    /// Sums the payloads of a stretch.
+    Sum([usize; 2], i128),
+}
+
+/// Steps under a name, over rows of these keys and payloads.
+#[derive(Clone, Copy)]
+struct Script {
+    name: &'static str,
+    rows: &'static [(KeyNumber, PayloadNumber)],
+    steps: &'static [Step],
+}
+
+const SCRIPTS: &[Script] = &[
+    Script {
+        name: "a crack puts rows below the bound first",
+        rows: &[(40, 1), (10, 2), (30, 4), (20, 8)],
+        steps: &[
+            Step::Len(0),
+            Step::Append(0),
+            Step::Append(1),
+            Step::Append(2),
+            Step::Append(3),
+            Step::Len(4),
+            Step::Sum([1, 3], 6),
+            Step::Crack([0, 4], 25, 2),
+            Step::Sum([0, 2], 10),
+            Step::Sum([2, 4], 5),
+            Step::Keys([0, 1], [10, 20]),
+            Step::Keys([2, 3], [30, 40]),
+            Step::Crack([0, 2], 25, 2),
+            Step::Crack([2, 4], 25, 2),
+            Step::Crack([1, 1], 5, 1),
+        ],
+    },
+    // keys at both sides of 2^32 and the two greatest, with payloads whose sum is below every payload
+    Script {
+        name: "keys and payloads are wide",
+        rows: &[
+            (GREATEST_KEY, LEAST_PAYLOAD),
+            (4294967295, LEAST_PAYLOAD),
+            (GREATEST_KEY - 1, 5),
+            (4294967296, -1),
+        ],
+        steps: &[
+            Step::Append(0),
+            Step::Append(1),
+            Step::Append(2),
+            Step::Append(3),
+            Step::Sum([0, 4], -18446744073709551612),
+            Step::Crack([0, 4], 4294967296, 1),
+            Step::Key(0, 4294967295),
+            Step::Crack([1, 4], GREATEST_KEY, 3),
+            Step::Keys([1, 2], [4294967296, 18446744073709551614]),
+            Step::Sum([0, 3], -9223372036854775804),
+            Step::Sum([3, 4], -9223372036854775808),
+            Step::Sum([0, 4], -18446744073709551612),
+        ],
+    },
+    Script {
+        name: "a crack in three puts rows between the bounds in the middle",
+        rows: &[(40, 1), (10, 2), (20, 4), (30, 8), (15, 16)],
+        steps: &[
+            Step::Append(0),
+            Step::Append(1),
+            Step::Append(2),
+            Step::Append(3),
+            Step::Append(4),
+            Step::CrackInThree([0, 5], [15, 25], (1, 3)),
+            Step::Key(0, 10),
+            Step::Keys([1, 2], [20, 15]),
+            Step::Keys([3, 4], [40, 30]),
+            Step::CrackInThree([3, 5], [35, 35], (4, 4)),
+            Step::Key(3, 30),
+            Step::CrackInThree([1, 1], [12, 14], (1, 1)),
+        ],
+    },
+    Script {
+        name: "handles go in and out",
+        rows: &[(40, 1), (10, 2), (30, 4)],
+        steps: &[
+            Step::Pop(None),
+            Step::Append(0),
+            Step::Append(1),
+            Step::Len(2),
+            Step::SwapIn(0, 2, 0),
+            Step::At(0, 2),
+            Step::Crack([0, 2], 20, 1),
+            Step::Place(2, Some(1)),
+            Step::Place(1, Some(0)),
+            Step::Place(0, None),
+            Step::Pop(Some(2)),
+            Step::Len(1),
+        ],
+    },
+    Script {
+        name: "sums are of remembered payloads",
+        rows: &[(40, 1), (GREATEST_KEY, GREATEST_PAYLOAD), (30, 4)],
+        steps: &[
+            Step::Remember(0),
+            Step::Remember(1),
+            Step::SwapInRemembered(0, 2, 0),
+            Step::At(1, 1),
+            Step::PlaceBetween([1, 2], 1, Some(1)),
+            Step::PlaceBetween([1, 2], 2, None),
+            Step::Sum([0, 2], 9223372036854775811),
+            Step::Crack([0, 2], 31, 1),
+            Step::PopRemembered,
+            Step::Sum([0, 1], 4),
+        ],
+    },
+];
+
+/// The handle of the row with this place in the list of rows.
+fn row(place: u32) -> Handle<Row> {
+    Handle::new(place, 0)
+}
+
+/// Puts rows of these keys and payloads into an arena.
+fn put_all(rt: &impl Abort, arena: &mut Arena<Row>, rows: &[(KeyNumber, PayloadNumber)]) {
+    for place in 0..rows.len() {
+        let (key, payload) = rows[place];
+        let cells = arena.cells();
+        assert!(rt; cells < 1000);
+        let put = arena.put(Row {
+            serial: Serial(place as u64),
+            key: Key::from_number(key),
+            payload: Payload::from_number(payload),
+        });
+        assert!(rt; put.ok() == Some(row(cells as u32)));
+    }
 }
 
 fn key_of(arena: &Arena<Row>, handle: Handle<Row>) -> KeyNumber {
@@ -34,277 +177,6 @@ fn key_of(arena: &Arena<Row>, handle: Handle<Row>) -> KeyNumber {
         Some(row) => row.key.number(),
         None => 0,
     }
-}
-
-/// The bound with this number, which lies between two keys.
-fn bound_of(rt: &impl Abort, number: KeyNumber) -> InnerBound
-    ensures { result.0 ≡ number }
-{
-    Key::from_number(number)
-        .bound()
-        .inner()
-        .expect(rt, "a bound between two keys")
-}
-
-/// Cracks a stretch of the column, and asserts the place of the bound.
-fn crack(
-    rt: &impl Abort,
-    arena: &Arena<Row>,
-    column: &mut CrackerColumn,
-    stretch: (usize, usize),
-    bound: KeyNumber,
-    place: usize,
-)
-    requires remembered { Remembers arena.now.cells column.old.handles column.old.remembered }
-    ensures remembered { Remembers arena.now.cells column.new.handles column.new.remembered }
-{
-    let len = column.len();
-    assert!(rt; stretch.0 <= stretch.1);
-    assert!(rt; stretch.1 <= len);
-    let told = column.crack_two(stretch.0, stretch.1, bound_of(rt, bound), arena);
-    assert_eq!(rt; told, place);
-}
-
-/// Asserts the sum of a stretch of the column.
-fn assert_sum(
-    rt: &impl Abort,
-    arena: &Arena<Row>,
-    column: &CrackerColumn,
-    stretch: (usize, usize),
-    sum: i128,
-)
-    requires remembered { Remembers arena.now.cells column.now.handles column.now.remembered }
-{
-    let len = column.len();
-    assert!(rt; stretch.0 <= stretch.1);
-    assert!(rt; stretch.1 <= len);
-    let told = column.sum_between(stretch.0, stretch.1, arena);
-    assert_eq!(rt; told, sum);
-}
-
-fn at(rt: &impl Abort, column: &CrackerColumn, place: usize) -> Handle<Row> {
-    let len = column.len();
-    assert!(rt; place < len);
-    column.at(place)
-}
-
-/// Asserts that a row with this key is at this place.
-fn assert_key(
-    rt: &impl Abort,
-    arena: &Arena<Row>,
-    column: &CrackerColumn,
-    place: usize,
-    key: KeyNumber,
-) {
-    assert_eq!(rt; key_of(arena, at(rt, column, place)), key);
-}
-
-/// Asserts that two rows with these keys are at these places, in any order.
-fn assert_two(
-    rt: &impl Abort,
-    arena: &Arena<Row>,
-    column: &CrackerColumn,
-    places: [usize; 2],
-    keys: [KeyNumber; 2],
-) {
-    let one = key_of(arena, at(rt, column, places[0]));
-    let two = key_of(arena, at(rt, column, places[1]));
-    let told = [one, two];
-    assert!(rt; told == keys || told == [keys[1], keys[0]]);
-}
-
-/// Fills a column with four rows of these keys and payloads.
-fn fill(
-    rt: &impl Abort,
-    arena: &mut Arena<Row>,
-    column: &mut CrackerColumn,
-    keys: [KeyNumber; 4],
-    payloads: [PayloadNumber; 4],
-)
-    requires remembered { (cells : List (Cell RowValue)) → Remembers cells column.old.handles column.old.remembered }
-    ensures remembered { (cells : List (Cell RowValue)) → Remembers cells column.new.handles column.new.remembered }
-{
-    let a = put(rt, arena, 0, keys[0], payloads[0]);
-    let b = put(rt, arena, 1, keys[1], payloads[1]);
-    let c = put(rt, arena, 2, keys[2], payloads[2]);
-    let d = put(rt, arena, 3, keys[3], payloads[3]);
-    let len = column.len();
-    assert!(rt; len == 0 && column.is_empty());
-    assert!(rt; column.reserve(4).is_ok());
-    column.append(a);
-    column.append(b);
-    column.append(c);
-    column.append(d);
-    assert!(rt; column.len() == 4);
-}
-
-fn fill_and_crack(rt: &impl Abort, arena: &mut Arena<Row>, column: &mut CrackerColumn)
-    requires remembered { (cells : List (Cell RowValue)) → Remembers cells column.old.handles column.old.remembered }
-{
-    fill(rt, arena, column, [40, 10, 30, 20], [1, 2, 4, 8]);
-    assert_sum(rt, arena, column, (1, 3), 6);
-    crack(rt, arena, column, (0, 4), 25, 2);
-    assert_sum(rt, arena, column, (0, 2), 10);
-    assert_sum(rt, arena, column, (2, 4), 5);
-    assert_two(rt, arena, column, [0, 1], [10, 20]);
-    assert_two(rt, arena, column, [2, 3], [30, 40]);
-    crack(rt, arena, column, (0, 2), 25, 2);
-    crack(rt, arena, column, (2, 4), 25, 2);
-    crack(rt, arena, column, (1, 1), 5, 1);
-}
-
-#[test]
-fn crack_puts_rows_below_the_bound_first(rt: HostRuntime) {
-    let mut arena = Arena::new(rt.alloc());
-    let mut column = CrackerColumn::new(rt.alloc());
-    fill_and_crack(&rt, &mut arena, &mut column);
-    drop(column);
-    drop(arena);
-}
-
-/// Keys at both sides of 2^32 and the two greatest, with payloads whose sum is below every payload.
-fn crack_far_apart(rt: &impl Abort, arena: &mut Arena<Row>, column: &mut CrackerColumn)
-    requires remembered { (cells : List (Cell RowValue)) → Remembers cells column.old.handles column.old.remembered }
-{
-    let keys = [GREATEST_KEY, 4294967295, GREATEST_KEY - 1, 4294967296];
-    let payloads = [LEAST_PAYLOAD, LEAST_PAYLOAD, 5, -1];
-    fill(rt, arena, column, keys, payloads);
-    assert_sum(rt, arena, column, (0, 4), -18446744073709551612);
-    crack(rt, arena, column, (0, 4), 4294967296, 1);
-    assert_key(rt, arena, column, 0, 4294967295);
-    crack(rt, arena, column, (1, 4), GREATEST_KEY, 3);
-    assert_two(
-        rt,
-        arena,
-        column,
-        [1, 2],
-        [4294967296, 18446744073709551614],
-    );
-    assert_sum(rt, arena, column, (0, 3), -9223372036854775804);
-    assert_sum(rt, arena, column, (3, 4), -9223372036854775808);
-    assert_sum(rt, arena, column, (0, 4), -18446744073709551612);
-}
-
-#[test]
-fn keys_and_payloads_are_wide(rt: HostRuntime) {
-    let mut arena = Arena::new(rt.alloc());
-    let mut column = CrackerColumn::new(rt.alloc());
-    crack_far_apart(&rt, &mut arena, &mut column);
-    drop(column);
-    drop(arena);
-}
-
-/// Fills a column with rows of the keys 40, 10, 20, 30 and 15.
-fn fill_five(rt: &impl Abort, arena: &mut Arena<Row>, column: &mut CrackerColumn)
-    requires remembered { (cells : List (Cell RowValue)) → Remembers cells column.old.handles column.old.remembered }
-    ensures remembered { (cells : List (Cell RowValue)) → Remembers cells column.new.handles column.new.remembered }
-{
-    let a = put(rt, arena, 0, 40, 1);
-    let b = put(rt, arena, 1, 10, 2);
-    let c = put(rt, arena, 2, 20, 4);
-    let d = put(rt, arena, 3, 30, 8);
-    let e = put(rt, arena, 4, 15, 16);
-    let len = column.len();
-    assert!(rt; len == 0);
-    assert!(rt; column.reserve(5).is_ok());
-    column.append(a);
-    column.append(b);
-    column.append(c);
-    column.append(d);
-    column.append(e);
-}
-
-/// Cracks a stretch of the column in three, and asserts the places of both bounds.
-fn crack_in_three(
-    rt: &impl Abort,
-    arena: &Arena<Row>,
-    column: &mut CrackerColumn,
-    stretch: (usize, usize),
-    bounds: (KeyNumber, KeyNumber),
-    places: (usize, usize),
-)
-    requires remembered { Remembers arena.now.cells column.old.handles column.old.remembered }
-    ensures remembered { Remembers arena.now.cells column.new.handles column.new.remembered }
-{
-    let len = column.len();
-    assert!(rt; stretch.0 <= stretch.1);
-    assert!(rt; stretch.1 <= len);
-    assert!(rt; bounds.0 <= bounds.1);
-    let told = column.crack_three(
-        stretch.0,
-        stretch.1,
-        bound_of(rt, bounds.0),
-        bound_of(rt, bounds.1),
-        arena,
-    );
-    assert_eq!(rt; told, places);
-}
-
-fn fill_and_crack_in_three(rt: &impl Abort, arena: &mut Arena<Row>, column: &mut CrackerColumn)
-    requires remembered { (cells : List (Cell RowValue)) → Remembers cells column.old.handles column.old.remembered }
-{
-    fill_five(rt, arena, column);
-    crack_in_three(rt, arena, column, (0, 5), (15, 25), (1, 3));
-    assert_key(rt, arena, column, 0, 10);
-    assert_two(rt, arena, column, [1, 2], [20, 15]);
-    assert_two(rt, arena, column, [3, 4], [40, 30]);
-    crack_in_three(rt, arena, column, (3, 5), (35, 35), (4, 4));
-    assert_key(rt, arena, column, 3, 30);
-    crack_in_three(rt, arena, column, (1, 1), (12, 14), (1, 1));
-}
-
-#[test]
-fn crack_in_three_puts_rows_between_the_bounds_in_the_middle(rt: HostRuntime) {
-    let mut arena = Arena::new(rt.alloc());
-    let mut column = CrackerColumn::new(rt.alloc());
-    fill_and_crack_in_three(&rt, &mut arena, &mut column);
-    drop(column);
-    drop(arena);
-}
-
-/// Appends two handles to an empty column, and swaps a third in for the first of them.
-fn swap_first(
-    rt: &impl Abort,
-    column: &mut CrackerColumn,
-    a: Handle<Row>,
-    b: Handle<Row>,
-    c: Handle<Row>,
-)
-    requires remembered { (cells : List (Cell RowValue)) → Remembers cells column.old.handles column.old.remembered }
-    ensures remembered { (cells : List (Cell RowValue)) → Remembers cells column.new.handles column.new.remembered }
-{
-    assert!(rt; column.pop().is_none());
-    let len = column.len();
-    assert!(rt; len == 0);
-    assert!(rt; column.reserve(2).is_ok());
-    column.append(a);
-    column.append(b);
-    assert!(rt; !column.is_empty());
-    assert!(rt; column.swap_in(0, c) == a);
-    assert!(rt; at(rt, column, 0) == c);
-}
-
-fn swap_and_pop(rt: &impl Abort, arena: &mut Arena<Row>, column: &mut CrackerColumn)
-    requires remembered { (cells : List (Cell RowValue)) → Remembers cells column.old.handles column.old.remembered }
-{
-    let a = put(rt, arena, 0, 40, 1);
-    let b = put(rt, arena, 1, 10, 2);
-    let c = put(rt, arena, 2, 30, 4);
-    swap_first(rt, column, a, b, c);
-    crack(rt, arena, column, (0, 2), 20, 1);
-    let places = [column.place_of(c), column.place_of(b), column.place_of(a)];
-    assert_eq!(rt; places, [Some(1), Some(0), None]);
-    assert!(rt; column.pop() == Some(c));
-    assert!(rt; column.len() == 1);
-}
-
-#[test]
-fn handles_go_in_and_out(rt: HostRuntime) {
-    let mut arena = Arena::new(rt.alloc());
-    let mut column = CrackerColumn::new(rt.alloc());
-    swap_and_pop(&rt, &mut arena, &mut column);
-    drop(column);
-    drop(arena);
 }
 
 /// What is to be remembered about the row that the handle reads.
@@ -317,76 +189,194 @@ fn memory(arena: &Arena<Row>, handle: Handle<Row>) -> Remembered
     }
 }
 
-/// Appends a row that is remembered and one with the greatest key, and swaps another in for the first.
-fn append_remembered(
-    rt: &impl Abort,
-    arena: &Arena<Row>,
-    column: &mut CrackerColumn,
-    a: Handle<Row>,
-    b: Handle<Row>,
-    c: Handle<Row>,
-)
+/// The bound with this number, if it lies between two keys.
+fn bound_of(number: KeyNumber) -> Option<InnerBound>
+    ensures { IfSome result (λ bound. bound.0 ≡ number) }
+{
+    Key::from_number(number).bound().inner()
+}
+
+/// Puts a row after the last one; returns whether there was room.
+fn append(arena: &Arena<Row>, column: &mut CrackerColumn, handle: Handle<Row>, knows: bool) -> bool
     requires remembered { Remembers arena.now.cells column.old.handles column.old.remembered }
     ensures remembered { Remembers arena.now.cells column.new.handles column.new.remembered }
 {
-    let len = column.len();
-    assert!(rt; len == 0);
-    assert!(rt; column.reserve(2).is_ok());
-    column.append_remembered(a, memory(arena, a));
-    column.append_remembered(b, memory(arena, b));
-    let (out, _) = column.swap_in_remembered(0, c, memory(arena, c));
-    assert!(rt; out == a);
+    if column.len() >= 1000 || column.reserve(1).is_err() {
+        return false;
+    }
+    if knows {
+        column.append_remembered(handle, memory(arena, handle));
+    } else {
+        column.append(handle);
+    }
+    true
 }
 
-fn slot_at(rt: &impl Abort, column: &CrackerColumn, place: usize) -> u32 {
-    let len = column.len();
-    assert!(rt; place < len);
-    column.slot_at(place)
-}
-
-/// The place of a handle that is at the second of two places.
-fn place_in_second(rt: &impl Abort, column: &CrackerColumn, handle: Handle<Row>) -> Option<usize> {
-    let len = column.len();
-    assert!(rt; len == 2);
-    column.place_between(1, 2, handle)
-}
-
-fn remember(rt: &impl Abort, arena: &mut Arena<Row>, column: &mut CrackerColumn)
-    requires remembered { (cells : List (Cell RowValue)) → Remembers cells column.old.handles column.old.remembered }
+/// Whether the bound is at this place after a crack of the stretch.
+fn cracks(
+    arena: &Arena<Row>,
+    column: &mut CrackerColumn,
+    stretch: [usize; 2],
+    bound: KeyNumber,
+    place: usize,
+) -> bool
+    requires remembered { Remembers arena.now.cells column.old.handles column.old.remembered }
+    ensures remembered { Remembers arena.now.cells column.new.handles column.new.remembered }
 {
-    let a = put(rt, arena, 0, 40, 1);
-    let b = put(rt, arena, 1, GREATEST_KEY, GREATEST_PAYLOAD);
-    let c = put(rt, arena, 2, 30, 4);
-    append_remembered(rt, arena, column, a, b, c);
-    assert!(rt; slot_at(rt, column, 1) == 1);
-    let places = [
-        place_in_second(rt, column, b),
-        place_in_second(rt, column, c),
+    let [from, to] = stretch;
+    match bound_of(bound) {
+        Some(bound) if from <= to && to <= column.len() => {
+            column.crack_two(from, to, bound, arena) == place
+        }
+        _ => false,
+    }
+}
+
+/// Whether the bounds are at these places after a crack of the stretch in three.
+fn cracks_in_three(
+    arena: &Arena<Row>,
+    column: &mut CrackerColumn,
+    stretch: [usize; 2],
+    bounds: [KeyNumber; 2],
+    places: (usize, usize),
+) -> bool
+    requires remembered { Remembers arena.now.cells column.old.handles column.old.remembered }
+    ensures remembered { Remembers arena.now.cells column.new.handles column.new.remembered }
+{
+    let [from, to] = stretch;
+    let (Some(low), Some(high)) = (bound_of(bounds[0]), bound_of(bounds[1])) else {
+        return false;
+    };
+    if bounds[0] > bounds[1] || from > to || to > column.len() {
+        return false;
+    }
+    column.crack_three(from, to, low, high, arena) == places
+}
+
+/// Whether the sum of the payloads of a stretch is this.
+fn sums(arena: &Arena<Row>, column: &CrackerColumn, stretch: [usize; 2], sum: i128) -> bool
+    requires remembered { Remembers arena.now.cells column.now.handles column.now.remembered }
+{
+    let [from, to] = stretch;
+    from <= to && to <= column.len() && column.sum_between(from, to, arena) == sum
+}
+
+/// The key at a place.
+fn key_at(arena: &Arena<Row>, column: &CrackerColumn, place: usize) -> Option<KeyNumber> {
+    if place < column.len() {
+        Some(key_of(arena, column.at(place)))
+    } else {
+        None
+    }
+}
+
+/// Whether the keys at two places are these, in any order.
+fn has_keys(
+    arena: &Arena<Row>,
+    column: &CrackerColumn,
+    places: [usize; 2],
+    keys: [KeyNumber; 2],
+) -> bool {
+    let told = [
+        key_at(arena, column, places[0]),
+        key_at(arena, column, places[1]),
     ];
-    assert_eq!(rt; places, [Some(1), None]);
-    assert_sum(rt, arena, column, (0, 2), i128::from(GREATEST_PAYLOAD) + 4);
-    crack(rt, arena, column, (0, 2), 31, 1);
-    let popped = column.pop_remembered();
-    assert!(rt; popped.is_some());
-    assert_sum(rt, arena, column, (0, 1), 4);
+    told == [Some(keys[0]), Some(keys[1])] || told == [Some(keys[1]), Some(keys[0])]
+}
+
+/// Whether the handle is at this place, if it is in the stretch at all.
+fn is_between(
+    column: &CrackerColumn,
+    stretch: [usize; 2],
+    handle: Handle<Row>,
+    place: Option<usize>,
+) -> bool {
+    let [from, to] = stretch;
+    from <= to && to <= column.len() && column.place_between(from, to, handle) == place
+}
+
+/// Looks at a column; returns whether it is as the step says.
+fn looks(arena: &Arena<Row>, column: &CrackerColumn, step: Step) -> bool
+    requires remembered { Remembers arena.now.cells column.now.handles column.now.remembered }
+{
+    let len = column.len();
+    match step {
+        Step::Len(count) => len == count && column.is_empty() == (count == 0),
+        Step::At(place, at) => {
+            place < len && column.at(place) == row(at) && column.slot_at(place) == at
+        }
+        Step::Place(of, place) => column.place_of(row(of)) == place,
+        Step::PlaceBetween(stretch, of, place) => is_between(column, stretch, row(of), place),
+        Step::Key(place, key) => key_at(arena, column, place) == Some(key),
+        Step::Keys(places, keys) => has_keys(arena, column, places, keys),
+        Step::Sum(stretch, sum) => sums(arena, column, stretch, sum),
+        _ => false,
+    }
+}
+
+/// Makes a step; returns whether it gave what it should.
+fn make(arena: &Arena<Row>, column: &mut CrackerColumn, step: Step) -> bool
+    requires remembered { Remembers arena.now.cells column.old.handles column.old.remembered }
+    ensures remembered { Remembers arena.now.cells column.new.handles column.new.remembered }
+{
+    match step {
+        Step::Append(new) => append(arena, column, row(new), false),
+        Step::Remember(new) => append(arena, column, row(new), true),
+        Step::SwapIn(place, new, out) => {
+            place < column.len() && column.swap_in(place, row(new)) == row(out)
+        }
+        Step::SwapInRemembered(place, new, out) => {
+            let handle = row(new);
+            let known = memory(arena, handle);
+            place < column.len() && column.swap_in_remembered(place, handle, known).0 == row(out)
+        }
+        Step::Pop(out) => match column.pop() {
+            Some(handle) => Some(handle) == out.map(row),
+            None => out.is_none(),
+        },
+        Step::PopRemembered => column.pop_remembered().is_some(),
+        Step::Crack(stretch, bound, place) => cracks(arena, column, stretch, bound, place),
+        Step::CrackInThree(stretch, bounds, places) => {
+            cracks_in_three(arena, column, stretch, bounds, places)
+        }
+        _ => looks(arena, column, step),
+    }
+}
+
+/// Asserts what each step gives.
+fn make_all(rt: &impl Abort, arena: &Arena<Row>, column: &mut CrackerColumn, script: Script)
+    requires remembered { Remembers arena.now.cells column.old.handles column.old.remembered }
+{
+    let Script { name, steps, .. } = script;
+    'steps: for place in 0..steps.len() {
+        let is_right = make(arena, column, steps[place]);
+        assert!(rt; is_right, "{name}: step {place}");
+    }
+}
+
+/// Asserts what each step gives in a fresh column over the rows of a script.
+fn assert_script(rt: &impl Abort, alloc: Global, script: Script) {
+    let mut arena = Arena::new(alloc);
+    let mut column = CrackerColumn::new(alloc);
+    put_all(rt, &mut arena, script.rows);
+    make_all(rt, &arena, &mut column, script);
+    drop(column);
+    drop(arena);
 }
 
 #[test]
-fn sums_are_of_remembered_payloads(rt: HostRuntime) {
-    let mut arena = Arena::new(rt.alloc());
-    let mut column = CrackerColumn::new(rt.alloc());
-    remember(&rt, &mut arena, &mut column);
-    drop(column);
-    drop(arena);
+fn columns_are_cracked_and_changed(rt: HostRuntime) {
+    'scripts: for place in 0..SCRIPTS.len() {
+        assert_script(&rt, rt.alloc(), SCRIPTS[place]);
+    }
 }
 
 /// Sets a third row of three aside, and exchanges it with the first, which is then appended and taken out again.
 fn go_aside(rt: &impl Abort, arena: &mut Arena<Row>, column: &mut CrackerColumn)
     requires remembered { (cells : List (Cell RowValue)) → Remembers cells column.old.handles column.old.remembered }
 {
-    let a = put(rt, arena, 0, 40, 1);
-    let b = put(rt, arena, 1, 10, 2);
-    let c = put(rt, arena, 2, 30, 4);
+    put_all(rt, arena, &[(40, 1), (10, 2), (30, 4)]);
+    let (a, b, c) = (row(0), row(1), row(2));
     let len = column.len();
     assert!(rt; len == 0);
     assert!(rt; column.reserve(3).is_ok());
@@ -397,9 +387,9 @@ fn go_aside(rt: &impl Abort, arena: &mut Arena<Row>, column: &mut CrackerColumn)
     assert!(rt; column.aside_key(arena).number() == 30);
     column.exchange(0);
     assert!(rt; column.aside() == a);
-    assert_sum(rt, arena, column, (0, 2), 6);
+    assert!(rt; sums(arena, column, [0, 2], 6));
     column.append_aside();
-    assert_sum(rt, arena, column, (0, 3), 7);
+    assert!(rt; sums(arena, column, [0, 3], 7));
     column.pop_aside();
     assert!(rt; column.aside() == a && column.len() == 2);
 }
@@ -415,9 +405,8 @@ fn a_row_aside_changes_places(rt: HostRuntime) {
 
 /// Takes the third row of three in hand, exchanges it with both others, and drops it.
 fn go_in_hand(rt: &impl Abort, arena: &mut Arena<Row>, column: &mut CrackerColumn) {
-    let a = put(rt, arena, 0, 40, 1);
-    let b = put(rt, arena, 1, 10, 2);
-    let c = put(rt, arena, 2, GREATEST_KEY, 4);
+    put_all(rt, arena, &[(40, 1), (10, 2), (GREATEST_KEY, 4)]);
+    let (a, b, c) = (row(0), row(1), row(2));
     let len = column.len();
     assert!(rt; len == 0);
     assert!(rt; column.reserve(3).is_ok());
@@ -425,7 +414,7 @@ fn go_in_hand(rt: &impl Abort, arena: &mut Arena<Row>, column: &mut CrackerColum
     column.append_remembered(b, memory(arena, b));
     column.set_aside(c, memory(arena, c));
     let mut held = column.hold();
-    assert_eq!(rt; [column.len(), held.len()], [0, 2]);
+    assert!(rt; [column.len(), held.len()] == [0, 2]);
     let third = held.slot();
     held.exchange(1);
     let second = held.slot();
@@ -434,14 +423,9 @@ fn go_in_hand(rt: &impl Abort, arena: &mut Arena<Row>, column: &mut CrackerColum
     let first = held.slot();
     *column = held.release();
     assert!(rt; column.aside() == a);
-    let slots = [
-        third,
-        second,
-        first,
-        slot_at(rt, column, 0),
-        slot_at(rt, column, 1),
-    ];
-    assert_eq!(rt; slots, [2, 1, 0, 1, 2]);
+    let len = column.len();
+    assert!(rt; len == 2 && column.slot_at(0) == 1 && column.slot_at(1) == 2);
+    assert!(rt; [third, second, first] == [2, 1, 0]);
 }
 
 #[test]

@@ -1,4 +1,4 @@
-//! Tests that run through the public calls of a session: what no clause says.
+//! Tests that run through the public calls of a session and of CSV: what no clause says.
 #![tactic(auto)]
 
 #[cfg(test)]
@@ -11,6 +11,10 @@ mod lines;
 mod log;
 #[cfg(test)]
 mod memory;
+#[cfg(test)]
+mod one_core;
+#[cfg(test)]
+mod records;
 #[cfg(test)]
 mod session;
 #[cfg(test)]

@@ -4,9 +4,9 @@ use Rattle.crack_arena.specs.Memories.{Agrees, Remembers}
 use Rattle.crack_column.specs.Column.{first_aside}
 use Rattle.crack_column_tests.proofs.column.go_aside.Goals as goal
 
-pub assert_sum-requires : goal.assert_sum-requires
-assert_sum-requires g c =
-    let cells = c.put-c.new.arena.cells in
+pub sums-requires : goal.sums-requires
+sums-requires g c =
+    let cells = c.put_all.new.arena.cells in
     let none = c.reserve.ensures.remembered cells (c.requires.remembered cells) in
     let one = c.append_remembered.ensures.remembered cells none c.memory.ensures in
     let two = c.append_remembered-2.ensures.remembered cells one c.memory-2.ensures in
@@ -15,9 +15,9 @@ assert_sum-requires g c =
     record { remembered = c.exchange.ensures.remembered cells set of_aside }
 
 -- the row that is set aside was at the first place, where the column remembers its row correctly
-pub assert_sum-requires-2 : goal.assert_sum-requires-2
-assert_sum-requires-2 g c =
-    let cells = c.put-c.new.arena.cells in
+pub sums-requires-2 : goal.sums-requires-2
+sums-requires-2 g c =
+    let cells = c.put_all.new.arena.cells in
     let none = c.reserve.ensures.remembered cells (c.requires.remembered cells) in
     let one = c.append_remembered.ensures.remembered cells none c.memory.ensures in
     let two = c.append_remembered-2.ensures.remembered cells one c.memory-2.ensures in

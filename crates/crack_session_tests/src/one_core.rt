@@ -1,0 +1,93 @@
+//! Two sessions over one core, and a session and an export: the second starts where the first ended, by the contract of
+//! `serve`.
+ghost use Rattle.std.specs.Prelude.{◌≡◌, ℕ, List, Some, IfOk};
+ghost use Rattle.crack_row.specs.Devices.{device};
+ghost use Rattle.crack_plain.specs.Plain.{PlainView};
+ghost use Rattle.crack_core.specs.Steps.{bounds_of, tables_of};
+ghost use Rattle.crack_session.specs.Readings.{statements};
+ghost use Rattle.crack_session.specs.Served.{AreTold};
+ghost use Rattle.crack_csv.specs.Exports.{IsExported};
+
+use crack_core::Core;
+use crack_csv::export_csv;
+use crack_row::{Bound, Policy, Refusal, Watched};
+use crack_session::{End, serve};
+use std::alloc::Global;
+use std::io::{Read, Write};
+
+/// Serves one session and then another. Both have the limit and the splits that the core had before, and the second
+/// has the rows and the bytes that the first left.
+fn serve_both<R: Read, W: Write>(
+    alloc: Global,
+    core: &mut Core,
+    first: &mut Watched<R>,
+    second: &mut Watched<R>,
+    writer: &mut Watched<W>,
+) -> Result<(End, End), Refusal>
+    ensures { IfOk result (λ ends. (bytes more out : List ℕ) →
+        R.remaining (device first.old) ≡ Some bytes → R.remaining (device second.old) ≡ Some more →
+        W.contents (device writer.old) ≡ Some out → (between : List PlainView) × (written : List ℕ)
+        × AreTold (bounds_of core.old.limits) core.old.splits (tables_of core.old.parts) (statements bytes) out
+        ends.0.first_short (Some between) (Some written)
+        × AreTold (bounds_of core.old.limits) core.old.splits between (statements more) written ends.1.first_short
+        (Some (tables_of core.new.parts)) (W.contents (device writer.new))) }
+{
+    match serve(alloc, core, Policy::Ripple, first, writer) {
+        Ok(one) => match serve(alloc, core, Policy::Ripple, second, writer) {
+            Ok(other) => Ok((one, other)),
+            Err(fault) => Err(fault.refusal),
+        },
+        Err(fault) => Err(fault.refusal),
+    }
+}
+
+/// Serves a session, and then exports the rows. The export has the splits that the core had before, and the rows
+/// that the session left.
+fn serve_and_export<R: Read, W: Write>(
+    alloc: Global,
+    core: &mut Core,
+    reader: &mut Watched<R>,
+    writer: &mut Watched<W>,
+) -> Result<(End, u64), Refusal>
+    ensures { IfOk result (λ told. (bytes out : List ℕ) →
+        R.remaining (device reader.old) ≡ Some bytes → W.contents (device writer.old) ≡ Some out →
+        (between : List PlainView) × (written : List ℕ)
+        × AreTold (bounds_of core.old.limits) core.old.splits (tables_of core.old.parts) (statements bytes) out
+        told.0.first_short (Some between) (Some written)
+        × IsExported (bounds_of core.old.limits) core.old.splits between told.1 (Some (tables_of core.new.parts))
+        (Some written) (W.contents (device writer.new))) }
+{
+    match serve(alloc, core, Policy::Ripple, reader, writer) {
+        Ok(end) => match export_csv(alloc, core, Policy::Ripple, writer) {
+            Ok(count) => Ok((end, count)),
+            Err(refusal) => Err(refusal),
+        },
+        Err(fault) => Err(fault.refusal),
+    }
+}
+
+/// The outputs of the three, one after another. It promises nothing, so that the test carries nothing of their
+/// contracts.
+fn tell_all(alloc: Global, core: &mut Core) -> Result<Vec<u8>, Refusal> {
+    let mut first = Watched::new(b"insert 150 6\nquit\ninsert 1 1\n".as_slice());
+    let mut second = Watched::new(b"insert 50 5\ncount 0 200\n".as_slice());
+    let mut third = Watched::new(b"delete 1.0\ninsert 160 7\n".as_slice());
+    let mut writer = Watched::new(Vec::new(alloc));
+    let both = serve_both(alloc, core, &mut first, &mut second, &mut writer);
+    let last = serve_and_export(alloc, core, &mut third, &mut writer);
+    let text = writer.into_inner();
+    both?;
+    last?;
+    Ok(text)
+}
+
+#[test]
+fn one_core_is_served_and_then_exported(rt: HostRuntime) {
+    let splits = [Bound::from_number(100)];
+    let mut core = Core::open(rt.alloc(), &splits, 10).expect(&rt, "a core");
+    let told = tell_all(rt.alloc(), &mut core);
+    drop(core);
+    let text = told.expect(&rt, "three outputs");
+    let wanted = b"row 1.0\nbye\nrow 0.0\ncount 2\ngone 150 6\nrow 1.1\nkey,payload\n50,5\n160,7\n";
+    assert!(rt; text.as_slice() == wanted.as_slice());
+}
