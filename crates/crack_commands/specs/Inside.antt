@@ -1,5 +1,5 @@
 -- What private clauses alone cite.
-use Rattle.std.specs.Prelude.{◌≡◌, ℕ, ◌+◌, ◌-◌, ◌*◌, ◌<◌, ◌≤◌, ℤ, int_le, fold, Bool, true, false, List, [], ◌∷◌, ◌++◌, length, take, drop, Option, Some, None, Result, Ok, Err, nat_le, nat_lt, slice_index, not, ◌==◌, ◌||◌, ◌&&◌, slice_index_or, codes, decimal, if◌then◌else◌}
+use Rattle.std.specs.Prelude.{◌≡◌, ℕ, ◌+◌, ◌-◌, ◌*◌, ◌<◌, ◌≤◌, ◌⊎◌, ℤ, int_le, fold, Bool, true, false, List, [], ◌∷◌, ◌++◌, length, take, drop, Option, Some, None, Result, Ok, Err, nat_le, nat_lt, slice_index, not, ◌==◌, ◌||◌, ◌&&◌, slice_index_or, codes, decimal, if◌then◌else◌}
 use Rattle.std.specs.Option.{option_map, option_zip}
 use Rattle.std.specs.List.{flat_map, list_all}
 use Rattle.std.specs.Int.{bit_at}
@@ -67,6 +67,15 @@ pub record BeginsWithDigits (bytes : List ℕ) (number : ℕ) (rest : List ℕ) 
 pub record BeginsWithWhole (bytes : List ℕ) (stop : ℕ) (number : ℤ) (count : ℕ) : Type 0 where
   pub few : (0 < count) × (count ≤ 21) × (count < length bytes)
   pub stops : slice_index bytes count ≡ stop
+  pub printed : list_all (nat_lt 32) (take count bytes) ≡ true
+  pub says : whole_number_of (take count bytes) ≡ Some number
+
+-- Bytes begin with an integer, few bytes, and then a line ends, after this many bytes: with its carriage return, if it has one.
+pub record EndsLine (bytes : List ℕ) (number : ℤ) (len : ℕ) : Type 0 where
+  pub count : ℕ
+  pub few : (0 < count) × (count ≤ 21) × (len < length bytes)
+  pub ends : (len ≡ count) ⊎ ((len ≡ count + 1) × (slice_index bytes count ≡ 13))
+  pub feed : slice_index bytes len ≡ 10
   pub printed : list_all (nat_lt 32) (take count bytes) ≡ true
   pub says : whole_number_of (take count bytes) ≡ Some number
 

@@ -1,17 +1,19 @@
 -- An insert at the front of bytes.
-use Rattle.std.specs.Prelude.{◌≡◌, ℕ, ◌<◌, ◌≤◌, true, false, List, length, take, slice_index, Ok, ◌==◌, nat_le}
+use Rattle.std.specs.Prelude.{◌≡◌, ℕ, ◌<◌, ◌≤◌, ◌⊎◌, true, false, List, [], ◌∷◌, ◌++◌, length, take, slice_index, Ok, ◌==◌, nat_le}
 use Rattle.std.specs.List.{list_all}
 use Rattle.crack_row.specs.declared.Key.{Key}
 use Rattle.crack_row.specs.declared.Payload.{Payload}
 use Rattle.crack_commands.specs.Grammar.{statement_of}
 use Rattle.crack_commands.specs.declared.statement.Statement.TheVariants.{Insert}
 
--- The bytes begin with a line of this length, up to a line feed: an insert of this row. The line isn't blank, has no control character, such as
--- line feeds and carriage returns, and is short.
+-- The bytes begin with a line of this length, up to a line feed: an insert of this row. Its text, without the carriage return that may end the line,
+-- isn't blank, has no control character, such as line feeds and carriage returns, and is short.
 pub record BeginsWithInsert (bytes : List ℕ) (len : ℕ) (key : Key) (payload : Payload) : Type 0 where
   pub within : len < length bytes
   pub feed : slice_index bytes len ≡ 10
-  pub printed : list_all (nat_le 32) (take len bytes) ≡ true
-  pub some : list_all (λ b. b == 32) (take len bytes) ≡ false
-  pub short : len ≤ 49
-  pub says : statement_of (take len bytes) ≡ Ok (Insert key payload)
+  pub text : List ℕ
+  pub line : (take len bytes ≡ text) ⊎ (take len bytes ≡ text ++ 13 ∷ [])
+  pub printed : list_all (nat_le 32) text ≡ true
+  pub some : list_all (λ b. b == 32) text ≡ false
+  pub short : length text ≤ 49
+  pub says : statement_of text ≡ Ok (Insert key payload)

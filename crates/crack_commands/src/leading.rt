@@ -2,7 +2,7 @@
 ghost use Rattle.std.specs.Prelude.{◌≡◌, ◌<◌, ◌≤◌, true, length, take, slice_index, IfSome};
 ghost use Rattle.std.specs.List.{list_all};
 ghost use Rattle.crack_commands.specs.Grammar.{is_digit};
-ghost use Rattle.crack_commands.specs.Inside.{BeginsWithWhole, value_on};
+ghost use Rattle.crack_commands.specs.Inside.{BeginsWithWhole, EndsLine, value_on};
 ghost use Rattle.crack_commands.specs.LeadingInsert.{BeginsWithInsert};
 
 use crate::words::{MOST_DIGITS, has_sign, leading_number, row_from, signed, unsigned};
@@ -16,26 +16,50 @@ const NAME: &[u8] = b"insert ";
 pub struct LeadingInsert {
     pub key: Key,
     pub payload: Payload,
-    /// The bytes of its line, without the line feed after it.
+    /// The bytes of its line, with the carriage return that may end it, and without the line feed after it.
     pub len: usize,
 }
 
-/// The insert that bytes begin with, up to a line feed, if it is written without needless spaces, and its numbers are
-/// short, as most inserts are. The end of the line isn't searched for first. None doesn't mean that there is no insert.
-/// O(bytes of the line), no memory.
+/// The insert that bytes begin with, up to the end of a line, if it is written without needless spaces, and its numbers
+/// are short, as most inserts are. The end of the line isn't searched for first. None doesn't mean that there is no
+/// insert. O(bytes of the line), no memory.
 #[inline(always)]
 pub fn leading_insert(bytes: &[u8]) -> Option<LeadingInsert>
     ensures { IfSome result (λ i. BeginsWithInsert bytes.now i.len i.key i.payload) }
 {
     let rest = bytes.strip_prefix(NAME)?;
     let (key, first) = number_before(rest, b' ')?;
-    let (payload, second) = whole_number_before(&rest[first + 1..], b'\n')?;
+    let (payload, second) = last_number(&rest[first + 1..])?;
     let (key, payload) = row_from(key as u128, payload)?;
     Some(LeadingInsert {
         key,
         payload,
         len: NAME.len() + first + 1 + second,
     })
+}
+
+/// The integer that bytes begin with, if the line ends after it, and how many bytes are left of the line.
+#[inline(always)]
+fn last_number(bytes: &[u8]) -> Option<(i128, usize)>
+    ensures { IfSome result (λ n. EndsLine bytes.now n.0 n.1) }
+{
+    match whole_number_before(bytes, b'\n') {
+        Some(found) => Some(found),
+        None => number_before_return(bytes),
+    }
+}
+
+/// The same if a carriage return ends the line.
+#[inline(never)]
+fn number_before_return(bytes: &[u8]) -> Option<(i128, usize)>
+    ensures { IfSome result (λ n. EndsLine bytes.now n.0 n.1) }
+{
+    let (number, count) = whole_number_before(bytes, b'\r')?;
+    if count + 1 < bytes.len() && bytes[count + 1] == b'\n' {
+        Some((number, count + 1))
+    } else {
+        None
+    }
 }
 
 /// The integer that bytes begin with, and how many bytes it takes, if this byte is after it.

@@ -97,3 +97,6 @@ reading-preserved g c =
       reader = c.in_ok-refill.ensures.unfailed ∙ c.reading.invariant.reader;
       writer = c.in_ok-flush.ensures.unfailed ∙ c.reading.invariant.writer;
     }
+
+pub returns-in-Some-clause-row : goal.returns-in-Some-clause-row
+returns-in-Some-clause-row g c = c.in-Some.ensures.row
