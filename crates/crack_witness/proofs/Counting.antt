@@ -1,14 +1,15 @@
 -- The calls of one worker.
-use Rattle.std.proofs.Common.{◌≡◌, ◌≢◌, ℕ, zero, suc, ◌+◌, ◌^◌, ◌<◌, ◌≤◌, ◌==◌, Bool, true, false, List, [], ◌∷◌, ◌++◌, refl, ap, sym, ◌∙◌, subst, arith, length, length-append, slice_index_or, slice_set, filter}
+use Rattle.std.proofs.Common.{◌≡◌, ◌≢◌, ℕ, ◌+◌, ◌^◌, ◌<◌, ◌≤◌, ◌==◌, Bool, true, false, List, [], ◌∷◌, ◌++◌, refl, ap, sym, ◌∙◌, subst, arith, length, length-append, slice_index_or, slice_set, replicate}
 use Rattle.std.proofs.lemmas.Bool.Decides.{nat_tests}
-use Rattle.std.proofs.lemmas.List.{append-nil, length-set, get_or-set_same, get_or-set_other}
-use Rattle.std.proofs.lemmas.List.Elements.{filter-append, All-set}
+use Rattle.std.proofs.lemmas.List.{append-nil, length-set, get_or-set_same, get_or-set_other, length-replicate, get_or-replicate}
+use Rattle.std.proofs.lemmas.List.Elements.{filter-append, All-set, All-replicate}
+use Rattle.std.proofs.lemmas.List.Folds.{sum_by-replicate}
 use Rattle.std.proofs.lemmas.List.Sums.{sum_by-set, sum_by-le}
 use Rattle.std.specs.Prelude.{All, sum_by}
 use mathlib.Core.List.{IsPrefix}
 use Rattle.crack_row.specs.declared.command.Entry.{Entry}
 use Rattle.crack_witness.specs.declared.event.Event.{Event}
-use Rattle.crack_witness.specs.Histories.{calls_by, calls_at, history_of}
+use Rattle.crack_witness.specs.Histories.{calls_by, calls_at, history_of, AreEmpty}
 use Rattle.crack_witness.specs.Keeps.{AreCounts, IsAsker}
 use Rattle.crack_witness.proofs.Lists.{prefix_trans, prefix_self, history_grows}
 
@@ -67,6 +68,24 @@ begins_at seen fronts part new k true is old grows less less' =
 begins_at seen fronts part new k false is old grows less less' =
     let away : k ≢ part = grind (arith, nat_tests) in
     subst (λ (l : List Event). IsPrefix l new) (sym (get_or-set_other fronts part k new [] away)) (prefix_trans (slice_index_or fronts k []) seen new (old k (omega (arith, less', length-set fronts part new))) grows)
+
+-- a worker that has asked nothing
+pub asker_fresh : (own : ℕ → ℕ) (n : ℕ) (seen : List Event) (parts : ℕ) → AreEmpty seen → parts ≤ 64 → IsAsker own n seen (replicate parts seen) (replicate parts 0)
+asker_fresh own n seen parts empty few = record {
+  all = length-replicate {A = ℕ} parts 0 ∙ sym (length-replicate parts seen);
+  few = omega (arith, few, length-replicate {A = ℕ} parts 0);
+  small = All-replicate (λ (count : ℕ). count ≤ 2 ^ 41) parts 0 (omega arith);
+  counted = λ part less.
+      let within : part < parts = omega (arith, less, length-replicate parts seen) in
+      get_or-replicate {A = ℕ} parts part 0 0 within
+      ∙ sym (ap (λ (l : List Event). length (calls_at own part n l)) (get_or-replicate parts part seen [] within) ∙ ap (λ (h : List Entry). length (calls_by n h)) (empty (own part)));
+  begins = λ part less.
+      let within : part < parts = omega (arith, less, length-replicate parts seen) in
+      subst (λ (l : List Event). IsPrefix l seen) (sym (get_or-replicate parts part seen [] within)) (prefix_self seen);
+}
+
+pub none_counted : (n : ℕ) → sum_by (λ (k : ℕ). k) (replicate n 0) ≡ 0
+none_counted n = let none = sum_by-replicate (λ (k : ℕ). k) n 0 in omega (arith, none)
 
 pub asker_after : (own : ℕ → ℕ) (n : ℕ) (seen : List Event) (fronts : List (List Event)) (counts : List ℕ) (part count : ℕ) (new : List Event)
     → IsAsker own n seen fronts counts → part < length fronts → IsPrefix seen new → count ≡ length (calls_at own part n new) → count ≤ 2 ^ 41 → IsAsker own n new (slice_set fronts part new) (slice_set counts part count)

@@ -184,10 +184,18 @@ fn witness_each<J: Naming>(
     ensures { IfOk result (λ ws. AreNewFrom J.owner workers 0 partitions.old.items ws.items) }
 {
     let mut witnessed = Vec::with_capacity(alloc, owners.len())?;
-    'partitions: while let (Some(owner), Some(partition)) = (owners.pop(), partitions.pop()) {
+    'partitions: while let Some(partition) = partitions.pop() {
+        let Some(owner) = owners.pop() else {
+            unreachable!();
+        };
         let number = owners.len() as u32;
-        let one = Witnessed::new(alloc, partition, number, owner, workers)?;
-        witnessed.push(one)?;
+        match Witnessed::new(alloc, partition, number, owner, workers) {
+            Ok(one) => witnessed.push_reserved(one),
+            Err(error) => {
+                drop(witnessed);
+                return Err(error);
+            }
+        }
     }
     witnessed.reverse();
     Ok(witnessed)

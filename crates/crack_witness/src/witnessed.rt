@@ -61,12 +61,18 @@ impl<J: Naming> Witnessed<J> {
         requires new { partition.past ≡ no_past }
         ensures { IfOk result (IsNewAt J.owner workers part partition) }
     {
-        let answered = vec![in alloc; 0u64; workers as usize]?;
-        Ok(Witnessed {
-            partition,
-            scribe: Scribe::new(part, owner),
-            answered,
-        })
+        match vec![in alloc; 0u64; workers as usize] {
+            Ok(answered) => Ok(Witnessed {
+                partition,
+                scribe: Scribe::new(part, owner),
+                answered,
+            }),
+            Err(error) => {
+                drop(owner);
+                drop(partition);
+                Err(error)
+            }
+        }
     }
 
     /// Which partition it is.

@@ -1,4 +1,4 @@
-use Rattle.std.proofs.Common.{◌≡◌, ◌<◌, ◌^◌, length, reverse, All}
+use Rattle.std.proofs.Common.{◌≡◌, ◌<◌, ◌≤◌, ◌^◌, ◌+◌, length, reverse, All, vec_len, vec_capacity}
 use Rattle.crack_plain.specs.Past.{no_past}
 use Rattle.crack_part.specs.Parts.{Part}
 use Rattle.crack_witness.specs.Keeps.{AreOwners}
@@ -11,6 +11,7 @@ invariant-partitions g l = record {
   new : All (λ (p : Part). p.past ≡ no_past) l.partitions.items;
   count : length l.partitions.items ≡ length l.owners.items;
   few : length l.owners.items < 2 ^ 32;
+  room : vec_len l.owners + vec_len l.witnessed ≤ vec_capacity l.witnessed;
   done : AreDone g.J.Naming.owner l.workers l.initial.partitions.items l.partitions.items (reverse l.witnessed.items);
 }
 

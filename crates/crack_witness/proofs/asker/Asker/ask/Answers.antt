@@ -1,13 +1,18 @@
-use Rattle.std.proofs.Common.{rules, sym, ◌∙◌, ap, subst, ◌≡◌, refl, ◌++◌, ◌∷◌, [], List, ℕ, arith, ◌<◌, slice_index_or, slice_set, length, length-append, ◌+◌}
+use Rattle.std.proofs.Common.{rules, Err, sym, ◌∙◌, ap, subst, ◌≡◌, refl, ◌++◌, ◌∷◌, [], List, ℕ, arith, ◌<◌, slice_index_or, slice_set, length, length-append, ◌+◌}
 use Rattle.std.specs.Prelude.{sum_by}
 use mathlib.Core.List.{IsPrefix}
 use Rattle.crack_row.specs.declared.command.Entry.{Entry}
 use Rattle.crack_witness.specs.declared.event.Event.{Event}
-use Rattle.crack_witness.specs.Histories.{history_of, calls_by, calls_at}
+use Rattle.crack_witness.specs.Histories.{history_of, calls_at}
 use Rattle.crack_witness.specs.Witnesses.{AskerState, IsGiven}
 use Rattle.crack_witness.specs.Keeps.{IsAsker}
 use Rattle.crack_witness.proofs.Counting.{given_exact, asker_after, sum_more}
+use Rattle.crack_witness.proofs.Lists.{prefix_self}
 use Rattle.crack_witness.proofs.asker.Asker.ask.Goals as goal
+
+-- a refusal of the partition's own is passed on
+given : (g : _) (c : goal.After-from_residual g) → c.from_residual.result ≡ Err c.in_err-reply.field-0.0
+given g c = search rules
 
 pub returns-clause-given : goal.returns-clause-given
 returns-clause-given g c =
@@ -65,3 +70,111 @@ returns-clause-count g c =
     let is : c.in-Some.count ≡ slice_index_or counts c.args.part 0 = search rules in
     let more : sum_by (λ (n : ℕ). n) (slice_set counts c.args.part (c.in-Some.count + 1)) ≡ sum_by (λ (n : ℕ). n) counts + 1 = sum_more counts c.args.part (c.in-Some.count + 1) less (omega (arith, is)) in
     subst (λ (a : AskerState). sum_by (λ (n : ℕ). n) (slice_set counts c.args.part (c.in-Some.count + 1)) ≡ sum_by (λ (n : ℕ). n) a.counts + 1) c.self.view_is more
+
+pub returns-in_default-clause-replies : goal.returns-in_default-clause-replies
+returns-in_default-clause-replies g c = tt
+
+pub returns-in_default-clause-small : goal.returns-in_default-clause-small
+returns-in_default-clause-small g c = tt
+
+pub returns-in_default-clause-given : goal.returns-in_default-clause-given
+returns-in_default-clause-given g c = tt
+
+pub returns-in_default-clause-mine : goal.returns-in_default-clause-mine
+returns-in_default-clause-mine g c = tt
+
+pub returns-in_default-clause-count : goal.returns-in_default-clause-count
+returns-in_default-clause-count g c = tt
+
+pub returns-in_default-clause-fronts : goal.returns-in_default-clause-fronts
+returns-in_default-clause-fronts g c = tt
+
+pub returns-in_default-clause-legal : goal.returns-in_default-clause-legal
+returns-in_default-clause-legal g c = tt
+
+pub returns-in_default-clause-whole : goal.returns-in_default-clause-whole
+returns-in_default-clause-whole g c = tt
+
+pub returns-in_default-clause-kept : goal.returns-in_default-clause-kept
+returns-in_default-clause-kept g c = tt
+
+pub returns-in_default-clause-opened : goal.returns-in_default-clause-opened
+returns-in_default-clause-opened g c = (refl, refl, refl)
+
+pub returns-in_default-clause-seen : goal.returns-in_default-clause-seen
+returns-in_default-clause-seen g c = (prefix_self _, prefix_self _)
+
+pub returns-in_default-clause-worker : goal.returns-in_default-clause-worker
+returns-in_default-clause-worker g c = refl
+
+pub returns-in_default-clause-nowhere : goal.returns-in_default-clause-nowhere
+returns-in_default-clause-nowhere g c = λ beyond. refl
+
+pub returns-in_default-clause-err : goal.returns-in_default-clause-err
+returns-in_default-clause-err g c = (refl, refl, refl)
+
+pub returns-then-part-clause-replies : goal.returns-then-part-clause-replies
+returns-then-part-clause-replies g c = tt
+
+pub returns-then-part-clause-small : goal.returns-then-part-clause-small
+returns-then-part-clause-small g c = tt
+
+pub returns-then-part-clause-given : goal.returns-then-part-clause-given
+returns-then-part-clause-given g c = tt
+
+pub returns-then-part-clause-mine : goal.returns-then-part-clause-mine
+returns-then-part-clause-mine g c = tt
+
+pub returns-then-part-clause-count : goal.returns-then-part-clause-count
+returns-then-part-clause-count g c = tt
+
+pub returns-then-part-clause-fronts : goal.returns-then-part-clause-fronts
+returns-then-part-clause-fronts g c = tt
+
+pub returns-then-part-clause-legal : goal.returns-then-part-clause-legal
+returns-then-part-clause-legal g c = tt
+
+pub returns-then-part-clause-whole : goal.returns-then-part-clause-whole
+returns-then-part-clause-whole g c = tt
+
+pub returns-then-part-clause-kept : goal.returns-then-part-clause-kept
+returns-then-part-clause-kept g c = tt
+
+pub returns-then-part-clause-opened : goal.returns-then-part-clause-opened
+returns-then-part-clause-opened g c = (refl, refl, refl)
+
+pub returns-then-part-clause-seen : goal.returns-then-part-clause-seen
+returns-then-part-clause-seen g c = (prefix_self _, prefix_self _)
+
+pub returns-then-part-clause-worker : goal.returns-then-part-clause-worker
+returns-then-part-clause-worker g c = refl
+
+pub returns-then-part-clause-err : goal.returns-then-part-clause-err
+returns-then-part-clause-err g c = (refl, refl, refl)
+
+pub returns-in_err-reply-clause-replies : goal.returns-in_err-reply-clause-replies
+returns-in_err-reply-clause-replies g c = rw (given g c) tt
+
+pub returns-in_err-reply-clause-small : goal.returns-in_err-reply-clause-small
+returns-in_err-reply-clause-small g c = rw (given g c) tt
+
+pub returns-in_err-reply-clause-given : goal.returns-in_err-reply-clause-given
+returns-in_err-reply-clause-given g c = rw (given g c) tt
+
+pub returns-in_err-reply-clause-mine : goal.returns-in_err-reply-clause-mine
+returns-in_err-reply-clause-mine g c = rw (given g c) tt
+
+pub returns-in_err-reply-clause-count : goal.returns-in_err-reply-clause-count
+returns-in_err-reply-clause-count g c = rw (given g c) tt
+
+pub returns-in_err-reply-clause-fronts : goal.returns-in_err-reply-clause-fronts
+returns-in_err-reply-clause-fronts g c = rw (given g c) tt
+
+pub returns-in_err-reply-clause-legal : goal.returns-in_err-reply-clause-legal
+returns-in_err-reply-clause-legal g c = rw (given g c) tt
+
+pub returns-in_err-reply-clause-whole : goal.returns-in_err-reply-clause-whole
+returns-in_err-reply-clause-whole g c = rw (given g c) tt
+
+pub returns-in_err-reply-clause-kept : goal.returns-in_err-reply-clause-kept
+returns-in_err-reply-clause-kept g c = rw (given g c) tt

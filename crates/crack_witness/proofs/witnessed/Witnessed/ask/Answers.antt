@@ -1,4 +1,4 @@
-use Rattle.std.proofs.Common.{rules, None, Err, inr, ◌≡◌, ◌<◌, ◌+◌, ◌∙◌, ap, sym, subst, ℕ, List, [], ◌∷◌, ◌++◌, length, arith, slice_set, slice_index_or}
+use Rattle.std.proofs.Common.{rules, refl, None, Err, inr, ◌≡◌, ◌<◌, ◌+◌, ◌∙◌, ap, sym, subst, ℕ, List, [], ◌∷◌, ◌++◌, length, arith, slice_set, slice_index_or}
 use Rattle.std.specs.Prelude.{All}
 use Rattle.std.proofs.lemmas.List.{length-set}
 use Rattle.std.proofs.lemmas.List.Elements.{All-push}
@@ -10,15 +10,18 @@ use Rattle.crack_part.specs.Parts.{Part}
 use Rattle.crack_part.specs.Refusals.{refusal_of}
 use Rattle.crack_part.specs.Upkeep.{upkept}
 use Rattle.crack_part.proofs.RefusalLaws.{if_refused}
-use Rattle.crack_row.specs.declared.refusal.Refusal.{Refusal}
-use Rattle.crack_witness.specs.Witnesses.{MayRefuseIt}
 use Rattle.crack_witness.proofs.Keeping.{refused-for, replied-for}
 use Rattle.crack_witness.specs.Histories.{history_of, calls_by, IsPastOf}
 use Rattle.crack_witness.specs.Witnesses.{WitnessedState}
 use Rattle.crack_witness.specs.Keeps.{AreCounts}
 use Rattle.crack_witness.proofs.Keeping.{state_after-whole, IsPastOf-push, IsPastOf-upkept, calls-le-accepted}
 use Rattle.crack_witness.proofs.Counting.{counts_set}
+use Rattle.crack_witness.proofs.Lists.{prefix_self}
 use Rattle.crack_witness.proofs.witnessed.Witnessed.ask.Goals as goal
+
+-- a refusal of the partition's own is passed on
+given : (g : _) (c : goal.After-from_residual g) → c.from_residual.result ≡ Err c.in_err-reply.field-0.0
+given g c = search rules
 
 pub write-requires : goal.write-requires
 write-requires g c =
@@ -75,7 +78,7 @@ returns-clause-refused g c = λ in_step.
 pub returns-in_err-reply-clause-refused : goal.returns-in_err-reply-clause-refused
 returns-in_err-reply-clause-refused g c = λ in_step.
     let e0 = c.in_err-reply.field-0.0 in
-    let given : c.from_residual.result ≡ Err e0 = search rules in
+    let given : c.from_residual.result ≡ Err e0 = given g c in
     let p = c.self.inside.partition in
     let with : Part → WitnessedState = λ held. record { part = c.self.inside.scribe.part; log = c.self.inside.scribe.log; held = held; workers = length c.self.inside.answered.items } in
     rw (← c.self.view_is) (if_refused (refusal_of p c.args.command) (λ e. (Err e0 ≡ Err e) × (c.apply.new.self ≡ p)) (λ e. (c.from_residual.result ≡ Err e) × (with c.apply.new.self ≡ with p))
@@ -84,7 +87,73 @@ returns-in_err-reply-clause-refused g c = λ in_step.
 pub returns-in_err-reply-clause-causes : goal.returns-in_err-reply-clause-causes
 returns-in_err-reply-clause-causes g c =
     let e0 = c.in_err-reply.field-0.0 in
-    let given : c.from_residual.result ≡ Err e0 = search rules in
+    let given : c.from_residual.result ≡ Err e0 = given g c in
     let p = c.self.inside.partition in
     let cause = refused-for (refusal_of p c.args.command) e0 (c.apply.new.self ≡ p) c.in_err-reply.ensures.refused c.in_err-reply.ensures.memory in
     rw (given, ← c.self.view_is) (inr cause)
+
+pub returns-then-not-is_at-clause-replies : goal.returns-then-not-is_at-clause-replies
+returns-then-not-is_at-clause-replies g c = tt
+
+pub returns-then-not-is_at-clause-small : goal.returns-then-not-is_at-clause-small
+returns-then-not-is_at-clause-small g c = tt
+
+pub returns-then-not-is_at-clause-written : goal.returns-then-not-is_at-clause-written
+returns-then-not-is_at-clause-written g c = tt
+
+pub returns-then-not-is_at-clause-kept : goal.returns-then-not-is_at-clause-kept
+returns-then-not-is_at-clause-kept g c = tt
+
+pub returns-then-not-is_at-clause-store : goal.returns-then-not-is_at-clause-store
+returns-then-not-is_at-clause-store g c = tt
+
+pub returns-then-not-is_at-clause-opened : goal.returns-then-not-is_at-clause-opened
+returns-then-not-is_at-clause-opened g c = (refl, refl)
+
+pub returns-then-not-is_at-clause-part : goal.returns-then-not-is_at-clause-part
+returns-then-not-is_at-clause-part g c = (refl, refl)
+
+pub returns-then-not-is_at-clause-seen : goal.returns-then-not-is_at-clause-seen
+returns-then-not-is_at-clause-seen g c = tt
+
+pub returns-then-not-is_at-clause-before : goal.returns-then-not-is_at-clause-before
+returns-then-not-is_at-clause-before g c = tt
+
+pub returns-then-not-is_at-clause-begins : goal.returns-then-not-is_at-clause-begins
+returns-then-not-is_at-clause-begins g c = (prefix_self _, prefix_self _)
+
+pub returns-then-not-is_at-clause-in_step : goal.returns-then-not-is_at-clause-in_step
+returns-then-not-is_at-clause-in_step g c = tt
+
+pub returns-then-not-is_at-clause-few : goal.returns-then-not-is_at-clause-few
+returns-then-not-is_at-clause-few g c = tt
+
+pub returns-then-not-is_at-clause-err : goal.returns-then-not-is_at-clause-err
+returns-then-not-is_at-clause-err g c = (refl, refl, refl)
+
+pub returns-in_err-reply-clause-replies : goal.returns-in_err-reply-clause-replies
+returns-in_err-reply-clause-replies g c = rw (given g c) tt
+
+pub returns-in_err-reply-clause-small : goal.returns-in_err-reply-clause-small
+returns-in_err-reply-clause-small g c = rw (given g c) tt
+
+pub returns-in_err-reply-clause-written : goal.returns-in_err-reply-clause-written
+returns-in_err-reply-clause-written g c = rw (given g c) tt
+
+pub returns-in_err-reply-clause-kept : goal.returns-in_err-reply-clause-kept
+returns-in_err-reply-clause-kept g c = rw (given g c) tt
+
+pub returns-in_err-reply-clause-store : goal.returns-in_err-reply-clause-store
+returns-in_err-reply-clause-store g c = rw (given g c) tt
+
+pub returns-in_err-reply-clause-seen : goal.returns-in_err-reply-clause-seen
+returns-in_err-reply-clause-seen g c = rw (given g c) tt
+
+pub returns-in_err-reply-clause-before : goal.returns-in_err-reply-clause-before
+returns-in_err-reply-clause-before g c = rw (given g c) tt
+
+pub returns-in_err-reply-clause-in_step : goal.returns-in_err-reply-clause-in_step
+returns-in_err-reply-clause-in_step g c = rw (given g c) tt
+
+pub returns-in_err-reply-clause-few : goal.returns-in_err-reply-clause-few
+returns-in_err-reply-clause-few g c = rw (given g c) tt
