@@ -2,8 +2,9 @@
 """Lists the rules of docs/SPECIFICATION.md that no case shows: rules.py
 
 A word after a § marks the rule that it follows, and is part of the name of a case of acceptance/cases, of a section of
-a page of acceptance/, or of a test of acceptance/ or of the crates of tests, where it has underscores. Each item of a
-list and each row of a table of rules must have one. The status is 1 if a rule has no mark, or a mark no case.
+a page of acceptance/, or of a test of acceptance/ or of the crates of tests, where it has underscores, or of a `name:`
+in a table of a test. Each item of a list and each row of a table of rules must have one. The status is 1 if a rule has
+no mark, or a mark no case.
 """
 
 import pathlib
@@ -13,9 +14,10 @@ import sys
 TOP = pathlib.Path(__file__).resolve().parent.parent
 PAGE = "docs/SPECIFICATION.md"
 MARK = re.compile(r"§([\w-]+)")
-TEST = r"^\s*(?:#\[test\]\s*fn |def test_)(\w+)"
+TEST = r"^\s*def test_(\w+)"
+NAMED = r"^\s*(?:#\[test\]\s*fn |name: \")(\w[\w ]*)"
 # where names are, by the kind of file
-NAMES = {".cases": r"^== (\S+)", ".txt": r"^## (.+)", ".py": TEST, ".rt": TEST}
+NAMES = {".cases": r"^== (\S+)", ".txt": r"^## (.+)", ".py": TEST, ".rt": NAMED}
 # the first cells of the tables whose rows are rules
 TABLES = ("No.", "Statement", "Exit", "Step")
 ITEM = re.compile(r"(?:- |\d+\. )")

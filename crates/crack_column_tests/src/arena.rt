@@ -31,12 +31,16 @@ enum Step {
 }
 
 /// Steps under a name, in a fresh arena.
-type Script = (&'static str, &'static [Step]);
+#[derive(Clone, Copy)]
+struct Script {
+    name: &'static str,
+    steps: &'static [Step],
+}
 
 const SCRIPTS: &[Script] = &[
-    (
-        "a freed cell is used again",
-        &[
+    Script {
+        name: "a freed cell is used again",
+        steps: &[
             Step::Put('a', 0, 0),
             Step::Put('b', 1, 0),
             Step::Free(0, 0, Some('a')),
@@ -48,10 +52,10 @@ const SCRIPTS: &[Script] = &[
             Step::Read(0, 1, Some('c')),
             Step::Look(2, 0, 1),
         ],
-    ),
-    (
-        "the last freed is used first",
-        &[
+    },
+    Script {
+        name: "the last freed is used first",
+        steps: &[
             Step::Put('a', 0, 0),
             Step::Put('b', 1, 0),
             Step::Put('c', 2, 0),
@@ -62,10 +66,10 @@ const SCRIPTS: &[Script] = &[
             Step::Put('e', 1, 1),
             Step::Put('f', 3, 0),
         ],
-    ),
-    (
-        "a set on a spent handle changes nothing",
-        &[
+    },
+    Script {
+        name: "a set on a spent handle changes nothing",
+        steps: &[
             Step::Put('a', 0, 0),
             Step::Set(0, 0, 'x', Ok('a')),
             Step::Free(0, 0, Some('x')),
@@ -75,10 +79,10 @@ const SCRIPTS: &[Script] = &[
             Step::Read(0, 1, Some('b')),
             Step::Look(1, 0, 1),
         ],
-    ),
-    (
-        "cells of a second page",
-        &[
+    },
+    Script {
+        name: "cells of a second page",
+        steps: &[
             Step::Fill('a', 0, 257),
             Step::Look(257, 0, 0),
             Step::Free(256, 0, Some('a')),
@@ -89,10 +93,10 @@ const SCRIPTS: &[Script] = &[
             Step::Put('z', 257, 0),
             Step::Look(258, 0, 2),
         ],
-    ),
-    (
-        "cells end with their page",
-        &[
+    },
+    Script {
+        name: "cells end with their page",
+        steps: &[
             Step::CellsFrom(0, 0),
             Step::Fill('a', 0, 300),
             Step::Free(3, 0, Some('a')),
@@ -102,16 +106,16 @@ const SCRIPTS: &[Script] = &[
             Step::CellsFrom(300, 0),
             Step::CellsFrom(4294967295, 0),
         ],
-    ),
-    (
-        "a thousand reserved puts succeed",
-        &[
+    },
+    Script {
+        name: "a thousand reserved puts succeed",
+        steps: &[
             Step::Reserve(1000),
             Step::Look(0, 0, 0),
             Step::Fill('a', 0, 1000),
             Step::Look(1000, 0, 0),
         ],
-    ),
+    },
 ];
 
 /// Whether a put gives this handle, which is equal to itself alone, and reads the value.
@@ -195,8 +199,8 @@ fn make(arena: &mut Arena<char>, step: Step) -> bool {
 }
 
 /// Asserts what each step in a fresh arena gives.
-fn assert_steps(rt: &impl Abort, alloc: Global, script: Script) {
-    let (name, steps) = script;
+fn assert_script(rt: &impl Abort, alloc: Global, script: Script) {
+    let Script { name, steps } = script;
     let mut arena = Arena::new(alloc);
     'steps: for place in 0..steps.len() {
         let is_right = make(&mut arena, steps[place]);
@@ -208,35 +212,41 @@ fn assert_steps(rt: &impl Abort, alloc: Global, script: Script) {
 #[test]
 fn cells_are_put_freed_and_used_again(rt: HostRuntime) {
     'scripts: for place in 0..SCRIPTS.len() {
-        assert_steps(&rt, rt.alloc(), SCRIPTS[place]);
+        assert_script(&rt, rt.alloc(), SCRIPTS[place]);
     }
 }
 
 #[test]
 fn more_is_refused_than_there_is_memory(rt: HostRuntime) {
-    const STEPS: &[Step] = &[
-        Step::Fill('a', 0, 300),
-        Step::ReserveTooMany,
-        Step::Look(300, 0, 0),
-        Step::Read(299, 0, Some('a')),
-        Step::Put('z', 300, 0),
-    ];
-    assert_steps(&rt, rt.alloc(), ("more than there is memory", STEPS));
+    const SCRIPT: Script = Script {
+        name: "more is refused than there is memory",
+        steps: &[
+            Step::Fill('a', 0, 300),
+            Step::ReserveTooMany,
+            Step::Look(300, 0, 0),
+            Step::Read(299, 0, Some('a')),
+            Step::Put('z', 300, 0),
+        ],
+    };
+    assert_script(&rt, rt.alloc(), SCRIPT);
 }
 
 /// Holds whichever one allocation is refused: puts for which there is room make none.
 #[test]
 fn sweep_reserve(rt: HostRuntime) {
-    const STEPS: &[Step] = &[
-        Step::ReserveAtLast(300),
-        Step::Fill('a', 0, 300),
-        Step::Free(7, 0, Some('a')),
-        Step::ReserveAtLast(600),
-        Step::Put('z', 7, 1),
-        Step::Fill('z', 300, 599),
-        Step::Look(899, 0, 1),
-    ];
-    assert_steps(&rt, rt.alloc(), ("reserved puts", STEPS));
+    const SCRIPT: Script = Script {
+        name: "reserved puts make no allocation",
+        steps: &[
+            Step::ReserveAtLast(300),
+            Step::Fill('a', 0, 300),
+            Step::Free(7, 0, Some('a')),
+            Step::ReserveAtLast(600),
+            Step::Put('z', 7, 1),
+            Step::Fill('z', 300, 599),
+            Step::Look(899, 0, 1),
+        ],
+    };
+    assert_script(&rt, rt.alloc(), SCRIPT);
 }
 
 #[test]

@@ -57,10 +57,16 @@ enum Step {
 }
 
 /// Steps under a name, with fresh sums of rows of payload 3.
-const SCRIPTS: &[(&str, &[Step])] = &[
-    (
-        "what is known is not asked",
-        &[
+#[derive(Clone, Copy)]
+struct Script {
+    name: &'static str,
+    steps: &'static [Step],
+}
+
+const SCRIPTS: &[Script] = &[
+    Script {
+        name: "what is known is not asked",
+        steps: &[
             Step::Sum(10, 20, Some(30), 1),
             Step::Sum(10, 20, Some(30), 1),
             Step::Sum(10, 15, Some(15), 2),
@@ -77,19 +83,19 @@ const SCRIPTS: &[(&str, &[Step])] = &[
             Step::Pieces(0),
             Step::Sum(0, GREATEST_BOUND, Some(55340232221128654848), 4),
         ],
-    ),
-    (
-        "a silent source gives no sum",
-        &[
+    },
+    Script {
+        name: "a silent source gives no sum",
+        steps: &[
             Step::Silence(true),
             Step::Sum(10, 20, None, 1),
             Step::Silence(false),
             Step::Sum(10, 20, Some(30), 2),
         ],
-    ),
-    (
-        "a sum that does not fit is not known",
-        &[
+    },
+    Script {
+        name: "a sum that does not fit is not known",
+        steps: &[
             Step::Sum(10, 20, Some(30), 1),
             Step::Adjust(12, i128::MAX),
             Step::Sum(10, 20, Some(30), 2),
@@ -97,7 +103,7 @@ const SCRIPTS: &[(&str, &[Step])] = &[
             Step::Sum(20, 21, Some(i128::MAX), 1),
             Step::Sum(10, 21, None, 1),
         ],
-    ),
+    },
 ];
 
 /// Makes a step; returns whether it gave what it should.
@@ -128,7 +134,8 @@ fn make(sums: &mut PieceSums, rows: &mut Rows, step: Step) -> bool {
 }
 
 /// Asserts what each step gives, with fresh sums of rows of payload 3.
-fn assert_steps(rt: &impl Abort, alloc: Global, name: &str, steps: &[Step]) {
+fn assert_script(rt: &impl Abort, alloc: Global, script: Script) {
+    let Script { name, steps } = script;
     let mut rows = Rows::new(3);
     let mut sums = PieceSums::new(alloc);
     'steps: for place in 0..steps.len() {
@@ -141,7 +148,6 @@ fn assert_steps(rt: &impl Abort, alloc: Global, name: &str, steps: &[Step]) {
 #[test]
 fn sums_of_pieces_are_asked_once(rt: HostRuntime) {
     'scripts: for place in 0..SCRIPTS.len() {
-        let (name, steps) = SCRIPTS[place];
-        assert_steps(&rt, rt.alloc(), name, steps);
+        assert_script(&rt, rt.alloc(), SCRIPTS[place]);
     }
 }

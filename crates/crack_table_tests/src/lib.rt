@@ -1,6 +1,9 @@
-//! Tests that run through the public calls of a table, its workers, and their gathering: what no clause says.
+//! Tests that run through the public calls of a table, its workers, their gathering and their receipts: what no
+//! clause says.
 #![tactic(auto)]
 
+#[cfg(test)]
+mod covers;
 #[cfg(test)]
 mod folds;
 #[cfg(test)]

@@ -1,5 +1,0 @@
-//! Tests that run through the public calls of covers: what no clause says.
-#![tactic(auto)]
-
-#[cfg(test)]
-mod covers;
