@@ -2,9 +2,11 @@
 ghost use Rattle.std.specs.Prelude.{◌<◌, ◌^◌, length, IfOk, IfSome};
 
 use crate::numbers::{Numbers, mixed};
+use crate::report::{Told, report};
 use crack_arena::{Arena, Handle};
 use crack_row::{Key, KeyNumber, Payload, Refusal, Row, Serial};
 use std::alloc::Global;
+use std::time::Instant;
 
 /// An arena with rows, and handles that read them.
 #[derive(Drop)]
@@ -21,6 +23,27 @@ impl Filled {
             handles: Vec::new(alloc),
         }
     }
+}
+
+/// Steps at random handles.
+pub fn measure(rt: &HostRuntime, steps: u64, rows: u32) -> Told {
+    let mut filled = Filled::new(rt.alloc());
+    let told = measure_steps(rt, &mut filled, steps, rows);
+    drop(filled);
+    told
+}
+
+fn measure_steps(rt: &HostRuntime, filled: &mut Filled, count: u64, rows: u32) -> Told {
+    let mut numbers = Numbers::new(1);
+    fill(filled, rows, &mut numbers)?;
+    let start = Instant::now(rt)?;
+    let sum = steps(filled, count, &mut numbers)?;
+    report(rt, "steps", start)?;
+    let handles = filled.handles.len();
+    let cells = filled.arena.cells();
+    let freed = filled.arena.freed();
+    println!(rt; "arena {handles} cells {cells} freed {freed} sum {sum}")?;
+    Ok(())
 }
 
 /// Puts this many rows of random keys, and keeps their handles in order.
@@ -87,7 +110,7 @@ fn step(filled: &mut Filled, number: u64, numbers: &mut Numbers) -> Result<Optio
 }
 
 /// As many steps at random handles. Returns a checksum of the rows that they read.
-pub fn steps(filled: &mut Filled, count: u64, numbers: &mut Numbers) -> Result<u64, Refusal> {
+fn steps(filled: &mut Filled, count: u64, numbers: &mut Numbers) -> Result<u64, Refusal> {
     let mut sum = 0;
     for number in 0..count {
         if let Some(row) = step(filled, number, numbers)? {
@@ -95,41 +118,4 @@ pub fn steps(filled: &mut Filled, count: u64, numbers: &mut Numbers) -> Result<u
         }
     }
     Ok(sum)
-}
-
-/// Puts a row with this serial, without room that was made before.
-#[inline(always)]
-pub fn put_row(arena: &mut Arena<Row>, serial: u32) -> Result<(), Refusal> {
-    if arena.cells() >= 4294967295 {
-        return Err(Refusal::OutOfMemory);
-    }
-    arena.put(Row {
-        serial: Serial(serial as u64),
-        key: Key::from_number(KeyNumber::from(serial)),
-        payload: Payload::from_number(1),
-    })?;
-    Ok(())
-}
-
-/// Puts as many rows, one after the other.
-pub fn put_rows(arena: &mut Arena<Row>, rows: u32) -> Result<(), Refusal> {
-    'rows: for serial in 0..rows {
-        put_row(arena, serial)?;
-    }
-    Ok(())
-}
-
-/// As many gets of random cells among the first ones, this many, none of which was freed. Returns a checksum of their
-/// rows.
-pub fn gets(arena: &Arena<Row>, cells: u32, count: u64, numbers: &mut Numbers) -> u64
-    requires { 0 < cells }
-{
-    let mut sum = 0;
-    'gets: for _ in 0..count {
-        let slot = numbers.below(cells as u64) as u32;
-        if let Some(row) = arena.get(Handle::new(slot, 0)) {
-            sum = mixed(sum, row.serial.0);
-        }
-    }
-    sum
 }

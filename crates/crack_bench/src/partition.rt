@@ -1,13 +1,13 @@
-//! A partition: inserts in random order of keys, a count of everything, and counts, sums and updates.
+//! A partition that is asked commands of random keys, rows and ranges.
 ghost use Rattle.std.specs.Prelude.{◌<◌};
 
 use crate::numbers::{Numbers, mixed};
 use crack_part::Partition;
 use crack_row::{
-    Bound, BoundNumber, Command, Key, KeyNumber, KeyRange, Payload, PayloadNumber, Policy, Refusal,
-    Reply, Serial,
+    BoundNumber, Command, GREATEST_BOUND, GREATEST_LIMIT, Key, KeyNumber, KeyRange, Payload,
+    PayloadNumber, Policy, Refusal, Reply, Serial,
 };
-use std::alloc::{AllocError, Global};
+use std::alloc::Global;
 
 /// The end of the random keys, which have 32 bits.
 const KEYS_END: BoundNumber = 4294967296;
@@ -15,201 +15,206 @@ const KEYS_END: BoundNumber = 4294967296;
 /// The width of a random range: a hundredth of these keys.
 const WIDTH: BoundNumber = 42949672;
 
-/// A partition that merges by one policy.
+/// What a partition is asked.
+#[derive(Clone, Copy)]
+pub enum Ask {
+    /// To insert a row with a random key.
+    Insert,
+    /// The same, with a key in the lower half.
+    InsertLow,
+    /// To delete a random row of the list.
+    Delete,
+    /// To delete a random row of the first ones, which may be gone.
+    DeleteAny,
+    /// To delete a random row of the list, and then to insert another.
+    Update,
+    Count(Keys),
+    Sum(Keys),
+}
+
+/// The range of a query.
+#[derive(Clone, Copy)]
+pub enum Keys {
+    All,
+    /// A random range.
+    Random,
+    /// One range in the upper half.
+    Upper,
+    /// A random range of half the width in the upper half.
+    RandomUpper,
+    /// The keys below the end of the next piece, of as many pieces of one width.
+    Below,
+}
+
+/// The numbers of a measurement. What they count depends on it.
+#[derive(Clone, Copy, Drop)]
+pub struct Sizes {
+    pub rows: u32,
+    /// How many ranges, changes, batches or pieces there are.
+    pub first: u32,
+    /// How many updates a batch has, or rows are pending or deleted.
+    pub second: u32,
+}
+
+/// A partition that merges by one policy, the numbers that steer what it is asked, and what it replied.
 #[derive(Drop)]
 pub struct Measured {
     pub partition: Partition,
-    pub policy: Policy,
+    policy: Policy,
+    pub sizes: Sizes,
+    numbers: Numbers,
+    /// The numbers that there were when the last part began.
+    begun: Numbers,
+    /// The serials of the rows that are to be deleted.
+    rows: Vec<u64>,
+    /// The serial in the last reply that has one.
+    placed: u64,
+    /// The count or the sum in the last reply that has one.
+    pub told: u64,
+    /// A checksum of the counts and sums in the replies.
+    pub sum: u64,
 }
 
 impl Measured {
-    /// Asks the partition, and returns the number in its reply, or 0 if there is none.
-    fn ask(&mut self, command: Command) -> Result<u64, Refusal> {
-        let (reply, _) = self.partition.apply(0, command, self.policy)?;
-        Ok(match reply {
-            Reply::Placed(serial) => serial.0,
-            Reply::Counted(count) => count,
-            Reply::Summed(sum) => u64::try_from(sum).unwrap_or(u64::MAX),
-            _ => 0,
+    pub fn open(alloc: Global, policy: Policy, sizes: Sizes) -> Result<Measured, Refusal> {
+        let numbers = Numbers::new(11);
+        Ok(Measured {
+            partition: Partition::open(alloc, KeyRange::all(), GREATEST_LIMIT)?,
+            policy,
+            sizes,
+            numbers,
+            begun: numbers,
+            rows: Vec::new(alloc),
+            placed: 0,
+            told: 0,
+            sum: 0,
         })
     }
 
-    fn insert(&mut self, key: u32, payload: u32) -> Result<u64, Refusal> {
-        self.ask(Command::Insert {
-            key: Key::from_number(KeyNumber::from(key)),
-            payload: Payload::from_number(PayloadNumber::from(payload)),
-        })
+    /// Begins a part, with another checksum.
+    pub fn begin(&mut self) {
+        self.begun = self.numbers;
+        self.sum = 0;
     }
 
-    /// Inserts as many rows of random keys in the lower half.
-    pub fn load_half(&mut self, rows: u32, numbers: &mut Numbers) -> Result<(), Refusal> {
-        'rows: for row in 0..rows {
-            self.insert(numbers.word() >> 1, row)?;
+    /// Begins a part with the same numbers as the last.
+    pub fn begin_again(&mut self) {
+        self.numbers = self.begun;
+    }
+
+    /// Lists the serials of the first rows.
+    pub fn list_rows(&mut self, alloc: Global) -> Result<(), Refusal> {
+        self.rows = (0..u64::from(self.sizes.rows)).collect(alloc)?;
+        Ok(())
+    }
+
+    /// Carries out a command, and keeps the number in the reply.
+    fn apply(&mut self, command: Command) -> Result<(), Refusal> {
+        match self.partition.apply(0, command, self.policy)?.0 {
+            Reply::Placed(serial) => self.placed = serial.0,
+            Reply::Counted(count) => self.tell(count),
+            Reply::Summed(sum) => self.tell(u64::try_from(sum).unwrap_or(u64::MAX)),
+            _ => {}
         }
         Ok(())
     }
 
-    /// Inserts as many rows of random keys.
-    pub fn load(&mut self, rows: u32, numbers: &mut Numbers) -> Result<(), Refusal> {
-        'rows: for row in 0..rows {
-            self.insert(numbers.word(), row)?;
+    fn tell(&mut self, number: u64) {
+        self.told = number;
+        self.sum = mixed(self.sum, number);
+    }
+
+    /// The range of a query; of several queries the one with this number.
+    fn range(&mut self, keys: Keys, at: u32) -> Result<KeyRange, Refusal> {
+        let (low, width) = match keys {
+            Keys::All => (0, GREATEST_BOUND),
+            Keys::Random => (self.place(), WIDTH),
+            Keys::Upper => (KEYS_END / 2, WIDTH),
+            Keys::RandomUpper => (KEYS_END / 2 + self.place() / 2, WIDTH / 2),
+            Keys::Below => (0, self.end_of(at)),
+        };
+        KeyRange::new(low, low.saturating_add(width))
+    }
+
+    /// Where a random range begins.
+    fn place(&mut self) -> BoundNumber
+        ensures { result < 4294967296 }
+    {
+        BoundNumber::from(self.numbers.word()) % (KEYS_END - WIDTH)
+    }
+
+    /// Where a piece ends, of as many pieces of one width.
+    fn end_of(&self, piece: u32) -> BoundNumber {
+        let width = KEYS_END / BoundNumber::from(self.sizes.first.max(1));
+        width * (BoundNumber::from(piece) + 1)
+    }
+
+    /// Takes a random row out of the list; none if it is empty.
+    fn take_row(&mut self) -> Option<Serial> {
+        if self.rows.is_empty() {
+            return None;
+        }
+        let at = self.numbers.below(self.rows.len() as u64) as usize;
+        Some(Serial(self.rows.swap_remove(at)))
+    }
+
+    /// Deletes a random row of the list, and inserts one whose serial takes its place.
+    fn update(&mut self) -> Result<(), Refusal> {
+        if self.rows.is_empty() {
+            return Ok(());
+        }
+        let at = self.numbers.below(self.rows.len() as u64) as usize;
+        let serial = Serial(self.rows[at]);
+        self.apply(Command::Delete { serial })?;
+        let key = self.numbers.word();
+        self.apply(insertion(key, key))?;
+        if let Some(row) = self.rows.get_mut(at) {
+            *row = self.placed;
         }
         Ok(())
     }
 
-    /// Inserts as many rows of random keys, and counts everything when half of them are there: the others stay pending.
-    pub fn load_partly(&mut self, rows: u32, numbers: &mut Numbers) -> Result<(), Refusal> {
-        let first = rows / 2;
-        self.load(first, numbers)?;
-        self.count_all()?;
-        self.load(rows - first, numbers)
+    /// Asks once. Of several questions it is the one with this number.
+    fn ask(&mut self, ask: Ask, at: u32) -> Result<(), Refusal> {
+        let command = match ask {
+            Ask::Insert => insertion(self.numbers.word(), at),
+            Ask::InsertLow => insertion(self.numbers.word() >> 1, at),
+            Ask::Update => return self.update(),
+            Ask::Delete => match self.take_row() {
+                Some(serial) => Command::Delete { serial },
+                None => return Ok(()),
+            },
+            Ask::DeleteAny => Command::Delete {
+                serial: Serial(self.numbers.below(u64::from(self.sizes.rows.max(1)))),
+            },
+            Ask::Count(keys) => Command::Count(self.range(keys, at)?),
+            Ask::Sum(keys) => Command::Sum(self.range(keys, at)?),
+        };
+        self.apply(command)
     }
 
-    /// Counts every row.
-    pub fn count_all(&mut self) -> Result<u64, Refusal> {
-        self.ask(Command::Count(KeyRange::all()))
-    }
-
-    /// As many counts of random ranges. Returns a checksum of the replies.
-    pub fn counts(&mut self, ranges: u64, numbers: &mut Numbers) -> Result<u64, Refusal> {
-        let mut sum = 0;
-        'ranges: for _ in 0..ranges {
-            sum = mixed(sum, self.ask(Command::Count(random_range(numbers)?))?);
-        }
-        Ok(sum)
-    }
-
-    /// As many counts of one range in the upper half. Returns a checksum of the replies.
-    pub fn upper_counts(&mut self, counts: u32) -> Result<u64, Refusal> {
-        let mut sum = 0;
-        'counts: for _ in 0..counts {
-            let range = range_from(KEYS_END / 2, WIDTH)?;
-            sum = mixed(sum, self.ask(Command::Count(range))?);
-        }
-        Ok(sum)
-    }
-
-    /// As many sums of random ranges. Returns a checksum of the replies, continued from that of earlier ones.
-    pub fn sums(&mut self, told: u64, ranges: u64, numbers: &mut Numbers) -> Result<u64, Refusal> {
-        let mut sum = told;
-        'ranges: for _ in 0..ranges {
-            sum = mixed(sum, self.ask(Command::Sum(random_range(numbers)?))?);
-        }
-        Ok(sum)
-    }
-
-    /// The sums of as many random ranges in the upper half. Returns a checksum of the replies.
-    pub fn upper_sums(&mut self, ranges: u64, numbers: &mut Numbers) -> Result<u64, Refusal> {
-        let mut sum = 0;
-        'ranges: for _ in 0..ranges {
-            sum = mixed(sum, self.ask(Command::Sum(upper_range(numbers)?))?);
-        }
-        Ok(sum)
-    }
-
-    /// A batch of as many deletes of existing rows and as many inserts.
-    fn batch(
-        &mut self,
-        size: u64,
-        rows: &mut Vec<u64>,
-        numbers: &mut Numbers,
-    ) -> Result<(), Refusal> {
-        'updates: for _ in 0..size {
-            if rows.is_empty() {
-                return Ok(());
-            }
-            let at = numbers.below(rows.len() as u64) as usize;
-            let serial = Serial(rows[at]);
-            self.ask(Command::Delete { serial })?;
-            let key = numbers.word();
-            rows[at] = self.insert(key, key)?;
+    /// Asks the same as often.
+    pub fn repeat(&mut self, ask: Ask, times: u32) -> Result<(), Refusal> {
+        'times: for at in 0..times {
+            self.ask(ask, at)?;
         }
         Ok(())
     }
 
-    /// As many deletes of random rows, a count of everything, which frees their cells, as many inserts, which take
-    /// these, and counts that leave nothing pending and the column cracked.
-    pub fn mix(
-        &mut self,
-        changes: u32,
-        rows: &mut Vec<u64>,
-        numbers: &mut Numbers,
-    ) -> Result<(), Refusal> {
-        'deletes: for _ in 0..changes {
-            if rows.is_empty() {
-                return Ok(());
-            }
-            let at = numbers.below(rows.len() as u64) as usize;
-            let serial = Serial(rows.swap_remove(at));
-            self.ask(Command::Delete { serial })?;
-        }
-        self.count_all()?;
-        self.load(changes, numbers)?;
-        self.count_all()?;
-        self.upper_counts(1)?;
-        Ok(())
-    }
-
-    /// Batches of as many updates, each with the sum of a random range after it. Returns a checksum of the sums.
-    pub fn updates(
-        &mut self,
-        batches: u64,
-        size: u64,
-        rows: &mut Vec<u64>,
-        numbers: &mut Numbers,
-    ) -> Result<u64, Refusal> {
-        let mut sum = 0;
-        'batches: for _ in 0..batches {
-            self.batch(size, rows, numbers)?;
-            sum = self.sums(sum, 1, numbers)?;
-        }
-        Ok(sum)
-    }
-
-    /// Cracks the column into as many pieces, of one width but for the last.
-    pub fn crack_evenly(&mut self, pieces: u32) -> Result<(), Refusal> {
-        let width = KEYS_END / BoundNumber::from(pieces.max(1));
-        'pieces: for piece in 1..pieces {
-            let high = width.saturating_mul(BoundNumber::from(piece));
-            self.ask(Command::Count(range_from(0, high)?))?;
-        }
-        Ok(())
-    }
-
-    /// As many deletes of random rows among the first ones; some may be of the same row.
-    pub fn delete_some(
-        &mut self,
-        rows: u32,
-        deletes: u32,
-        numbers: &mut Numbers,
-    ) -> Result<(), Refusal> {
-        'deletes: for _ in 0..deletes {
-            let serial = Serial(numbers.below(rows.max(1) as u64));
-            self.ask(Command::Delete { serial })?;
+    /// Batches of updates, each with the sum of a random range after it.
+    pub fn update_in_batches(&mut self) -> Result<(), Refusal> {
+        'batches: for at in 0..self.sizes.first {
+            self.repeat(Ask::Update, self.sizes.second)?;
+            self.ask(Ask::Sum(Keys::Random), at)?;
         }
         Ok(())
     }
 }
 
-/// The serials of as many rows.
-pub fn serials(alloc: Global, rows: u32) -> Result<Vec<u64>, AllocError> {
-    (0..rows as u64).collect(alloc)
-}
-
-/// The range of this width that begins at the bound with this number.
-fn range_from(low: BoundNumber, width: BoundNumber) -> Result<KeyRange, Refusal> {
-    let high = low.saturating_add(width);
-    KeyRange::between(Bound::from_number(low), Bound::from_number(high))
-}
-
-/// A range of that width at a random place.
-fn random_range(numbers: &mut Numbers) -> Result<KeyRange, Refusal> {
-    let low = BoundNumber::from(numbers.word()) % (KEYS_END - WIDTH);
-    range_from(low, WIDTH)
-}
-
-/// A range of half that width at a random place in the upper half.
-fn upper_range(numbers: &mut Numbers) -> Result<KeyRange, Refusal> {
-    let low = KEYS_END / 2 + BoundNumber::from(numbers.word()) % (KEYS_END - WIDTH) / 2;
-    range_from(low, WIDTH / 2)
+/// An insert of a row.
+fn insertion(key: u32, payload: u32) -> Command {
+    Command::Insert {
+        key: Key::from_number(KeyNumber::from(key)),
+        payload: Payload::from_number(PayloadNumber::from(payload)),
+    }
 }

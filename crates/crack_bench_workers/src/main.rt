@@ -13,12 +13,14 @@ mod booked;
 mod measuring;
 mod mix;
 mod pool;
+mod seats;
 mod witnessed;
 
 use crack_row::Refusal;
-use measuring::{End, Host, Run, Work};
+use measuring::{End, Failure, Host, Run, Told, Work};
 use mix::{Mix, Parts, count_all};
 use pool::{Bare, PARTS_EACH, Plan, Sharing};
+use std::alloc::Global;
 use std::env;
 
 /// The kinds of tables.
@@ -28,7 +30,7 @@ enum Kind {
     Witnessed,
 }
 
-fn run_pool<R: Host>(rt: &R, kind: Kind, run: Run) -> anyhow::Result<()> {
+fn run_pool<R: Host>(rt: &R, kind: Kind, run: Run) -> Told {
     match kind {
         Kind::Booked => booked::run(rt, run),
         Kind::Witnessed => witnessed::run(rt, run),
@@ -36,7 +38,7 @@ fn run_pool<R: Host>(rt: &R, kind: Kind, run: Run) -> anyhow::Result<()> {
 }
 
 /// The steps of one worker, asked of bare partitions.
-fn run_bare<R: Host>(rt: &R, rows: u32, steps: u32) -> anyhow::Result<()> {
+fn run_bare<R: Host>(rt: &R, rows: u32, steps: u32) -> Told {
     let parts = Parts {
         first: 0,
         count: PARTS_EACH,
@@ -72,119 +74,123 @@ fn alone(rows: u32, steps: u32) -> Run {
 }
 
 /// All measurements of one kind of table.
-fn run_each<R: Host>(
-    rt: &R,
-    kind: Kind,
-    workers: u32,
-    rows: u32,
-    steps: u32,
-) -> anyhow::Result<()> {
-    let own = Run {
-        plan: Plan {
-            workers,
-            sharing: Sharing::Own,
-        },
+fn run_each<R: Host>(rt: &R, kind: Kind, workers: u32, rows: u32, steps: u32) -> Told {
+    let own = threads(workers, rows, steps, Sharing::Own);
+    let shared = threads(workers, rows, steps, Sharing::Shared);
+    let gathered = Run {
+        work: Work::Nothing,
+        ..shared
+    };
+    let folded = Run {
+        work: Work::Fold,
+        ..shared
+    };
+    let runs = [own, shared, gathered, folded, alone(rows, steps)];
+    'runs: for run in runs.iter() {
+        run_pool(rt, kind, *run)?;
+    }
+    Ok(())
+}
+
+/// Workers on threads of their own.
+fn threads(workers: u32, rows: u32, steps: u32, sharing: Sharing) -> Run {
+    Run {
+        plan: Plan { workers, sharing },
         rows,
         work: Work::Threads { steps },
         end: End::Gather,
-    };
-    let plan = Plan {
-        workers,
-        sharing: Sharing::Shared,
-    };
-    run_pool(rt, kind, own)?;
-    run_pool(rt, kind, Run { plan, ..own })?;
-    run_pool(
-        rt,
-        kind,
-        Run {
-            plan,
-            work: Work::Nothing,
-            ..own
-        },
-    )?;
-    run_pool(
-        rt,
-        kind,
-        Run {
-            plan,
-            work: Work::Fold,
-            ..own
-        },
-    )?;
-    run_pool(rt, kind, alone(rows, steps))
+    }
 }
 
-fn run_all<R: Host>(rt: &R, workers: u32, rows: u32, steps: u32) -> anyhow::Result<()> {
+/// Workers that share their partitions, and do one thing after they have loaded their rows.
+fn loaded(workers: u32, rows: u32, work: Work, end: End) -> Run {
+    let sharing = Sharing::Shared;
+    Run {
+        plan: Plan { workers, sharing },
+        rows,
+        work,
+        end,
+    }
+}
+
+fn run_all<R: Host>(rt: &R, workers: u32, rows: u32, steps: u32) -> Told {
     run_each(rt, Kind::Booked, workers, rows, steps)?;
     run_each(rt, Kind::Witnessed, workers, rows, steps)?;
     run_bare(rt, rows, steps)
 }
 
-/// Runs the measurement that the words ask for.
-fn run<R: Host>(rt: &R, words: &[&str]) -> anyhow::Result<()> {
-    match words {
-        [_, "bare", rows, steps] => run_bare(rt, rows.parse()?, steps.parse()?),
-        [_, "all", workers, rows, steps] => {
-            run_all(rt, workers.parse()?, rows.parse()?, steps.parse()?)
+/// The run that a name and the numbers after it ask for.
+fn run_of(name: &str, numbers: &[u32]) -> Option<Run> {
+    match (name, numbers) {
+        ("ask", [rows, steps]) => Some(alone(*rows, *steps)),
+        ("own", [workers, rows, steps]) => Some(threads(*workers, *rows, *steps, Sharing::Own)),
+        ("shared", [workers, rows, steps]) => {
+            Some(threads(*workers, *rows, *steps, Sharing::Shared))
         }
-        [_, "witnessed", rest @ ..] => run_workers(rt, Kind::Witnessed, rest),
-        [_, rest @ ..] => run_workers(rt, Kind::Booked, rest),
-        _ => Err(anyhow::anyhow!("no words")),
+        ("gathered", [workers, rows]) => Some(loaded(*workers, *rows, Work::Nothing, End::Gather)),
+        ("folded", [workers, rows]) => Some(loaded(*workers, *rows, Work::Fold, End::Gather)),
+        ("loaded", [workers, rows]) => Some(loaded(*workers, *rows, Work::Nothing, End::Leave)),
+        _ => None,
     }
 }
 
-/// The same for the workers of a table of one kind.
-fn run_workers<R: Host>(rt: &R, kind: Kind, words: &[&str]) -> anyhow::Result<()> {
-    match words {
-        ["ask", rows, steps] => run_pool(rt, kind, alone(rows.parse()?, steps.parse()?)),
-        [name, workers, rows, rest @ ..] => {
-            let plan = Plan {
-                workers: workers.parse()?,
-                sharing: sharing_of(name),
-            };
-            let (work, end) = work_of(name, rest)?;
-            let rows = rows.parse()?;
-            run_pool(
-                rt,
-                kind,
-                Run {
-                    plan,
-                    rows,
-                    work,
-                    end,
-                },
-            )
+/// Carries out the measurement with this name and these numbers; none if there is no such measurement.
+fn measured<R: Host>(rt: &R, kind: Kind, name: &str, numbers: &[u32]) -> Option<Told> {
+    match (kind, name, numbers) {
+        (Kind::Booked, "bare", [rows, steps]) => Some(run_bare(rt, *rows, *steps)),
+        (Kind::Booked, "all", [workers, rows, steps]) => {
+            Some(run_all(rt, *workers, *rows, *steps))
         }
-        _ => Err(anyhow::anyhow!(
+        _ => match run_of(name, numbers) {
+            Some(run) => Some(run_pool(rt, kind, run)),
+            None => None,
+        },
+    }
+}
+
+/// How a run ended, as the program ends.
+fn explained(told: Option<Told>) -> anyhow::Result<()> {
+    match told {
+        Some(Ok(())) => Ok(()),
+        Some(Err(Failure::Refused(refusal))) => Err(refusal.into()),
+        Some(Err(Failure::Unwritten(error))) => Err(error.into()),
+        None => Err(anyhow::anyhow!(
             "own, shared, ask, bare, gathered, folded, loaded or all, with their numbers"
         )),
     }
 }
 
-fn sharing_of(name: &str) -> Sharing {
-    match name {
-        "own" => Sharing::Own,
-        _ => Sharing::Shared,
+/// The numbers at the end of a command line.
+fn numbers_of(alloc: Global, words: &[String]) -> anyhow::Result<Vec<u32>> {
+    let mut numbers = Vec::new(alloc);
+    'words: for word in words {
+        numbers.push(word.as_str().parse()?)?;
     }
+    Ok(numbers)
 }
 
-/// The work of the workers of a run, and the work at its end.
-fn work_of(name: &str, rest: &[&str]) -> anyhow::Result<(Work, End)> {
-    match (name, rest) {
-        ("own" | "shared", [steps]) => {
-            let steps = steps.parse()?;
-            Ok((Work::Threads { steps }, End::Gather))
+/// Carries out the measurement with this name, over a table of this kind.
+fn run_named<R: Host>(rt: &R, kind: Kind, name: &str, words: &[String]) -> anyhow::Result<()> {
+    let numbers = numbers_of(rt.alloc(), words)?;
+    let told = measured(rt, kind, name, numbers.as_slice());
+    drop(numbers);
+    explained(told)
+}
+
+/// Runs the measurement that the words ask for.
+fn run<R: Host>(rt: &R, words: &[String]) -> anyhow::Result<()> {
+    match words {
+        [_, kind, name, rest @ ..] if kind.as_str() == "witnessed" => {
+            run_named(rt, Kind::Witnessed, name.as_str(), rest)
         }
-        ("gathered", []) => Ok((Work::Nothing, End::Gather)),
-        ("folded", []) => Ok((Work::Fold, End::Gather)),
-        ("loaded", []) => Ok((Work::Nothing, End::Leave)),
-        _ => Err(anyhow::anyhow!("own or shared with steps, gathered, folded or loaded")),
+        [_, name, rest @ ..] => run_named(rt, Kind::Booked, name.as_str(), rest),
+        _ => explained(None),
     }
 }
 
 fn main(rt: HostRuntime) -> anyhow::Result<()> {
     let words: Vec<String> = env::args(&rt)?.collect(rt.alloc())?;
-    let words: Vec<&str> = words.iter().map(|it| it.as_str()).collect(rt.alloc())?;
-    run(&rt, words.as_slice())
+    let ended = run(&rt, words.as_slice());
+    drop(words);
+    ended
 }

@@ -1,16 +1,23 @@
 //! The measurements of a pool, and their times.
 
 use crate::pool::{Plan, Pool, Sharing, Works};
+use crack_row::Refusal;
 use std::alloc::Global;
+use std::io;
 use std::rt::Clock;
 use std::sync::Wait;
 use std::thread::Threads;
 use std::time::Instant;
 
-/// The handles that a run is given: to start threads and wait for them, and to print its results and its times.
-pub trait Host: Alloc<A = Global> + Print + Eprint + Clock + Threads + Wait + Sync {}
+/// The handles with which results and times are written.
+pub trait Output: Alloc<A = Global> + Print + Eprint + Clock {}
 
-impl<R: Alloc<A = Global> + Print + Eprint + Clock + Threads + Wait + Sync> Host for R {}
+impl<R: Alloc<A = Global> + Print + Eprint + Clock> Output for R {}
+
+/// The handles that a run is given: the same, and to start threads and wait for them.
+pub trait Host: Output + Threads + Wait + Sync {}
+
+impl<R: Output + Threads + Wait + Sync> Host for R {}
 
 /// The work of the workers of a table, once their rows are there.
 #[derive(Clone, Copy)]
@@ -25,7 +32,7 @@ pub enum Work {
 }
 
 /// The work at the end.
-#[derive(Clone, Copy, PartialEq, Eq)]
+#[derive(Clone, Copy)]
 pub enum End {
     Gather,
     Leave,
@@ -40,19 +47,35 @@ pub struct Run {
     pub end: End,
 }
 
+/// Why a run ended early.
+#[derive(Drop)]
+pub enum Failure {
+    Refused(Refusal),
+    Unwritten(io::Error),
+}
+
+pub type Told = Result<(), Failure>;
+
+impl From<Refusal> for Failure {
+    fn from(refusal: Refusal) -> Failure {
+        Failure::Refused(refusal)
+    }
+}
+
+impl From<io::Error> for Failure {
+    fn from(error: io::Error) -> Failure {
+        Failure::Unwritten(error)
+    }
+}
+
 /// Writes how long a part took.
-pub fn report<R: Host>(rt: &R, name: &str, since: Instant) -> anyhow::Result<()> {
+pub fn report<R: Output>(rt: &R, name: &str, since: Instant) -> io::Result<()> {
     let nanoseconds = since.elapsed(rt)?.as_nanos();
-    eprintln!(rt; "{name} {nanoseconds}")?;
-    Ok(())
+    eprintln!(rt; "{name} {nanoseconds}")
 }
 
 /// Loads the rows of a pool, and has its workers carry out the run.
-pub fn measure<R: Host, A: Works + Send + Drop>(
-    rt: &R,
-    pool: &mut Pool<A>,
-    run: Run,
-) -> anyhow::Result<()> {
+pub fn measure<R: Host, A: Works + Send + Drop>(rt: &R, pool: &mut Pool<A>, run: Run) -> Told {
     let start = Instant::now(rt)?;
     pool.load(run.rows)?;
     report(rt, "load", start)?;
@@ -70,24 +93,20 @@ fn measure_threads<R: Host, A: Works + Send + Drop>(
     pool: &mut Pool<A>,
     plan: Plan,
     steps: u32,
-) -> anyhow::Result<()> {
+) -> Told {
     let everything = pool.count_all()?;
     println!(rt; "rows {everything}")?;
     let start = Instant::now(rt)?;
     pool.work(rt, rt.alloc(), steps)?;
     report(rt, "work", start)?;
     let told = pool.told()?;
-    if plan.sharing == Sharing::Own {
+    if matches!(plan.sharing, Sharing::Own) {
         println!(rt; "sums {told}")?;
     }
     Ok(())
 }
 
-fn measure_in_turn<R: Host, A: Works + Drop>(
-    rt: &R,
-    pool: &mut Pool<A>,
-    steps: u32,
-) -> anyhow::Result<()> {
+fn measure_in_turn<R: Output, A: Works + Drop>(rt: &R, pool: &mut Pool<A>, steps: u32) -> Told {
     let everything = pool.count_all()?;
     let start = Instant::now(rt)?;
     pool.work_in_turn(steps);
@@ -98,9 +117,8 @@ fn measure_in_turn<R: Host, A: Works + Drop>(
 }
 
 /// Writes the totals of gathered workers, and how long the gathering took.
-pub fn print_totals<R: Host>(rt: &R, start: Instant, totals: [u64; 4]) -> anyhow::Result<()> {
+pub fn print_totals<R: Output>(rt: &R, start: Instant, totals: [u64; 4]) -> io::Result<()> {
     report(rt, "gather", start)?;
     let [accepted, inserted, deleted, held] = totals;
-    println!(rt; "accepted {accepted} inserted {inserted} deleted {deleted} held {held}")?;
-    Ok(())
+    println!(rt; "accepted {accepted} inserted {inserted} deleted {deleted} held {held}")
 }

@@ -101,7 +101,10 @@ impl Mix {
     /// A row for the one that was deleted.
     fn replace<A: Asks>(&mut self, asked: &mut A, at: Option<usize>) -> Result<(), Refusal> {
         let placed = self.insert(asked)?;
-        if let Some(row) = at.and_then(|at| self.rows.get_mut(at)) {
+        let Some(at) = at else {
+            return Ok(());
+        };
+        if let Some(row) = self.rows.get_mut(at) {
             *row = placed;
         }
         Ok(())

@@ -3,7 +3,7 @@
 use crate::mix::{Asks, Mix, PART_WIDTH, Parts, count_all, lowest_key};
 use crack_part::Partition;
 use crack_row::{Bound, BoundNumber, Command, GREATEST_LIMIT, KeyRange, Policy, Refusal, Reply};
-use std::alloc::{AllocError, Global};
+use std::alloc::Global;
 use std::sync::Wait;
 use std::thread::Threads;
 use std::{mem, thread};
@@ -18,7 +18,7 @@ const APART: u32 = 50000000;
 pub const POLICY: Policy = Policy::Gradual;
 
 /// Which partitions each worker asks.
-#[derive(Clone, Copy, PartialEq, Eq, Debug, Drop)]
+#[derive(Clone, Copy, Drop)]
 pub enum Sharing {
     /// Some that no other asks.
     Own,
@@ -90,6 +90,8 @@ impl<A: Asks> Hand<A> {
 #[derive(Drop)]
 pub struct Pool<A> {
     pub hands: Vec<Hand<A>>,
+    /// The number of the next worker.
+    next: u32,
     plan: Plan,
 }
 
@@ -98,15 +100,17 @@ impl<A: Works + Drop> Pool<A> {
     pub fn new(alloc: Global, plan: Plan) -> Pool<A> {
         Pool {
             hands: Vec::new(alloc),
+            next: 0,
             plan,
         }
     }
 
-    /// Adds the worker with this number.
-    pub fn add(&mut self, alloc: Global, number: u32, worker: A) -> Result<(), AllocError> {
-        let mix = self.plan.mix(alloc, number);
+    /// Adds the worker with the next number.
+    pub fn add(&mut self, alloc: Global, worker: A) -> Result<(), Refusal> {
+        let mix = self.plan.mix(alloc, self.next);
         let told = Ok(0);
         self.hands.push(Hand { worker, mix, told })?;
+        self.next = self.next.wrapping_add(1);
         Ok(())
     }
 
@@ -161,7 +165,7 @@ impl<A: Works + Send + Drop> Pool<A> {
         rt: &R,
         alloc: Global,
         steps: u32,
-    ) -> Result<(), AllocError> {
+    ) -> Result<(), Refusal> {
         let hands = mem::replace(&mut self.hands, Vec::new(alloc));
         self.hands = thread::map_vec(rt, hands, &|hand| hand.worked(steps))?;
         Ok(())
@@ -169,10 +173,12 @@ impl<A: Works + Send + Drop> Pool<A> {
 }
 
 /// Where the partitions meet.
-pub fn splits(alloc: Global, parts: u32) -> Result<Vec<Bound>, AllocError> {
-    (1..parts)
-        .map(|part| Bound::from_number(BoundNumber::from(lowest_key(part))))
-        .collect(alloc)
+pub fn splits(alloc: Global, parts: u32) -> Result<Vec<Bound>, Refusal> {
+    let mut splits = Vec::new(alloc);
+    'parts: for part in 1..parts {
+        splits.push(Bound::from_number(BoundNumber::from(lowest_key(part))))?;
+    }
+    Ok(splits)
 }
 
 /// Partitions that are asked directly: no lock, and no receipt.

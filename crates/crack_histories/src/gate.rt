@@ -30,10 +30,10 @@ impl Restless {
     }
 
     /// Waits, not forever, until this many threads have come here.
-    pub fn begin_together(&self, threads: u32) {
+    pub fn begin_together(&self, threads: u64) {
         self.begun.fetch_add(1, Ordering::SeqCst);
         'others: for _ in 0..PATIENCE {
-            if self.begun.load(Ordering::SeqCst) >= threads {
+            if u64::from(self.begun.load(Ordering::SeqCst)) >= threads {
                 break;
             }
             thread::yield_now();

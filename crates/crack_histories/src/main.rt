@@ -16,7 +16,9 @@ mod pool;
 mod texts;
 
 use crack_row::{Limits, Policy, Refusal, Upkeep, Watched};
-use pool::{Plan, Pool, write_closed};
+use crack_table::Table;
+use draws::splits;
+use pool::{Plan, ask_and_write, gather_and_write};
 use std::alloc::Global;
 use std::io::{BufWriter, Write};
 use std::sync::Wait;
@@ -40,49 +42,63 @@ fn policy_of(name: &str) -> anyhow::Result<Policy> {
 
 fn plan_of(words: &[&str]) -> anyhow::Result<Plan> {
     match words {
-        [_, seed, workers, statements, policy, limit, cells, life] => Ok(Plan {
-            seed: seed.parse()?,
-            workers: workers.parse()?,
-            statements: statements.parse()?,
-            policy: policy_of(policy)?,
-            limits: Limits {
-                history: limit.parse()?,
-                cells: cells.parse()?,
-                life: life.parse()?,
-                upkeep: Upkeep::OnRequest,
-            },
-        }),
+        [_, seed, workers, statements, policy, limit, cells, life] => {
+            let numbers = [*seed, *workers, *statements, *limit, *cells, *life];
+            Ok(planned(policy_of(policy)?, numbers_of(&numbers)?))
+        }
         _ => Err(anyhow::anyhow!("SEED WORKERS STATEMENTS POLICY LIMIT CELLS LIFE")),
     }
 }
 
-/// Has the workers ask, and writes their replies and the histories.
-fn run<R: Host, W: Write>(rt: &R, plan: Plan, writer: &mut Watched<W>) -> Result<(), Refusal> {
-    let mut pool = Pool::open(rt.alloc(), plan)?;
-    if let Err(error) = work(rt, plan, &mut pool, writer) {
-        drop(pool);
-        return Err(error);
+fn planned(policy: Policy, numbers: [u64; 6]) -> Plan {
+    let [seed, workers, statements, history, cells, life] = numbers;
+    let limits = Limits {
+        history,
+        cells,
+        life,
+        upkeep: Upkeep::OnRequest,
+    };
+    Plan {
+        seed,
+        workers,
+        statements,
+        policy,
+        limits,
     }
-    let closed = pool.gather(rt.alloc())?;
-    let written = write_closed(&closed, writer);
-    drop(closed);
-    written
 }
 
-fn work<R: Host, W: Write>(
-    rt: &R,
-    plan: Plan,
-    pool: &mut Pool,
-    writer: &mut Watched<W>,
-) -> Result<(), Refusal> {
-    pool.work(rt, rt.alloc(), plan)?;
-    pool.write(writer)
+fn numbers_of(words: &[&str; 6]) -> anyhow::Result<[u64; 6]> {
+    let mut numbers = [0; 6];
+    'words: for place in 0..6 {
+        numbers[place] = words[place].parse()?;
+    }
+    Ok(numbers)
+}
+
+/// Has the workers ask, and writes their replies and the histories.
+fn run<R: Host, W: Write>(rt: &R, plan: Plan, writer: &mut Watched<W>) -> Result<(), Refusal> {
+    let alloc = rt.alloc();
+    let (table, workers) = Table::open_with(alloc, &splits(), plan.limits, plan.workers)?;
+    let mut left = Vec::new(alloc);
+    match ask_and_write(rt, alloc, plan, &table, workers, &mut left, writer) {
+        Ok(()) => gather_and_write(alloc, table, left, writer),
+        Err(refusal) => {
+            drop(left);
+            drop(table);
+            Err(refusal)
+        }
+    }
+}
+
+/// The parameters that the command line has.
+fn plan(rt: &HostRuntime) -> anyhow::Result<Plan> {
+    let words: Vec<String> = env::args(rt)?.collect(rt.alloc())?;
+    let words: Vec<&str> = words.iter().map(|it| it.as_str()).collect(rt.alloc())?;
+    plan_of(words.as_slice())
 }
 
 fn main(rt: HostRuntime) -> anyhow::Result<()> {
-    let words: Vec<String> = env::args(&rt)?.collect(rt.alloc())?;
-    let words: Vec<&str> = words.iter().map(|it| it.as_str()).collect(rt.alloc())?;
-    let plan = plan_of(words.as_slice())?;
+    let plan = plan(&rt)?;
     let mut writer = Watched::new(BufWriter::new(rt.alloc(), rt.stdout())?);
     run(&rt, plan, &mut writer)?;
     Ok(())

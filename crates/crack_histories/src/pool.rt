@@ -1,6 +1,6 @@
 //! A table with its workers, each on a thread of its own.
 
-use crate::draws::{Asked, Draws, Question, splits};
+use crate::draws::{Asked, Draws, Question};
 use crate::gate::Restless;
 use crate::texts::{
     write_answer, write_base, write_checkpoint, write_entry, write_receipt, written,
@@ -19,9 +19,9 @@ use std::{mem, thread};
 #[derive(Clone, Copy)]
 pub struct Plan {
     pub seed: u64,
-    pub workers: u32,
+    pub workers: u64,
     /// How many commands and checkpoints each worker asks for.
-    pub statements: u32,
+    pub statements: u64,
     pub policy: Policy,
     /// The limits of each partition.
     pub limits: Limits,
@@ -103,82 +103,95 @@ impl Hand {
     }
 }
 
-/// A table with its workers.
-#[derive(Drop)]
-pub struct Pool {
-    table: Table,
-    hands: Vec<Hand>,
-}
-
-impl Pool {
-    pub fn open(alloc: Global, plan: Plan) -> Result<Pool, Refusal> {
-        let (table, workers) = Table::open_with(
-            alloc,
-            &splits(),
-            plan.limits,
-            u64::from(plan.workers),
-        )?;
-        let hands = hands_of(alloc, plan.seed, workers)?;
-        Ok(Pool { table, hands })
-    }
-
-    /// Has each worker ask, on threads of their own. Without memory no worker is left.
-    pub fn work<R: Threads + Wait + Sync>(
-        &mut self,
-        rt: &R,
-        alloc: Global,
-        plan: Plan,
-    ) -> Result<(), AllocError> {
-        let hands = mem::replace(&mut self.hands, Vec::new(alloc));
-        let gate = Restless::new();
-        let (table, shared) = (&self.table, &gate);
-        self.hands = thread::map_vec(rt, hands, &|hand| hand.worked(rt, table, shared, plan))?;
-        Ok(())
-    }
-
-    /// Writes the questions and answers of the workers, one worker after the other.
-    pub fn write<W: Write>(&self, writer: &mut Watched<W>) -> Result<(), Refusal> {
-        'hands: for hand in self.hands.iter() {
-            hand.write(writer)?;
-        }
-        Ok(())
-    }
-
-    /// The workers and their histories, once they agree.
-    pub fn gather(self, alloc: Global) -> Result<Closed, Refusal> {
-        let Pool { table, hands } = self;
-        let workers = workers_of(alloc, hands)?;
-        match gather(alloc, table, workers) {
-            Ok(closed) => Ok(closed),
-            Err(refused) => {
-                let refusal = refused.refusal;
-                drop(refused);
-                Err(refusal)
-            }
-        }
-    }
-}
-
-/// The workers, with their questions.
-fn hands_of(alloc: Global, seed: u64, workers: Vec<Worker>) -> Result<Vec<Hand>, AllocError> {
+/// Has the workers ask, and writes their questions and answers. Then they are added to `left`.
+pub fn ask_and_write<R: Threads + Wait + Sync, W: Write>(
+    rt: &R,
+    alloc: Global,
+    plan: Plan,
+    table: &Table,
+    workers: Vec<Worker>,
+    left: &mut Vec<Worker>,
+    writer: &mut Watched<W>,
+) -> Result<(), Refusal> {
     let mut hands = Vec::new(alloc);
-    'workers: for worker in workers {
-        hands.push(Hand::new(alloc, seed, worker))?;
+    match work(rt, alloc, plan, table, workers, &mut hands, writer) {
+        Ok(()) => Ok(leave(hands, left)?),
+        Err(refusal) => {
+            drop(hands);
+            Err(refusal)
+        }
     }
-    Ok(hands)
 }
 
-/// The workers alone.
-fn workers_of(alloc: Global, hands: Vec<Hand>) -> Result<Vec<Worker>, AllocError> {
-    let mut workers = Vec::new(alloc);
-    'hands: for hand in hands {
-        workers.push(hand.worker)?;
+fn work<R: Threads + Wait + Sync, W: Write>(
+    rt: &R,
+    alloc: Global,
+    plan: Plan,
+    table: &Table,
+    workers: Vec<Worker>,
+    hands: &mut Vec<Hand>,
+    writer: &mut Watched<W>,
+) -> Result<(), Refusal> {
+    'workers: for worker in workers {
+        hands.push(Hand::new(alloc, plan.seed, worker))?;
     }
-    Ok(workers)
+    ask_all(rt, alloc, plan, table, hands)?;
+    write_hands(hands, writer)
+}
+
+/// Has each worker ask, on threads of their own. Without memory no worker is left.
+fn ask_all<R: Threads + Wait + Sync>(
+    rt: &R,
+    alloc: Global,
+    plan: Plan,
+    table: &Table,
+    hands: &mut Vec<Hand>,
+) -> Result<(), AllocError> {
+    let idle = mem::replace(hands, Vec::new(alloc));
+    let gate = Restless::new();
+    let shared = &gate;
+    *hands = thread::map_vec(rt, idle, &|hand| hand.worked(rt, table, shared, plan))?;
+    Ok(())
+}
+
+/// Writes the questions and answers of the workers, one worker after the other.
+fn write_hands<W: Write>(hands: &[Hand], writer: &mut Watched<W>) -> Result<(), Refusal> {
+    'hands: for hand in hands {
+        hand.write(writer)?;
+    }
+    Ok(())
+}
+
+fn leave(hands: Vec<Hand>, left: &mut Vec<Worker>) -> Result<(), AllocError> {
+    'hands: for hand in hands {
+        left.push(hand.worker)?;
+    }
+    Ok(())
+}
+
+/// Gathers the workers, and writes the histories. Refused as the gathering is.
+pub fn gather_and_write<W: Write>(
+    alloc: Global,
+    table: Table,
+    workers: Vec<Worker>,
+    writer: &mut Watched<W>,
+) -> Result<(), Refusal> {
+    match gather(alloc, table, workers) {
+        Ok(closed) => {
+            let written = write_closed(&closed, writer);
+            drop(closed);
+            written
+        }
+        Err(refused) => {
+            let refusal = refused.refusal;
+            drop(refused);
+            Err(refusal)
+        }
+    }
 }
 
 /// Writes the histories, one partition after the other, and the totals.
-pub fn write_closed<W: Write>(closed: &Closed, writer: &mut Watched<W>) -> Result<(), Refusal> {
+fn write_closed<W: Write>(closed: &Closed, writer: &mut Watched<W>) -> Result<(), Refusal> {
     let mut part = 0u32;
     'parts: for partition in closed.parts.iter() {
         write_history(part, partition, writer)?;

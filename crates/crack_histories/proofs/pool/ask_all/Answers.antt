@@ -1,7 +1,7 @@
 use denote.Param.Send.{sendable}
 use Rattle.std.proofs.Crossing.{crosses}
 use Rattle.crack_table.proofs.Crosses.{table-sync}
-use Rattle.crack_histories.proofs.pool.Pool.work.Goals as goal
+use Rattle.crack_histories.proofs.pool.ask_all.Goals as goal
 
 pub map_vec-requires-sync-F : goal.map_vec-requires-sync-F
 map_vec-requires-sync-F g c κs within =

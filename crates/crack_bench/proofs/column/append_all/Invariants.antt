@@ -1,6 +1,6 @@
 use Rattle.std.proofs.Common.{◌+◌, ◌≤◌}
 use Rattle.crack_arena.specs.Memories.{Remembers}
-use Rattle.crack_bench.proofs.column.column_of.Given as goal
+use Rattle.crack_bench.proofs.column.append_all.Given as goal
 
 -- each handle that is left has room, and what is remembered is right
 abbrev pub invariant-handles : goal.invariant-handles
