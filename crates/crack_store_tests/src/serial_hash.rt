@@ -2,9 +2,6 @@
 //! apart.
 ghost use Rattle.std.specs.Prelude.{◌<◌};
 
-use crate::store::admit;
-use crack_row::{KeyNumber, KeyRange, Serial};
-use crack_store::Store;
 use crack_store::serial_hash::SerialHashing;
 use std::alloc::Global;
 use std::hash::BuildHasher;
@@ -72,26 +69,4 @@ fn rows_kept_far_apart_do_not_pile_up(rt: HostRuntime) {
     let large = most_in_one(&rt, rt.alloc(), 131072, 8192, 123);
     let small = most_in_one(&rt, rt.alloc(), 512, 8192, 123);
     assert_eq!(rt; [large, small], [1, 1]);
-}
-
-/// Asserts that a row with this serial is there, with this key.
-fn assert_there(rt: &impl Abort, store: &Store, serial: u64, key: KeyNumber) {
-    let row = store.row_of(Serial(serial)).expect(rt, "the row");
-    assert!(rt; row.key.number() == key);
-}
-
-/// Rows whose serials are far apart are found by them, and none between them.
-#[test]
-fn rows_kept_far_apart_are_found(rt: HostRuntime) {
-    let mut store = Store::new(rt.alloc(), KeyRange::all());
-    admit(&rt, &mut store, 0, 10);
-    admit(&rt, &mut store, 8192, 20);
-    admit(&rt, &mut store, 999424, 30);
-    admit(&rt, &mut store, u64::MAX, 40);
-    assert_there(&rt, &store, 0, 10);
-    assert_there(&rt, &store, 8192, 20);
-    assert_there(&rt, &store, 999424, 30);
-    assert_there(&rt, &store, u64::MAX, 40);
-    assert!(rt; store.row_of(Serial(4096)).is_none());
-    drop(store);
 }

@@ -1,7 +1,10 @@
 use Rattle.std.proofs.Common.{◌≡◌}
 use Rattle.crack_row.specs.declared.TheConstants.{GREATEST_BOUND}
-use Rattle.crack_merge_tests.proofs.carried.insert_some.Given as goal
+use Rattle.crack_store_tests.proofs.bulk.some_store.Given as goal
 
 -- it has all keys
 abbrev pub invariant-rows : goal.invariant-rows
 invariant-rows g l = record { low : l.store.keys.low ≡ 0; high : l.store.keys.high ≡ GREATEST_BOUND }
+
+abbrev pub invariant-cracks : goal.invariant-cracks
+invariant-cracks g l = record { low : l.store.keys.low ≡ 0; high : l.store.keys.high ≡ GREATEST_BOUND }

@@ -1,6 +1,6 @@
 use Rattle.std.proofs.Common.{◌≡◌}
 use Rattle.crack_row.specs.declared.TheConstants.{GREATEST_BOUND}
-use Rattle.crack_merge_tests.proofs.filled.insert_apart.Given as goal
+use Rattle.crack_store_tests.proofs.carried.doom_some.Given as goal
 
 -- it has all keys
 abbrev pub invariant-rows : goal.invariant-rows
