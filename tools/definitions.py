@@ -21,6 +21,8 @@ FIELD = re.compile(rf"(?m)^\s+(?:pub )?({NAME}) : ")
 BINDERS = re.compile(r"λ\s*((?:[^().]|\([^()]*\))*?)\.(?=\s|$)")
 TYPED = re.compile(r"[({]([^(){}:≡=]+?) : ")
 LET = re.compile(rf"\blet ({NAME}) ")
+# a quoted part, or a comment
+PASSED_OVER = re.compile(r'(?m)"(?:\\.|[^"\\\n])*"|(?:--|//).*$')
 ASSIGNED = re.compile(r"(?m)(?:[{;]|^)\s*(\w+) =(?=\s)")
 
 
@@ -69,7 +71,7 @@ def used(line):
 
 def plain(text):
     """A text without comments and quoted parts."""
-    return re.sub(r'"[^"\n]*"', '""', re.sub(r"(?m)(?:--|//).*$", "", text))
+    return PASSED_OVER.sub(lambda it: '""' if it[0].startswith('"') else "", text)
 
 
 def bound_in(text):
