@@ -57,9 +57,7 @@ pub fn parse_statement(line: &[u8]) -> Result<Statement, Refusal>
 fn parse_named(name: &[u8], rest: &[u8]) -> Result<Statement, Refusal>
     ensures { result ≡ named name.now (words rest.now) }
 {
-    if name == b"insert".as_slice() {
-        parse_insert(rest)
-    } else if name == b"delete".as_slice() {
+    if name == b"delete".as_slice() {
         parse_delete(rest)
     } else if name == b"update".as_slice() {
         parse_update(rest)
@@ -77,6 +75,8 @@ fn parse_named(name: &[u8], rest: &[u8]) -> Result<Statement, Refusal>
         parse_policy(rest)
     } else if name == b"quit".as_slice() {
         parse_quit(rest)
+    } else if name == b"insert".as_slice() {
+        parse_insert(rest)
     } else {
         Err(Refusal::BadStatement)
     }
