@@ -1,5 +1,5 @@
 -- The statements.
-use Rattle.std.specs.Prelude.{ℕ, ◌+◌, ◌-◌, ◌*◌, ℤ, pos, neg_ℤ, int_le, Bool, true, false, List, [], ◌∷◌, length, drop, fold, filter, Option, None, Some, Result, Ok, Err, ◌==◌, ◌&&◌, not, nat_lt, nat_le, if◌then◌else◌, codes, slice_index, slice_index_or}
+use Rattle.std.specs.Prelude.{ℕ, ◌+◌, ◌-◌, ◌*◌, ℤ, pos, neg_ℤ, int_le, Bool, List, [], ◌∷◌, length, drop, fold, filter, Option, None, Some, Result, Ok, Err, ◌==◌, ◌&&◌, not, nat_lt, nat_le, if◌then◌else◌, codes, slice_index, slice_index_or}
 use Rattle.std.specs.Str.{bytes_eq}
 use Rattle.std.specs.List.{list_all, slice_split, before_first, after_first}
 use Rattle.std.specs.Option.{option_zip, option_and_then, option_map, option_map_or, ok_or}

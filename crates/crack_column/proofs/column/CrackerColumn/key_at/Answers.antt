@@ -1,8 +1,6 @@
-use Rattle.std.proofs.Common.{◌≡◌, ◌<◌, get_or, sym, ap, ◌∙◌, arith}
+use Rattle.std.proofs.Common.{◌<◌, arith}
 use Rattle.crack_arena.specs.Arena.{no_handle}
-use Rattle.crack_arena.specs.Rows.{key_at}
 use Rattle.crack_arena.specs.Memories.{nothing}
-use Rattle.crack_column.specs.Inside.{no_tag}
 use Rattle.crack_column.proofs.TicketLaws.{length-in, handle_in, memory_in}
 use Rattle.crack_column.proofs.column.CrackerColumn.key_at.Goals as goal
 
