@@ -1,228 +1,239 @@
 //! Partitions whose rows are deleted, changed, added up and listed, and the layout after a merge.
-use crate::part::assert_partition;
-use crate::script::Script;
-use crack_row::GREATEST_BOUND;
-use std::alloc::Global;
-use std::process::Abort;
+use crate::part::{ALL, Case, assert_case};
 
-/// Asserts the answers of a partition of all keys, and how many commands it accepted.
-fn assert_script(rt: &impl Abort, alloc: Global, script: Script, accepted: u64) {
-    assert_partition(rt, alloc, [0, GREATEST_BOUND], 1000, script, accepted);
-}
-
-#[test]
-fn a_pull_through_two_bounds(rt: HostRuntime) {
-    const SCRIPT: Script = &[
-        ("policy gradual", "policy gradual"),
-        ("insert 10 10", "row 0.0"),
-        ("insert 20 20", "row 0.1"),
-        ("insert 30 30", "row 0.2"),
-        ("count 0 18446744073709551616", "count 3"),
-        ("count 15 25", "count 1"),
-        ("delete 0.0", "gone 10 10"),
-        ("count 0 15", "count 0"),
-        (
-            "layout 0",
-            "layout 0 rows 2 column 2 out 0 in 0 cells 3 free 1 pieces 3\n\
+const CASES: &[Case] = &[
+    Case {
+        name: "a pull through two bounds",
+        keys: ALL,
+        limit: 1000,
+        script: &[
+            ("policy gradual", "policy gradual"),
+            ("insert 10 10", "row 0.0"),
+            ("insert 20 20", "row 0.1"),
+            ("insert 30 30", "row 0.2"),
+            ("count 0 18446744073709551616", "count 3"),
+            ("count 15 25", "count 1"),
+            ("delete 0.0", "gone 10 10"),
+            ("count 0 15", "count 0"),
+            (
+                "layout 0",
+                "layout 0 rows 2 column 2 out 0 in 0 cells 3 free 1 pieces 3\n\
             piece 0 15 0\npiece 15 25 1\npiece 25 18446744073709551616 1",
-        ),
-    ];
-    assert_script(&rt, rt.alloc(), SCRIPT, 7);
-}
-
-/// The doomed row that is carried on stays doomed.
-#[test]
-fn a_gradual_pull_past_a_doomed_row(rt: HostRuntime) {
-    const SCRIPT: Script = &[
-        ("policy gradual", "policy gradual"),
-        ("insert 10 10", "row 0.0"),
-        ("insert 20 20", "row 0.1"),
-        ("insert 30 30", "row 0.2"),
-        ("count 0 18446744073709551616", "count 3"),
-        ("count 15 25", "count 1"),
-        ("delete 0.0", "gone 10 10"),
-        ("delete 0.2", "gone 30 30"),
-        ("count 0 15", "count 0"),
-        (
-            "layout 0",
-            "layout 0 rows 1 column 2 out 1 in 0 cells 3 free 1 pieces 3\n\
+            ),
+        ],
+        accepted: 7,
+    },
+    // The doomed row that is carried on stays doomed.
+    Case {
+        name: "a gradual pull past a doomed row",
+        keys: ALL,
+        limit: 1000,
+        script: &[
+            ("policy gradual", "policy gradual"),
+            ("insert 10 10", "row 0.0"),
+            ("insert 20 20", "row 0.1"),
+            ("insert 30 30", "row 0.2"),
+            ("count 0 18446744073709551616", "count 3"),
+            ("count 15 25", "count 1"),
+            ("delete 0.0", "gone 10 10"),
+            ("delete 0.2", "gone 30 30"),
+            ("count 0 15", "count 0"),
+            (
+                "layout 0",
+                "layout 0 rows 1 column 2 out 1 in 0 cells 3 free 1 pieces 3\n\
             piece 0 15 0\npiece 15 25 1\npiece 25 18446744073709551616 1",
-        ),
-    ];
-    assert_script(&rt, rt.alloc(), SCRIPT, 8);
-}
-
-#[test]
-fn a_complete_merge_takes_all_out(rt: HostRuntime) {
-    const SCRIPT: Script = &[
-        ("policy gradual", "policy gradual"),
-        ("insert 10 10", "row 0.0"),
-        ("insert 20 20", "row 0.1"),
-        ("insert 30 30", "row 0.2"),
-        ("count 0 18446744073709551616", "count 3"),
-        ("count 15 25", "count 1"),
-        ("delete 0.0", "gone 10 10"),
-        ("delete 0.2", "gone 30 30"),
-        ("policy complete", "policy complete"),
-        ("count 0 15", "count 0"),
-        (
-            "layout 0",
-            "layout 0 rows 1 column 1 out 0 in 0 cells 3 free 2 pieces 3\n\
+            ),
+        ],
+        accepted: 8,
+    },
+    Case {
+        name: "a complete merge takes all out",
+        keys: ALL,
+        limit: 1000,
+        script: &[
+            ("policy gradual", "policy gradual"),
+            ("insert 10 10", "row 0.0"),
+            ("insert 20 20", "row 0.1"),
+            ("insert 30 30", "row 0.2"),
+            ("count 0 18446744073709551616", "count 3"),
+            ("count 15 25", "count 1"),
+            ("delete 0.0", "gone 10 10"),
+            ("delete 0.2", "gone 30 30"),
+            ("policy complete", "policy complete"),
+            ("count 0 15", "count 0"),
+            (
+                "layout 0",
+                "layout 0 rows 1 column 1 out 0 in 0 cells 3 free 2 pieces 3\n\
             piece 0 15 0\npiece 15 25 1\npiece 25 18446744073709551616 0",
-        ),
-    ];
-    assert_script(&rt, rt.alloc(), SCRIPT, 8);
-}
-
-/// A doomed row that is in the way is buried, and its cell is used again.
-#[test]
-fn a_doomed_row_in_the_way(rt: HostRuntime) {
-    const SCRIPT: Script = &[
-        ("policy gradual", "policy gradual"),
-        ("insert 10 10", "row 0.0"),
-        ("insert 20 20", "row 0.1"),
-        ("insert 30 30", "row 0.2"),
-        ("count 0 18446744073709551616", "count 3"),
-        ("count 15 25", "count 1"),
-        ("delete 0.2", "gone 30 30"),
-        ("insert 17 17", "row 0.3"),
-        ("count 15 25", "count 2"),
-        (
-            "layout 0",
-            "layout 0 rows 3 column 3 out 0 in 0 cells 4 free 1 pieces 3\n\
+            ),
+        ],
+        accepted: 8,
+    },
+    // A doomed row that is in the way is buried, and its cell is used again.
+    Case {
+        name: "a doomed row in the way",
+        keys: ALL,
+        limit: 1000,
+        script: &[
+            ("policy gradual", "policy gradual"),
+            ("insert 10 10", "row 0.0"),
+            ("insert 20 20", "row 0.1"),
+            ("insert 30 30", "row 0.2"),
+            ("count 0 18446744073709551616", "count 3"),
+            ("count 15 25", "count 1"),
+            ("delete 0.2", "gone 30 30"),
+            ("insert 17 17", "row 0.3"),
+            ("count 15 25", "count 2"),
+            (
+                "layout 0",
+                "layout 0 rows 3 column 3 out 0 in 0 cells 4 free 1 pieces 3\n\
             piece 0 15 1\npiece 15 25 2\npiece 25 18446744073709551616 0",
-        ),
-        ("insert 99 99", "row 0.4"),
-        (
-            "layout 0",
-            "layout 0 rows 4 column 3 out 0 in 1 cells 4 free 0 pieces 3\n\
+            ),
+            ("insert 99 99", "row 0.4"),
+            (
+                "layout 0",
+                "layout 0 rows 4 column 3 out 0 in 1 cells 4 free 0 pieces 3\n\
             piece 0 15 1\npiece 15 25 2\npiece 25 18446744073709551616 0",
-        ),
-    ];
-    assert_script(&rt, rt.alloc(), SCRIPT, 9);
-}
-
-/// The rows outside the range stay pending.
-#[test]
-fn a_gradual_merge(rt: HostRuntime) {
-    const SCRIPT: Script = &[
-        ("policy gradual", "policy gradual"),
-        ("insert 10 10", "row 0.0"),
-        ("insert 20 20", "row 0.1"),
-        ("insert 30 30", "row 0.2"),
-        ("insert 40 40", "row 0.3"),
-        ("count 0 18446744073709551616", "count 4"),
-        ("insert 17 17", "row 0.4"),
-        ("insert 90 90", "row 0.5"),
-        ("count 15 25", "count 2"),
-        (
-            "layout 0",
-            "layout 0 rows 6 column 5 out 0 in 1 cells 6 free 0 pieces 3\n\
+            ),
+        ],
+        accepted: 9,
+    },
+    // The rows outside the range stay pending.
+    Case {
+        name: "a gradual merge",
+        keys: ALL,
+        limit: 1000,
+        script: &[
+            ("policy gradual", "policy gradual"),
+            ("insert 10 10", "row 0.0"),
+            ("insert 20 20", "row 0.1"),
+            ("insert 30 30", "row 0.2"),
+            ("insert 40 40", "row 0.3"),
+            ("count 0 18446744073709551616", "count 4"),
+            ("insert 17 17", "row 0.4"),
+            ("insert 90 90", "row 0.5"),
+            ("count 15 25", "count 2"),
+            (
+                "layout 0",
+                "layout 0 rows 6 column 5 out 0 in 1 cells 6 free 0 pieces 3\n\
             piece 0 15 1\npiece 15 25 2\npiece 25 18446744073709551616 2",
-        ),
-    ];
-    assert_script(&rt, rt.alloc(), SCRIPT, 8);
-}
-
-/// Rows are pending until a count needs one of them; then all are merged, and no row is missing on the way.
-#[test]
-fn partition_cracks_and_merges(rt: HostRuntime) {
-    const SCRIPT: Script = &[
-        ("policy gradual", "policy gradual"),
-        ("insert 10 10", "row 0.0"),
-        ("insert 20 20", "row 0.1"),
-        ("insert 30 30", "row 0.2"),
-        ("insert 40 40", "row 0.3"),
-        (
-            "layout 0",
-            "layout 0 rows 4 column 0 out 0 in 4 cells 4 free 0 pieces 1\npiece 0 18446744073709551616 0",
-        ),
-        ("policy complete", "policy complete"),
-        ("count 0 18446744073709551616", "count 4"),
-        ("count 15 25", "count 1"),
-        ("policy gradual", "policy gradual"),
-        ("insert 17 17", "row 0.4"),
-        ("insert 90 90", "row 0.5"),
-        (
-            "layout 0",
-            "layout 0 rows 6 column 4 out 0 in 2 cells 6 free 0 pieces 3\n\
+            ),
+        ],
+        accepted: 8,
+    },
+    // Rows are pending until a count needs one of them; then all are merged, and no row is missing on the way.
+    Case {
+        name: "partition cracks and merges",
+        keys: ALL,
+        limit: 1000,
+        script: &[
+            ("policy gradual", "policy gradual"),
+            ("insert 10 10", "row 0.0"),
+            ("insert 20 20", "row 0.1"),
+            ("insert 30 30", "row 0.2"),
+            ("insert 40 40", "row 0.3"),
+            (
+                "layout 0",
+                "layout 0 rows 4 column 0 out 0 in 4 cells 4 free 0 pieces 1\npiece 0 18446744073709551616 0",
+            ),
+            ("policy complete", "policy complete"),
+            ("count 0 18446744073709551616", "count 4"),
+            ("count 15 25", "count 1"),
+            ("policy gradual", "policy gradual"),
+            ("insert 17 17", "row 0.4"),
+            ("insert 90 90", "row 0.5"),
+            (
+                "layout 0",
+                "layout 0 rows 6 column 4 out 0 in 2 cells 6 free 0 pieces 3\n\
             piece 0 15 1\npiece 15 25 1\npiece 25 18446744073709551616 2",
-        ),
-        ("policy complete", "policy complete"),
-        ("count 15 25", "count 2"),
-        (
-            "layout 0",
-            "layout 0 rows 6 column 6 out 0 in 0 cells 6 free 0 pieces 3\n\
+            ),
+            ("policy complete", "policy complete"),
+            ("count 15 25", "count 2"),
+            (
+                "layout 0",
+                "layout 0 rows 6 column 6 out 0 in 0 cells 6 free 0 pieces 3\n\
             piece 0 15 1\npiece 15 25 2\npiece 25 18446744073709551616 3",
-        ),
-    ];
-    assert_script(&rt, rt.alloc(), SCRIPT, 9);
-}
+            ),
+        ],
+        accepted: 9,
+    },
+    // A pending row is removed immediately; a delete that finds no row is kept.
+    Case {
+        name: "a row is deleted twice",
+        keys: ALL,
+        limit: 1000,
+        script: &[
+            ("policy gradual", "policy gradual"),
+            ("insert 7 7", "row 0.0"),
+            ("delete 0.0", "gone 7 7"),
+            ("delete 0.0", "none"),
+            (
+                "layout 0",
+                "layout 0 rows 0 column 0 out 0 in 0 cells 1 free 1 pieces 1\npiece 0 18446744073709551616 0",
+            ),
+        ],
+        accepted: 3,
+    },
+    // A pending row is written in place, one of the column again: it keeps its serial.
+    Case {
+        name: "a row is updated twice",
+        keys: ALL,
+        limit: 1000,
+        script: &[
+            ("policy gradual", "policy gradual"),
+            ("insert 5 5", "row 0.0"),
+            ("update 0.0 6 6", "changed"),
+            (
+                "layout 0",
+                "layout 0 rows 1 column 0 out 0 in 1 cells 1 free 0 pieces 1\npiece 0 18446744073709551616 0",
+            ),
+            ("count 0 18446744073709551616", "count 1"),
+            ("update 0.0 8 8", "changed"),
+            (
+                "layout 0",
+                "layout 0 rows 1 column 1 out 1 in 1 cells 2 free 0 pieces 1\npiece 0 18446744073709551616 1",
+            ),
+            ("select 0 18446744073709551616", "rows 1\n0.0 8 8"),
+            (
+                "layout 0",
+                "layout 0 rows 1 column 1 out 0 in 0 cells 2 free 1 pieces 1\npiece 0 18446744073709551616 1",
+            ),
+        ],
+        accepted: 5,
+    },
+    // An update's key is tested before its row is looked up; one that finds no row is kept.
+    Case {
+        name: "an update of no row",
+        keys: [0, 100],
+        limit: 1000,
+        script: &[
+            ("policy gradual", "policy gradual"),
+            ("update 0.0 100 100", "refused 4"),
+            ("update 0.0 99 99", "none"),
+        ],
+        accepted: 1,
+    },
+    // The payloads of two rows of three, and of no key.
+    Case {
+        name: "payloads are added up",
+        keys: ALL,
+        limit: 1000,
+        script: &[
+            ("policy gradual", "policy gradual"),
+            ("insert 10 10", "row 0.0"),
+            ("insert 20 20", "row 0.1"),
+            ("insert 30 30", "row 0.2"),
+            ("policy complete", "policy complete"),
+            ("sum 10 30", "sum 30"),
+            ("sum 5 5", "sum 0"),
+        ],
+        accepted: 5,
+    },
+];
 
-/// A pending row is removed immediately; a delete that finds no row is kept.
 #[test]
-fn a_row_is_deleted_twice(rt: HostRuntime) {
-    const SCRIPT: Script = &[
-        ("policy gradual", "policy gradual"),
-        ("insert 7 7", "row 0.0"),
-        ("delete 0.0", "gone 7 7"),
-        ("delete 0.0", "none"),
-        (
-            "layout 0",
-            "layout 0 rows 0 column 0 out 0 in 0 cells 1 free 1 pieces 1\npiece 0 18446744073709551616 0",
-        ),
-    ];
-    assert_script(&rt, rt.alloc(), SCRIPT, 3);
-}
-
-/// A pending row is written in place, one of the column again: it keeps its serial.
-#[test]
-fn a_row_is_updated_twice(rt: HostRuntime) {
-    const SCRIPT: Script = &[
-        ("policy gradual", "policy gradual"),
-        ("insert 5 5", "row 0.0"),
-        ("update 0.0 6 6", "changed"),
-        (
-            "layout 0",
-            "layout 0 rows 1 column 0 out 0 in 1 cells 1 free 0 pieces 1\npiece 0 18446744073709551616 0",
-        ),
-        ("count 0 18446744073709551616", "count 1"),
-        ("update 0.0 8 8", "changed"),
-        (
-            "layout 0",
-            "layout 0 rows 1 column 1 out 1 in 1 cells 2 free 0 pieces 1\npiece 0 18446744073709551616 1",
-        ),
-        ("select 0 18446744073709551616", "rows 1\n0.0 8 8"),
-        (
-            "layout 0",
-            "layout 0 rows 1 column 1 out 0 in 0 cells 2 free 1 pieces 1\npiece 0 18446744073709551616 1",
-        ),
-    ];
-    assert_script(&rt, rt.alloc(), SCRIPT, 5);
-}
-
-/// An update's key is tested before its row is looked up; one that finds no row is kept.
-#[test]
-fn an_update_of_no_row(rt: HostRuntime) {
-    const SCRIPT: Script = &[
-        ("policy gradual", "policy gradual"),
-        ("update 0.0 100 100", "refused 4"),
-        ("update 0.0 99 99", "none"),
-    ];
-    assert_partition(&rt, rt.alloc(), [0, 100], 1000, SCRIPT, 1);
-}
-
-/// The payloads of two rows of three, and of no key.
-#[test]
-fn payloads_are_added_up(rt: HostRuntime) {
-    const SCRIPT: Script = &[
-        ("policy gradual", "policy gradual"),
-        ("insert 10 10", "row 0.0"),
-        ("insert 20 20", "row 0.1"),
-        ("insert 30 30", "row 0.2"),
-        ("policy complete", "policy complete"),
-        ("sum 10 30", "sum 30"),
-        ("sum 5 5", "sum 0"),
-    ];
-    assert_script(&rt, rt.alloc(), SCRIPT, 5);
+fn rows_are_changed_and_merged(rt: HostRuntime) {
+    'cases: for place in 0..CASES.len() {
+        assert_case(&rt, rt.alloc(), CASES[place]);
+    }
 }

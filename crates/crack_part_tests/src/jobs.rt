@@ -58,7 +58,7 @@ fn assert_jobs(rt: &impl Abort, alloc: Global, limits: Limits, script: Script) {
     'script: for place in 0..script.len() {
         let (line, wanted) = script[place];
         let text = text_of(rt, alloc, &done[place]);
-        assert_text(rt, &text, line, wanted);
+        assert_text(rt, &text, "jobs", line, wanted);
     }
 }
 

@@ -69,25 +69,36 @@ impl Asked for Asking {
     }
 }
 
-/// Asserts the answers of a partition of these keys and this limit, under the complete merge until a statement names
-/// another, and how many commands it accepted and kept.
-pub fn assert_partition(
-    rt: &impl Abort,
-    alloc: Global,
-    keys: [BoundNumber; 2],
-    limit: u64,
-    script: Script,
-    accepted: u64,
-) {
-    let keys = KeyRange::new(keys[0], keys[1]).expect(rt, "keys");
+/// All keys.
+pub const ALL: [BoundNumber; 2] = [0, GREATEST_BOUND];
+
+/// The answers of a partition of these keys and this limit, under the complete merge until a statement names another,
+/// and how many commands it accepts and keeps.
+#[derive(Clone, Copy)]
+pub struct Case {
+    pub name: &'static str,
+    pub keys: [BoundNumber; 2],
+    pub limit: u64,
+    pub script: Script,
+    pub accepted: u64,
+}
+
+/// Asserts the answers of a partition.
+pub fn assert_case(rt: &impl Abort, alloc: Global, case: Case) {
+    let keys = KeyRange::new(case.keys[0], case.keys[1]).expect(rt, "keys");
     let mut asking = Asking {
-        partition: Partition::open(alloc, keys, limit).expect(rt, "a partition"),
+        partition: Partition::open(alloc, keys, case.limit).expect(rt, "a partition"),
         policy: Policy::Complete,
     };
-    assert_answers(rt, alloc, &mut asking, script);
+    assert_answers(rt, alloc, &mut asking, case.name, case.script);
     let kept = asking.partition.history().len() as u64;
-    assert_eq!(rt; [asking.partition.accepted(), kept], [accepted, accepted]);
+    let accepted = asking.partition.accepted();
     drop(asking);
+    assert!(rt;
+        [accepted, kept] == [case.accepted, case.accepted],
+        "{}",
+        case.name
+    );
 }
 
 /// A partition has all keys, the greatest limits and no history.
@@ -111,41 +122,54 @@ fn partition_is_opened_empty(rt: HostRuntime) {
     drop(partition);
 }
 
-#[test]
-fn partition_answers_and_keeps(rt: HostRuntime) {
-    const SCRIPT: Script = &[
-        ("insert 7 70", "row 0.0"),
-        ("count 0 18446744073709551616", "count 1"),
-    ];
-    let all = [0, GREATEST_BOUND];
-    assert_partition(&rt, rt.alloc(), all, GREATEST_LIMIT, SCRIPT, 2);
-}
+const CASES: &[Case] = &[
+    Case {
+        name: "partition answers and keeps",
+        keys: ALL,
+        limit: GREATEST_LIMIT,
+        script: &[
+            ("insert 7 70", "row 0.0"),
+            ("count 0 18446744073709551616", "count 1"),
+        ],
+        accepted: 2,
+    },
+    // A read is also kept, even one that can't find a row.
+    Case {
+        name: "partition keeps a count of no key",
+        keys: ALL,
+        limit: 1,
+        script: &[("count 5 5", "count 0")],
+        accepted: 1,
+    },
+    Case {
+        name: "partition refuses at its limit",
+        keys: ALL,
+        limit: 2,
+        script: &[
+            ("insert 1 10", "row 0.0"),
+            ("insert 2 20", "row 0.1"),
+            ("count 0 18446744073709551616", "refused 6 2"),
+        ],
+        accepted: 2,
+    },
+    Case {
+        name: "partition refuses keys outside",
+        keys: [100, 200],
+        limit: 10,
+        script: &[
+            ("insert 50 500", "refused 4"),
+            ("insert 200 2000", "refused 4"),
+            ("insert 199 1990", "row 0.0"),
+        ],
+        accepted: 1,
+    },
+];
 
-/// A read is also kept, even one that can't find a row.
 #[test]
-fn partition_keeps_a_count_of_no_key(rt: HostRuntime) {
-    const SCRIPT: Script = &[("count 5 5", "count 0")];
-    assert_partition(&rt, rt.alloc(), [0, GREATEST_BOUND], 1, SCRIPT, 1);
-}
-
-#[test]
-fn partition_refuses_at_its_limit(rt: HostRuntime) {
-    const SCRIPT: Script = &[
-        ("insert 1 10", "row 0.0"),
-        ("insert 2 20", "row 0.1"),
-        ("count 0 18446744073709551616", "refused 6 2"),
-    ];
-    assert_partition(&rt, rt.alloc(), [0, GREATEST_BOUND], 2, SCRIPT, 2);
-}
-
-#[test]
-fn partition_refuses_keys_outside(rt: HostRuntime) {
-    const SCRIPT: Script = &[
-        ("insert 50 500", "refused 4"),
-        ("insert 200 2000", "refused 4"),
-        ("insert 199 1990", "row 0.0"),
-    ];
-    assert_partition(&rt, rt.alloc(), [100, 200], 10, SCRIPT, 1);
+fn partitions_answer_and_keep(rt: HostRuntime) {
+    'cases: for place in 0..CASES.len() {
+        assert_case(&rt, rt.alloc(), CASES[place]);
+    }
 }
 
 #[test]

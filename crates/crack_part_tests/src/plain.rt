@@ -47,70 +47,88 @@ fn rows_of(rt: &impl Abort, alloc: Global, table: &PlainTable) -> Vec<u8> {
     writer.into_inner()
 }
 
-/// Asserts the answers of a fresh table, and then how many commands it accepted and which rows it has.
-fn assert_table(rt: &impl Abort, alloc: Global, script: Script, accepted: u64, rows: &str) {
+/// The answers of a fresh table, and then how many commands it accepted and which rows it has.
+#[derive(Clone, Copy)]
+struct Case {
+    name: &'static str,
+    script: Script,
+    accepted: u64,
+    rows: &'static str,
+}
+
+const CASES: &[Case] = &[
+    // each command, those that find no row among them: all are accepted
+    Case {
+        name: "a plain table answers",
+        script: &[
+            ("insert 7 70", "row 0.0"),
+            ("insert 8 50", "row 0.1"),
+            ("count 0 18446744073709551616", "count 2"),
+            ("count 5 5", "count 0"),
+            ("sum 0 18446744073709551616", "sum 120"),
+            ("update 0.0 6 60", "changed"),
+            ("delete 0.1", "gone 8 50"),
+            ("delete 0.1", "none"),
+            ("update 0.1 6 60", "none"),
+            ("select 0 7", "rows 1\n0.0 6 60"),
+        ],
+        accepted: 10,
+        rows: "0.0 6 60",
+    },
+    // a checkpoint reports the number of commands since the last one, and changes no row
+    Case {
+        name: "a plain table counts since its checkpoint",
+        script: &[
+            ("checkpoint 0", "folded 0"),
+            ("insert 7 70", "row 0.0"),
+            ("insert 8 50", "row 0.1"),
+            ("checkpoint 0", "folded 2"),
+            ("count 0 18446744073709551616", "count 2"),
+            ("count 5 5", "count 0"),
+            ("sum 0 18446744073709551616", "sum 120"),
+            ("checkpoint 0", "folded 3"),
+            ("checkpoint 0", "folded 0"),
+            ("insert 9 90", "row 0.2"),
+        ],
+        accepted: 6,
+        rows: "0.0 7 70\n0.1 8 50\n0.2 9 90",
+    },
+    // payloads of both signs, at keys on both sides of 2^32
+    Case {
+        name: "a plain table adds up below 0",
+        script: &[
+            (
+                "insert 18446744073709551615 -9223372036854775808",
+                "row 0.0",
+            ),
+            ("insert 4294967296 -1", "row 0.1"),
+            ("insert 4294967295 5", "row 0.2"),
+            ("sum 0 18446744073709551616", "sum -9223372036854775804"),
+            (
+                "sum 4294967296 18446744073709551616",
+                "sum -9223372036854775809",
+            ),
+            ("sum 4294967296 18446744073709551615", "sum -1"),
+        ],
+        accepted: 6,
+        rows: "0.0 18446744073709551615 -9223372036854775808\n0.1 4294967296 -1\n0.2 4294967295 5",
+    },
+];
+
+/// Asserts the answers of a fresh table.
+fn assert_case(rt: &impl Abort, alloc: Global, case: Case) {
     let mut table = PlainTable::new(alloc);
     assert!(rt; table.accepted() == 0 && table.rows().is_empty());
-    assert_answers(rt, alloc, &mut table, script);
-    assert_eq!(rt; table.accepted(), accepted);
+    assert_answers(rt, alloc, &mut table, case.name, case.script);
+    assert!(rt; table.accepted() == case.accepted, "{}", case.name);
     let text = rows_of(rt, alloc, &table);
-    assert_text(rt, &text, "the rows", rows);
+    assert_text(rt, &text, case.name, "the rows", case.rows);
     drop(table);
 }
 
-/// Each command, those that find no row among them: all are accepted.
 #[test]
-fn plain_table_answers(rt: HostRuntime) {
-    const SCRIPT: Script = &[
-        ("insert 7 70", "row 0.0"),
-        ("insert 8 50", "row 0.1"),
-        ("count 0 18446744073709551616", "count 2"),
-        ("count 5 5", "count 0"),
-        ("sum 0 18446744073709551616", "sum 120"),
-        ("update 0.0 6 60", "changed"),
-        ("delete 0.1", "gone 8 50"),
-        ("delete 0.1", "none"),
-        ("update 0.1 6 60", "none"),
-        ("select 0 7", "rows 1\n0.0 6 60"),
-    ];
-    assert_table(&rt, rt.alloc(), SCRIPT, 10, "0.0 6 60");
-}
-
-/// A checkpoint reports the number of commands since the last one, and changes no row.
-#[test]
-fn plain_table_counts_since_its_checkpoint(rt: HostRuntime) {
-    const SCRIPT: Script = &[
-        ("checkpoint 0", "folded 0"),
-        ("insert 7 70", "row 0.0"),
-        ("insert 8 50", "row 0.1"),
-        ("checkpoint 0", "folded 2"),
-        ("count 0 18446744073709551616", "count 2"),
-        ("count 5 5", "count 0"),
-        ("sum 0 18446744073709551616", "sum 120"),
-        ("checkpoint 0", "folded 3"),
-        ("checkpoint 0", "folded 0"),
-        ("insert 9 90", "row 0.2"),
-    ];
-    assert_table(&rt, rt.alloc(), SCRIPT, 6, "0.0 7 70\n0.1 8 50\n0.2 9 90");
-}
-
-/// Payloads of both signs, at keys on both sides of 2^32.
-#[test]
-fn plain_table_adds_up_below_0(rt: HostRuntime) {
-    const SCRIPT: Script = &[
-        (
-            "insert 18446744073709551615 -9223372036854775808",
-            "row 0.0",
-        ),
-        ("insert 4294967296 -1", "row 0.1"),
-        ("insert 4294967295 5", "row 0.2"),
-        ("sum 0 18446744073709551616", "sum -9223372036854775804"),
-        (
-            "sum 4294967296 18446744073709551616",
-            "sum -9223372036854775809",
-        ),
-        ("sum 4294967296 18446744073709551615", "sum -1"),
-    ];
-    let rows = "0.0 18446744073709551615 -9223372036854775808\n0.1 4294967296 -1\n0.2 4294967295 5";
-    assert_table(&rt, rt.alloc(), SCRIPT, 6, rows);
+fn plain_tables_answer(rt: HostRuntime) {
+    'cases: for place in 0..CASES.len() {
+        assert_case(&rt, rt.alloc(), CASES[place]);
+    }
 }

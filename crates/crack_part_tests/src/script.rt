@@ -87,20 +87,26 @@ fn answer_line<T: Asked>(rt: &impl Abort, alloc: Global, asked: &mut T, line: &s
     writer.into_inner()
 }
 
-/// Asserts that this is the text of the wanted answer to a line.
-pub fn assert_text(rt: &impl Abort, text: &[u8], line: &str, wanted: &str) {
+/// Asserts that this is the text of the wanted answer to a line of a test.
+pub fn assert_text(rt: &impl Abort, text: &[u8], name: &str, line: &str, wanted: &str) {
     let told = match text.split_last() {
         Some((b'\n', told)) => told,
         _ => text,
     };
-    assert_eq!(rt; told, wanted.as_bytes(), "{line}");
+    assert!(rt; told == wanted.as_bytes(), "{name}: {line}");
 }
 
-/// Asserts the answers to a script.
-pub fn assert_answers<T: Asked>(rt: &impl Abort, alloc: Global, asked: &mut T, script: Script) {
+/// Asserts the answers to the script of a test.
+pub fn assert_answers<T: Asked>(
+    rt: &impl Abort,
+    alloc: Global,
+    asked: &mut T,
+    name: &str,
+    script: Script,
+) {
     'script: for place in 0..script.len() {
         let (line, wanted) = script[place];
         let text = answer_line(rt, alloc, asked, line);
-        assert_text(rt, &text, line, wanted);
+        assert_text(rt, &text, name, line, wanted);
     }
 }

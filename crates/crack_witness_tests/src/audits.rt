@@ -11,24 +11,19 @@ use std::alloc::Global;
 use std::marker::Brand;
 use std::process::Abort;
 use std::sync::Wait;
-use std::test::Fail;
 
 /// A worker with a book asks before and after a checkpoint, and is gathered. Its receipts cover the histories; an empty
 /// book doesn't.
-fn audited<J: Naming, R: Wait + Abort>(
-    rt: &R,
-    alloc: Global,
-    table: UnnamedTable,
-) -> Result<(), Fail>
+fn audited<J: Naming, R: Wait + Abort>(rt: &R, alloc: Global, table: UnnamedTable)
     requires { AreNames J.book J.owner table.opened }
 {
-    let (table, mut askers) = table.named::<J>(alloc)?;
-    let asker = askers.pop().ok_or("asker")?;
+    let (table, mut askers) = table.named::<J>(alloc).expect(rt, "names");
+    let asker = askers.pop().expect(rt, "an asker");
     let mut worker = AuditedAsker::new(alloc, asker);
-    ask_with_checkpoint(rt, &table, &mut worker)?;
+    ask_with_checkpoint(rt, &table, &mut worker);
     let (asker, book) = worker.into_parts();
-    askers.push(asker)?;
-    hold_against(rt, alloc, table, askers, book)
+    assert!(rt; askers.push(asker).is_ok());
+    hold_against(rt, alloc, table, askers, book);
 }
 
 /// Asks two partitions for three commands, with a checkpoint before the last, and compares the receipts.
@@ -36,19 +31,26 @@ fn ask_with_checkpoint<J: Naming, R: Wait + Abort>(
     rt: &R,
     table: &WitnessedTable<J>,
     worker: &mut AuditedAsker<J>,
-) -> Result<(), Fail> {
-    assert!(rt; ask(rt, table, worker, 0, insert(7)).is_ok());
-    assert!(rt; ask(rt, table, worker, 1, insert(1000007)).is_ok());
-    assert_eq!(rt; table.checkpoint(rt, 0), Ok(1));
-    assert!(rt; ask(rt, table, worker, 0, insert(8)).is_ok());
+) {
+    let first = ask(rt, table, worker, 0, insert(7));
+    let second = ask(rt, table, worker, 1, insert(1000007));
+    let folded = table.checkpoint(rt, 0);
+    let third = ask(rt, table, worker, 0, insert(8));
     let strange = ask(rt, table, worker, 2, insert(9));
-    assert_eq!(rt; strange.err(), Some(Refusal::NoSuchPartition));
-    let places = worker.book().receipts();
-    assert_eq!(rt; places.len(), 3);
-    assert_eq!(rt; place_of(&places[0]), (0, 0, 0));
-    assert_eq!(rt; place_of(&places[1]), (1, 0, 0));
-    assert_eq!(rt; place_of(&places[2]), (0, 1, 0));
-    Ok(())
+    assert!(rt; first.is_ok() && second.is_ok() && folded == Ok(1) && third.is_ok());
+    assert!(rt; strange.err() == Some(Refusal::NoSuchPartition));
+    assert_places(rt, worker.book().receipts());
+}
+
+/// Asserts the places of the receipts of three commands, with a checkpoint before the last.
+fn assert_places(rt: &impl Abort, receipts: &[Receipt]) {
+    assert!(rt; receipts.len() == 3);
+    let places = [
+        place_of(&receipts[0]),
+        place_of(&receipts[1]),
+        place_of(&receipts[2]),
+    ];
+    assert!(rt; places == [(0, 0, 0), (1, 0, 0), (0, 1, 0)]);
 }
 
 /// The answer to a worker.
@@ -74,28 +76,25 @@ fn hold_against<J: Naming, R: Abort>(
     table: WitnessedTable<J>,
     askers: Vec<Asker<J>>,
     book: Book,
-) -> Result<(), Fail> {
-    let Ok(gathered) = gather(alloc, table, askers) else {
-        return Err("not gathered".into());
-    };
+) {
+    let gathered = gather(alloc, table, askers).ok().expect(rt, "gathered");
     let mut books = Vec::new(alloc);
-    books.push(book)?;
+    assert!(rt; books.push(book).is_ok());
     let covered = audit(alloc, &gathered.parts, &books);
     books[0] = Book::new(alloc, 0);
     let bare = audit(alloc, &gathered.parts, &books);
     drop(gathered);
-    assert_eq!(rt; covered, Ok(()));
     let uncovered = Refusal::StrangeReceipt {
         part: 0,
         position: 0,
     };
-    assert_eq!(rt; bare.err(), Some(uncovered));
-    Ok(())
+    assert!(rt; covered == Ok(()) && bare == Err(uncovered));
 }
 
 #[test]
-fn an_audited_worker_keeps_receipts_over_a_checkpoint(rt: HostRuntime) -> Result<(), Fail> {
+fn an_audited_worker_keeps_receipts_over_a_checkpoint(rt: HostRuntime) {
     let alloc: Global = rt.alloc();
-    let table = UnnamedTable::open(alloc, &splits(), Limits::of_history(10), 1)?;
-    audited::<Brand, _>(&rt, alloc, table)
+    let opened = UnnamedTable::open(alloc, &splits(), Limits::of_history(10), 1);
+    let table = opened.expect(&rt, "a table");
+    audited::<Brand, _>(&rt, alloc, table);
 }

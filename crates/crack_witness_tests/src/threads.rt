@@ -10,7 +10,6 @@ use std::alloc::Global;
 use std::marker::Brand;
 use std::process::Abort;
 use std::sync::Wait;
-use std::test::Fail;
 use std::thread;
 use std::thread::Threads;
 
@@ -47,28 +46,28 @@ fn two_work<J: Naming + Send + Sync, R: Threads + Wait + Abort + Sync>(
     rt: &R,
     alloc: Global,
     table: UnnamedTable,
-) -> Result<(), Fail>
+)
     requires { AreNames J.book J.owner table.opened }
 {
-    let (table, mut workers) = table.named::<J>(alloc)?;
-    let second = workers.pop().ok_or("second")?;
-    let first = workers.pop().ok_or("first")?;
+    let (table, mut workers) = table.named::<J>(alloc).expect(rt, "names");
+    let second = workers.pop().expect(rt, "the second");
+    let first = workers.pop().expect(rt, "the first");
     let ((first, one), (second, two)) = thread::join(
         rt,
         || work(rt, &table, first),
         || work(rt, &table, second),
     );
-    assert!(rt; one && two);
-    assert_eq!(rt; first.replies(), 1250);
-    workers.push(second)?;
-    workers.push(first)?;
-    assert_eq!(rt; totals(alloc, table, workers), Ok([2500, 2000, 500, 1500]));
-    Ok(())
+    let replies = first.replies();
+    assert!(rt; workers.push(second).is_ok() && workers.push(first).is_ok());
+    let told = totals(alloc, table, workers);
+    assert!(rt; one && two && replies == 1250);
+    assert!(rt; told == Ok([2500, 2000, 500, 1500]));
 }
 
 #[test]
-fn two_workers_over_two_partitions(rt: HostRuntime) -> Result<(), Fail> {
+fn two_workers_over_two_partitions(rt: HostRuntime) {
     let alloc: Global = rt.alloc();
-    let table = UnnamedTable::open(alloc, &splits(), Limits::of_history(100000), 2)?;
-    two_work::<Brand, _>(&rt, alloc, table)
+    let opened = UnnamedTable::open(alloc, &splits(), Limits::of_history(100000), 2);
+    let table = opened.expect(&rt, "a table");
+    two_work::<Brand, _>(&rt, alloc, table);
 }

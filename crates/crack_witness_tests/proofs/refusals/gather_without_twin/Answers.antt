@@ -1,4 +1,4 @@
 use Rattle.crack_witness_tests.proofs.refusals.gather_without_twin.Goals as goal
 
-pub ask_with_twin-asked-requires : goal.ask_with_twin-asked-requires
-ask_with_twin-asked-requires g c = λ place a is. (c.in_ok-table.ensures.askers.numbered place a is).2
+pub ask_with_twin-requires : goal.ask_with_twin-requires
+ask_with_twin-requires g c = λ place a is. let named = rw c.expect-table.ensures at c.named.ensures.askers in (named.numbered place a is).2
