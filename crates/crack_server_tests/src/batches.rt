@@ -4,7 +4,6 @@ use crack_row::{Bound, Limits, Policy, Refusal};
 use crack_server::run_batch;
 use crack_table::{Gate, OpenGate};
 use std::alloc::Global;
-use std::process::Abort;
 use std::sync::Wait;
 use std::thread::Threads;
 
@@ -31,48 +30,40 @@ fn batch<H: Threads + Wait + Sync, G: Gate + Sync>(
     (ended, output)
 }
 
-/// Asserts how such a batch ends, and its output.
-fn assert_batch<H: Threads + Wait + Sync + Abort, G: Gate + Sync>(
-    rt: &H,
-    alloc: Global,
-    gate: &G,
-    input: &[u8],
-    wanted: Result<&[u8], Refusal>,
-) {
-    let (ended, output) = batch(rt, alloc, gate, input);
-    match wanted {
-        Ok(text) => assert!(rt; ended == Ok(()) && output.as_slice() == text),
-        Err(refusal) => assert!(rt; ended == Err(refusal) && output.is_empty()),
-    }
-}
-
 #[test]
 fn lines_go_to_the_workers_of_their_numbers(rt: HostRuntime) {
-    const INPUT: &[u8] = b"0 insert 50 5\n1 insert 150 6\n3 count 100 200\n";
-    const WANTED: &[u8] =
+    let input = b"0 insert 50 5\n1 insert 150 6\n3 count 100 200\n";
+    let (ended, output) = batch(&rt, rt.alloc(), &OpenGate, input);
+    assert_eq!(rt; ended, Ok(()));
+    let wanted =
         b"worker 0\nrow 0.0\nworker 1\nrow 1.0\ncount 1\naccepted 3 inserted 2 deleted 0 held 2\n";
-    assert_batch(&rt, rt.alloc(), &OpenGate, INPUT, Ok(WANTED));
+    assert_eq!(rt; output.as_slice(), wanted.as_slice());
 }
 
 #[test]
 fn a_checkpoint_leaves_the_totals_as_they_are(rt: HostRuntime) {
-    const INPUT: &[u8] = b"0 insert 50 5\n0 checkpoint 0\n0 count 0 100\n1 insert 150 6\n";
-    const WANTED: &[u8] =
+    let input = b"0 insert 50 5\n0 checkpoint 0\n0 count 0 100\n1 insert 150 6\n";
+    let (ended, output) = batch(&rt, rt.alloc(), &OpenGate, input);
+    assert_eq!(rt; ended, Ok(()));
+    let wanted =
         b"worker 0\nrow 0.0\nfolded 1\ncount 1\nworker 1\nrow 1.0\naccepted 3 inserted 2 deleted 0 held 2\n";
-    assert_batch(&rt, rt.alloc(), &OpenGate, INPUT, Ok(WANTED));
+    assert_eq!(rt; output.as_slice(), wanted.as_slice());
 }
 
 #[test]
 fn a_line_without_a_number_refuses_the_batch(rt: HostRuntime) {
-    let refused = Err(Refusal::BadStatement);
-    assert_batch(&rt, rt.alloc(), &OpenGate, b"x insert 1 1\n", refused);
+    let (ended, output) = batch(&rt, rt.alloc(), &OpenGate, b"x insert 1 1\n");
+    assert_eq!(rt; ended, Err(Refusal::BadStatement));
+    assert!(rt; output.is_empty());
 }
 
 /// Workers that run one after the other, or under one lock, never meet: they are refused with 7.
 #[test]
 fn two_workers_are_at_two_partitions_at_once(rt: HostRuntime) {
-    const INPUT: &[u8] = b"0 insert 50 1\n1 insert 150 1\n";
-    const WANTED: &[u8] =
-        b"worker 0\nrow 0.0\nworker 1\nrow 1.0\naccepted 2 inserted 2 deleted 0 held 2\n";
-    assert_batch(&rt, rt.alloc(), &Meeting::new(), INPUT, Ok(WANTED));
+    let gate = Meeting::new();
+    let input = b"0 insert 50 1\n1 insert 150 1\n";
+    let (ended, output) = batch(&rt, rt.alloc(), &gate, input);
+    assert_eq!(rt; ended, Ok(()));
+    let wanted = b"worker 0\nrow 0.0\nworker 1\nrow 1.0\naccepted 2 inserted 2 deleted 0 held 2\n";
+    assert_eq!(rt; output.as_slice(), wanted.as_slice());
 }

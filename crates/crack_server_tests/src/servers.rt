@@ -6,8 +6,8 @@ use crack_table::{OpenGate, Table};
 use std::alloc::Global;
 use std::io::{Read, Write};
 use std::net::{Net, Shutdown, TcpListener, TcpStream};
-use std::process::Abort;
 use std::sync::Wait;
+use std::test::Fail;
 use std::thread::Threads;
 use std::time::Duration;
 use std::{io, thread};
@@ -79,6 +79,27 @@ fn two_clients<N: Net<Listener = TcpListener, Stream = TcpStream>>(
     Ok((first, second))
 }
 
+#[test]
+fn one_worker_serves_two_sessions(rt: HostRuntime) -> Result<(), Fail> {
+    let alloc: Global = rt.alloc();
+    let listener = TcpListener::bind(&rt, "127.0.0.1:0")?;
+    let port = listener.local_addr()?.port();
+    let (written, answered) = thread::join(
+        &rt,
+        || server(&rt, alloc, &listener, 1, 2),
+        || two_clients(&rt, alloc, port),
+    );
+    let written = written?;
+    let (first, second) = answered?;
+    assert_eq!(rt; first.as_slice(), b"row 0.0\nbye\n".as_slice());
+    assert_eq!(rt; second.as_slice(), b"count 1\nbye\n".as_slice());
+    assert_eq!(rt;
+        written.as_slice(),
+        b"accepted 2 inserted 1 deleted 0 held 1\n".as_slice()
+    );
+    Ok(())
+}
+
 /// A client that sends these bytes, and ends its writing there.
 fn ended<N: Net<Listener = TcpListener, Stream = TcpStream>>(
     rt: &N,
@@ -105,6 +126,28 @@ fn clients_who_break_off<N: Net<Listener = TcpListener, Stream = TcpStream>>(
     Ok((first, last))
 }
 
+#[test]
+fn clients_who_break_off_harm_nobody(rt: HostRuntime) -> Result<(), Fail> {
+    let alloc: Global = rt.alloc();
+    let listener = TcpListener::bind(&rt, "127.0.0.1:0")?;
+    let port = listener.local_addr()?.port();
+    let (written, answered) = thread::join(
+        &rt,
+        || server(&rt, alloc, &listener, 2, 3),
+        || clients_who_break_off(&rt, alloc, port),
+    );
+    let written = written?;
+    let (first, last) = answered?;
+    assert_eq!(rt; first.as_slice(), b"row 0.0\nrefused 1\n".as_slice());
+    let last = last.as_slice();
+    assert!(rt; last == b"count 0\n".as_slice() || last == b"count 1\n".as_slice());
+    assert_eq!(rt;
+        written.as_slice(),
+        b"accepted 2 inserted 1 deleted 0 held 1\n".as_slice()
+    );
+    Ok(())
+}
+
 /// The answers that a client gets after one that reads a byte of its reply and goes: what is left of the reply resets
 /// the connection, which cuts that one's session off.
 fn behind_one_cut_off<N: Net<Listener = TcpListener, Stream = TcpStream>>(
@@ -118,86 +161,23 @@ fn behind_one_cut_off<N: Net<Listener = TcpListener, Stream = TcpStream>>(
     client(rt, alloc, port, b"count 0 18446744073709551616\nquit\n")
 }
 
-/// What clients do.
-#[derive(Clone, Copy)]
-enum Clients {
-    /// Two come, one after the other.
-    Two,
-    /// They break off.
-    WhoBreakOff,
-    /// One comes after another was cut off.
-    BehindOneCutOff,
-}
-
-/// The answers that the first and the last of the clients get, if they are asked for.
-fn answers_to<N: Net<Listener = TcpListener, Stream = TcpStream>>(
-    rt: &N,
-    alloc: Global,
-    port: u16,
-    clients: Clients,
-) -> io::Result<(Vec<u8>, Vec<u8>)> {
-    match clients {
-        Clients::Two => two_clients(rt, alloc, port),
-        Clients::WhoBreakOff => clients_who_break_off(rt, alloc, port),
-        Clients::BehindOneCutOff => {
-            let last = behind_one_cut_off(rt, alloc, port)?;
-            Ok((Vec::new(alloc), last))
-        }
-    }
-}
-
-/// A listener on a port of its own, and the port.
-fn listen<N: Net<Listener = TcpListener, Stream = TcpStream> + Abort>(
-    rt: &N,
-) -> (TcpListener, u16) {
-    let listener = TcpListener::bind(rt, "127.0.0.1:0").expect(rt, "a listener");
-    let port = listener.local_addr().expect(rt, "an address").port();
-    (listener, port)
-}
-
-/// Asserts the totals that a server of this many workers and sessions writes, and the answer that the first of its
-/// clients gets; returns the answer that the last one gets.
-fn served<H: Threads + Wait + Abort + Net<Listener = TcpListener, Stream = TcpStream> + Sync>(
-    rt: &H,
-    alloc: Global,
-    workers: u64,
-    sessions: u64,
-    clients: Clients,
-    first: &[u8],
-) -> Vec<u8> {
-    let (listener, port) = listen(rt);
+#[test]
+fn a_session_that_is_cut_off_ends_no_other(rt: HostRuntime) -> Result<(), Fail> {
+    let alloc: Global = rt.alloc();
+    let listener = TcpListener::bind(&rt, "127.0.0.1:0")?;
+    let port = listener.local_addr()?.port();
     let (written, answered) = thread::join(
-        rt,
-        || server(rt, alloc, &listener, workers, sessions),
-        || answers_to(rt, alloc, port, clients),
+        &rt,
+        || server(&rt, alloc, &listener, 1, 2),
+        || behind_one_cut_off(&rt, alloc, port),
     );
-    drop(listener);
-    let written = written.expect(rt, "the totals");
-    let (told, last) = answered.expect(rt, "the answers");
-    assert!(rt; told.as_slice() == first);
-    assert!(rt; written.as_slice() == b"accepted 2 inserted 1 deleted 0 held 1\n".as_slice());
-    last
-}
-
-#[test]
-fn one_worker_serves_two_sessions(rt: HostRuntime) {
-    let first = b"row 0.0\nbye\n";
-    let last = served(&rt, rt.alloc(), 1, 2, Clients::Two, first);
-    assert!(rt; last.as_slice() == b"count 1\nbye\n".as_slice());
-}
-
-#[test]
-fn clients_who_break_off_harm_nobody(rt: HostRuntime) {
-    let first = b"row 0.0\nrefused 1\n";
-    let last = served(&rt, rt.alloc(), 2, 3, Clients::WhoBreakOff, first);
-    let last = last.as_slice();
-    assert!(rt; last == b"count 0\n".as_slice() || last == b"count 1\n".as_slice());
-}
-
-#[test]
-fn a_session_that_is_cut_off_ends_no_other(rt: HostRuntime) {
-    let last = served(&rt, rt.alloc(), 1, 2, Clients::BehindOneCutOff, b"");
-    assert!(rt; last.as_slice() == b"count 1\nbye\n".as_slice());
+    let (written, answered) = (written?, answered?);
+    assert_eq!(rt; answered.as_slice(), b"count 1\nbye\n".as_slice());
+    assert_eq!(rt;
+        written.as_slice(),
+        b"accepted 2 inserted 1 deleted 0 held 1\n".as_slice()
+    );
+    Ok(())
 }
 
 /// A host whose knock reaches a listener of this port.
@@ -252,10 +232,14 @@ fn server_at_its_end<H: Threads + Wait + Net<Listener = TcpListener, Stream = Tc
 }
 
 #[test]
-fn workers_that_wait_end_with_the_input(rt: HostRuntime) {
-    let (listener, port) = listen(&rt);
-    let written = server_at_its_end(&rt, rt.alloc(), &listener, port);
-    drop(listener);
-    let told = written.expect(&rt, "the totals");
-    assert!(rt; told.as_slice() == b"accepted 0 inserted 0 deleted 0 held 0\n".as_slice());
+fn workers_that_wait_end_with_the_input(rt: HostRuntime) -> Result<(), Fail> {
+    let alloc: Global = rt.alloc();
+    let listener = TcpListener::bind(&rt, "127.0.0.1:0")?;
+    let port = listener.local_addr()?.port();
+    let written = server_at_its_end(&rt, alloc, &listener, port)?;
+    assert_eq!(rt;
+        written.as_slice(),
+        b"accepted 0 inserted 0 deleted 0 held 0\n".as_slice()
+    );
+    Ok(())
 }
