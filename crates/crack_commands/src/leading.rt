@@ -50,6 +50,7 @@ fn last_number(bytes: &[u8]) -> Option<(i128, usize)>
 }
 
 /// The same if a carriage return ends the line.
+#[cold]
 #[inline(never)]
 fn number_before_return(bytes: &[u8]) -> Option<(i128, usize)>
     ensures { IfSome result (λ n. EndsLine bytes.now n.0 n.1) }
