@@ -6,7 +6,7 @@ ghost use Rattle.crack_index.specs.Marks.{Rising, added, last_mark, next_mark, f
 ghost use Rattle.crack_index.specs.Marks.{lowered, lowered_at, size_between, pieces_from};
 ghost use Rattle.crack_index.specs.Keeps.{height_of, IsBalanced, IsTall, DifferByAtMost};
 ghost use Rattle.crack_index.specs.Trees.{Grown, marks_of};
-ghost use Rattle.crack_index.specs.Rotations.{Settles};
+ghost use Rattle.crack_index.specs.Rotations.{IsHeightOver};
 ghost use Rattle.crack_index.specs.declared.mark.Mark.{Mark};
 ghost use Rattle.crack_row.specs.declared.Bound.{Bound};
 
@@ -241,19 +241,19 @@ fn join(left: Link, mark: Mark, right: Link, node: Box<Node>) -> Box<Node>
     requires near { DifferByAtMost 2 (height_of left) (height_of right) }
     requires fits { max (height_of left) (height_of right) ≤ 2 ^ 31 }
     ensures marks { result.value.marks ≡ marks_of left ++ mark ∷ marks_of right }
-    ensures height { Settles (height_of left) (height_of right) result.value.height }
+    ensures height { IsHeightOver (height_of left) (height_of right) result.value.height }
 {
     let (high, low) = (height(&left), height(&right));
     match (left, right) {
         (Some(top), right) if high > low + 1 => lean_left(top, mark, right, node),
         (left, Some(top)) if low > high + 1 => lean_right(left, mark, top, node),
-        (left, right) => settle(left, mark, right, node),
+        (left, right) => with_children(left, mark, right, node),
     }
 }
 
 /// The tree of both sides and the mark between them, in this node, if neither side is more than a level higher.
 /// O(1).
-fn settle(left: Link, mark: Mark, right: Link, mut node: Box<Node>) -> Box<Node>
+fn with_children(left: Link, mark: Mark, right: Link, mut node: Box<Node>) -> Box<Node>
     requires rising { Rising (marks_of left ++ mark ∷ marks_of right) }
     requires even { DifferByAtMost 1 (height_of left) (height_of right) }
     requires fits { max (height_of left) (height_of right) + 1 < 2 ^ 32 }
@@ -285,16 +285,16 @@ fn lean_left(mut top: Box<Node>, mark: Mark, right: Link, spare: Box<Node>) -> B
         right: inner,
     } = top.open();
     if height(&outer) >= height(&inner) {
-        let behind = settle(inner, mark, right, spare);
-        return settle(outer, between, Some(behind), top);
+        let behind = with_children(inner, mark, right, spare);
+        return with_children(outer, between, Some(behind), top);
     }
     let Some(mut middle) = inner else {
         unreachable!()
     };
     let parts = middle.open();
-    let before = settle(outer, between, parts.left, top);
-    let behind = settle(parts.right, mark, right, spare);
-    settle(Some(before), parts.mark, Some(behind), middle)
+    let before = with_children(outer, between, parts.left, top);
+    let behind = with_children(parts.right, mark, right, spare);
+    with_children(Some(before), parts.mark, Some(behind), middle)
 }
 
 /// Rotates if the right side is two levels higher: `spare` becomes a node below the top.
@@ -312,16 +312,16 @@ fn lean_right(left: Link, mark: Mark, mut top: Box<Node>, spare: Box<Node>) -> B
         right: outer,
     } = top.open();
     if height(&outer) >= height(&inner) {
-        let before = settle(left, mark, inner, spare);
-        return settle(Some(before), between, outer, top);
+        let before = with_children(left, mark, inner, spare);
+        return with_children(Some(before), between, outer, top);
     }
     let Some(mut middle) = inner else {
         unreachable!()
     };
     let parts = middle.open();
-    let before = settle(left, mark, parts.left, spare);
-    let behind = settle(parts.right, between, outer, top);
-    settle(Some(before), parts.mark, Some(behind), middle)
+    let before = with_children(left, mark, parts.left, spare);
+    let behind = with_children(parts.right, between, outer, top);
+    with_children(Some(before), parts.mark, Some(behind), middle)
 }
 
 /// Each bound at or above `low` that is at the place moves up by one. O(log marks) and the marks at that place.

@@ -3,30 +3,30 @@ use Rattle.crack_index.specs.Trees.{Grown, marks_of}
 use Rattle.crack_index.proofs.Sides.{leans_left-inner, leans_left-top, leans_left-before, leans_left-behind, leans_left-middle}
 use Rattle.crack_index.proofs.tree.lean_left.Goals as goal
 
-pub settle-behind-requires-clause-rising : goal.settle-behind-requires-clause-rising
-settle-behind-requires-clause-rising c =
+pub with_children-behind-requires-clause-rising : goal.with_children-behind-requires-clause-rising
+with_children-behind-requires-clause-rising c =
     let is : c.args.top.value.marks ≡ marks_of c.open-outer.result.left ++ c.open-outer.result.mark ∷ marks_of c.open-outer.result.right = ap (λ (g : Grown). g.marks) (sym c.deref_mut.ensures.value) ∙ c.open-outer.ensures.marks in
     leans_left-inner _ _ _ _ c.open-outer.result.mark c.args.mark is c.requires.rising
 
-pub settle-requires-clause-rising : goal.settle-requires-clause-rising
-settle-requires-clause-rising c =
+pub with_children-requires-clause-rising : goal.with_children-requires-clause-rising
+with_children-requires-clause-rising c =
     let is : c.args.top.value.marks ≡ marks_of c.open-outer.result.left ++ c.open-outer.result.mark ∷ marks_of c.open-outer.result.right = ap (λ (g : Grown). g.marks) (sym c.deref_mut.ensures.value) ∙ c.open-outer.ensures.marks in
-    leans_left-top _ _ _ _ _ c.open-outer.result.mark c.args.mark is c.settle-behind.ensures.marks c.requires.rising
+    leans_left-top _ _ _ _ _ c.open-outer.result.mark c.args.mark is c.with_children-behind.ensures.marks c.requires.rising
 
-pub settle-before-requires-clause-rising : goal.settle-before-requires-clause-rising
-settle-before-requires-clause-rising c =
+pub with_children-before-requires-clause-rising : goal.with_children-before-requires-clause-rising
+with_children-before-requires-clause-rising c =
     let is : c.args.top.value.marks ≡ marks_of c.open-outer.result.left ++ c.open-outer.result.mark ∷ marks_of c.open-outer.result.right = ap (λ (g : Grown). g.marks) (sym c.deref_mut.ensures.value) ∙ c.open-outer.ensures.marks in
     let parts : marks_of c.open-outer.result.right ≡ marks_of c.open-parts.result.left ++ c.open-parts.result.mark ∷ marks_of c.open-parts.result.right = ap marks_of c.in-Some.is ∙ ap (λ (g : Grown). g.marks) (sym c.deref_mut-2.ensures.value) ∙ c.open-parts.ensures.marks in
     leans_left-before _ _ _ _ _ _ c.open-outer.result.mark c.open-parts.result.mark c.args.mark is parts c.requires.rising
 
-pub settle-behind-requires-2-clause-rising : goal.settle-behind-requires-2-clause-rising
-settle-behind-requires-2-clause-rising c =
+pub with_children-behind-requires-2-clause-rising : goal.with_children-behind-requires-2-clause-rising
+with_children-behind-requires-2-clause-rising c =
     let is : c.args.top.value.marks ≡ marks_of c.open-outer.result.left ++ c.open-outer.result.mark ∷ marks_of c.open-outer.result.right = ap (λ (g : Grown). g.marks) (sym c.deref_mut.ensures.value) ∙ c.open-outer.ensures.marks in
     let parts : marks_of c.open-outer.result.right ≡ marks_of c.open-parts.result.left ++ c.open-parts.result.mark ∷ marks_of c.open-parts.result.right = ap marks_of c.in-Some.is ∙ ap (λ (g : Grown). g.marks) (sym c.deref_mut-2.ensures.value) ∙ c.open-parts.ensures.marks in
     leans_left-behind _ _ _ _ _ _ c.open-outer.result.mark c.open-parts.result.mark c.args.mark is parts c.requires.rising
 
-pub settle-requires-2-clause-rising : goal.settle-requires-2-clause-rising
-settle-requires-2-clause-rising c =
+pub with_children-requires-2-clause-rising : goal.with_children-requires-2-clause-rising
+with_children-requires-2-clause-rising c =
     let is : c.args.top.value.marks ≡ marks_of c.open-outer.result.left ++ c.open-outer.result.mark ∷ marks_of c.open-outer.result.right = ap (λ (g : Grown). g.marks) (sym c.deref_mut.ensures.value) ∙ c.open-outer.ensures.marks in
     let parts : marks_of c.open-outer.result.right ≡ marks_of c.open-parts.result.left ++ c.open-parts.result.mark ∷ marks_of c.open-parts.result.right = ap marks_of c.in-Some.is ∙ ap (λ (g : Grown). g.marks) (sym c.deref_mut-2.ensures.value) ∙ c.open-parts.ensures.marks in
-    leans_left-middle _ _ _ _ _ _ _ _ c.open-outer.result.mark c.open-parts.result.mark c.args.mark is parts c.settle-before.ensures.marks c.settle-behind-2.ensures.marks c.requires.rising
+    leans_left-middle _ _ _ _ _ _ _ _ c.open-outer.result.mark c.open-parts.result.mark c.args.mark is parts c.with_children-before.ensures.marks c.with_children-behind-2.ensures.marks c.requires.rising

@@ -1,6 +1,6 @@
 use Rattle.std.proofs.Common.{◌+◌, arith}
 use Rattle.crack_index.proofs.Sides.{IsBalanced-node}
-use Rattle.crack_index.proofs.tree.settle.Goals as goal
+use Rattle.crack_index.proofs.tree.with_children.Goals as goal
 
 pub invariant_of-t-14 : goal.invariant_of-t-14
 invariant_of-t-14 c =
