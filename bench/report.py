@@ -269,8 +269,9 @@ def rival_text(measured):
   can be added, and one recursion visits the nodes in order, with the row in hand in memory beside the column.
 - **Sums that merge: {spread(merges)} times as long.** These are such steps, and more work for each row: a delete looks the row's
   number up and removes it from the map, its reply has the row, and the history keeps that; a row that is put in is read through its handle.
-- **A pass over pending keys that finds none: {passing.ratio():.1f} times as long.** Both look at 16 rows at a time: `crackd` at keys, 8 bytes each, of which some
-  may not be known yet; the column at floats of 4 bytes, and at a key only if its float lies between those of the ends.
+- **A pass over pending keys that finds none: {passing.ratio():.1f} times as long.** `crackd` compares codes of 2 bytes, 128 at a time, and reads a key only if its
+  code is that of an end of the range, or of a key that isn't known yet. The column compares floats of 4 bytes, 16 at a time, and reads a key only if its
+  float lies between those of the ends.
 - **A BTreeMap** has nothing to merge and nothing to crack: an insert or a delete walks down from its root. A sum goes from node to node,
   while a column's rows are adjacent."""
 
