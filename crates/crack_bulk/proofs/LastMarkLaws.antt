@@ -8,7 +8,7 @@ use Rattle.crack_row.specs.declared.InnerBound.{InnerBound}
 use Rattle.crack_arena.specs.Arena.{Handle}
 use Rattle.crack_index.specs.declared.mark.Mark.{Mark}
 use Rattle.crack_column.specs.Drains.{drained_once, drained, drawn_once, drawn}
-use Rattle.crack_bulk.specs.Pieces.{Pieces, last, below, column_of, marks_of, cut}
+use Rattle.crack_bulk.specs.Pieces.{Pieces, below, column_of, marks_of, cut}
 use Rattle.crack_bulk.specs.Pulled.{any_doomed, ends_above, pulled, all_drawn, itself}
 use Rattle.crack_bulk.proofs.StepsDown.{AreFrom, AreFrom-tail, last_behind}
 

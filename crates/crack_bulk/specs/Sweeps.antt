@@ -1,9 +1,7 @@
 -- What private clauses alone cite.
 -- How rows that came in after the column's last row turn the pieces from the lowest up: each that turns a piece is exchanged with the row that it
 -- turns, which then represents it.
-use Rattle.std.specs.Prelude.{ℕ, ◌+◌, Bool, true, not, ◌&&◌, cond, nat_lt, count_by, List, [], ◌∷◌, ◌++◌, length}
-use Rattle.crack_index.specs.declared.mark.Mark.{Mark}
-use Rattle.crack_bulk.specs.Pieces.{Pieces, last, below}
+use Rattle.std.specs.Prelude.{ℕ, ◌+◌, Bool, true, not, ◌&&◌, cond, nat_lt, List, [], ◌∷◌, ◌++◌}
 
 -- the rows of the piece, those after the column's last row, and how many rows moved
 pub record Swept (X : Type 0) : Type 0 where
