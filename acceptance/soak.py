@@ -79,7 +79,7 @@ def kinds() -> dict[str, Kind]:
         Kind("clients", test_clients.check, alone=True),
         Kind("hours", lambda program, seed: Hour(program, seed).run(), alone=True),
         Kind("limits", test_clients.check_small, alone=True),
-        Kind("threads", test_histories.soak, "crack_histories", shares=4),
+        Kind("threads", test_histories.soak, "crack_bench", shares=4),
         Kind("lines", test_lines.check),
         Kind("csv", test_csv.check),
         Kind("devices", test_devices.check),

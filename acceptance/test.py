@@ -19,7 +19,7 @@ import gate
 import package
 import run
 
-PROGRAM, HISTORIES = (CRATES / name / "out" / name for name in ("crackd", "crack_histories"))
+PROGRAM, BENCH = (CRATES / name / "out" / name for name in ("crackd", "crack_bench"))
 
 
 def test_all() -> tuple[int, int]:
@@ -35,7 +35,7 @@ def test_all() -> tuple[int, int]:
         passed, failed = (sum(it) for it in zip(*sums_of_all))
     else:
         print("acceptance: the gate left no program, so no case was run")
-    failed += sum(not it.exists() for it in (PROGRAM, HISTORIES))
+    failed += sum(not it.exists() for it in (PROGRAM, BENCH))
     print("\n".join(times), flush=True)
     return passed, failed
 

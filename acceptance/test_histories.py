@@ -1,4 +1,4 @@
-"""Histories of workers on threads: the answers that `crack_histories` prints are replayed.
+"""Histories of workers on threads: the answers that `crack_bench histories` prints are replayed.
 
 Its workers ask a table of three partitions, each on its own thread, and it prints each one's answers and receipts, and
 the histories. It must hold that there is one order of all entries that each history and each worker keeps; in that
@@ -266,23 +266,23 @@ def check_seed(program: str, seed: int, statements: int = STATEMENTS) -> None:
     for policy in POLICIES:
         words = words_of(seed, statements, policy)
         try:
-            status, wrote, complained = ran([program, *words], "")
+            status, wrote, complained = ran([program, "histories", *words], "")
             expect("status and standard error", (0, ""), (status, complained))
             entries, follows = check(Printed(wrote), WORKERS, statements, Limits(*map(int, words[4:])))
         except Exception as error:
-            raise Wrong(f"crack_histories {' '.join(words)}: {error}") from error
+            raise Wrong(f"crack_bench histories {' '.join(words)}: {error}") from error
         print(f"histories: seed {seed}, {policy}: {entries} entries, of which {follows} follow one of another worker")
 
 
 def soak(crackd: str, seed: int) -> None:
     """The same for the program that was built beside `crackd`, with ten times as many statements."""
-    check_seed(built("crack_histories", pathlib.Path(crackd).resolve().parents[3]), seed, STATEMENTS_OF_A_SOAK)
+    check_seed(built("crack_bench", pathlib.Path(crackd).resolve().parents[3]), seed, STATEMENTS_OF_A_SOAK)
 
 
 class Histories(fixtures.Case):
     """The answers to the workers of each seed, under each policy."""
 
-    needs = "crack_histories"
+    needs = "crack_bench"
 
 
 class Texts(unittest.TestCase):

@@ -113,7 +113,7 @@ def scattered(number):
 
 
 class Mix:
-    """What a worker of crack_bench_workers asks its own partitions, as statements."""
+    """What a worker of crack_bench asks its own partitions, as statements."""
 
     def __init__(self, worker):
         self.first, self.number = worker * sizes.PARTS_EACH, worker * sizes.APART

@@ -26,7 +26,7 @@ def measure_asking(table, _runs):
     if not has_valgrind():
         return
     rows, most = sizes.WORKER_ROWS, sizes.WORKER_STEPS
-    words = [[WORKERS, name, str(rows), str(steps)] for name in ("ask", "bare") for steps in (most, 0)]
+    words = [[*WORKERS, name, str(rows), str(steps)] for name in ("ask", "bare") for steps in (most, 0)]
     ask, ask_before, bare, bare_before = (instructions(it) for it in words)
     what = f"instructions of {4 * most} statements, half sums, by a worker"
     table.numbers(f"{what}, beside bare partitions", ask - ask_before, bare - bare_before, 1.25)
@@ -37,7 +37,7 @@ def measure_gathering(table, runs):
     workers, most = sizes.GATHER_WORKERS, sizes.GATHER_ROWS
     words = [str(workers), str(most)]
     ours, folded, theirs = compare(
-        [[WORKERS, "gathered", *words], [WORKERS, "folded", *words], [PEERS, "copies", *words]], runs
+        [[*WORKERS, "gathered", *words], [*WORKERS, "folded", *words], [PEERS, "copies", *words]], runs
     )
     what = f"gathering {workers} workers with {2 * workers * most} entries"
     table.line(f"{what}, beside copies of both lists", middle_of(ours, "gather"), middle_of(theirs, "copies"), 3.0)
@@ -50,7 +50,7 @@ def measure_gathering(table, runs):
     if has_valgrind():
         both = [[str(workers), str(rows)] for rows in (most // 2, most)]
         half, whole = (
-            instructions([WORKERS, "gathered", *size]) - instructions([WORKERS, "loaded", *size]) for size in both
+            instructions([*WORKERS, "gathered", *size]) - instructions([*WORKERS, "loaded", *size]) for size in both
         )
         table.numbers(f"{what}, beside half, instructions", whole, half, 2.2)
 
@@ -60,7 +60,7 @@ def asking_times(runs):
     replies, in seconds."""
     rows, steps = sizes.WORKER_ROWS, sizes.WORKER_STEPS
     words = ["ask", str(rows), str(steps)]
-    both = compare([[WORKERS, *words], [WORKERS, "witnessed", *words]], runs)
+    both = compare([[*WORKERS, *words], [*WORKERS, "witnessed", *words]], runs)
     parts = {"an insert": ("load", 2 * rows), "a statement, half of them sums": ("work", 4 * steps)}
     return {what: [middle_of(it, name) / count for it in both] for what, (name, count) in parts.items()}
 
@@ -71,7 +71,7 @@ def gathering_times(runs):
     workers, times = str(sizes.GATHER_WORKERS), {}
     for rows in sizes.WITNESSED_ROWS:
         booked, witnessed = compare(
-            [[WORKERS, *kind, "gathered", workers, str(rows)] for kind in ([], ["witnessed"])], runs
+            [[*WORKERS, *kind, "gathered", workers, str(rows)] for kind in ([], ["witnessed"])], runs
         )
         times[2 * sizes.GATHER_WORKERS * rows] = [middle_of(booked, "gather"), middle_of(witnessed, "settle")]
     return times
@@ -85,7 +85,7 @@ def measure_witnessed_asking(table, runs):
 def measure_witnessed_workers(table, runs):
     """How witnessed workers with their own partitions scale, compared with those with receipts."""
     words = [["own", str(workers), str(sizes.WORKER_ROWS), str(sizes.WORKER_STEPS)] for workers in sizes.WORKER_COUNTS]
-    each = [compare([[WORKERS, "witnessed", *it], [WORKERS, *it]], runs) for it in words]
+    each = [compare([[*WORKERS, "witnessed", *it], [*WORKERS, *it]], runs) for it in words]
     times = [[middle_of(it, "work") for it in both] for both in each]
     for workers, both in zip(sizes.WORKER_COUNTS[1:], times[1:]):
         ours, theirs = (workers * alone / it for alone, it in zip(times[0], both))

@@ -39,7 +39,9 @@ class Programs:
 
 
 OURS = Programs(TOP)
-CRACKD, BENCH, WORKERS = OURS.crackd, OURS.bench, OURS.path("crack_bench_workers")
+CRACKD, BENCH = OURS.crackd, OURS.bench
+# the command that measures workers
+WORKERS = [BENCH, "workers"]
 
 
 def build(names):
@@ -101,10 +103,10 @@ def compare(programs, runs):
     return [times for _, times in ran]
 
 
-def compare_each(program, all_words, runs):
-    """Runs a program and plain Rust with each of these arguments, all in turn. For each it returns what both reported;
+def compare_each(command, all_words, runs):
+    """Runs a command and plain Rust with each of these arguments, all in turn. For each it returns what both reported;
     both must write the same."""
-    ran = in_turn([[which, *words] for words in all_words for which in (program, PEERS)], runs)
+    ran = in_turn([[*which, *words] for words in all_words for which in (command, [PEERS])], runs)
     for words, (ours, _), (theirs, _) in zip(all_words, ran[::2], ran[1::2]):
         if len(ours | theirs) > 1:
             sys.exit(f"{words}: the program and its peer don't write the same")

@@ -13,7 +13,8 @@ don't compute the same.
 
 With --before it compares crackd and crack_bench with those of another checkout, FOLDER, whose programs are built: both
 in turn, with the same arguments and the same files. It prints the ratio of this checkout's figures to those of FOLDER,
-one line each; nothing is bounded. What FOLDER's crack_bench doesn't know is named and skipped.
+one line each; nothing is bounded. What FOLDER's crack_bench doesn't know is named and skipped, and so is what measures
+a server, workers or the package.
 
 With --report it writes docs/BENCHMARKS.md with its plots, and nothing else. It also compares a Redis sorted set, if
 `redis-server` is installed.
@@ -41,9 +42,7 @@ def program_of(word):
     """The program that a word runs, if any."""
     if word in of_python.MEASURES:
         return None
-    if word in of_crackd.MEASURES:
-        return "crackd"
-    return "crack_bench_workers" if word in of_workers.MEASURES else "crack_bench"
+    return "crackd" if word in of_crackd.MEASURES else "crack_bench"
 
 
 def measure(words, runs):
@@ -59,14 +58,15 @@ def measure(words, runs):
 
 
 def measure_before(folder, words, runs):
-    """Compares these words with the earlier programs; those that run workers aren't compared."""
+    """Compares these words with the earlier programs; those that measure a server, workers or the package aren't
+    compared."""
     known = [word for word in words if word in before.THINGS]
     earlier = before.earlier(folder)
     build(before.NAMES)
     before.compare_words(known, earlier, runs)
     if known != words:
         left = ", ".join(it for it in words if it not in known)
-        print(f"not compared, since they run crack_bench_workers: {left}")
+        print(f"not compared with earlier programs: {left}")
 
 
 def given(words):
@@ -90,7 +90,7 @@ def main(words):
         sizes.shrink()
     runs = 1 if is_small or "--once" in options else 5
     if "--report" in options:
-        build(["crackd", "crack_bench", "crack_bench_workers"])
+        build(["crackd", "crack_bench"])
         contests.write_report(OUT / "docs" if is_small else TOP / "docs", runs)
     elif folder:
         measure_before(folder, wanted, runs)

@@ -20,7 +20,7 @@ STEP_PIECES, STEP_ROWS = 2000, 1000
 # one
 PART_WIDTH, PART_PIECES = 2**26, 8
 SPLITS = [str(part * PART_WIDTH) for part in range(1, 64)]
-# how many workers; and, as crack_bench_workers counts them, rows of each partition, and steps of four statements each
+# how many workers; and, as crack_bench counts them, rows of each partition, and steps of four statements each
 WORKER_COUNTS = [1, 2, 4]
 WORKER_ROWS, WORKER_STEPS = 100_000, 4000
 SHARINGS = [("own", "two partitions of each's own"), ("shared", "all over the same partitions")]
@@ -35,7 +35,7 @@ EVERYTHING = f"0 {2**64}"
 # for a server whose clients count at full speed: how long its histories are, and after how many commands its memory is
 # read
 SERVED_LIMIT, SERVED = 65_536, (3_000_000, 30_000_000)
-# as crack_bench_workers has them: partitions of each worker, how far apart the numbers lie at which the workers begin,
+# as crack_bench has them: partitions of each worker, how far apart the numbers lie at which the workers begin,
 # and how wide a sum's range is
 PARTS_EACH, APART, SUM_WIDTH = 2, 50_000_000, PART_WIDTH // 100
 

@@ -1,8 +1,22 @@
-//! Times, and why a measurement ended early.
+//! The handles of a measurement, its times, and why it ended early.
 
 use crack_row::Refusal;
+use std::alloc::Global;
 use std::io;
+use std::rt::Clock;
+use std::sync::Wait;
+use std::thread::Threads;
 use std::time::Instant;
+
+/// The handles with which results and times are written.
+pub trait Output: Alloc<A = Global> + Print + Eprint + Clock {}
+
+impl<R: Alloc<A = Global> + Print + Eprint + Clock> Output for R {}
+
+/// The same, and to start threads and wait for them.
+pub trait Host: Output + Threads + Wait + Sync {}
+
+impl<R: Output + Threads + Wait + Sync> Host for R {}
 
 /// Why a measurement ended early.
 #[derive(Drop)]
@@ -26,8 +40,21 @@ impl From<io::Error> for Failure {
 }
 
 /// Writes how long a part took. Returns when the next one begins.
-pub fn report(rt: &HostRuntime, name: &str, since: Instant) -> io::Result<Instant> {
+pub fn report<R: Output>(rt: &R, name: &str, since: Instant) -> io::Result<Instant> {
     let nanoseconds = since.elapsed(rt)?.as_nanos();
     eprintln!(rt; "{name} {nanoseconds}")?;
     Instant::now(rt)
+}
+
+/// How a measurement ended, as the program ends; none if the words name no measurement.
+pub fn explained(told: Option<Told>) -> anyhow::Result<()> {
+    match told {
+        Some(Ok(())) => Ok(()),
+        Some(Err(Failure::Refused(refusal))) => Err(refusal.into()),
+        Some(Err(Failure::Unwritten(error))) => Err(error.into()),
+        None => Err(anyhow::anyhow!(
+            "arena, column, counts, sums, cold, pass, updates, merge, pulls, fold, workers, histories or all, with \
+            their words"
+        )),
+    }
 }

@@ -1,0 +1,61 @@
+//! Helpers that make threads meet: they begin together, and a gate under the locks yields and refuses now and then.
+
+use crate::histories::draws::PARTS;
+use crack_table::Gate;
+use std::sync::atomic::{AtomicU32, Ordering};
+use std::thread;
+
+/// Of each partition's commands one of this many is refused.
+const REFUSED: u32 = 50;
+
+/// Of each partition's commands one of this many yields to other threads under its lock, and comes at the second turn.
+const GIVES_WAY: u32 = 3;
+
+/// How often a thread that waits for the others to begin yields, at most.
+const PATIENCE: u32 = 100000;
+
+/// A gate that counts the commands of each partition, and by that number yields or refuses at every turn.
+#[derive(Drop)]
+pub struct Restless {
+    begun: AtomicU32,
+    entered: [AtomicU32; PARTS],
+}
+
+impl Restless {
+    pub fn new() -> Restless {
+        Restless {
+            begun: AtomicU32::new(0),
+            entered: [AtomicU32::new(0), AtomicU32::new(0), AtomicU32::new(0)],
+        }
+    }
+
+    /// Waits, not forever, until this many threads have come here.
+    pub fn begin_together(&self, threads: u64) {
+        self.begun.fetch_add(1, Ordering::SeqCst);
+        'others: for _ in 0..PATIENCE {
+            if u64::from(self.begun.load(Ordering::SeqCst)) >= threads {
+                break;
+            }
+            thread::yield_now();
+        }
+    }
+}
+
+impl Gate for Restless {
+    ghost may_refuse = { λ gate part turn. Unit {0} };
+
+    fn inside(&self, part: u32, turn: u32) -> bool {
+        let Some(entered) = self.entered.get(part as usize) else {
+            return true;
+        };
+        let number = match turn {
+            0 => entered.fetch_add(1, Ordering::SeqCst),
+            _ => entered.load(Ordering::SeqCst).wrapping_sub(1),
+        };
+        if turn == 0 && number % GIVES_WAY == 0 {
+            thread::yield_now();
+            return false;
+        }
+        number % REFUSED != REFUSED - 1
+    }
+}

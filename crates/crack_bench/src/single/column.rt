@@ -1,0 +1,122 @@
+//! Cracks of a column whose handles are in random order.
+ghost use Rattle.std.specs.Prelude.{◌≡◌, [], length, OnOk};
+ghost use Rattle.crack_arena.specs.Memories.{Remembers};
+
+use crate::report::{Output, Told, report};
+use crate::single::arena::{Filled, fill};
+use crate::single::numbers::{Numbers, mixed};
+use crack_arena::{Arena, Handle};
+use crack_column::{CrackerColumn, MOST_PLACES};
+use crack_row::{InnerBound, Key, KeyNumber, Refusal, Row};
+use std::time::Instant;
+
+/// The number of the bound of the first crack, which reads each key through the arena.
+const FIRST: u32 = 1073741824;
+
+/// How many later cracks there are, over rows that are remembered.
+const LATER_CRACKS: u32 = 16;
+
+/// The distance between their bounds.
+const LATER_STEP: u32 = 134217728;
+
+/// Cracks of a column of random rows.
+pub fn measure<R: Output>(rt: &R, rows: u32) -> Told {
+    let mut filled = Filled::new(rt.alloc());
+    let mut column = CrackerColumn::new(rt.alloc());
+    let told = fill_and_crack(rt, &mut filled, &mut column, rows);
+    drop(column);
+    drop(filled);
+    told
+}
+
+fn fill_and_crack<R: Output>(
+    rt: &R,
+    filled: &mut Filled,
+    column: &mut CrackerColumn,
+    rows: u32,
+) -> Told
+    requires { (column.old.handles ≡ []) × (column.old.remembered ≡ []) }
+{
+    let mut numbers = Numbers::new(7);
+    fill(filled, rows, &mut numbers)?;
+    shuffle(filled, &mut numbers);
+    append_all(column, filled.handles.as_slice(), &filled.arena)?;
+    measure_cracks(rt, column, &filled.arena)
+}
+
+fn measure_cracks<R: Output>(rt: &R, column: &mut CrackerColumn, arena: &Arena<Row>) -> Told
+    requires { Remembers arena.now.cells column.old.handles column.old.remembered }
+{
+    let start = Instant::now(rt)?;
+    let first = crack(column, FIRST, arena);
+    let start = report(rt, "first", start)?;
+    let later = crack_on(column, arena);
+    report(rt, "later", start)?;
+    let sum = sum(column);
+    println!(rt; "column {first} {later} sum {sum}")?;
+    Ok(())
+}
+
+/// Puts the handles into random order.
+fn shuffle(filled: &mut Filled, numbers: &mut Numbers) {
+    let handles = filled.handles.as_mut_slice();
+    'places: for i in 1..handles.len() {
+        let other = numbers.below(i as u64 + 1) as usize;
+        handles.swap(i, other);
+    }
+}
+
+/// Appends the handles, in their order, as far as there is room for them. No row is known.
+fn append_all(
+    column: &mut CrackerColumn,
+    handles: &[Handle<Row>],
+    arena: &Arena<Row>,
+) -> Result<(), Refusal>
+    requires { (column.old.handles ≡ []) × (column.old.remembered ≡ []) }
+    ensures { OnOk result (Remembers arena.now.cells column.new.handles column.new.remembered) }
+{
+    let rows = handles.len().min(MOST_PLACES as usize);
+    column.reserve(rows)?;
+    'handles: for i in 0..rows {
+        column.append(handles[i]);
+    }
+    Ok(())
+}
+
+/// The bound with this number; the least between two keys if the number is 0.
+fn bound_at(number: u32) -> InnerBound {
+    match Key::from_number(KeyNumber::from(number)).bound().inner() {
+        Some(bound) => bound,
+        None => InnerBound::least(),
+    }
+}
+
+/// Cracks the whole column at the bound with this number. Returns the place of the bound.
+fn crack(column: &mut CrackerColumn, number: u32, arena: &Arena<Row>) -> usize
+    requires { Remembers arena.now.cells column.old.handles column.old.remembered }
+    ensures { Remembers arena.now.cells column.new.handles column.new.remembered }
+{
+    let len = column.len();
+    column.crack_two(0, len, bound_at(number), arena)
+}
+
+/// Cracks the whole column at bounds that rise. Returns a checksum of their places.
+fn crack_on(column: &mut CrackerColumn, arena: &Arena<Row>) -> u64
+    requires { Remembers arena.now.cells column.old.handles column.old.remembered }
+{
+    let mut sum = 0;
+    'cracks: for i in 0..LATER_CRACKS {
+        let place = crack(column, i * LATER_STEP, arena);
+        sum = mixed(sum, place as u64);
+    }
+    sum
+}
+
+/// A checksum of the order of the handles.
+fn sum(column: &CrackerColumn) -> u64 {
+    let mut sum = 0;
+    'places: for place in 0..column.len() {
+        sum = mixed(sum, column.at(place).slot() as u64);
+    }
+    sum
+}

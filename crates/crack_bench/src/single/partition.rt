@@ -1,0 +1,220 @@
+//! A partition that is asked commands of random keys, rows and ranges.
+ghost use Rattle.std.specs.Prelude.{◌<◌};
+
+use crate::single::numbers::{Numbers, mixed};
+use crack_part::Partition;
+use crack_row::{
+    BoundNumber, Command, GREATEST_BOUND, GREATEST_LIMIT, Key, KeyNumber, KeyRange, Payload,
+    PayloadNumber, Policy, Refusal, Reply, Serial,
+};
+use std::alloc::Global;
+
+/// The end of the random keys, which have 32 bits.
+const KEYS_END: BoundNumber = 4294967296;
+
+/// The width of a random range: a hundredth of these keys.
+const WIDTH: BoundNumber = 42949672;
+
+/// What a partition is asked.
+#[derive(Clone, Copy)]
+pub enum Ask {
+    /// To insert a row with a random key.
+    Insert,
+    /// The same, with a key in the lower half.
+    InsertLow,
+    /// To delete a random row of the list.
+    Delete,
+    /// To delete a random row of the first ones, which may be gone.
+    DeleteAny,
+    /// To delete a random row of the list, and then to insert another.
+    Update,
+    Count(Keys),
+    Sum(Keys),
+}
+
+/// The range of a query.
+#[derive(Clone, Copy)]
+pub enum Keys {
+    All,
+    /// A random range.
+    Random,
+    /// One range in the upper half.
+    Upper,
+    /// A random range of half the width in the upper half.
+    RandomUpper,
+    /// The keys below the end of the next piece, of as many pieces of one width.
+    Below,
+}
+
+/// The numbers of a measurement. What they count depends on it.
+#[derive(Clone, Copy, Drop)]
+pub struct Sizes {
+    pub rows: u32,
+    /// How many ranges, changes, batches or pieces there are.
+    pub first: u32,
+    /// How many updates a batch has, or rows are pending or deleted.
+    pub second: u32,
+}
+
+/// A partition that merges by one policy, the numbers that steer what it is asked, and what it replied.
+#[derive(Drop)]
+pub struct Measured {
+    pub partition: Partition,
+    policy: Policy,
+    pub sizes: Sizes,
+    numbers: Numbers,
+    /// The numbers that there were when the last part began.
+    begun: Numbers,
+    /// The serials of the rows that are to be deleted.
+    rows: Vec<u64>,
+    /// The serial in the last reply that has one.
+    placed: u64,
+    /// The count or the sum in the last reply that has one.
+    pub told: u64,
+    /// A checksum of the counts and sums in the replies.
+    pub sum: u64,
+}
+
+impl Measured {
+    pub fn open(alloc: Global, policy: Policy, sizes: Sizes) -> Result<Measured, Refusal> {
+        let numbers = Numbers::new(11);
+        Ok(Measured {
+            partition: Partition::open(alloc, KeyRange::all(), GREATEST_LIMIT)?,
+            policy,
+            sizes,
+            numbers,
+            begun: numbers,
+            rows: Vec::new(alloc),
+            placed: 0,
+            told: 0,
+            sum: 0,
+        })
+    }
+
+    /// Begins a part, with another checksum.
+    pub fn begin(&mut self) {
+        self.begun = self.numbers;
+        self.sum = 0;
+    }
+
+    /// Begins a part with the same numbers as the last.
+    pub fn begin_again(&mut self) {
+        self.numbers = self.begun;
+    }
+
+    /// Lists the serials of the first rows.
+    pub fn list_rows(&mut self, alloc: Global) -> Result<(), Refusal> {
+        self.rows = (0..u64::from(self.sizes.rows)).collect(alloc)?;
+        Ok(())
+    }
+
+    /// Carries out a command, and keeps the number in the reply.
+    fn apply(&mut self, command: Command) -> Result<(), Refusal> {
+        match self.partition.apply(0, command, self.policy)?.0 {
+            Reply::Placed(serial) => self.placed = serial.0,
+            Reply::Counted(count) => self.tell(count),
+            Reply::Summed(sum) => self.tell(u64::try_from(sum).unwrap_or(u64::MAX)),
+            _ => {}
+        }
+        Ok(())
+    }
+
+    fn tell(&mut self, number: u64) {
+        self.told = number;
+        self.sum = mixed(self.sum, number);
+    }
+
+    /// The range of a query; of several queries the one with this number.
+    fn range(&mut self, keys: Keys, at: u32) -> Result<KeyRange, Refusal> {
+        let (low, width) = match keys {
+            Keys::All => (0, GREATEST_BOUND),
+            Keys::Random => (self.place(), WIDTH),
+            Keys::Upper => (KEYS_END / 2, WIDTH),
+            Keys::RandomUpper => (KEYS_END / 2 + self.place() / 2, WIDTH / 2),
+            Keys::Below => (0, self.end_of(at)),
+        };
+        KeyRange::new(low, low.saturating_add(width))
+    }
+
+    /// Where a random range begins.
+    fn place(&mut self) -> BoundNumber
+        ensures { result < 4294967296 }
+    {
+        BoundNumber::from(self.numbers.word()) % (KEYS_END - WIDTH)
+    }
+
+    /// Where a piece ends, of as many pieces of one width.
+    fn end_of(&self, piece: u32) -> BoundNumber {
+        let width = KEYS_END / BoundNumber::from(self.sizes.first.max(1));
+        width * (BoundNumber::from(piece) + 1)
+    }
+
+    /// Takes a random row out of the list; none if it is empty.
+    fn take_row(&mut self) -> Option<Serial> {
+        if self.rows.is_empty() {
+            return None;
+        }
+        let at = self.numbers.below(self.rows.len() as u64) as usize;
+        Some(Serial(self.rows.swap_remove(at)))
+    }
+
+    /// Deletes a random row of the list, and inserts one whose serial takes its place.
+    fn update(&mut self) -> Result<(), Refusal> {
+        if self.rows.is_empty() {
+            return Ok(());
+        }
+        let at = self.numbers.below(self.rows.len() as u64) as usize;
+        let serial = Serial(self.rows[at]);
+        self.apply(Command::Delete { serial })?;
+        let key = self.numbers.word();
+        self.apply(insertion(key, key))?;
+        if let Some(row) = self.rows.get_mut(at) {
+            *row = self.placed;
+        }
+        Ok(())
+    }
+
+    /// Asks once. Of several questions it is the one with this number.
+    fn ask(&mut self, ask: Ask, at: u32) -> Result<(), Refusal> {
+        let command = match ask {
+            Ask::Insert => insertion(self.numbers.word(), at),
+            Ask::InsertLow => insertion(self.numbers.word() >> 1, at),
+            Ask::Update => return self.update(),
+            Ask::Delete => match self.take_row() {
+                Some(serial) => Command::Delete { serial },
+                None => return Ok(()),
+            },
+            Ask::DeleteAny => Command::Delete {
+                serial: Serial(self.numbers.below(u64::from(self.sizes.rows.max(1)))),
+            },
+            Ask::Count(keys) => Command::Count(self.range(keys, at)?),
+            Ask::Sum(keys) => Command::Sum(self.range(keys, at)?),
+        };
+        self.apply(command)
+    }
+
+    /// Asks the same as often.
+    pub fn repeat(&mut self, ask: Ask, times: u32) -> Result<(), Refusal> {
+        'times: for at in 0..times {
+            self.ask(ask, at)?;
+        }
+        Ok(())
+    }
+
+    /// Batches of updates, each with the sum of a random range after it.
+    pub fn update_in_batches(&mut self) -> Result<(), Refusal> {
+        'batches: for at in 0..self.sizes.first {
+            self.repeat(Ask::Update, self.sizes.second)?;
+            self.ask(Ask::Sum(Keys::Random), at)?;
+        }
+        Ok(())
+    }
+}
+
+/// An insert of a row.
+fn insertion(key: u32, payload: u32) -> Command {
+    Command::Insert {
+        key: Key::from_number(KeyNumber::from(key)),
+        payload: Payload::from_number(PayloadNumber::from(payload)),
+    }
+}

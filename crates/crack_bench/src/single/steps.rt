@@ -1,0 +1,343 @@
+//! The measurements of a partition, as lists of steps.
+
+use crate::report::{Failure, Output, Told, report};
+use crate::single::numbers::mixed;
+use crate::single::partition::{Ask, Keys, Measured, Sizes};
+use crack_part::Partition;
+use crack_row::{Policy, Row};
+use std::time::Instant;
+
+/// How many commands of one kind are measured before a checkpoint, and after it.
+const NEXT: u32 = 1000;
+
+/// How often something is asked.
+#[derive(Clone, Copy)]
+enum Times {
+    Once,
+    /// As often as commands are measured before a checkpoint, and after it.
+    Next,
+    /// For each row.
+    Rows,
+    /// For each of half the rows.
+    Half,
+    /// For each of the others.
+    OtherHalf,
+    /// For each bound between as many pieces.
+    Bounds,
+    First,
+    Second,
+}
+
+/// A step of a measurement of a partition.
+#[derive(Clone, Copy)]
+enum Step {
+    Ask(Ask, Times),
+    /// Updates in batches, with a sum after each.
+    Batches,
+    /// Lists the rows from which updates and deletions choose.
+    List,
+    /// Begins a part: its time, its checksum and its numbers.
+    Begin,
+    /// Goes back to the numbers at which the part began.
+    Again,
+    /// Writes the time since the part began, or since the last time that was written.
+    Time(&'static str),
+    /// Writes the number in the last reply.
+    Told(&'static str),
+    /// Writes the checksum.
+    Sum(&'static str),
+    /// Counts everything. Writes the checksum of the replies before that, and the count.
+    Next,
+    /// Makes a checkpoint. Writes its time, and what it kept.
+    Checkpoint(&'static str),
+    /// Writes the counts of the merges.
+    Tally,
+}
+
+/// A measurement of a partition.
+#[derive(Clone, Copy)]
+pub struct Kind {
+    /// How many numbers it has besides the rows.
+    pub numbers: usize,
+    /// How the rows are inserted.
+    load: &'static [Step],
+    /// The steps after that.
+    steps: &'static [Step],
+}
+
+/// Inserts all rows, which stay pending.
+const PENDING: &[Step] = &[Step::Ask(Ask::Insert, Times::Rows)];
+
+/// Inserts all rows in the lower half, which stay pending.
+const LOW: &[Step] = &[Step::Ask(Ask::InsertLow, Times::Rows)];
+
+/// Inserts all rows, half of which stay pending.
+const PARTLY: &[Step] = &[
+    Step::Ask(Ask::Insert, Times::Half),
+    Step::Ask(Ask::Count(Keys::All), Times::Once),
+    Step::Ask(Ask::Insert, Times::OtherHalf),
+];
+
+/// Inserts all rows, and counts them.
+const COUNTED: &[Step] = &[
+    Step::Ask(Ask::Insert, Times::Rows),
+    Step::Time("load"),
+    Step::Ask(Ask::Count(Keys::All), Times::Once),
+    Step::Time("everything"),
+    Step::Told("rows"),
+];
+
+/// Sums with every row pending.
+const COLD: Kind = Kind {
+    numbers: 1,
+    load: PENDING,
+    steps: &[
+        Step::Ask(Ask::Sum(Keys::Random), Times::First),
+        Step::Time("cold"),
+        Step::Sum("cold"),
+        Step::Tally,
+    ],
+};
+
+/// Sums with every row pending, and none in a range.
+const PASS: Kind = Kind {
+    numbers: 1,
+    load: LOW,
+    steps: &[
+        Step::Ask(Ask::Sum(Keys::RandomUpper), Times::First),
+        Step::Time("pass"),
+        Step::Sum("pass"),
+    ],
+};
+
+/// Counts of random ranges.
+const COUNTS: Kind = Kind {
+    numbers: 1,
+    load: COUNTED,
+    steps: &[
+        Step::Ask(Ask::Count(Keys::Random), Times::First),
+        Step::Time("counts"),
+        Step::Sum("counts"),
+    ],
+};
+
+/// Sums, and the same ones again.
+const SUMS: Kind = Kind {
+    numbers: 1,
+    load: COUNTED,
+    steps: &[
+        Step::Ask(Ask::Sum(Keys::Random), Times::First),
+        Step::Time("sums"),
+        Step::Again,
+        Step::Ask(Ask::Sum(Keys::Random), Times::First),
+        Step::Time("again"),
+        Step::Sum("sums"),
+    ],
+};
+
+/// Batches of updates.
+const UPDATES: Kind = Kind {
+    numbers: 2,
+    load: COUNTED,
+    steps: &[
+        Step::List,
+        Step::Begin,
+        Step::Batches,
+        Step::Time("updates"),
+        Step::Sum("updates"),
+        Step::Tally,
+    ],
+};
+
+/// A count of everything that merges inserts into pieces.
+const MERGE: Kind = Kind {
+    numbers: 2,
+    load: COUNTED,
+    steps: &[
+        Step::Ask(Ask::Count(Keys::Below), Times::Bounds),
+        Step::Ask(Ask::Insert, Times::Second),
+        Step::Begin,
+        Step::Ask(Ask::Count(Keys::All), Times::Once),
+        Step::Time("merge"),
+        Step::Told("merge"),
+        Step::Tally,
+    ],
+};
+
+/// A count of everything that takes deleted rows out of pieces.
+const PULLS: Kind = Kind {
+    numbers: 2,
+    load: COUNTED,
+    steps: &[
+        Step::Ask(Ask::Count(Keys::Below), Times::Bounds),
+        Step::Ask(Ask::DeleteAny, Times::Second),
+        Step::Begin,
+        Step::Ask(Ask::Count(Keys::All), Times::Once),
+        Step::Time("pulls"),
+        Step::Told("pulls"),
+        Step::Tally,
+    ],
+};
+
+/// A checkpoint of the inserts, and one after as many deletes and inserts, which put rows into freed cells, with
+/// nothing pending. Counts of one range and inserts are measured before and after it.
+const FOLD: Kind = Kind {
+    numbers: 1,
+    load: PARTLY,
+    steps: &[
+        Step::Checkpoint("fold"),
+        Step::List,
+        Step::Ask(Ask::Delete, Times::First),
+        Step::Ask(Ask::Count(Keys::All), Times::Once),
+        Step::Ask(Ask::Insert, Times::First),
+        Step::Ask(Ask::Count(Keys::All), Times::Once),
+        Step::Ask(Ask::Count(Keys::Upper), Times::Once),
+        Step::Begin,
+        Step::Ask(Ask::Count(Keys::Upper), Times::Next),
+        Step::Time("counts_before"),
+        Step::Ask(Ask::InsertLow, Times::Next),
+        Step::Time("inserts_before"),
+        Step::Next,
+        Step::Checkpoint("mixed_fold"),
+        Step::Begin,
+        Step::Ask(Ask::Count(Keys::Upper), Times::Next),
+        Step::Time("counts_after"),
+        Step::Ask(Ask::InsertLow, Times::Next),
+        Step::Time("inserts_after"),
+        Step::Next,
+    ],
+};
+
+/// The measurement with this name.
+pub fn kind_of(name: &str) -> Option<Kind> {
+    match name {
+        "cold" => Some(COLD),
+        "pass" => Some(PASS),
+        "counts" => Some(COUNTS),
+        "sums" => Some(SUMS),
+        "updates" => Some(UPDATES),
+        "merge" => Some(MERGE),
+        "pulls" => Some(PULLS),
+        "fold" => Some(FOLD),
+        _ => None,
+    }
+}
+
+/// Carries out a measurement.
+pub fn measure<R: Output>(rt: &R, kind: Kind, policy: Policy, sizes: Sizes) -> Told {
+    let mut table = Measured::open(rt.alloc(), policy, sizes)?;
+    let told = measure_table(rt, &mut table, kind);
+    drop(table);
+    told
+}
+
+fn measure_table<R: Output>(rt: &R, table: &mut Measured, kind: Kind) -> Told {
+    take_all(rt, table, kind.load)?;
+    take_all(rt, table, kind.steps)
+}
+
+/// Takes the steps of a part.
+fn take_all<R: Output>(rt: &R, table: &mut Measured, steps: &[Step]) -> Told {
+    table.begin();
+    let mut start = Instant::now(rt)?;
+    'steps: for step in steps {
+        start = take(rt, table, *step, start)?;
+    }
+    Ok(())
+}
+
+/// Takes a step of a part that began at `start`. Returns when the next step's part began.
+fn take<R: Output>(
+    rt: &R,
+    table: &mut Measured,
+    step: Step,
+    start: Instant,
+) -> Result<Instant, Failure> {
+    match step {
+        Step::Begin => {
+            table.begin();
+            Ok(Instant::now(rt)?)
+        }
+        Step::Time(name) => Ok(report(rt, name, start)?),
+        _ => {
+            carry_out(rt, table, step)?;
+            Ok(start)
+        }
+    }
+}
+
+fn carry_out<R: Output>(rt: &R, table: &mut Measured, step: Step) -> Told {
+    match step {
+        Step::Ask(ask, times) => Ok(table.repeat(ask, number_of(times, table.sizes))?),
+        Step::Batches => Ok(table.update_in_batches()?),
+        Step::List => Ok(table.list_rows(rt.alloc())?),
+        Step::Again => {
+            table.begin_again();
+            Ok(())
+        }
+        Step::Told(name) => write(rt, name, table.told),
+        Step::Sum(name) => write(rt, name, table.sum),
+        Step::Tally => write_tally(rt, &table.partition),
+        Step::Next => measure_next(rt, table),
+        Step::Checkpoint(name) => measure_checkpoint(rt, table, name),
+        Step::Begin | Step::Time(_) => Ok(()),
+    }
+}
+
+/// How often that is.
+fn number_of(times: Times, sizes: Sizes) -> u32 {
+    match times {
+        Times::Once => 1,
+        Times::Next => NEXT,
+        Times::Rows => sizes.rows,
+        Times::Half => sizes.rows / 2,
+        Times::OtherHalf => sizes.rows - sizes.rows / 2,
+        Times::Bounds => sizes.first.saturating_sub(1),
+        Times::First => sizes.first,
+        Times::Second => sizes.second,
+    }
+}
+
+fn write<R: Output>(rt: &R, name: &str, number: u64) -> Told {
+    println!(rt; "{name} {number}")?;
+    Ok(())
+}
+
+fn write_tally<R: Output>(rt: &R, partition: &Partition) -> Told {
+    let did = partition.tally();
+    let (put_in, taken_out, evicted) = (did.put_in, did.taken_out, did.evicted);
+    eprintln!(rt; "put_in {put_in}\ntaken_out {taken_out}\nevicted {evicted}")?;
+    let (moved, pulled) = (did.moved, did.pulled);
+    eprintln!(rt; "moved {moved}\npulled {pulled}")?;
+    Ok(())
+}
+
+fn measure_next<R: Output>(rt: &R, table: &mut Measured) -> Told {
+    let sum = table.sum;
+    table.repeat(Ask::Count(Keys::All), 1)?;
+    let everything = table.told;
+    println!(rt; "next {sum} rows {everything}")?;
+    Ok(())
+}
+
+fn measure_checkpoint<R: Output>(rt: &R, table: &mut Measured, name: &str) -> Told {
+    let start = Instant::now(rt)?;
+    let entries = table.partition.checkpoint()?;
+    report(rt, name, start)?;
+    let rows = table.partition.base_rows();
+    let len = rows.len();
+    let sum = sum_of(rows);
+    println!(rt; "{name} {entries} rows {len} sum {sum}")?;
+    Ok(())
+}
+
+/// A checksum of rows, in their order.
+fn sum_of(rows: &[Row]) -> u64 {
+    let mut sum = 0;
+    'rows: for row in rows {
+        sum = mixed(sum, row.serial.0);
+        let payload = u64::try_from(row.payload.amount()).unwrap_or(0);
+        sum = mixed(sum, row.key.number() << 32 | payload);
+    }
+    sum
+}

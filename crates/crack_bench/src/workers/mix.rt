@@ -1,0 +1,177 @@
+//! The commands of each worker: half sums of a hundredth of a partition's keys, a quarter deletes, and a quarter
+//! inserts.
+
+use crate::hands::Questions;
+use crate::seats::{Asks, Works};
+use crack_row::{
+    BoundNumber, Command, Key, KeyNumber, KeyRange, Payload, PayloadNumber, Refusal, Reply, Serial,
+};
+use std::alloc::Global;
+
+/// The width of a partition's keys.
+pub const PART_WIDTH: u32 = 67108864;
+
+/// The width of the range of a sum.
+const RANGE_WIDTH: u32 = PART_WIDTH / 100;
+
+/// Partitions that are adjacent.
+#[derive(Clone, Copy, Drop)]
+pub struct Parts {
+    pub first: u32,
+    pub count: u32,
+}
+
+/// A row that was placed.
+#[derive(Clone, Copy, Drop)]
+struct Placed {
+    part: u32,
+    serial: Serial,
+}
+
+/// The next commands of one worker, and the rows that it placed.
+#[derive(Drop)]
+pub struct Mix {
+    parts: Parts,
+    rows: Vec<Placed>,
+    number: u32,
+    /// The sum that its last steps returned.
+    pub told: Result<u64, Refusal>,
+}
+
+impl Questions for Mix {
+    fn ask_next<A: Works>(&mut self, worker: &mut A, count: u64) {
+        self.told = self.steps(worker, count);
+    }
+}
+
+impl Mix {
+    /// A mix over these partitions, which begins at this number.
+    pub fn new(alloc: Global, parts: Parts, number: u32) -> Mix {
+        Mix {
+            parts,
+            rows: Vec::new(alloc),
+            number,
+            told: Ok(0),
+        }
+    }
+
+    /// The next number, which looks random.
+    fn next(&mut self) -> u32 {
+        self.number = self.number.wrapping_add(1);
+        scattered(self.number)
+    }
+
+    /// One of the partitions.
+    fn next_part(&mut self) -> u32 {
+        let place = self.next() % self.parts.count.max(1);
+        self.parts.first.wrapping_add(place)
+    }
+
+    /// Inserts a row into one of the partitions.
+    fn insert<A: Asks>(&mut self, asked: &mut A) -> Result<Placed, Refusal> {
+        let part = self.next_part();
+        let key = lowest_key(part).wrapping_add(self.next() % PART_WIDTH);
+        let insert = Command::Insert {
+            key: Key::from_number(KeyNumber::from(key)),
+            payload: Payload::from_number(PayloadNumber::from(key)),
+        };
+        let reply = asked.ask(part, insert)?;
+        Ok(Placed {
+            part,
+            serial: Serial(number_of(&reply)),
+        })
+    }
+
+    /// The sum of a range of one of the partitions.
+    fn sum<A: Asks>(&mut self, asked: &mut A) -> Result<u64, Refusal> {
+        let part = self.next_part();
+        let low = lowest_key(part).wrapping_add(self.next() % (PART_WIDTH - RANGE_WIDTH));
+        let low = BoundNumber::from(low);
+        let range = KeyRange::new(low, low + BoundNumber::from(RANGE_WIDTH))?;
+        let reply = asked.ask(part, Command::Sum(range))?;
+        Ok(number_of(&reply))
+    }
+
+    /// Deletes one of the rows. Returns its place; none if there is no row.
+    fn delete<A: Asks>(&mut self, asked: &mut A) -> Result<Option<usize>, Refusal> {
+        let number = self.next() as usize;
+        if self.rows.is_empty() {
+            return Ok(None);
+        }
+        let at = number % self.rows.len();
+        let Placed { part, serial } = self.rows[at];
+        asked.ask(part, Command::Delete { serial })?;
+        Ok(Some(at))
+    }
+
+    /// A row for the one that was deleted.
+    fn replace<A: Asks>(&mut self, asked: &mut A, at: Option<usize>) -> Result<(), Refusal> {
+        let placed = self.insert(asked)?;
+        let Some(at) = at else {
+            return Ok(());
+        };
+        if let Some(row) = self.rows.get_mut(at) {
+            *row = placed;
+        }
+        Ok(())
+    }
+
+    /// Inserts as many rows.
+    pub fn load<A: Asks>(&mut self, asked: &mut A, rows: u32) -> Result<(), Refusal> {
+        'rows: for _ in 0..rows {
+            let placed = self.insert(asked)?;
+            self.rows.push(placed)?;
+        }
+        Ok(())
+    }
+
+    /// A sum, a delete, a sum and an insert. Returns the sum of both sums.
+    fn step<A: Asks>(&mut self, asked: &mut A) -> Result<u64, Refusal> {
+        let first = self.sum(asked)?;
+        let at = self.delete(asked)?;
+        let second = self.sum(asked)?;
+        self.replace(asked, at)?;
+        Ok(first.wrapping_add(second))
+    }
+
+    /// As many steps of four statements each. Returns the sum of all sums.
+    pub fn steps<A: Asks>(&mut self, asked: &mut A, count: u64) -> Result<u64, Refusal> {
+        let mut total = 0u64;
+        'steps: for _ in 0..count {
+            total = total.wrapping_add(self.step(asked)?);
+        }
+        Ok(total)
+    }
+}
+
+/// Counts every row of as many partitions, from the first on.
+pub fn count_all<A: Asks>(asked: &mut A, parts: u32) -> Result<u64, Refusal> {
+    let mut total = 0u64;
+    'parts: for part in 0..parts {
+        let reply = asked.ask(part, Command::Count(KeyRange::all()))?;
+        total = total.wrapping_add(number_of(&reply));
+    }
+    Ok(total)
+}
+
+/// The number that a reply has; 0 if it has none.
+fn number_of(reply: &Reply) -> u64 {
+    match reply {
+        Reply::Placed(serial) => serial.0,
+        Reply::Counted(count) => *count,
+        Reply::Summed(sum) => u64::try_from(*sum).unwrap_or(u64::MAX),
+        _ => 0,
+    }
+}
+
+/// Where a partition's keys begin.
+pub fn lowest_key(part: u32) -> u32 {
+    part.wrapping_mul(PART_WIDTH)
+}
+
+/// Another number for each number, which looks random (the end of MurmurHash3).
+fn scattered(number: u32) -> u32 {
+    let mixed = (number ^ (number >> 16)).wrapping_mul(2246822507);
+    let mixed = (mixed ^ (mixed >> 13)).wrapping_mul(3266489909);
+    mixed ^ (mixed >> 16)
+}
