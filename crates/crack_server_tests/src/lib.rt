@@ -5,3 +5,5 @@
 mod batches;
 #[cfg(test)]
 mod servers;
+#[cfg(test)]
+mod services;

@@ -1,0 +1,167 @@
+//! A server whose gate refuses at first, and whose host is notified.
+use crack_row::{Limits, Policy, Refusal, Upkeep};
+use crack_server::run_service;
+use crack_service::{Ending, Host, Notice, Terms};
+use crack_table::{Gate, Table};
+use std::alloc::Global;
+use std::io::{Read, Write};
+use std::net::{Net, TcpListener, TcpStream};
+use std::sync::Wait;
+use std::sync::atomic::{AtomicU64, Ordering};
+use std::test::Fail;
+use std::thread::Threads;
+use std::time::Duration;
+use std::{io, thread};
+
+/// A gate that consents when it is asked again, and counts how often it is asked, and how many entries were
+/// checkpointed.
+#[derive(Drop)]
+struct Second {
+    asked: AtomicU64,
+    entries: AtomicU64,
+}
+
+impl Gate for Second {
+    ghost may_refuse = { λ gate part turn. Unit {0} };
+
+    fn inside(&self, _part: u32, turn: u32) -> bool {
+        self.asked.fetch_add(1, Ordering::SeqCst);
+        turn == 1
+    }
+
+    fn note_checkpoint(&self, _part: u32, entries: u64) {
+        self.entries.fetch_add(entries, Ordering::SeqCst);
+    }
+}
+
+/// A host that counts the checkpoints, the sessions and those cut off that it is notified of.
+#[derive(Drop)]
+struct Notes {
+    checkpoints: AtomicU64,
+    sessions: AtomicU64,
+    cut_off: AtomicU64,
+}
+
+impl Host for Notes {
+    fn note(&self, notice: Notice) {
+        match notice {
+            Notice::Checkpoints { count, .. } => {
+                self.checkpoints.fetch_add(count, Ordering::SeqCst);
+            }
+            Notice::Ended { sessions, cut_off } => {
+                self.sessions.fetch_add(sessions, Ordering::SeqCst);
+                self.cut_off.fetch_add(cut_off, Ordering::SeqCst);
+            }
+            _ => {}
+        }
+    }
+
+    fn knock(&self) -> bool {
+        true
+    }
+
+    fn pause(&self) {}
+}
+
+/// The options of a server of one session.
+fn terms() -> Terms {
+    Terms {
+        policy: Policy::Gradual,
+        ending: Ending::AfterSessions(1),
+        idle: Some(60),
+        notes_checkpoints: true,
+    }
+}
+
+/// The output of a server of one worker, whose histories have four entries.
+fn service<H: Threads + Wait + Sync>(
+    rt: &H,
+    alloc: Global,
+    listener: &TcpListener,
+    gate: &Second,
+    host: &Notes,
+) -> Result<Vec<u8>, Refusal> {
+    let mut limits = Limits::of_history(4);
+    limits.upkeep = Upkeep::Automatic;
+    let (table, workers) = Table::open_with(alloc, &[], limits, 1)?;
+    let mut input: &[u8] = b"";
+    let mut output = Vec::new(alloc);
+    match run_service(
+        rt,
+        alloc,
+        listener,
+        table,
+        workers,
+        terms(),
+        gate,
+        host,
+        &mut input,
+        &mut output,
+    ) {
+        Ok(()) => Ok(output),
+        Err(refusal) => Err(refusal),
+    }
+}
+
+/// Seven commands, and a layout that shows by which policy they were answered.
+const ASKED: &[u8] = b"insert 10 1\ninsert 40 4\ncount 0 18446744073709551616\ncount 20 30\n\
+    insert 15 5\ninsert 50 6\nsum 10 20\nlayout 0\nquit\n";
+
+const ANSWERED: &[u8] = b"row 0.0\nrow 0.1\ncount 2\ncount 0\nrow 0.2\nrow 0.3\nsum 6\n\
+    layout 0 rows 4 column 3 out 0 in 1 cells 4 free 0 pieces 4\n\
+    piece 0 10 0\npiece 10 20 2\npiece 20 30 0\npiece 30 18446744073709551616 1\nbye\n";
+
+/// The answers to a client that asks this.
+fn client<N: Net<Listener = TcpListener, Stream = TcpStream>>(
+    rt: &N,
+    alloc: Global,
+    port: u16,
+) -> io::Result<Vec<u8>> {
+    let mut stream = TcpStream::connect(rt, ("127.0.0.1", port))?;
+    stream.set_read_timeout(Some(Duration::from_secs(10)))?;
+    stream.write_all(ASKED)?;
+    let mut answers = Vec::new(alloc);
+    stream.read_to_end(&mut answers)?;
+    Ok(answers)
+}
+
+/// Each command asks the server's own gate twice, its policy is that of the options, and the one checkpoint that was
+/// due is reported to gate and host.
+#[test]
+fn a_service_asks_its_gate_and_notifies_its_host(rt: HostRuntime) -> Result<(), Fail> {
+    let alloc: Global = rt.alloc();
+    let gate = Second {
+        asked: AtomicU64::new(0),
+        entries: AtomicU64::new(0),
+    };
+    let host = Notes {
+        checkpoints: AtomicU64::new(0),
+        sessions: AtomicU64::new(0),
+        cut_off: AtomicU64::new(0),
+    };
+    let listener = TcpListener::bind(&rt, "127.0.0.1:0")?;
+    let port = listener.local_addr()?.port();
+    let (written, answered) = thread::join(
+        &rt,
+        || service(&rt, alloc, &listener, &gate, &host),
+        || client(&rt, alloc, port),
+    );
+    let (written, answered) = (written?, answered?);
+    assert_eq!(rt; answered.as_slice(), ANSWERED);
+    assert_eq!(rt;
+        written.as_slice(),
+        b"accepted 7 inserted 4 deleted 0 held 4\n".as_slice()
+    );
+    let asked = [
+        gate.asked.load(Ordering::SeqCst),
+        gate.entries.load(Ordering::SeqCst),
+    ];
+    assert!(rt; asked == [14, 4]);
+    let noted = [
+        host.checkpoints.load(Ordering::SeqCst),
+        host.sessions.load(Ordering::SeqCst),
+        host.cut_off.load(Ordering::SeqCst),
+    ];
+    assert!(rt; noted == [1, 1, 0]);
+    Ok(())
+}
