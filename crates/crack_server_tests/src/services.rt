@@ -1,11 +1,12 @@
-//! A server whose gate refuses at first, and whose host is notified.
+//! Servers whose gate refuses at first, and whose host is notified.
 use crack_row::{Limits, Policy, Refusal, Upkeep};
-use crack_server::run_service;
+use crack_server::{run_server, run_service};
 use crack_service::{Ending, Host, Notice, Terms};
 use crack_table::{Gate, Table};
 use std::alloc::Global;
 use std::io::{Read, Write};
 use std::net::{Net, TcpListener, TcpStream};
+use std::process::Abort;
 use std::sync::Wait;
 use std::sync::atomic::{AtomicU64, Ordering};
 use std::test::Fail;
@@ -63,13 +64,21 @@ impl Host for Notes {
     fn pause(&self) {}
 }
 
-/// The options of a server of one session.
-fn terms() -> Terms {
+/// How a server of one session is run.
+#[derive(Clone, Copy, PartialEq, Eq, Drop)]
+enum Way {
+    Alone,
+    NotingCheckpoints,
+    NotingNone,
+}
+
+/// The options of a server with a host.
+fn terms(way: Way) -> Terms {
     Terms {
         policy: Policy::Gradual,
         ending: Ending::AfterSessions(1),
         idle: Some(60),
-        notes_checkpoints: true,
+        notes_checkpoints: way == Way::NotingCheckpoints,
     }
 }
 
@@ -78,6 +87,7 @@ fn service<H: Threads + Wait + Sync>(
     rt: &H,
     alloc: Global,
     listener: &TcpListener,
+    way: Way,
     gate: &Second,
     host: &Notes,
 ) -> Result<Vec<u8>, Refusal> {
@@ -86,18 +96,33 @@ fn service<H: Threads + Wait + Sync>(
     let (table, workers) = Table::open_with(alloc, &[], limits, 1)?;
     let mut input: &[u8] = b"";
     let mut output = Vec::new(alloc);
-    match run_service(
-        rt,
-        alloc,
-        listener,
-        table,
-        workers,
-        terms(),
-        gate,
-        host,
-        &mut input,
-        &mut output,
-    ) {
+    let ended = if way == Way::Alone {
+        run_server(
+            rt,
+            alloc,
+            listener,
+            table,
+            workers,
+            Policy::Gradual,
+            1,
+            gate,
+            &mut output,
+        )
+    } else {
+        run_service(
+            rt,
+            alloc,
+            listener,
+            table,
+            workers,
+            terms(way),
+            gate,
+            host,
+            &mut input,
+            &mut output,
+        )
+    };
+    match ended {
         Ok(()) => Ok(output),
         Err(refusal) => Err(refusal),
     }
@@ -125,11 +150,13 @@ fn client<N: Net<Listener = TcpListener, Stream = TcpStream>>(
     Ok(answers)
 }
 
-/// Each command asks the server's own gate twice, its policy is that of the options, and the one checkpoint that was
-/// due is reported to gate and host.
-#[test]
-fn a_service_asks_its_gate_and_notifies_its_host(rt: HostRuntime) -> Result<(), Fail> {
-    let alloc: Global = rt.alloc();
+/// Runs a server, with one client. Returns how often its gate was asked, and how many checkpointed entries the gate was
+/// notified of; then the numbers of checkpoints, sessions and sessions cut off that the host was notified of.
+fn counts_of<H: Threads + Wait + Net<Listener = TcpListener, Stream = TcpStream> + Sync + Abort>(
+    rt: &H,
+    alloc: Global,
+    way: Way,
+) -> Result<[u64; 5], Fail> {
     let gate = Second {
         asked: AtomicU64::new(0),
         entries: AtomicU64::new(0),
@@ -139,29 +166,34 @@ fn a_service_asks_its_gate_and_notifies_its_host(rt: HostRuntime) -> Result<(), 
         sessions: AtomicU64::new(0),
         cut_off: AtomicU64::new(0),
     };
-    let listener = TcpListener::bind(&rt, "127.0.0.1:0")?;
+    let listener = TcpListener::bind(rt, "127.0.0.1:0")?;
     let port = listener.local_addr()?.port();
     let (written, answered) = thread::join(
-        &rt,
-        || service(&rt, alloc, &listener, &gate, &host),
-        || client(&rt, alloc, port),
+        rt,
+        || service(rt, alloc, &listener, way, &gate, &host),
+        || client(rt, alloc, port),
     );
     let (written, answered) = (written?, answered?);
-    assert_eq!(rt; answered.as_slice(), ANSWERED);
-    assert_eq!(rt;
-        written.as_slice(),
-        b"accepted 7 inserted 4 deleted 0 held 4\n".as_slice()
-    );
-    let asked = [
+    assert!(rt; answered.as_slice() == ANSWERED);
+    assert!(rt; written.as_slice() == b"accepted 7 inserted 4 deleted 0 held 4\n".as_slice());
+    Ok([
         gate.asked.load(Ordering::SeqCst),
         gate.entries.load(Ordering::SeqCst),
-    ];
-    assert!(rt; asked == [14, 4]);
-    let noted = [
         host.checkpoints.load(Ordering::SeqCst),
         host.sessions.load(Ordering::SeqCst),
         host.cut_off.load(Ordering::SeqCst),
-    ];
-    assert!(rt; noted == [1, 1, 0]);
+    ])
+}
+
+/// Each command asks the server's own gate twice, its policy is the server's, and the one checkpoint that was due is
+/// reported to the gate, and to a host that asks for it.
+#[test]
+fn a_server_asks_its_gate_and_notifies_its_host(rt: HostRuntime) -> Result<(), Fail> {
+    let noting = counts_of(&rt, rt.alloc(), Way::NotingCheckpoints)?;
+    assert!(rt; noting == [14, 4, 1, 1, 0]);
+    let noting_none = counts_of(&rt, rt.alloc(), Way::NotingNone)?;
+    assert!(rt; noting_none == [14, 4, 0, 1, 0]);
+    let alone = counts_of(&rt, rt.alloc(), Way::Alone)?;
+    assert!(rt; alone == [14, 4, 0, 0, 0]);
     Ok(())
 }
