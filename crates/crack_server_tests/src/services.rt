@@ -1,10 +1,15 @@
 //! Servers whose gate refuses at first, and whose host is notified.
+ghost use Rattle.crack_witness.specs.Witnesses.{AreNames};
+
 use crack_row::{Limits, Policy, Refusal, Upkeep};
-use crack_server::{run_server, run_service};
+use crack_server::{run_audited_service, run_server, run_service, run_witnessed_service};
 use crack_service::{Ending, Host, Notice, Terms};
 use crack_table::{Gate, Table};
+use crack_witness::Naming;
+use crack_witness_table::UnnamedTable;
 use std::alloc::Global;
 use std::io::{Read, Write};
+use std::marker::Brand;
 use std::net::{Net, TcpListener, TcpStream};
 use std::process::Abort;
 use std::sync::Wait;
@@ -70,6 +75,8 @@ enum Way {
     Alone,
     NotingCheckpoints,
     NotingNone,
+    Witnessed,
+    Audited,
 }
 
 /// The options of a server with a host.
@@ -78,25 +85,30 @@ fn terms(way: Way) -> Terms {
         policy: Policy::Gradual,
         ending: Ending::AfterSessions(1),
         idle: Some(60),
-        notes_checkpoints: way == Way::NotingCheckpoints,
+        notes_checkpoints: way != Way::NotingNone,
     }
 }
 
-/// The output of a server of one worker, whose histories have four entries.
-fn service<H: Threads + Wait + Sync>(
+/// Histories have four entries, and checkpoints are automatic.
+fn limits() -> Limits {
+    let mut limits = Limits::of_history(4);
+    limits.upkeep = Upkeep::Automatic;
+    limits
+}
+
+/// Runs a server of one worker over a table.
+fn serve_plain<H: Threads + Wait + Sync>(
     rt: &H,
     alloc: Global,
     listener: &TcpListener,
     way: Way,
     gate: &Second,
     host: &Notes,
-) -> Result<Vec<u8>, Refusal> {
-    let mut limits = Limits::of_history(4);
-    limits.upkeep = Upkeep::Automatic;
-    let (table, workers) = Table::open_with(alloc, &[], limits, 1)?;
+    output: &mut Vec<u8>,
+) -> Result<(), Refusal> {
+    let (table, workers) = Table::open_with(alloc, &[], limits(), 1)?;
     let mut input: &[u8] = b"";
-    let mut output = Vec::new(alloc);
-    let ended = if way == Way::Alone {
+    if way == Way::Alone {
         run_server(
             rt,
             alloc,
@@ -106,7 +118,7 @@ fn service<H: Threads + Wait + Sync>(
             Policy::Gradual,
             1,
             gate,
-            &mut output,
+            output,
         )
     } else {
         run_service(
@@ -119,8 +131,84 @@ fn service<H: Threads + Wait + Sync>(
             gate,
             host,
             &mut input,
-            &mut output,
+            output,
         )
+    }
+}
+
+/// Runs a server of one worker over a table that witnesses its replies.
+fn serve_witnessed<H: Threads + Wait + Sync>(
+    rt: &H,
+    alloc: Global,
+    listener: &TcpListener,
+    way: Way,
+    gate: &Second,
+    host: &Notes,
+    output: &mut Vec<u8>,
+) -> Result<(), Refusal> {
+    let table = UnnamedTable::open(alloc, &[], limits(), 1)?;
+    serve_named::<Brand, H>(rt, alloc, listener, way, table, gate, host, output)
+}
+
+/// Runs such a server, once its table's book has its name.
+fn serve_named<J: Naming + Send + Sync, H: Threads + Wait + Sync>(
+    rt: &H,
+    alloc: Global,
+    listener: &TcpListener,
+    way: Way,
+    table: UnnamedTable,
+    gate: &Second,
+    host: &Notes,
+    output: &mut Vec<u8>,
+) -> Result<(), Refusal>
+    requires { AreNames J.book J.owner table.opened }
+{
+    let (table, askers) = table.named::<J>(alloc)?;
+    let mut input: &[u8] = b"";
+    if way == Way::Audited {
+        run_audited_service(
+            rt,
+            alloc,
+            listener,
+            table,
+            askers,
+            terms(way),
+            gate,
+            host,
+            &mut input,
+            output,
+        )
+    } else {
+        run_witnessed_service(
+            rt,
+            alloc,
+            listener,
+            table,
+            askers,
+            terms(way),
+            gate,
+            host,
+            &mut input,
+            output,
+        )
+    }
+}
+
+/// The output of a server.
+fn service<H: Threads + Wait + Sync>(
+    rt: &H,
+    alloc: Global,
+    listener: &TcpListener,
+    way: Way,
+    gate: &Second,
+    host: &Notes,
+) -> Result<Vec<u8>, Refusal> {
+    let mut output = Vec::new(alloc);
+    let ended = match way {
+        Way::Witnessed | Way::Audited => {
+            serve_witnessed(rt, alloc, listener, way, gate, host, &mut output)
+        }
+        _ => serve_plain(rt, alloc, listener, way, gate, host, &mut output),
     };
     match ended {
         Ok(()) => Ok(output),
@@ -195,5 +283,15 @@ fn a_server_asks_its_gate_and_notifies_its_host(rt: HostRuntime) -> Result<(), F
     assert!(rt; noting_none == [14, 4, 0, 1, 0]);
     let alone = counts_of(&rt, rt.alloc(), Way::Alone)?;
     assert!(rt; alone == [14, 4, 0, 0, 0]);
+    Ok(())
+}
+
+/// The same over a table that witnesses its replies, whose workers keep receipts or none.
+#[test]
+fn a_witnessed_server_asks_its_gate_and_notifies_its_host(rt: HostRuntime) -> Result<(), Fail> {
+    let witnessed = counts_of(&rt, rt.alloc(), Way::Witnessed)?;
+    assert!(rt; witnessed == [14, 4, 1, 1, 0]);
+    let audited = counts_of(&rt, rt.alloc(), Way::Audited)?;
+    assert!(rt; audited == [14, 4, 1, 1, 0]);
     Ok(())
 }
