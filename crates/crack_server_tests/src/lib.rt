@@ -4,6 +4,8 @@
 #[cfg(test)]
 mod batches;
 #[cfg(test)]
+mod knocks;
+#[cfg(test)]
 mod servers;
 #[cfg(test)]
 mod services;

@@ -76,7 +76,9 @@ enum Way {
     NotingCheckpoints,
     NotingNone,
     Witnessed,
+    WitnessedNotingNone,
     Audited,
+    AuditedNotingNone,
 }
 
 /// The options of a server with a host.
@@ -85,7 +87,7 @@ fn terms(way: Way) -> Terms {
         policy: Policy::Gradual,
         ending: Ending::AfterSessions(1),
         idle: Some(60),
-        notes_checkpoints: way != Way::NotingNone,
+        notes_checkpoints: matches!(way, Way::NotingCheckpoints | Way::Witnessed | Way::Audited),
     }
 }
 
@@ -165,7 +167,7 @@ fn serve_named<J: Naming + Send + Sync, H: Threads + Wait + Sync>(
 {
     let (table, askers) = table.named::<J>(alloc)?;
     let mut input: &[u8] = b"";
-    if way == Way::Audited {
+    if matches!(way, Way::Audited | Way::AuditedNotingNone) {
         run_audited_service(
             rt,
             alloc,
@@ -205,10 +207,10 @@ fn service<H: Threads + Wait + Sync>(
 ) -> Result<Vec<u8>, Refusal> {
     let mut output = Vec::new(alloc);
     let ended = match way {
-        Way::Witnessed | Way::Audited => {
-            serve_witnessed(rt, alloc, listener, way, gate, host, &mut output)
+        Way::Alone | Way::NotingCheckpoints | Way::NotingNone => {
+            serve_plain(rt, alloc, listener, way, gate, host, &mut output)
         }
-        _ => serve_plain(rt, alloc, listener, way, gate, host, &mut output),
+        _ => serve_witnessed(rt, alloc, listener, way, gate, host, &mut output),
     };
     match ended {
         Ok(()) => Ok(output),
@@ -291,7 +293,11 @@ fn a_server_asks_its_gate_and_notifies_its_host(rt: HostRuntime) -> Result<(), F
 fn a_witnessed_server_asks_its_gate_and_notifies_its_host(rt: HostRuntime) -> Result<(), Fail> {
     let witnessed = counts_of(&rt, rt.alloc(), Way::Witnessed)?;
     assert!(rt; witnessed == [14, 4, 1, 1, 0]);
+    let noting_none = counts_of(&rt, rt.alloc(), Way::WitnessedNotingNone)?;
+    assert!(rt; noting_none == [14, 4, 0, 1, 0]);
     let audited = counts_of(&rt, rt.alloc(), Way::Audited)?;
     assert!(rt; audited == [14, 4, 1, 1, 0]);
+    let noting_none = counts_of(&rt, rt.alloc(), Way::AuditedNotingNone)?;
+    assert!(rt; noting_none == [14, 4, 0, 1, 0]);
     Ok(())
 }
