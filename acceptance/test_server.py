@@ -16,6 +16,7 @@ from plain_session import MOST
 LOADED = 30_000
 ALL = f"count 0 {MOST}"
 CUT_OFF = "crackd: worker 0: session cut off: refused 18: writing to the client failed or waited too long"
+SILENT = "crackd: worker {}: session cut off: refused 17: reading from the client failed or waited too long"
 
 
 def inserts(many: int) -> str:
@@ -93,6 +94,21 @@ class Servers(fixtures.Case):
             wanted = "".join(f"row 0.{number}\n" for number in range(1, LOADED))
             expect("replies", f"{wanted}bye\n", replies)
             it.wait((LOADED, LOADED, 0, LOADED), *it.notes(1))
+
+    def test_two_that_are_silent_are_let_go(self) -> None:
+        """With --idle 1 each of two silent clients is disconnected within two seconds; a line names its own worker."""
+        with Server(self.program, 2, "--until-eof", "--idle", "1") as it:
+            with Client(it.port) as one, Client(it.port) as other:
+                one.ask("insert 1 1", "row 0.0")
+                other.ask("insert 2 2", "row 0.1")
+                time.sleep(1.8)
+                # (a session that is still open ends well here)
+                one.sends_no_more()
+                other.sends_no_more()
+                one.is_at_end()
+                other.is_at_end()
+            it.close()
+            it.wait((2, 2, 0, 2), *it.notes(2, SILENT.format(0), SILENT.format(1)))
 
     def test_a_client_that_takes_nothing_is_let_go(self) -> None:
         """With --idle a client that reads no reply is disconnected, once no more replies fit."""
