@@ -52,8 +52,9 @@ class Servers(fixtures.Case):
             stuck.__exit__()
 
     def test_descriptors_that_run_out(self) -> None:
-        """A worker whose accepts fail for lack of a descriptor goes on, and serves again once there is one."""
-        with Server(self.program, 2, "--sessions", str(10**15), "--quiet") as server:
+        """A worker whose accepts fail for lack of a descriptor goes on, and serves again once there is one. It pauses after
+        each, so they use up few sessions."""
+        with Server(self.program, 2, "--sessions", "5000", "--quiet") as server:
             number = server.process.pid
             least = len(os.listdir(f"/proc/{number}/fd"))
             with Client(server.port) as held:
@@ -83,6 +84,18 @@ class Servers(fixtures.Case):
                 one.ask("sum 0 10", "sum 110")
                 one.end()
             it.wait((3, 2, 0, 2), *it.notes(1 + others))
+
+    def test_the_end_of_the_input_alone_ends_a_server(self) -> None:
+        """What a server with --until-eof reads changes nothing: it accepts connections until the end."""
+        with Server(self.program, 1, "--until-eof") as it:
+            it.process.stdin.write("quit\n")
+            it.process.stdin.flush()
+            time.sleep(0.2)
+            with Client(it.port) as one:
+                one.ask("insert 1 1", "row 0.0")
+                one.end()
+            it.close()
+            it.wait((1, 1, 0, 1), *it.notes(1))
 
     def test_a_load_loses_no_reply(self) -> None:
         """A server whose input ends during a load answers all that was sent, and its totals agree with its replies."""
