@@ -52,8 +52,8 @@ class Servers(fixtures.Case):
             stuck.__exit__()
 
     def test_descriptors_that_run_out(self) -> None:
-        """A worker whose accepts fail for lack of a descriptor goes on, and serves again once there is one. Each failure
-        counts as a session, and a pause follows it, so there are few."""
+        """A worker whose accepts fail for lack of a descriptor goes on, and serves again once there is one. Each
+        failure counts as a session; a pause follows it, so there are few."""
         with Server(self.program, 2, "--sessions", "5000", "--quiet") as server:
             number = server.process.pid
             least = len(os.listdir(f"/proc/{number}/fd"))
