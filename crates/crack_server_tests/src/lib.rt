@@ -9,3 +9,5 @@ mod knocks;
 mod servers;
 #[cfg(test)]
 mod services;
+#[cfg(test)]
+mod totals;
