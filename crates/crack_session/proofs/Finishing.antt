@@ -2,6 +2,7 @@
 use Rattle.std.proofs.Common.{◌≡◌, ℕ, Option, Some, Result, Ok, Err, List, [], ap}
 use Rattle.std.specs.Prelude.{IfOk, IfErr}
 use Rattle.crack_row.specs.declared.Bound.{Bound}
+use Rattle.crack_row.specs.declared.refusal.Refusal.{Refusal}
 use Rattle.crack_row.specs.declared.refusal.Refusal.TheVariants.{WriteFault}
 use Rattle.crack_plain.specs.Plain.{PlainView}
 use Rattle.crack_session.specs.declared.session.End.{End}
@@ -18,6 +19,19 @@ end_of p how = record { how = how; statements = p.statements; first_short = p.fi
 
 abbrev pub fault_of : Progress → Fault
 fault_of p = record { refusal = WriteFault; done = p.statements; first_short = p.first_short }
+
+-- the parts of a fault
+abbrev pub fault_by : Refusal → Progress → Fault
+fault_by e p = record { refusal = e; done = p.statements; first_short = p.first_short }
+
+pub fault-done : (f : Fault) (p : Progress) (e : Refusal) → f ≡ fault_by e p → f.done ≡ p.statements
+fault-done f p e is = ap (λ (x : Fault). x.done) is
+
+pub fault-short : (f : Fault) (p : Progress) (e : Refusal) → f ≡ fault_by e p → f.first_short ≡ p.first_short
+fault-short f p e is = ap (λ (x : Fault). x.first_short) is
+
+pub fault-refusal : (f : Fault) (p : Progress) (e : Refusal) → f ≡ fault_by e p → f.refusal ≡ e
+fault-refusal f p e is = ap (λ (x : Fault). x.refusal) is
 
 -- the session of these bytes is over
 abbrev pub IsOver : Bounds → List Bound → Option (List ℕ) → Progress → How → Option (List PlainView) → Option (List PlainView) → Option (List ℕ) → Option (List ℕ) → Type 0

@@ -174,6 +174,10 @@ pub Going-served : (bytes o : List ℕ) (x : List PlainView) (end : End) {bounds
 Going-served bytes o x end {bounds} {splits} {k} {short} {how} {s0} {s} {out0} {out} g fs e f =
     rw (g.split ∙ append-nil g.done, fs) (g.told x o e f)
 
+-- a statement whose text isn't written whole isn't counted
+pub Tells-uncounted : {W : Type 0} (contents : W → Option (List ℕ)) (a : Answer) (old new : Progress) (problem : Refusal) (w w' : Watched W) → Tells contents a old new (Err problem) w w' → new.statements ≡ old.statements
+Tells-uncounted contents a old new problem w w' tells = tells.count
+
 -- the first statements are those that are done
 pub done_first : (all done left : List Reading) (n : ℕ) → all ≡ done ++ left → length done ≡ n → take n all ≡ done
 done_first all done left n split count = ap (take n) split ∙ take_at done left n count

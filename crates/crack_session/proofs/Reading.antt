@@ -1,6 +1,7 @@
 -- The progress of reading a line.
 use Rattle.std.proofs.Common.{◌≡◌, ℕ, ◌+◌, ◌-◌, ◌^◌, ◌<◌, ◌≤◌, min, true, false, eqb, Option, Some, None, Result, Ok, Err, IfErr, OnErr, List, [], ◌∷◌, ◌++◌, length, refl, sym, ap, ◌∙◌, arith, ⊎_elim, append_assoc, length-append, length-take, append-nil}
 use Rattle.std.proofs.lemmas.Bool.{cases_Bool, false≢true}
+use Rattle.std.specs.Result.{IfOk, OnOk, IsErr}
 use Rattle.std.specs.Io.KnownBytes.{prepend_known, Keeps, Consumes}
 use Rattle.crack_session.specs.declared.TheConstants.{MOST_READS}
 use Rattle.crack_session.specs.Input.{has_feed, first_line, after_line, kept_of, Input, IsNextLine, IsBegun, IsPaid}
@@ -158,3 +159,12 @@ if_err_anyway (Err e) P h = h
 pub on_err_anyway : {T E P : Type 0} (r : Result T E) → P → OnErr r P
 on_err_anyway (Ok x) h = tt
 on_err_anyway (Err e) h = h
+
+-- a property of a value holds of an error
+pub if_ok_never : {T E : Type 0} (r : Result T E) (P : T → Type 0) → IsErr r → IfOk r P
+if_ok_never (Ok x) P h = absurd (false≢true h)
+if_ok_never (Err e) P h = tt
+
+pub on_ok_never : {T E : Type 0} (r : Result T E) (P : Type 0) → IsErr r → OnOk r P
+on_ok_never (Ok x) P h = absurd (false≢true h)
+on_ok_never (Err e) P h = tt

@@ -9,10 +9,10 @@ ghost use Rattle.crack_core.specs.Asking.{asking};
 ghost use Rattle.crack_core.specs.Routes.{route, parts_of};
 ghost use Rattle.crack_commands.specs.Texts.{Writes};
 ghost use Rattle.crack_session.specs.Telling.{list_text, lists_text, AsksSeveral, AsksDesk};
-ghost use Rattle.crack_session.specs.Answers.{IsAnswer, IsAnswerTo, IsAsked, AsksInTurn, AsksParts, IsLaidOut};
+ghost use Rattle.crack_session.specs.Answers.{IsAnswerTo, IsAsked, AsksInTurn, AsksParts, IsLaidOut};
 ghost use Rattle.crack_session.specs.Answers.{IsFolded, is_short_answer, answer_text, answer_from};
 ghost use Rattle.crack_session.specs.Calls.{Checkpointed, Looked, IsOneAsked, AreAskedInTurn, AreSeveralAsked};
-ghost use Rattle.crack_session.specs.Calls.{ArePartsAsked, IsMadeOf, IsReadingMadeOf};
+ghost use Rattle.crack_session.specs.Calls.{ArePartsAsked, IsMadeOf};
 ghost use Rattle.crack_session.specs.Queries.{joined};
 
 use crate::desk::Desk;
@@ -27,7 +27,7 @@ use std::alloc::Global;
 use std::io::Write;
 
 /// The answer to a statement.
-#[derive(Drop, Debug)]
+#[derive(Drop)]
 pub enum Answer {
     /// A partition replied.
     Replied { part: u32, reply: Reply },
@@ -114,25 +114,9 @@ fn write_list<W: Write>(list: &PartReply, writer: &mut Watched<W>) -> Result<(),
     write_each_row(list.part, list.rows(), writer)
 }
 
-/// Answers the reading of a line.
-pub fn answer_reading<D: Desk>(
-    alloc: Global,
-    desk: &mut D,
-    policy: Policy,
-    reading: Result<Statement, Refusal>,
-) -> Answer
-    ensures { AsksDesk D.bounds D.splits D.tables D.leads (λ bounds splits tables. IsAnswer bounds splits tables reading
-        result) (λ splits calls. IsReadingMadeOf splits policy reading result calls) desk.old desk.new }
-{
-    match reading {
-        Ok(statement) => answer_statement(alloc, desk, policy, statement),
-        Err(refusal) => Answer::Refused(refusal),
-    }
-}
-
 /// Answers a statement: an insert by the partition that holds its key, a delete and an update by the partition that
 /// their row number names, and a question about a range by each partition that holds a part of it.
-fn answer_statement<D: Desk>(
+pub fn answer_statement<D: Desk>(
     alloc: Global,
     desk: &mut D,
     policy: Policy,

@@ -39,7 +39,7 @@ pub struct LineReader {
 }
 
 /// What is next in the input.
-#[derive(Clone, Copy, Debug)]
+#[derive(Clone, Copy)]
 pub enum NextLine {
     /// A line that is an insert in the usual form: its row was read while its end was looked for.
     Insert { key: Key, payload: Payload },

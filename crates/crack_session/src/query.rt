@@ -12,7 +12,7 @@ use crack_row::{Reply, Row};
 use std::marker::Model;
 
 /// What one of several partitions replied.
-#[derive(Drop, Debug)]
+#[derive(Drop)]
 pub struct PartReply {
     pub part: u32,
     pub reply: Reply,
@@ -52,7 +52,7 @@ impl PartReply {
 }
 
 /// The replies of several partitions, in the order in which they were asked. Contracts see a list.
-#[derive(Drop, Debug)]
+#[derive(Drop)]
 pub struct ReplyList {
     replies: Vec<PartReply>,
 }

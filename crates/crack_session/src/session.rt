@@ -11,7 +11,7 @@ ghost use Rattle.crack_session.specs.Calls.{policy_after, AreAnswersOf};
 ghost use Rattle.crack_session.specs.Telling.{Responds, Tells, marked};
 ghost use Rattle.crack_session.specs.Written.{AreWritten, AreWrittenThen};
 
-use crate::answer::{Answer, answer_reading, part_with_key};
+use crate::answer::{Answer, answer_statement, part_with_key};
 use crate::desk::Desk;
 use crate::input::{LineReader, NextLine, next_line};
 use crate::line::{read_line, says_quit};
@@ -53,7 +53,7 @@ pub struct Fault {
 
 /// The state of a session: the statements answered, the first that was refused for lack of room, and the policy that
 /// it asks by.
-#[derive(Clone, Copy, Debug)]
+#[derive(Clone, Copy)]
 struct Progress {
     statements: u64,
     first_short: Option<u64>,
@@ -101,7 +101,7 @@ impl Progress {
     }
 }
 
-/// Answers a line, and writes the text.
+/// Answers a line, and writes the text. An insert in another form than the usual one is answered like one in that form.
 #[inline(never)]
 fn respond<D: Desk, W: Write>(
     alloc: Global,
@@ -114,8 +114,32 @@ fn respond<D: Desk, W: Write>(
     ensures { Responds D.bounds D.splits D.tables D.leads W.contents reading progress.old progress.new result desk.old
         desk.new writer.old writer.new }
 {
-    let answer = answer_reading(alloc, desk, progress.policy, reading);
-    tell(&answer, progress, writer)
+    match reading {
+        Ok(Statement::Insert { key, payload }) => {
+            respond_to_other_insert(desk, key, payload, progress, writer)
+        }
+        Ok(statement) => {
+            let answer = answer_statement(alloc, desk, progress.policy, statement);
+            tell(&answer, progress, writer)
+        }
+        Err(refusal) => tell_refusal(refusal, progress, writer),
+    }
+}
+
+/// Answers an insert that isn't in the usual form. It is a separate function, so that other statements don't pay for it.
+#[inline(never)]
+fn respond_to_other_insert<D: Desk, W: Write>(
+    desk: &mut D,
+    key: Key,
+    payload: Payload,
+    progress: &mut Progress,
+    writer: &mut Watched<W>,
+) -> Result<(), Refusal>
+    requires { progress.old.statements + 1 < 2 ^ 64 }
+    ensures { Responds D.bounds D.splits D.tables D.leads W.contents (Ok (Statement.Insert key payload)) progress.old
+        progress.new result desk.old desk.new writer.old writer.new }
+{
+    respond_to_insert(desk, key, payload, progress, writer)
 }
 
 /// Answers an insert, the most frequent statement, and writes the text. The desk is asked in place, with a command that

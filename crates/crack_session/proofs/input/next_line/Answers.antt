@@ -2,7 +2,7 @@ use Rattle.std.proofs.Common.{rules, ◌≡◌, ℕ, List, [], Some, length, ari
 use Rattle.std.proofs.lemmas.Bool.{false≢true}
 use Rattle.crack_row.specs.Devices.{device, reads_of}
 use Rattle.crack_session.specs.Input.{Input, ahead}
-use Rattle.crack_session.proofs.Reading.{SoFar-none_taken, SoFar-more, SoFar, SoFar-found, SoFar-none, SoFar-last, SoFar-begun, SoFar-read, after_line-shorter, IsPaid-taken, IsPaid-then, Keeps-same, Keeps-then, counted-then, if_err_anyway, on_err_anyway, SoFar-feed}
+use Rattle.crack_session.proofs.Reading.{SoFar-none_taken, SoFar-more, SoFar, SoFar-found, SoFar-none, SoFar-last, SoFar-begun, SoFar-read, after_line-shorter, IsPaid-taken, IsPaid-then, Keeps-same, Keeps-then, counted-then, if_err_anyway, on_err_anyway, if_ok_never, on_ok_never, SoFar-feed}
 use Rattle.crack_session.proofs.input.next_line.Given.{Over}
 use Rattle.crack_session.proofs.input.next_line.Goals.{Then-input}
 use Rattle.crack_session.proofs.input.next_line.Goals as goal
@@ -100,3 +100,92 @@ reading-preserved g c =
 
 pub returns-in-Some-clause-row : goal.returns-in-Some-clause-row
 returns-in-Some-clause-row g c = c.in-Some.ensures.row
+
+-- what an exit with a line, or at the end, needn't show
+pub returns-in-Some-clause-goes_on : goal.returns-in-Some-clause-goes_on
+returns-in-Some-clause-goes_on g c = tt
+
+pub returns-in-Some-clause-begun : goal.returns-in-Some-clause-begun
+returns-in-Some-clause-begun g c = tt
+
+pub returns-in-Some-clause-err : goal.returns-in-Some-clause-err
+returns-in-Some-clause-err g c = tt
+
+pub returns-then-take_line-clause-goes_on : goal.returns-then-take_line-clause-goes_on
+returns-then-take_line-clause-goes_on g c = tt
+
+pub returns-then-take_line-clause-begun : goal.returns-then-take_line-clause-begun
+returns-then-take_line-clause-begun g c = tt
+
+pub returns-then-take_line-clause-err : goal.returns-then-take_line-clause-err
+returns-then-take_line-clause-err g c = tt
+
+pub returns-then-is_empty-clause-goes_on : goal.returns-then-is_empty-clause-goes_on
+returns-then-is_empty-clause-goes_on g c = tt
+
+pub returns-then-is_empty-clause-begun : goal.returns-then-is_empty-clause-begun
+returns-then-is_empty-clause-begun g c = tt
+
+pub returns-then-is_empty-clause-err : goal.returns-then-is_empty-clause-err
+returns-then-is_empty-clause-err g c = tt
+
+pub returns-else-is_empty-clause-goes_on : goal.returns-else-is_empty-clause-goes_on
+returns-else-is_empty-clause-goes_on g c = tt
+
+pub returns-else-is_empty-clause-begun : goal.returns-else-is_empty-clause-begun
+returns-else-is_empty-clause-begun g c = tt
+
+pub returns-else-is_empty-clause-err : goal.returns-else-is_empty-clause-err
+returns-else-is_empty-clause-err g c = tt
+
+pub returns-then-take_line-clause-row : goal.returns-then-take_line-clause-row
+returns-then-take_line-clause-row g c = tt
+
+pub returns-then-is_empty-clause-row : goal.returns-then-is_empty-clause-row
+returns-then-is_empty-clause-row g c = tt
+
+pub returns-else-is_empty-clause-row : goal.returns-else-is_empty-clause-row
+returns-else-is_empty-clause-row g c = tt
+
+pub returns-then-is_empty-clause-falls : goal.returns-then-is_empty-clause-falls
+returns-then-is_empty-clause-falls g c = λ e. absurd (false≢true e)
+
+pub returns-then-is_empty-clause-last : goal.returns-then-is_empty-clause-last
+returns-then-is_empty-clause-last g c = λ e. absurd (false≢true e)
+
+-- and what an exit with an error needn't show
+pub returns-in_err-flush-clause-line : goal.returns-in_err-flush-clause-line
+returns-in_err-flush-clause-line g c = if_ok_never c.from_residual.result _ c.from_residual.ensures.0
+
+pub returns-in_err-flush-clause-row : goal.returns-in_err-flush-clause-row
+returns-in_err-flush-clause-row g c = if_ok_never c.from_residual.result _ c.from_residual.ensures.0
+
+pub returns-in_err-flush-clause-falls : goal.returns-in_err-flush-clause-falls
+returns-in_err-flush-clause-falls g c = if_ok_never c.from_residual.result _ c.from_residual.ensures.0
+
+pub returns-in_err-flush-clause-last : goal.returns-in_err-flush-clause-last
+returns-in_err-flush-clause-last g c = if_ok_never c.from_residual.result _ c.from_residual.ensures.0
+
+pub returns-in_err-flush-clause-paid : goal.returns-in_err-flush-clause-paid
+returns-in_err-flush-clause-paid g c = on_ok_never c.from_residual.result _ c.from_residual.ensures.0
+
+pub returns-in_err-flush-clause-unfailed : goal.returns-in_err-flush-clause-unfailed
+returns-in_err-flush-clause-unfailed g c = on_ok_never c.from_residual.result _ c.from_residual.ensures.0
+
+pub returns-in_err-refill-clause-line : goal.returns-in_err-refill-clause-line
+returns-in_err-refill-clause-line g c = if_ok_never c.from_residual-in_err-refill.result _ c.from_residual-in_err-refill.ensures.0
+
+pub returns-in_err-refill-clause-row : goal.returns-in_err-refill-clause-row
+returns-in_err-refill-clause-row g c = if_ok_never c.from_residual-in_err-refill.result _ c.from_residual-in_err-refill.ensures.0
+
+pub returns-in_err-refill-clause-falls : goal.returns-in_err-refill-clause-falls
+returns-in_err-refill-clause-falls g c = if_ok_never c.from_residual-in_err-refill.result _ c.from_residual-in_err-refill.ensures.0
+
+pub returns-in_err-refill-clause-last : goal.returns-in_err-refill-clause-last
+returns-in_err-refill-clause-last g c = if_ok_never c.from_residual-in_err-refill.result _ c.from_residual-in_err-refill.ensures.0
+
+pub returns-in_err-refill-clause-paid : goal.returns-in_err-refill-clause-paid
+returns-in_err-refill-clause-paid g c = on_ok_never c.from_residual-in_err-refill.result _ c.from_residual-in_err-refill.ensures.0
+
+pub returns-in_err-refill-clause-unfailed : goal.returns-in_err-refill-clause-unfailed
+returns-in_err-refill-clause-unfailed g c = on_ok_never c.from_residual-in_err-refill.result _ c.from_residual-in_err-refill.ensures.0

@@ -1,14 +1,13 @@
 use Rattle.std.proofs.Common.{◌≡◌, [], ◌∙◌, ap, sym, arith, None, Ok, refl, length, true, false, rules}
 use Rattle.crack_row.specs.Devices.{device, reads_of}
-use Rattle.crack_session.specs.declared.session.Fault.{Fault}
 use Rattle.crack_session.specs.declared.session.How.TheVariants.{Quit, InputEnded}
 use Rattle.crack_commands.specs.declared.statement.Statement.TheVariants.{Insert}
 use Rattle.crack_session.specs.Input.{after_line, is_line}
 use Rattle.crack_session.specs.Readings.{statements, reading_of, is_quit}
 use Rattle.crack_session.proofs.Reading.{start_input, IsPaid-then, counted-then}
 use Rattle.crack_session.proofs.Following.{next_blank}
-use Rattle.crack_session.proofs.Finishing.{IsOver, finish-counted, finish-served, finish-done, finish-cut_off}
-use Rattle.crack_session.proofs.Going.{Going-start, Going-kept, Going-left, Going-line, Going-answered, Going-within, Going-done, Going-cut, Going-cut_in, Going-on, Going-quit, Answered-desk}
+use Rattle.crack_session.proofs.Finishing.{IsOver, fault-done, fault-short, fault-refusal, finish-counted, finish-served, finish-done, finish-cut_off}
+use Rattle.crack_session.proofs.Going.{Going-start, Going-kept, Going-left, Going-line, Going-answered, Going-within, Going-done, Going-cut, Going-cut_in, Going-on, Going-quit, Answered-desk, Tells-uncounted}
 use Rattle.crack_session.proofs.Making.{IsMade, Making-start, Making-kept, Making-left, Making-line, Making-more, Making-on, Making-quit, Making-cut, Making-cut_in, finish-written, finish-written_in_part}
 use Rattle.crack_session.proofs.WholeLines.{AreUsed-start, AreUsed-blank, AreUsed-more, AreUsed-done, line_feeds}
 use Rattle.crack_session.proofs.session.serve.Given.{Over}
@@ -32,7 +31,7 @@ lines-init g c = record {
 pub returns-in-Err-clause-done : goal.returns-in-Err-clause-done
 returns-in-Err-clause-done g c = λ bytes e.
     let inv = c.lines.invariant.going bytes e in
-    let done = ap (λ (x : Fault). x.done) c.fault.ensures in
+    let done = fault-done c.fault.result c.lines.progress c.in-Err.refusal c.fault.ensures in
     record {
       within = let all = Going-within inv.2 in omega (arith, all, done);
       whole = λ _ taken rest known split. done ∙ AreUsed-done inv.0 _ (inv.3 c.in-Err.ensures.goes_on) (c.in-Err.ensures.begun inv.0 inv.1) taken rest known split;
@@ -41,14 +40,14 @@ returns-in-Err-clause-done g c = λ bytes e.
 pub returns-in-Err-clause-cut_off : goal.returns-in-Err-clause-cut_off
 returns-in-Err-clause-cut_off g c = λ bytes out s e f h.
     let inv = c.lines.invariant.going bytes e in
-    Going-cut bytes out s c.fault.result (Going-kept _ _ inv.2 c.next_line.ensures.bytes) (ap (λ (x : Fault). x.done) c.fault.ensures) (ap (λ (x : Fault). x.first_short) c.fault.ensures) h f
+    Going-cut bytes out s c.fault.result (Going-kept _ _ inv.2 c.next_line.ensures.bytes) (fault-done c.fault.result c.lines.progress c.in-Err.refusal c.fault.ensures) (fault-short c.fault.result c.lines.progress c.in-Err.refusal c.fault.ensures) h f
 
 pub returns-in-Err-clause-written_in_part : goal.returns-in-Err-clause-written_in_part
 returns-in-Err-clause-written_in_part g c = λ bytes out e f.
     let inv = c.lines.invariant.made bytes e in
     Making-cut g.D.Desk.leads (g.D.Desk.splits c.args.desk.now) c.args.policy c.args.desk.now bytes out c.fault.result
     (Making-kept g.D.Desk.leads (g.D.Desk.splits c.args.desk.now) c.args.policy c.args.desk.now (statements bytes) _ _ _ inv.2 c.next_line.ensures.bytes)
-    (ap (λ (x : Fault). x.done) c.fault.ensures) (ap (λ (x : Fault). x.first_short) c.fault.ensures) f
+    (fault-done c.fault.result c.lines.progress c.in-Err.refusal c.fault.ensures) (fault-short c.fault.result c.lines.progress c.in-Err.refusal c.fault.ensures) f
 
 pub returns-in-Err-clause-splits : goal.returns-in-Err-clause-splits
 returns-in-Err-clause-splits g c = c.lines.invariant.splits
@@ -158,12 +157,12 @@ returns-then-says_quit-clause-cut_off g c = finish-cut_off c.finish-then-says_qu
 pub returns-in-Err-respond-clause-done : goal.returns-in-Err-respond-clause-done
 returns-in-Err-respond-clause-done g c = λ bytes e.
     let inv = c.lines.invariant.going bytes e in
-    Going-done bytes c.fault-in-Err-respond.result _ inv.2 (ap (λ (x : Fault). x.done) c.fault-in-Err-respond.ensures ∙ c.in-Err-respond.ensures.tells.count) (ap (λ (x : Fault). x.refusal) c.fault-in-Err-respond.ensures ∙ c.in-Err-respond.ensures.tells.writes.err.0)
+    Going-done bytes c.fault-in-Err-respond.result _ inv.2 (fault-done c.fault-in-Err-respond.result c.respond.new.progress c.in-Err-respond.refusal c.fault-in-Err-respond.ensures ∙ Tells-uncounted g.W.Write.contents c.in-Err-respond.ensures.answer c.lines.progress c.respond.new.progress c.in-Err-respond.refusal c.next_line.new.writer c.respond.new.writer c.in-Err-respond.ensures.tells) (fault-refusal c.fault-in-Err-respond.result c.respond.new.progress c.in-Err-respond.refusal c.fault-in-Err-respond.ensures ∙ c.in-Err-respond.ensures.tells.writes.err.0)
 
 pub returns-in-Err-respond_to_insert-clause-done : goal.returns-in-Err-respond_to_insert-clause-done
 returns-in-Err-respond_to_insert-clause-done g c = λ bytes e.
     let inv = c.lines.invariant.going bytes e in
-    Going-done bytes c.fault-in-Err-respond_to_insert.result _ inv.2 (ap (λ (x : Fault). x.done) c.fault-in-Err-respond_to_insert.ensures ∙ c.in-Err-respond_to_insert.ensures.tells.count) (ap (λ (x : Fault). x.refusal) c.fault-in-Err-respond_to_insert.ensures ∙ c.in-Err-respond_to_insert.ensures.tells.writes.err.0)
+    Going-done bytes c.fault-in-Err-respond_to_insert.result _ inv.2 (fault-done c.fault-in-Err-respond_to_insert.result c.respond_to_insert.new.progress c.in-Err-respond_to_insert.refusal c.fault-in-Err-respond_to_insert.ensures ∙ Tells-uncounted g.W.Write.contents c.in-Err-respond_to_insert.ensures.answer c.lines.progress c.respond_to_insert.new.progress c.in-Err-respond_to_insert.refusal c.next_line.new.writer c.respond_to_insert.new.writer c.in-Err-respond_to_insert.ensures.tells) (fault-refusal c.fault-in-Err-respond_to_insert.result c.respond_to_insert.new.progress c.in-Err-respond_to_insert.refusal c.fault-in-Err-respond_to_insert.ensures ∙ c.in-Err-respond_to_insert.ensures.tells.writes.err.0)
 
 pub returns-in-Err-respond-clause-cut_off : goal.returns-in-Err-respond-clause-cut_off
 returns-in-Err-respond-clause-cut_off g c = λ bytes out s e f h.
@@ -174,7 +173,7 @@ returns-in-Err-respond-clause-cut_off g c = λ bytes out s e f h.
     let left = Going-line _ _ inv.0 c.next_line.new.input.line c.in-Some.reading inv.2 c.next_line.ensures.bytes next.0 next.1 said in
     Going-cut_in g.W.Write.contents bytes out s c.fault-in-Err-respond.result c.in-Some.reading c.in-Err-respond.ensures.answer c.lines.progress c.respond.new.progress c.in-Err-respond.refusal _ c.next_line.new.writer c.respond.new.writer left
     (Answered-desk c.in-Some.reading c.in-Err-respond.ensures.answer c.in-Err-respond.ensures.asks.is c.lines.invariant.bounds c.lines.invariant.splits) c.in-Err-respond.ensures.tells
-    (ap (λ (x : Fault). x.done) c.fault-in-Err-respond.ensures) (ap (λ (x : Fault). x.first_short) c.fault-in-Err-respond.ensures) (ap (λ (x : Fault). x.refusal) c.fault-in-Err-respond.ensures) h f
+    (fault-done c.fault-in-Err-respond.result c.respond.new.progress c.in-Err-respond.refusal c.fault-in-Err-respond.ensures) (fault-short c.fault-in-Err-respond.result c.respond.new.progress c.in-Err-respond.refusal c.fault-in-Err-respond.ensures) (fault-refusal c.fault-in-Err-respond.result c.respond.new.progress c.in-Err-respond.refusal c.fault-in-Err-respond.ensures) h f
 
 pub returns-in-Err-respond_to_insert-clause-cut_off : goal.returns-in-Err-respond_to_insert-clause-cut_off
 returns-in-Err-respond_to_insert-clause-cut_off g c = λ bytes out s e f h.
@@ -185,7 +184,7 @@ returns-in-Err-respond_to_insert-clause-cut_off g c = λ bytes out s e f h.
     let left = Going-line _ _ inv.0 c.next_line.new.input.line (Ok (Insert c.in-Ok-Insert.key c.in-Ok-Insert.payload)) inv.2 c.next_line.ensures.bytes next.0 next.1 said in
     Going-cut_in g.W.Write.contents bytes out s c.fault-in-Err-respond_to_insert.result (Ok (Insert c.in-Ok-Insert.key c.in-Ok-Insert.payload)) c.in-Err-respond_to_insert.ensures.answer c.lines.progress c.respond_to_insert.new.progress c.in-Err-respond_to_insert.refusal _ c.next_line.new.writer c.respond_to_insert.new.writer left
     (Answered-desk (Ok (Insert c.in-Ok-Insert.key c.in-Ok-Insert.payload)) c.in-Err-respond_to_insert.ensures.answer c.in-Err-respond_to_insert.ensures.asks.is c.lines.invariant.bounds c.lines.invariant.splits) c.in-Err-respond_to_insert.ensures.tells
-    (ap (λ (x : Fault). x.done) c.fault-in-Err-respond_to_insert.ensures) (ap (λ (x : Fault). x.first_short) c.fault-in-Err-respond_to_insert.ensures) (ap (λ (x : Fault). x.refusal) c.fault-in-Err-respond_to_insert.ensures) h f
+    (fault-done c.fault-in-Err-respond_to_insert.result c.respond_to_insert.new.progress c.in-Err-respond_to_insert.refusal c.fault-in-Err-respond_to_insert.ensures) (fault-short c.fault-in-Err-respond_to_insert.result c.respond_to_insert.new.progress c.in-Err-respond_to_insert.refusal c.fault-in-Err-respond_to_insert.ensures) (fault-refusal c.fault-in-Err-respond_to_insert.result c.respond_to_insert.new.progress c.in-Err-respond_to_insert.refusal c.fault-in-Err-respond_to_insert.ensures) h f
 
 pub returns-in-Err-respond-clause-written_in_part : goal.returns-in-Err-respond-clause-written_in_part
 returns-in-Err-respond-clause-written_in_part g c = λ bytes out e f.
@@ -196,7 +195,7 @@ returns-in-Err-respond-clause-written_in_part g c = λ bytes out e f.
     let line = Making-line g.D.Desk.leads (g.D.Desk.splits c.args.desk.now) c.args.policy c.args.desk.now (statements bytes) _ _ _ inv.0 c.next_line.new.input.line c.in-Some.reading inv.2 c.next_line.ensures.bytes next.0 next.1 said in
     let asks = c.in-Err-respond.ensures.asks in
     Making-cut_in g.D.Desk.leads (g.D.Desk.splits c.args.desk.now) c.args.policy c.args.desk.now g.W.Write.contents bytes out c.fault-in-Err-respond.result c.in-Some.reading c.in-Err-respond.ensures.answer c.lines.progress c.respond.new.progress c.in-Err-respond.refusal c.respond.new.desk c.next_line.new.writer c.respond.new.writer _ asks.calls line c.lines.invariant.splits asks.were asks.made c.in-Err-respond.ensures.tells
-    (ap (λ (x : Fault). x.done) c.fault-in-Err-respond.ensures) (ap (λ (x : Fault). x.first_short) c.fault-in-Err-respond.ensures) (ap (λ (x : Fault). x.refusal) c.fault-in-Err-respond.ensures) f
+    (fault-done c.fault-in-Err-respond.result c.respond.new.progress c.in-Err-respond.refusal c.fault-in-Err-respond.ensures) (fault-short c.fault-in-Err-respond.result c.respond.new.progress c.in-Err-respond.refusal c.fault-in-Err-respond.ensures) (fault-refusal c.fault-in-Err-respond.result c.respond.new.progress c.in-Err-respond.refusal c.fault-in-Err-respond.ensures) f
 
 pub returns-in-Err-respond_to_insert-clause-written_in_part : goal.returns-in-Err-respond_to_insert-clause-written_in_part
 returns-in-Err-respond_to_insert-clause-written_in_part g c = λ bytes out e f.
@@ -207,7 +206,7 @@ returns-in-Err-respond_to_insert-clause-written_in_part g c = λ bytes out e f.
     let line = Making-line g.D.Desk.leads (g.D.Desk.splits c.args.desk.now) c.args.policy c.args.desk.now (statements bytes) _ _ _ inv.0 c.next_line.new.input.line (Ok (Insert c.in-Ok-Insert.key c.in-Ok-Insert.payload)) inv.2 c.next_line.ensures.bytes next.0 next.1 said in
     let asks = c.in-Err-respond_to_insert.ensures.asks in
     Making-cut_in g.D.Desk.leads (g.D.Desk.splits c.args.desk.now) c.args.policy c.args.desk.now g.W.Write.contents bytes out c.fault-in-Err-respond_to_insert.result (Ok (Insert c.in-Ok-Insert.key c.in-Ok-Insert.payload)) c.in-Err-respond_to_insert.ensures.answer c.lines.progress c.respond_to_insert.new.progress c.in-Err-respond_to_insert.refusal c.respond_to_insert.new.desk c.next_line.new.writer c.respond_to_insert.new.writer _ asks.calls line c.lines.invariant.splits asks.were asks.made c.in-Err-respond_to_insert.ensures.tells
-    (ap (λ (x : Fault). x.done) c.fault-in-Err-respond_to_insert.ensures) (ap (λ (x : Fault). x.first_short) c.fault-in-Err-respond_to_insert.ensures) (ap (λ (x : Fault). x.refusal) c.fault-in-Err-respond_to_insert.ensures) f
+    (fault-done c.fault-in-Err-respond_to_insert.result c.respond_to_insert.new.progress c.in-Err-respond_to_insert.refusal c.fault-in-Err-respond_to_insert.ensures) (fault-short c.fault-in-Err-respond_to_insert.result c.respond_to_insert.new.progress c.in-Err-respond_to_insert.refusal c.fault-in-Err-respond_to_insert.ensures) (fault-refusal c.fault-in-Err-respond_to_insert.result c.respond_to_insert.new.progress c.in-Err-respond_to_insert.refusal c.fault-in-Err-respond_to_insert.ensures) f
 
 pub lines-preserved-else-says_quit : goal.lines-preserved-else-says_quit
 lines-preserved-else-says_quit g c =
@@ -312,3 +311,40 @@ lines-preserved g c = record {
   reads = counted-then (reads_of c.args.reader.now) c.lines.input.reads c.next_line.new.input.reads 1000000000 (reads_of c.lines.reader) _ c.lines.invariant.reads.0 c.lines.invariant.reads.1 c.next_line.ensures.counted.0 c.next_line.ensures.counted.1;
   room = let falls = c.in-Ok-Other.ensures.falls (ap is_line c.in-Ok-Other.field-0-is) in omega (arith, falls, c.lines.invariant.room);
 }
+
+-- what an exit with a fault needn't show
+pub returns-in-Err-clause-ends : goal.returns-in-Err-clause-ends
+returns-in-Err-clause-ends g c = tt
+
+pub returns-in-Err-clause-served : goal.returns-in-Err-clause-served
+returns-in-Err-clause-served g c = tt
+
+pub returns-in-Err-clause-written : goal.returns-in-Err-clause-written
+returns-in-Err-clause-written g c = tt
+
+pub returns-in-Err-clause-unfailed : goal.returns-in-Err-clause-unfailed
+returns-in-Err-clause-unfailed g c = tt
+
+pub returns-in-Err-respond-clause-ends : goal.returns-in-Err-respond-clause-ends
+returns-in-Err-respond-clause-ends g c = tt
+
+pub returns-in-Err-respond-clause-served : goal.returns-in-Err-respond-clause-served
+returns-in-Err-respond-clause-served g c = tt
+
+pub returns-in-Err-respond-clause-written : goal.returns-in-Err-respond-clause-written
+returns-in-Err-respond-clause-written g c = tt
+
+pub returns-in-Err-respond-clause-unfailed : goal.returns-in-Err-respond-clause-unfailed
+returns-in-Err-respond-clause-unfailed g c = tt
+
+pub returns-in-Err-respond_to_insert-clause-ends : goal.returns-in-Err-respond_to_insert-clause-ends
+returns-in-Err-respond_to_insert-clause-ends g c = tt
+
+pub returns-in-Err-respond_to_insert-clause-served : goal.returns-in-Err-respond_to_insert-clause-served
+returns-in-Err-respond_to_insert-clause-served g c = tt
+
+pub returns-in-Err-respond_to_insert-clause-written : goal.returns-in-Err-respond_to_insert-clause-written
+returns-in-Err-respond_to_insert-clause-written g c = tt
+
+pub returns-in-Err-respond_to_insert-clause-unfailed : goal.returns-in-Err-respond_to_insert-clause-unfailed
+returns-in-Err-respond_to_insert-clause-unfailed g c = tt

@@ -27,3 +27,40 @@ returns-in-Err-clause-line g c = (
   line_stays c.move_back-kept.result c.self.inside.bytes c.move_back-kept.new.bytes c.read.new.buf c.self.inside.line_start c.self.inside.line_end c.args.self.now.line
       c.move_back-kept.ensures.line (ap (λ (i : Input). i.line) c.self.view_is) (omega arith),
 )
+
+-- what each exit needn't show
+pub returns-then-self-eq0-clause-bytes : goal.returns-then-self-eq0-clause-bytes
+returns-then-self-eq0-clause-bytes g c = tt
+
+pub returns-then-self-eq0-clause-paid : goal.returns-then-self-eq0-clause-paid
+returns-then-self-eq0-clause-paid g c = tt
+
+pub returns-then-self-eq0-clause-reads : goal.returns-then-self-eq0-clause-reads
+returns-then-self-eq0-clause-reads g c = tt
+
+pub returns-then-self-eq0-clause-few : goal.returns-then-self-eq0-clause-few
+returns-then-self-eq0-clause-few g c = tt
+
+pub returns-then-self-eq0-clause-unfailed : goal.returns-then-self-eq0-clause-unfailed
+returns-then-self-eq0-clause-unfailed g c = tt
+
+pub returns-in-Ok-clause-still : goal.returns-in-Ok-clause-still
+returns-in-Ok-clause-still g c = tt
+
+pub returns-in-Ok-clause-err : goal.returns-in-Ok-clause-err
+returns-in-Ok-clause-err g c = tt
+
+pub returns-in-Err-clause-bytes : goal.returns-in-Err-clause-bytes
+returns-in-Err-clause-bytes g c = tt
+
+pub returns-in-Err-clause-paid : goal.returns-in-Err-clause-paid
+returns-in-Err-clause-paid g c = tt
+
+pub returns-in-Err-clause-reads : goal.returns-in-Err-clause-reads
+returns-in-Err-clause-reads g c = tt
+
+pub returns-in-Err-clause-few : goal.returns-in-Err-clause-few
+returns-in-Err-clause-few g c = tt
+
+pub returns-in-Err-clause-unfailed : goal.returns-in-Err-clause-unfailed
+returns-in-Err-clause-unfailed g c = tt
