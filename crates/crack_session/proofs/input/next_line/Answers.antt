@@ -189,3 +189,81 @@ returns-in_err-refill-clause-paid g c = on_ok_never c.from_residual-in_err-refil
 
 pub returns-in_err-refill-clause-unfailed : goal.returns-in_err-refill-clause-unfailed
 returns-in_err-refill-clause-unfailed g c = on_ok_never c.from_residual-in_err-refill.result _ c.from_residual-in_err-refill.ensures.0
+
+-- what every exit shows: the end is known, reads are paid and counted, and the output is kept
+pub returns-in-Some-clause-end : goal.returns-in-Some-clause-end
+returns-in-Some-clause-end g c = λ e. c.requires (sym c.take_insert.ensures.reads.1 ∙ e)
+
+pub returns-in-Some-clause-paid : goal.returns-in-Some-clause-paid
+returns-in-Some-clause-paid g c = λ goes_on. (sym c.take_insert.ensures.reads.1 ∙ goes_on, λ bytes e. (bytes, e, omega (arith, c.take_insert.ensures.reads.0)))
+
+pub returns-in-Some-clause-bytes : goal.returns-in-Some-clause-bytes
+returns-in-Some-clause-bytes g c = Keeps-same _
+
+pub returns-in-Some-clause-unfailed : goal.returns-in-Some-clause-unfailed
+returns-in-Some-clause-unfailed g c = (refl, refl)
+
+pub returns-then-take_line-clause-paid : goal.returns-then-take_line-clause-paid
+returns-then-take_line-clause-paid g c = IsPaid-taken c.args.input.now c.reading.input c.take_line.new.self _ _ c.reading.invariant.paid c.take_line.ensures.reads.0 c.take_line.ensures.reads.1
+
+pub returns-then-take_line-clause-bytes : goal.returns-then-take_line-clause-bytes
+returns-then-take_line-clause-bytes g c = c.reading.invariant.bytes
+
+pub returns-then-take_line-clause-unfailed : goal.returns-then-take_line-clause-unfailed
+returns-then-take_line-clause-unfailed g c = (c.reading.invariant.reader, c.reading.invariant.writer)
+
+pub returns-then-is_empty-clause-paid : goal.returns-then-is_empty-clause-paid
+returns-then-is_empty-clause-paid g c = IsPaid-taken c.args.input.now c.reading.input c.take_line.new.self _ _ c.reading.invariant.paid c.take_line.ensures.reads.0 c.take_line.ensures.reads.1
+
+pub returns-then-is_empty-clause-bytes : goal.returns-then-is_empty-clause-bytes
+returns-then-is_empty-clause-bytes g c = c.reading.invariant.bytes
+
+pub returns-then-is_empty-clause-unfailed : goal.returns-then-is_empty-clause-unfailed
+returns-then-is_empty-clause-unfailed g c = (c.reading.invariant.reader, c.reading.invariant.writer)
+
+pub returns-else-is_empty-clause-paid : goal.returns-else-is_empty-clause-paid
+returns-else-is_empty-clause-paid g c = IsPaid-taken c.args.input.now c.reading.input c.take_line.new.self _ _ c.reading.invariant.paid c.take_line.ensures.reads.0 c.take_line.ensures.reads.1
+
+pub returns-else-is_empty-clause-bytes : goal.returns-else-is_empty-clause-bytes
+returns-else-is_empty-clause-bytes g c = c.reading.invariant.bytes
+
+pub returns-else-is_empty-clause-unfailed : goal.returns-else-is_empty-clause-unfailed
+returns-else-is_empty-clause-unfailed g c = (c.reading.invariant.reader, c.reading.invariant.writer)
+
+pub returns-then-take_line-clause-end : goal.returns-then-take_line-clause-end
+returns-then-take_line-clause-end g c = λ e. c.reading.invariant.end (sym c.take_line.ensures.reads.1 ∙ e)
+
+pub returns-then-take_line-clause-counted : goal.returns-then-take_line-clause-counted
+returns-then-take_line-clause-counted g c = (rw c.take_line.ensures.reads.0 c.reading.invariant.counted.0, rw c.take_line.ensures.reads.0 c.reading.invariant.counted.1)
+
+pub returns-then-is_empty-clause-end : goal.returns-then-is_empty-clause-end
+returns-then-is_empty-clause-end g c = λ e. c.reading.invariant.end (sym c.take_line.ensures.reads.1 ∙ e)
+
+pub returns-then-is_empty-clause-counted : goal.returns-then-is_empty-clause-counted
+returns-then-is_empty-clause-counted g c = (rw c.take_line.ensures.reads.0 c.reading.invariant.counted.0, rw c.take_line.ensures.reads.0 c.reading.invariant.counted.1)
+
+pub returns-else-is_empty-clause-end : goal.returns-else-is_empty-clause-end
+returns-else-is_empty-clause-end g c = λ e. c.reading.invariant.end (sym c.take_line.ensures.reads.1 ∙ e)
+
+pub returns-else-is_empty-clause-counted : goal.returns-else-is_empty-clause-counted
+returns-else-is_empty-clause-counted g c = (rw c.take_line.ensures.reads.0 c.reading.invariant.counted.0, rw c.take_line.ensures.reads.0 c.reading.invariant.counted.1)
+
+pub returns-in_err-flush-clause-end : goal.returns-in_err-flush-clause-end
+returns-in_err-flush-clause-end g c = λ e. c.reading.invariant.end (sym c.take_line.ensures.reads.1 ∙ e)
+
+pub returns-in_err-flush-clause-counted : goal.returns-in_err-flush-clause-counted
+returns-in_err-flush-clause-counted g c = (rw c.take_line.ensures.reads.0 c.reading.invariant.counted.0, rw c.take_line.ensures.reads.0 c.reading.invariant.counted.1)
+
+pub returns-in_err-flush-clause-bytes : goal.returns-in_err-flush-clause-bytes
+returns-in_err-flush-clause-bytes g c = Keeps-then _ _ _ c.reading.invariant.bytes c.flush.ensures.bytes
+
+pub returns-in_err-refill-clause-end : goal.returns-in_err-refill-clause-end
+returns-in_err-refill-clause-end g c = c.refill.ensures.end
+
+pub returns-in_err-refill-clause-bytes : goal.returns-in_err-refill-clause-bytes
+returns-in_err-refill-clause-bytes g c = Keeps-then _ _ _ c.reading.invariant.bytes c.flush.ensures.bytes
+
+pub returns-in_err-refill-clause-counted : goal.returns-in_err-refill-clause-counted
+returns-in_err-refill-clause-counted g c = counted-then (reads_of c.args.reader.now) c.take_line.new.self.reads c.refill.new.self.reads c.args.input.now.reads (reads_of c.reading.reader) _
+    (rw c.take_line.ensures.reads.0 c.reading.invariant.counted.0) (rw c.take_line.ensures.reads.0 c.reading.invariant.counted.1)
+    c.refill.ensures.counted.0 c.refill.ensures.counted.1
