@@ -2,6 +2,3 @@ use Rattle.crack_session.proofs.session.respond.Goals as goal
 
 pub returns-in-Ok-Insert : goal.returns-in-Ok-Insert
 returns-in-Ok-Insert g c = rw (c.in-Ok-Insert.is, c.in-Ok-Insert.field-0-is) c.respond_to_other_insert.ensures
-
-pub returns-in-Ok : goal.returns-in-Ok
-returns-in-Ok g c = rw c.in-Ok.is record { answer = c.answer_statement-answer.result; asks = c.answer_statement-answer.ensures; tells = c.tell.ensures }
