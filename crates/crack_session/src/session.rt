@@ -126,7 +126,8 @@ fn respond<D: Desk, W: Write>(
     }
 }
 
-/// Answers an insert that isn't in the usual form. It is a separate function, so that other statements don't pay for it.
+/// Answers an insert that isn't in the usual form. It is a separate function, so that other statements don't pay for
+/// it.
 #[inline(never)]
 fn respond_to_other_insert<D: Desk, W: Write>(
     desk: &mut D,
