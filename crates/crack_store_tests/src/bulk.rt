@@ -1,9 +1,10 @@
 //! Carries in bulk have the result of carrying one row after the other, in random stores.
-ghost use Rattle.std.specs.Prelude.{◌≡◌, ◌+◌, ◌<◌, ◌≤◌};
+ghost use Rattle.std.specs.Prelude.{◌<◌, ◌≤◌};
 
-use crate::merge::{complete_at, crack_between, gradual_at, insert};
-use crack_row::{GREATEST_BOUND, KeyRange};
-use crack_store::{Carrying, MergeReport, Store};
+use crate::merge::{crack_between, merge_at, numbers_of};
+use crate::script::{admits, row};
+use crack_row::{KeyNumber, KeyRange, PieceSize, Policy};
+use crack_store::{Carrying, Store};
 use std::alloc::Global;
 use std::process::Abort;
 
@@ -25,21 +26,29 @@ impl Numbers {
     }
 }
 
-/// The contents of a store: serial, slot and generation of each row of its column, from the last place down, and of its
-/// pending insertions in their order, and the sizes of its pieces.
-#[derive(Drop, PartialEq)]
-pub(crate) struct Contents {
-    column: Vec<u64>,
-    pending: Vec<u64>,
-    sizes: Vec<u64>,
+/// Puts a row of this key among the pending insertions.
+pub(crate) fn insert(rt: &impl Abort, store: &mut Store, key: KeyNumber) {
+    let serial = store.cells() as u64;
+    let is_in = admits(rt, store, row((serial, key, 0)));
+    assert!(rt; is_in);
+}
+
+/// A range of keys that isn't empty, whose ends are below twice this number.
+pub(crate) fn some_range(rt: &impl Abort, numbers: &mut Numbers, keys: u64) -> KeyRange
+    requires some { 0 < keys }
+    requires few { keys ≤ 1000 }
+    ensures some { result.low < result.high }
+    ensures within { result.high ≤ 2000 }
+{
+    let low = numbers.below(keys);
+    let more = numbers.below(keys);
+    KeyRange::new(low as u128, (low + more + 1) as u128).expect(rt, "a range")
 }
 
 /// A store of all keys with up to 40 rows in its column, of keys below `keys`, cracked up to six times.
 pub(crate) fn some_store(rt: &impl Abort, alloc: Global, numbers: &mut Numbers, keys: u64) -> Store
     requires some { 0 < keys }
     requires few { keys ≤ 1000 }
-    ensures low { result.keys.low ≡ 0 }
-    ensures high { result.keys.high ≡ GREATEST_BOUND }
 {
     let mut store = Store::new(alloc, KeyRange::all());
     let rows = numbers.below(40);
@@ -47,12 +56,10 @@ pub(crate) fn some_store(rt: &impl Abort, alloc: Global, numbers: &mut Numbers, 
         let key = numbers.below(keys);
         insert(rt, &mut store, key);
     }
-    let (mut store, _) = complete_at(rt, store, KeyRange::all());
+    let (mut store, _) = merge_at(rt, store, KeyRange::all(), Policy::Complete);
     let cracks = numbers.below(6);
     'cracks: for _ in 0..cracks {
-        let low = numbers.below(keys);
-        let more = numbers.below(keys);
-        let range = KeyRange::new(low as u128, (low + more + 1) as u128).expect(rt, "a range");
+        let range = some_range(rt, numbers, keys);
         crack_between(rt, &mut store, range);
     }
     store
@@ -97,75 +104,77 @@ pub(crate) fn take_first(rt: &impl Abort, store: Store) -> (Store, [u64; 3]) {
     (carrying.put_back(), row)
 }
 
-/// Notes one more row.
-fn note(rt: &impl Abort, rows: &mut Vec<u64>, row: [u64; 3]) {
-    for i in 0..3 {
-        assert!(rt; rows.push(row[i]).is_ok());
+/// Notes the sizes of pieces, after their number.
+fn note_sizes(rt: &impl Abort, pieces: &[PieceSize], noted: &mut Vec<u64>) {
+    assert!(rt; noted.push(pieces.len() as u64).is_ok());
+    for place in 0..pieces.len() {
+        assert!(rt; noted.push(pieces[place].size).is_ok());
     }
 }
 
-/// The contents of the store.
-pub(crate) fn contents_of(rt: &impl Abort, alloc: Global, store: Store) -> Contents {
+/// Notes serial, slot and generation of each pending insertion, in their order, after their number.
+fn note_pending(rt: &impl Abort, store: Store, noted: &mut Vec<u64>) -> Store {
     let mut store = store;
-    let mut contents = Contents {
-        column: Vec::new(alloc),
-        pending: Vec::new(alloc),
-        sizes: Vec::new(alloc),
-    };
-    let layout = store.layout().expect(rt, "a layout");
-    let pieces = layout.pieces.as_slice();
-    for i in 0..pieces.len() {
-        contents.sizes.push(pieces[i].size).expect(rt, "memory");
-    }
-    for _ in 0..store.pending_in() {
+    let count = store.pending_in();
+    assert!(rt; noted.push(count as u64).is_ok());
+    for _ in 0..count {
         let (next, row) = take_first(rt, store);
-        note(rt, &mut contents.pending, row);
+        assert!(rt; noted.extend_from_slice(&row).is_ok());
         store = next;
     }
+    store
+}
+
+/// Notes the contents of a store: the sizes of its pieces, the pending insertions, and serial, slot and generation of
+/// each row of its column, from the last place down.
+pub(crate) fn note_contents(rt: &impl Abort, store: Store, noted: &mut Vec<u64>) {
+    let layout = store.layout().expect(rt, "a layout");
+    note_sizes(rt, layout.pieces.as_slice(), noted);
+    drop(layout);
+    let mut store = note_pending(rt, store, noted);
     for _ in 0..store.column_len() {
         let (next, row) = take_last(rt, store);
-        note(rt, &mut contents.column, row);
+        assert!(rt; noted.extend_from_slice(&row).is_ok());
         store = next;
     }
     drop(store);
-    contents
+}
+
+/// Notes what the merges of a store have counted.
+pub(crate) fn note_counted(rt: &impl Abort, store: &Store, noted: &mut Vec<u64>) {
+    assert!(rt; noted.extend_from_slice(&numbers_of(store.tally())).is_ok());
 }
 
 /// Merges up to twelve rows of random keys into a store of random rows: all at once, or one after the other. Returns
-/// its contents then, and the counts.
-fn merged(rt: &impl Abort, alloc: Global, seed: u64, at_once: bool) -> (Contents, MergeReport) {
+/// the counts and its contents then.
+fn merged(rt: &impl Abort, alloc: Global, seed: u64, at_once: bool) -> Vec<u64> {
     let mut numbers = Numbers(seed);
     let keys = numbers.below(60) + 1;
     let mut store = some_store(rt, alloc, &mut numbers, keys);
-    let low = numbers.below(keys);
-    let more = numbers.below(keys);
-    let range = KeyRange::new(low as u128, (low + more + 1) as u128).expect(rt, "a range");
+    let part = some_range(rt, &mut numbers, keys);
     let whole = numbers.below(2) == 0;
+    let (range, policy) = if whole {
+        (KeyRange::all(), Policy::Complete)
+    } else {
+        (part, Policy::Gradual)
+    };
     let rows = numbers.below(12);
     'rows: for i in 0..rows {
         let key = numbers.below(keys);
         insert(rt, &mut store, key);
         if !at_once || i + 1 == rows {
-            store = if whole {
-                complete_at(rt, store, KeyRange::all()).0
-            } else {
-                gradual_at(rt, store, range).0
-            };
+            store = merge_at(rt, store, range, policy).0;
         }
     }
-    let tally = store.tally();
-    (contents_of(rt, alloc, store), tally)
+    let mut noted = Vec::new(alloc);
+    note_counted(rt, &store, &mut noted);
+    note_contents(rt, store, &mut noted);
+    noted
 }
 
-/// Asserts that two ways to the store of a seed have the same contents and counts.
-pub(crate) fn assert_same(
-    rt: &impl Abort,
-    seed: u64,
-    one: &(Contents, MergeReport),
-    other: &(Contents, MergeReport),
-) {
-    let is_same = one.0 == other.0 && one.1 == other.1;
-    assert!(rt; is_same, "seed {seed}");
+/// Asserts that two ways to the store of a seed have the same counts and contents.
+pub(crate) fn assert_same(rt: &impl Abort, seed: u64, one: &[u64], other: &[u64]) {
+    assert!(rt; one == other, "seed {seed}");
 }
 
 #[test]
@@ -173,6 +182,6 @@ fn carries_in_bulk_leave_what_one_after_the_other_leaves(rt: HostRuntime) {
     for seed in 0..2000u64 {
         let at_once = merged(&rt, rt.alloc(), seed, true);
         let each = merged(&rt, rt.alloc(), seed, false);
-        assert_same(&rt, seed, &at_once, &each);
+        assert_same(&rt, seed, at_once.as_slice(), each.as_slice());
     }
 }

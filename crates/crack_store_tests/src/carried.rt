@@ -3,40 +3,31 @@
 //!
 //! The test `sweep_..` holds whichever one of its allocations is refused, so it may be run with each of them refused in
 //! turn.
-ghost use Rattle.std.specs.Prelude.{◌≡◌, ◌<◌, ◌≤◌};
+ghost use Rattle.std.specs.Prelude.{◌<◌, ◌≤◌};
+ghost use Rattle.crack_row.specs.declared.TheConstants.{GREATEST_BOUND};
 ghost use Rattle.crack_state.specs.Merge.{IsCracked};
 
-use crate::bulk::{Contents, Numbers, assert_same, contents_of, some_store, take_first, take_last};
-use crate::merge::{crack_between, doom, insert};
+use crate::bulk::{
+    Numbers, assert_same, insert, note_contents, note_counted, some_range, some_store, take_first,
+    take_last,
+};
+use crate::merge::crack_between;
+use crate::script::{admits, assert_all_keys, dooms, row};
 use crack_merge::{carry_range, merge_complete};
-use crack_row::{Bound, GREATEST_BOUND, Key, KeyNumber, KeyRange, Payload, Row, Serial};
-use crack_store::{MergeReport, Store};
+use crack_row::{Bound, Key, KeyNumber, KeyRange, Serial};
+use crack_store::Store;
 use std::alloc::Global;
 use std::process::Abort;
 
-/// Asserts that a store has all keys.
-pub(crate) fn assert_all_keys(rt: &impl Abort, store: &Store)
-    ensures low { store.now.keys.low ≡ 0 }
-    ensures high { store.now.keys.high ≡ GREATEST_BOUND }
-{
-    let (keys, all) = (store.keys(), KeyRange::all());
-    assert!(rt; keys.low() <= all.low());
-    assert!(rt; keys.high() <= all.high());
-    assert!(rt; all.high() <= keys.high());
-}
-
 /// Dooms up to eight rows of the column.
-pub(crate) fn doom_some(rt: &impl Abort, store: &mut Store, numbers: &mut Numbers)
-    requires low { store.old.keys.low ≡ 0 }
-    requires high { store.old.keys.high ≡ GREATEST_BOUND }
-    ensures low { store.new.keys.low ≡ 0 }
-    ensures high { store.new.keys.high ≡ GREATEST_BOUND }
-{
+pub(crate) fn doom_some(rt: &impl Abort, store: &mut Store, numbers: &mut Numbers) {
     let count = numbers.below(8);
     'rows: for _ in 0..count {
-        let serial = numbers.below(40);
-        if store.is_pending(Serial(serial)) == Some(false) {
-            doom(rt, store, serial);
+        let serial = Serial(numbers.below(40));
+        if store.is_pending(serial) == Some(false) {
+            let gone = store.row_of(serial).expect(rt, "a row");
+            let is_gone = dooms(store, gone);
+            assert!(rt; is_gone);
         }
     }
 }
@@ -49,10 +40,7 @@ fn insert_some(
     numbers: &mut Numbers,
     keys: u64,
 ) -> Vec<u64>
-    requires some { 0 < keys }
-    requires few { keys ≤ 1000 }
-    requires low { store.old.keys.low ≡ 0 }
-    requires high { store.old.keys.high ≡ GREATEST_BOUND }
+    requires { 0 < keys }
 {
     let mut inserted = Vec::new(alloc);
     let count = numbers.below(12);
@@ -64,27 +52,6 @@ fn insert_some(
         }
     }
     inserted
-}
-
-/// Dooms up to eight rows of the column, if some are to be doomed.
-fn doom_if(rt: &impl Abort, store: &mut Store, numbers: &mut Numbers, dooms: bool)
-    requires low { store.old.keys.low ≡ 0 }
-    requires high { store.old.keys.high ≡ GREATEST_BOUND }
-    ensures low { store.new.keys.low ≡ 0 }
-    ensures high { store.new.keys.high ≡ GREATEST_BOUND }
-{
-    if dooms {
-        doom_some(rt, store, numbers);
-    }
-}
-
-/// Cracks at the ends of a range, if it is to be cracked.
-fn crack_if(rt: &impl Abort, store: &mut Store, range: KeyRange, cracks: bool)
-    ensures { store.new.keys ≡ store.old.keys }
-{
-    if cracks {
-        crack_between(rt, store, range);
-    }
 }
 
 /// Carries the pending insertions of a range under a ceiling or none; returns the store, and whether all were carried.
@@ -114,22 +81,6 @@ fn carried(rt: &impl Abort, store: Store, range: KeyRange, ceiling: Option<Bound
     carried
 }
 
-/// Carries the row of a key, if it is in the range.
-fn carried_one(
-    rt: &impl Abort,
-    store: Store,
-    range: KeyRange,
-    ceiling: Option<Bound>,
-    key: u64,
-) -> Store {
-    if range.contains(Key::from_number(key)) {
-        let one = KeyRange::new(key as u128, key as u128 + 1).expect(rt, "a range");
-        carried(rt, store, one, ceiling)
-    } else {
-        store
-    }
-}
-
 /// Carries the rows of these keys that are in the range, one after the other.
 fn carried_each(
     rt: &impl Abort,
@@ -140,37 +91,40 @@ fn carried_each(
 ) -> Store {
     let mut store = store;
     for i in 0..keys.len() {
-        store = carried_one(rt, store, range, ceiling, keys[i]);
+        let key = keys[i];
+        if range.contains(Key::from_number(key)) {
+            let one = KeyRange::new(key as u128, key as u128 + 1).expect(rt, "a range");
+            store = carried(rt, store, one, ceiling);
+        }
     }
     store
 }
 
 /// Puts a row with this serial and this key among the pending insertions, at the second time if memory was refused
 /// once.
-pub(crate) fn admit(rt: &impl Abort, store: &mut Store, serial: u64, key: KeyNumber) {
-    assert_all_keys(rt, store);
-    let cells = store.cells();
-    assert!(rt; cells < 1000);
-    let there = store.is_pending(Serial(serial)).is_some();
-    assert!(rt; !there);
-    let row = Row {
-        serial: Serial(serial),
-        key: Key::from_number(key),
-        payload: Payload::from_number(0),
-    };
-    if store.admit(row).is_err() {
-        admit_again(rt, store, row);
-    }
+fn admit(rt: &impl Abort, store: &mut Store, serial: u64, key: KeyNumber) {
+    let new = row((serial, key, 0));
+    let is_in = admits(rt, store, new) || admits(rt, store, new);
+    assert!(rt; is_in);
 }
 
-fn admit_again(rt: &impl Abort, store: &mut Store, row: Row) {
-    assert_all_keys(rt, store);
-    let cells = store.cells();
-    assert!(rt; cells < 1000);
-    let there = store.is_pending(row.serial).is_some();
-    assert!(rt; !there);
-    assert!(rt; store.admit(row).is_ok());
+/// Admits six rows, which take free cells first, and notes the contents of the store then, after what it had counted
+/// before.
+pub(crate) fn noted_with_six_more(rt: &impl Abort, alloc: Global, store: Store) -> Vec<u64> {
+    let mut store = store;
+    let mut noted = Vec::new(alloc);
+    note_counted(rt, &store, &mut noted);
+    for serial in 5000..5006u64 {
+        admit(rt, &mut store, serial, 1);
+    }
+    note_contents(rt, store, &mut noted);
+    noted
 }
+
+/// Where `note_counted` notes how many rows were taken out and evicted.
+pub(crate) const TAKEN_OUT: usize = 1;
+
+const EVICTED: usize = 2;
 
 /// How pending insertions are carried: all at once, or one after the other; under the ceiling at their range's end, or
 /// none.
@@ -181,16 +135,15 @@ struct Carry {
 }
 
 /// Carries pending insertions of random keys in a store of random rows, of which some may be doomed. Returns the
-/// contents of the store once it has six more rows, which take free cells first, and the counts.
-fn carried_by(rt: &impl Abort, alloc: Global, seed: u64, carry: Carry) -> (Contents, MergeReport) {
+/// counts, and the contents of the store once it has six more rows.
+fn carried_by(rt: &impl Abort, alloc: Global, seed: u64, carry: Carry) -> Vec<u64> {
     let mut numbers = Numbers(seed);
     let keys = numbers.below(60) + 1;
     let mut store = some_store(rt, alloc, &mut numbers, keys);
-    let dooms = !carry.under || numbers.below(2) == 0;
-    doom_if(rt, &mut store, &mut numbers, dooms);
-    let low = numbers.below(keys);
-    let more = numbers.below(keys);
-    let part = KeyRange::new(low as u128, (low + more + 1) as u128).expect(rt, "a range");
+    if !carry.under || numbers.below(2) == 0 {
+        doom_some(rt, &mut store, &mut numbers);
+    }
+    let part = some_range(rt, &mut numbers, keys);
     let whole = numbers.below(2) == 0;
     let range = if whole && !carry.under {
         KeyRange::all()
@@ -198,19 +151,17 @@ fn carried_by(rt: &impl Abort, alloc: Global, seed: u64, carry: Carry) -> (Conte
         part
     };
     let ceiling = if carry.under { Some(part.high()) } else { None };
-    crack_if(rt, &mut store, part, carry.under);
+    if carry.under {
+        crack_between(rt, &mut store, part);
+    }
     let inserted = insert_some(rt, alloc, &mut store, &mut numbers, keys);
-    let mut store = if carry.at_once {
+    let store = if carry.at_once {
         carried(rt, store, range, ceiling)
     } else {
         carried_each(rt, store, range, ceiling, inserted.as_slice())
     };
     drop(inserted);
-    let tally = store.tally();
-    for serial in 5000..5006u64 {
-        admit(rt, &mut store, serial, 1);
-    }
-    (contents_of(rt, alloc, store), tally)
+    noted_with_six_more(rt, alloc, store)
 }
 
 /// Asserts for each seed that carrying all rows at once and one after the other has the same result; returns how many
@@ -227,8 +178,9 @@ fn assert_alike(rt: &impl Abort, alloc: Global, seeds: u64, under: bool) -> u64 
             under,
         };
         let at_once = carried_by(rt, alloc, seed, all);
-        assert_same(rt, seed, &at_once, &carried_by(rt, alloc, seed, each));
-        evicted = evicted.saturating_add(at_once.1.evicted);
+        let each = carried_by(rt, alloc, seed, each);
+        assert_same(rt, seed, at_once.as_slice(), each.as_slice());
+        evicted = evicted.saturating_add(at_once.get(EVICTED).copied().unwrap_or(0));
     }
     evicted
 }
@@ -246,9 +198,8 @@ fn carries_under_a_ceiling_leave_what_one_after_the_other_leaves(rt: HostRuntime
 }
 
 /// Cracks at the ends of a range, at the second time if memory was refused once.
-pub(crate) fn crack_at_last(rt: &impl Abort, store: &mut Store, range: KeyRange)
-    ensures keys { store.new.keys ≡ store.old.keys }
-    ensures cracked { IsCracked store.new range }
+fn crack_at_last(rt: &impl Abort, store: &mut Store, range: KeyRange)
+    ensures { IsCracked store.new range }
 {
     if store.crack(range).is_ok() {
         return;
@@ -258,24 +209,17 @@ pub(crate) fn crack_at_last(rt: &impl Abort, store: &mut Store, range: KeyRange)
 }
 
 /// Merges all rows, at the second time if memory was refused once.
-pub(crate) fn merge_at_last(rt: &impl Abort, store: Store) -> Store {
+fn merge_at_last(rt: &impl Abort, store: Store) -> Store {
     let mut store = store;
-    assert_all_keys(rt, &store);
-    crack_at_last(rt, &mut store, KeyRange::all());
-    match merge_complete(store, KeyRange::all()) {
-        Ok((merged, _)) => merged,
-        Err((stopped, _)) => merge_again(rt, stopped),
+    for _ in 0..2 {
+        crack_at_last(rt, &mut store, KeyRange::all());
+        assert_all_keys(rt, &store);
+        match merge_complete(store, KeyRange::all()) {
+            Ok((merged, _)) => return merged,
+            Err((stopped, _)) => store = stopped,
+        }
     }
-}
-
-fn merge_again(rt: &impl Abort, store: Store) -> Store {
-    let mut store = store;
-    assert_all_keys(rt, &store);
-    crack_at_last(rt, &mut store, KeyRange::all());
-    match merge_complete(store, KeyRange::all()) {
-        Ok((merged, _)) => merged,
-        Err(_) => panic!(rt; "no memory"),
-    }
+    panic!(rt; "no memory");
 }
 
 /// Makes room, at the second time if memory was refused once.
@@ -350,16 +294,9 @@ fn sweep_carries_in_bulk(rt: HostRuntime) {
 
 /// Dooms a row of the column, at the second time if memory was refused once.
 pub(crate) fn doom_at_last(rt: &impl Abort, store: &mut Store, serial: u64) {
-    assert_all_keys(rt, store);
-    let pending = store.is_pending(Serial(serial));
-    let freed = store.freed();
-    let doomed = store.pending_out();
-    assert!(rt; pending == Some(false));
-    assert!(rt; freed < 1000);
-    assert!(rt; doomed < 1000);
-    if store.doom(Serial(serial)).is_err() {
-        doom(rt, store, serial);
-    }
+    let gone = store.row_of(Serial(serial)).expect(rt, "a row");
+    let is_gone = dooms(store, gone) || dooms(store, gone);
+    assert!(rt; is_gone);
 }
 
 /// Three rows are carried into three pieces, and the second of them meets a doomed row.

@@ -1,23 +1,22 @@
 //! Pulls by fillers in bulk have the result of one after the other, in random stores.
-ghost use Rattle.std.specs.Prelude.{◌≡◌, ◌<◌, ◌≤◌};
+ghost use Rattle.std.specs.Prelude.{◌≤◌};
 
-use crate::bulk::{Contents, Numbers, assert_same, contents_of, some_store};
+use crate::bulk::{Numbers, assert_same, insert, some_range, some_store};
 use crate::carried::{
-    admit, admit_all, assert_all_keys, assert_column, doom_at_last, doom_some, make_room_at_last,
-    merged_store, middle,
+    TAKEN_OUT, admit_all, assert_column, doom_at_last, doom_some, make_room_at_last, merged_store,
+    middle, noted_with_six_more,
 };
-use crate::merge::{crack_between, insert};
+use crate::merge::crack_between;
+use crate::script::assert_all_keys;
 use crack_merge::pull_range;
-use crack_row::{GREATEST_BOUND, KeyRange};
-use crack_store::{MergeReport, Store};
+use crack_row::KeyRange;
+use crack_store::Store;
 use std::alloc::Global;
 use std::process::Abort;
 
 /// Inserts up to sixteen rows, none with this key, and half of them with keys above it.
 fn insert_apart(rt: &impl Abort, store: &mut Store, numbers: &mut Numbers, high: u64)
-    requires few { high ≤ 1000 }
-    requires low { store.old.keys.low ≡ 0 }
-    requires high { store.old.keys.high ≡ GREATEST_BOUND }
+    requires { high ≤ 2000 }
 {
     let count = numbers.below(16);
     'rows: for i in 0..count {
@@ -55,29 +54,21 @@ fn pulled_with(rt: &impl Abort, store: Store, range: KeyRange, fillers: KeyRange
 }
 
 /// Pulls pending deletions of a random range in a store of random rows, as long as there are fillers by these: in bulk,
-/// or one after the other, as where the fillers' keys begin at no bound. Returns the contents of the store once it has
-/// six more rows, which take free cells first, and the counts.
-fn pulled_by(rt: &impl Abort, alloc: Global, seed: u64, in_bulk: bool) -> (Contents, MergeReport) {
+/// or one after the other, as where the fillers' keys begin at no bound. Returns the counts, and the contents of the
+/// store once it has six more rows.
+fn pulled_by(rt: &impl Abort, alloc: Global, seed: u64, in_bulk: bool) -> Vec<u64> {
     let mut numbers = Numbers(seed);
     let keys = numbers.below(60) + 1;
     let mut store = some_store(rt, alloc, &mut numbers, keys);
-    let low = numbers.below(keys);
-    let more = numbers.below(keys);
-    let high = low + more + 1;
-    let range = KeyRange::new(low as u128, high as u128).expect(rt, "a range");
+    let range = some_range(rt, &mut numbers, keys);
     crack_between(rt, &mut store, range);
-    assert_all_keys(rt, &store);
     doom_some(rt, &mut store, &mut numbers);
-    insert_apart(rt, &mut store, &mut numbers, high);
+    insert_apart(rt, &mut store, &mut numbers, range.high().number() as u64);
     assert_all_keys(rt, &store);
     let near = store.keys_beyond(range);
     let fillers = if in_bulk { near } else { but_the_first(near) };
-    let mut store = pulled_with(rt, store, range, fillers);
-    let tally = store.tally();
-    for serial in 5000..5006u64 {
-        admit(rt, &mut store, serial, 1);
-    }
-    (contents_of(rt, alloc, store), tally)
+    let store = pulled_with(rt, store, range, fillers);
+    noted_with_six_more(rt, alloc, store)
 }
 
 #[test]
@@ -86,8 +77,8 @@ fn pulls_by_fillers_in_bulk_leave_what_one_after_the_other_leaves(rt: HostRuntim
     for seed in 0..3000u64 {
         let in_bulk = pulled_by(&rt, rt.alloc(), seed, true);
         let each = pulled_by(&rt, rt.alloc(), seed, false);
-        assert_same(&rt, seed, &in_bulk, &each);
-        taken = taken.saturating_add(in_bulk.1.taken_out);
+        assert_same(&rt, seed, in_bulk.as_slice(), each.as_slice());
+        taken = taken.saturating_add(in_bulk.get(TAKEN_OUT).copied().unwrap_or(0));
     }
     assert!(rt; taken > 1000);
 }

@@ -10,6 +10,8 @@ mod filled;
 #[cfg(test)]
 mod merge;
 #[cfg(test)]
+mod script;
+#[cfg(test)]
 mod serial_hash;
 #[cfg(test)]
 mod store;

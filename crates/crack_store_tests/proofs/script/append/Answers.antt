@@ -1,7 +1,7 @@
 use Rattle.std.proofs.Common.{◌≡◌, ℕ, List, [], ◌∷◌, length, arith}
 use Rattle.crack_arena.specs.Arena.{Handle, times, slots}
 use Rattle.crack_arena.proofs.Times.{times-nil}
-use Rattle.crack_store_tests.proofs.store.append.Goals as goal
+use Rattle.crack_store_tests.proofs.script.append.Goals as goal
 
 none_named : (n : ℕ) (handles : List Handle) → length handles ≡ 0 → times n (slots handles) ≡ 0
 none_named n [] none = times-nil n

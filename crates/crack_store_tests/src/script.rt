@@ -1,0 +1,378 @@
+//! Scripts: steps in a fresh store of all keys, each with what it gives.
+ghost use Rattle.std.specs.Prelude.{◌≡◌, ◌<◌, ◌≤◌, length};
+
+use crate::merge::{merge_at, numbers_of};
+use crack_row::{
+    Bound, BoundNumber, GREATEST_BOUND, Key, KeyNumber, KeyRange, Payload, PayloadNumber,
+    PieceSize, Policy, Row, Serial,
+};
+use crack_store::{Carrying, Store};
+use std::alloc::Global;
+use std::process::Abort;
+
+/// A row's serial, key and payload.
+pub(crate) type Numbers = (u64, KeyNumber, PayloadNumber);
+
+/// A step of a test on a store of all keys.
+#[derive(Clone, Copy)]
+pub(crate) enum Step {
+    /// Puts a row among the pending insertions.
+    Admit(Numbers),
+    /// Puts the first pending insertion at the column's end.
+    Append,
+    /// Pushes the first pending insertion on once, which takes a row of this key into the hand, and appends that.
+    PushOnce(KeyNumber),
+    /// Cracks at the ends of a range, between which this many rows are then.
+    Crack(BoundNumber, BoundNumber, u64),
+    /// Cancels a pending insertion, which is this row.
+    Cancel(Numbers),
+    /// Dooms a row of the column, which is this one.
+    Doom(Numbers),
+    /// Removes a row by its serial, which is this one.
+    Remove(u64, Option<Numbers>),
+    /// Puts the first row in the place of the one of its serial, which is the second.
+    Replace(Numbers, Option<Numbers>),
+    /// Rewrites the row of this one's serial, which waits then.
+    Rewrite(Numbers),
+    /// Cracks by the range from 0, and reads the sum of its payloads and its rows.
+    Read(BoundNumber, i128, &'static [Numbers]),
+    /// Looks how many rows wait to be put in and to be taken out, how many cells there are, and how many of them are
+    /// free.
+    Count([usize; 4]),
+    /// Looks how many rows the column has.
+    Column(usize),
+    /// Looks where the first pending insertion of a range is, and the first pending deletion of all keys.
+    First(BoundNumber, BoundNumber, Option<usize>, Option<usize>),
+    /// Looks for the bound after one.
+    Next(BoundNumber, BoundNumber),
+    /// Looks whether the row of a serial is pending, and which row it is.
+    Row(u64, Option<bool>, Option<Numbers>),
+    /// Looks how many rows the layout counts; and at the sizes of the pieces.
+    Rows(u64),
+    Sizes(&'static [u64]),
+    /// Merges at the keys between two ends. The merge counts this many rows put in, taken out, evicted, moved and
+    /// pulled; then this many rows are between the ends.
+    Merge(Policy, [BoundNumber; 2], [u64; 5], u64),
+    /// Looks how many rows the layout counts in the column, in the pending insertions and in the pending deletions, and
+    /// at the sizes of the pieces, in rising order.
+    Look([u64; 3], &'static [u64]),
+}
+
+/// Steps under a name, in a fresh store of all keys, after those that come first.
+#[derive(Clone, Copy)]
+pub(crate) struct Script {
+    pub(crate) name: &'static str,
+    pub(crate) first: &'static [Step],
+    pub(crate) steps: &'static [Step],
+}
+
+/// The row of these numbers.
+pub(crate) fn row(numbers: Numbers) -> Row {
+    let (serial, key, payload) = numbers;
+    Row {
+        serial: Serial(serial),
+        key: Key::from_number(key),
+        payload: Payload::from_number(payload),
+    }
+}
+
+/// Makes room, and takes the first pending insertion into the hand.
+fn lift_first(rt: &impl Abort, store: Store) -> Carrying
+    ensures room { 0 < result.store.column_room }
+    ensures doomed { length result.store.pending_out ≡ 0 }
+{
+    let mut store = store;
+    let room = store.make_room();
+    assert!(rt; room.is_ok());
+    let pending_in = store.pending_in();
+    let pending_out = store.pending_out();
+    assert!(rt; pending_in > 0);
+    assert!(rt; pending_out == 0);
+    store.lift(0)
+}
+
+/// Pushes on, before the column's end.
+fn push_on(rt: &impl Abort, carrying: Carrying) -> Carrying
+    ensures room { result.store.column_room ≡ carrying.store.column_room }
+    ensures doomed { result.store.pending_out ≡ carrying.store.pending_out }
+{
+    let mut carrying = carrying;
+    let end = carrying.own_piece().to;
+    let len = carrying.column_len();
+    assert!(rt; end < len);
+    carrying.push_on();
+    carrying
+}
+
+/// Ends a carry at the column's end.
+fn append(rt: &impl Abort, carrying: Carrying) -> Store
+    requires room { 0 < carrying.store.column_room }
+    requires doomed { length carrying.store.pending_out ≡ 0 }
+{
+    let end = carrying.own_piece().to;
+    let len = carrying.column_len();
+    assert!(rt; end == len);
+    carrying.append()
+}
+
+/// Pushes the first pending insertion on once, and appends the row that is in the hand then. It has this key, and is
+/// the only one of three that moved.
+fn push_once(rt: &impl Abort, store: Store, key: KeyNumber) -> Store {
+    let carrying = push_on(rt, lift_first(rt, store));
+    let (_, row) = carrying.hand();
+    let tally = carrying.tally();
+    assert!(rt; row.key.number() == key && tally.put_in == 3 && tally.moved == 1);
+    append(rt, carrying)
+}
+
+/// Asserts that a store has all keys.
+pub(crate) fn assert_all_keys(rt: &impl Abort, store: &Store)
+    ensures low { store.now.keys.low ≡ 0 }
+    ensures high { store.now.keys.high ≡ GREATEST_BOUND }
+{
+    let (keys, all) = (store.keys(), KeyRange::all());
+    assert!(rt; keys.low() <= all.low());
+    assert!(rt; keys.high() <= all.high());
+    assert!(rt; all.high() <= keys.high());
+}
+
+/// Whether a row is put among the pending insertions.
+pub(crate) fn admits(rt: &impl Abort, store: &mut Store, new: Row) -> bool {
+    assert_all_keys(rt, store);
+    if store.is_pending(new.serial).is_some() || store.cells() >= 1000 {
+        return false;
+    }
+    store.admit(new).is_ok() && store.is_pending(new.serial) == Some(true)
+}
+
+/// Whether a pending insertion is cancelled that is this row, and is gone then.
+fn cancels(store: &mut Store, gone: Row) -> bool {
+    let freed = store.freed();
+    let doomed = store.pending_out();
+    if store.is_pending(gone.serial) != Some(true) || freed >= 1000 || doomed >= 1000 {
+        return false;
+    }
+    store.cancel(gone.serial) == gone
+        && store.row_of(gone.serial).is_none()
+        && store.freed() == freed + 1
+}
+
+/// Whether a row of the column is doomed that is this one, and is gone then.
+pub(crate) fn dooms(store: &mut Store, gone: Row) -> bool {
+    let freed = store.freed();
+    let doomed = store.pending_out();
+    if store.is_pending(gone.serial) != Some(false) || freed >= 1000 || doomed >= 1000 {
+        return false;
+    }
+    store.doom(gone.serial) == Ok(gone)
+        && store.row_of(gone.serial).is_none()
+        && store.pending_out() == doomed + 1
+}
+
+/// Whether the row that is removed by its serial is this one.
+fn removes(store: &mut Store, serial: u64, gone: Option<Row>) -> bool {
+    if store.freed() >= 1000 || store.pending_out() >= 1000 {
+        return false;
+    }
+    store.remove(Serial(serial)) == Ok(gone)
+}
+
+/// Whether the row in the place of which this one is put is the old one.
+fn replaces(rt: &impl Abort, store: &mut Store, new: Row, old: Option<Row>) -> bool {
+    assert_all_keys(rt, store);
+    if store.freed() >= 1000 || store.pending_out() >= 1000 || store.cells() >= 1000 {
+        return false;
+    }
+    store.replace(new) == Ok(old)
+}
+
+/// Whether a row is rewritten so, and waits then.
+fn rewrites(rt: &impl Abort, store: &mut Store, new: Row) -> bool {
+    assert_all_keys(rt, store);
+    if store.is_pending(new.serial).is_none() || store.cells() >= 1000 {
+        return false;
+    }
+    if store.freed() >= 1000 || store.pending_out() >= 1000 {
+        return false;
+    }
+    store.rewrite(new.serial, new.key, new.payload).is_ok()
+        && store.row_of(new.serial) == Some(new)
+        && store.is_pending(new.serial) == Some(true)
+}
+
+/// Whether this many rows are between two ends after a crack at them.
+fn cracks(store: &mut Store, low: BoundNumber, high: BoundNumber, rows: u64) -> bool {
+    match KeyRange::new(low, high) {
+        Ok(range) => store.crack(range).is_ok() && store.count_between(range) == rows,
+        Err(_) => false,
+    }
+}
+
+/// Whether these are the rows, in this order.
+fn are_rows(rows: &[Row], numbers: &[Numbers]) -> bool {
+    for place in 0..numbers.len() {
+        if rows.get(place) != Some(&row(numbers[place])) {
+            return false;
+        }
+    }
+    rows.len() == numbers.len()
+}
+
+/// Whether the rows of the range from 0 have this sum, and are listed so, after a crack by it.
+fn reads(store: &mut Store, high: BoundNumber, sum: i128, rows: &[Numbers]) -> bool {
+    let Ok(range) = KeyRange::new(0, high) else {
+        return false;
+    };
+    if store.crack(range).is_err() || store.sum_between(range) != sum {
+        return false;
+    }
+    match store.rows_between(range) {
+        Ok(found) => are_rows(found.as_slice(), rows),
+        Err(_) => false,
+    }
+}
+
+/// Whether the pieces have these sizes.
+fn are_sizes(pieces: &[PieceSize], sizes: &[u64]) -> bool {
+    for place in 0..sizes.len() {
+        if !pieces
+            .get(place)
+            .is_some_and(|piece| piece.size == sizes[place])
+        {
+            return false;
+        }
+    }
+    pieces.len() == sizes.len()
+}
+
+/// Whether the layout is as the step says.
+fn is_laid_out(store: &Store, step: Step) -> bool {
+    let Ok(layout) = store.layout() else {
+        return false;
+    };
+    let pieces = layout.pieces.as_slice();
+    match step {
+        Step::Rows(rows) => layout.rows == rows,
+        Step::Sizes(sizes) => are_sizes(pieces, sizes),
+        Step::Look(rows, sizes) => {
+            [layout.column, layout.pending_in, layout.pending_out] == rows
+                && are_sizes(pieces, sizes)
+        }
+        _ => false,
+    }
+}
+
+/// Whether the first pending insertion of the keys between two ends is at this place, and the first pending deletion of
+/// all keys at the other.
+fn finds(
+    store: &Store,
+    low: BoundNumber,
+    high: BoundNumber,
+    first_in: Option<usize>,
+    first_out: Option<usize>,
+) -> bool {
+    match KeyRange::new(low, high) {
+        Ok(range) => {
+            store.first_in(range) == first_in && store.first_out(KeyRange::all()) == first_out
+        }
+        Err(_) => false,
+    }
+}
+
+/// How many rows wait to be put in and to be taken out, how many cells there are, and how many of them are free.
+fn numbers(store: &Store) -> [usize; 4] {
+    [
+        store.pending_in(),
+        store.pending_out(),
+        store.cells(),
+        store.free_cells(),
+    ]
+}
+
+/// Looks at a store; returns whether it is as the step says.
+fn looks(store: &Store, step: Step) -> bool {
+    match step {
+        Step::Count(counted) => numbers(store) == counted,
+        Step::Column(rows) => store.column_len() == rows,
+        Step::First(low, high, first_in, first_out) => finds(store, low, high, first_in, first_out),
+        Step::Next(bound, next) => {
+            store.next_bound(Bound::from_number(bound)) == Bound::from_number(next)
+        }
+        Step::Row(serial, pending, found) => {
+            store.is_pending(Serial(serial)) == pending
+                && store.row_of(Serial(serial)) == found.map(row)
+        }
+        _ => is_laid_out(store, step),
+    }
+}
+
+/// Makes a step in place; returns whether it gave what it should.
+fn change(rt: &impl Abort, store: &mut Store, step: Step) -> bool {
+    match step {
+        Step::Admit(new) => admits(rt, store, row(new)),
+        Step::Crack(low, high, rows) => cracks(store, low, high, rows),
+        Step::Cancel(gone) => cancels(store, row(gone)),
+        Step::Doom(gone) => dooms(store, row(gone)),
+        Step::Remove(serial, gone) => removes(store, serial, gone.map(row)),
+        Step::Replace(new, old) => replaces(rt, store, row(new), old.map(row)),
+        Step::Rewrite(new) => rewrites(rt, store, row(new)),
+        Step::Read(high, sum, rows) => reads(store, high, sum, rows),
+        _ => looks(store, step),
+    }
+}
+
+/// The range between two ends, which isn't empty.
+fn keys_between(rt: &impl Abort, low: BoundNumber, high: BoundNumber) -> KeyRange
+    ensures some { result.low < result.high }
+    ensures within { result.high ≤ GREATEST_BOUND }
+{
+    assert!(rt; low < high);
+    KeyRange::new(low, high).expect(rt, "a range")
+}
+
+/// Merges at a range; returns the store, whether the merge counts this, and whether as many rows are in the range then.
+fn merges(
+    rt: &impl Abort,
+    store: Store,
+    policy: Policy,
+    ends: [BoundNumber; 2],
+    counted: [u64; 5],
+    rows: u64,
+) -> (Store, bool) {
+    let range = keys_between(rt, ends[0], ends[1]);
+    let (store, report) = merge_at(rt, store, range, policy);
+    let count = store.count_between(range);
+    (store, numbers_of(report) == counted && count == rows)
+}
+
+/// Makes a step; returns the store, and whether the step gave what it should.
+fn make(rt: &impl Abort, store: Store, step: Step) -> (Store, bool) {
+    match step {
+        Step::Append => (append(rt, lift_first(rt, store)), true),
+        Step::PushOnce(key) => (push_once(rt, store, key), true),
+        Step::Merge(policy, ends, counted, rows) => merges(rt, store, policy, ends, counted, rows),
+        _ => {
+            let mut store = store;
+            let is_right = change(rt, &mut store, step);
+            (store, is_right)
+        }
+    }
+}
+
+/// Makes steps, and asserts what each gives.
+fn make_all(rt: &impl Abort, store: Store, name: &str, steps: &[Step]) -> Store {
+    let mut store = store;
+    'steps: for place in 0..steps.len() {
+        let (next, is_right) = make(rt, store, steps[place]);
+        store = next;
+        assert!(rt; is_right, "{name}: step {place}");
+    }
+    store
+}
+
+/// Asserts what each step of a script gives.
+pub(crate) fn assert_script(rt: &impl Abort, alloc: Global, script: Script) {
+    let Script { name, first, steps } = script;
+    let store = make_all(rt, Store::new(alloc, KeyRange::all()), name, first);
+    drop(make_all(rt, store, name, steps));
+}
