@@ -1,27 +1,66 @@
-//! Cells that run out if upkeep is automatic: the doomed rows that wait are taken out for them.
+//! Cells that run out if upkeep is automatic: the doomed rows that wait are taken out for them. Tests are lists of
+//! steps.
 //!
-//! The tests `sweep_..` hold whichever one of their allocations is refused, so they may be run with each of them
-//! refused in turn.
+//! The test `sweep_..` holds whichever one of its allocations is refused, so it may be run with each of them refused in
+//! turn.
 use crack_part::Partition;
 use crack_row::{
     Command, GREATEST_LIMIT, Key, KeyNumber, KeyRange, Layout, Limits, Payload, PayloadNumber,
-    Policy, Refusal, Reply, Serial, Upkeep,
+    Policy, Refusal, Reply, Row, Serial, Upkeep,
 };
 use std::alloc::Global;
 use std::process::Abort;
 
-/// An insert of a row whose payload is its key.
-fn insert(key: u16) -> Command {
-    Command::Insert {
+/// A step of a test on a partition of at most three cells.
+#[derive(Clone, Copy)]
+enum Step {
+    /// Inserts a row whose payload is its key, which is placed under this serial.
+    Insert(u16, u64),
+    /// Inserts a row whose payload is its key, for which there is no cell.
+    InsertNone(u16),
+    /// Deletes the row of a serial, which has this key.
+    Delete(u64, u16),
+    /// Counts all rows, of which there are this many.
+    Count(u64),
+    /// Looks how many rows there are, how many of them are pending insertions, and how many are doomed.
+    Look([u64; 3]),
+}
+
+/// Steps, each with how many rows there are before it.
+type Steps = &'static [(Step, u64)];
+
+/// Fills three cells with rows of the column, and dooms two of them.
+const DOOM_TWO: Steps = &[
+    (Step::Insert(1, 0), 0),
+    (Step::Insert(2, 1), 1),
+    (Step::Insert(3, 2), 2),
+    (Step::Count(3), 3),
+    (Step::Delete(0, 1), 3),
+    (Step::Delete(2, 3), 2),
+];
+
+/// Inserts rows until no cell is left: before the first one the doomed rows are taken out.
+const FILL: Steps = &[
+    (Step::Insert(4, 3), 1),
+    (Step::Look([2, 1, 0]), 2),
+    (Step::Insert(5, 4), 2),
+    (Step::InsertNone(6), 3),
+    (Step::Count(3), 3),
+];
+
+/// The row of a serial and a key, which is its payload.
+fn row(serial: u64, key: u16) -> Row {
+    Row {
+        serial: Serial(serial),
         key: Key::from_number(KeyNumber::from(key)),
         payload: Payload::from_number(PayloadNumber::from(key)),
     }
 }
 
-fn delete(serial: u64) -> Command {
-    Command::Delete {
-        serial: Serial(serial),
-    }
+/// An insert of a row whose payload is its key.
+fn insert(key: u16) -> Command {
+    let Row { key, payload, .. } = row(0, key);
+    Command::Insert { key, payload }
 }
 
 /// The answer to worker 0. It promises nothing, so that no test carries the contract of a partition.
@@ -38,99 +77,87 @@ fn layout_of(rt: &impl Abort, partition: &Partition) -> Layout {
     }
 }
 
-/// How many rows a partition has.
-fn rows_of(rt: &impl Abort, partition: &Partition) -> u64 {
-    layout_of(rt, partition).rows
-}
-
-/// Asserts how many rows a partition has, how many of them are pending insertions, and how many are doomed.
-fn assert_counts(rt: &impl Abort, partition: &Partition, rows: u64, waiting: u64, doomed: u64) {
+/// How many rows a partition has, how many of them are pending insertions, and how many are doomed.
+fn numbers(rt: &impl Abort, partition: &Partition) -> [u64; 3] {
     let layout = layout_of(rt, partition);
-    let told = [layout.rows, layout.pending_in, layout.pending_out];
-    assert_eq!(rt; told, [rows, waiting, doomed]);
+    [layout.rows, layout.pending_in, layout.pending_out]
 }
 
-/// Has a command answered. If no memory is found at first, the history is unchanged, and so are the rows, of which
-/// there are this many; then memory is found.
-fn answer(rt: &impl Abort, partition: &mut Partition, command: &Command, rows: u64) -> Reply {
+/// Whether a command has this answer. If no memory is found at first, the history is unchanged, and so are the rows, of
+/// which there are this many; then memory is found.
+fn is_answered(
+    rt: &impl Abort,
+    partition: &mut Partition,
+    command: Command,
+    rows: u64,
+    wanted: Reply,
+) -> bool {
     let kept = partition.history().len();
-    let reply = match ask(partition, *command) {
+    let reply = match ask(partition, command) {
         Ok(reply) => Ok(reply),
         Err(refusal) => {
             assert!(rt; refusal == Refusal::OutOfMemory);
-            assert!(rt; partition.history().len() == kept && rows_of(rt, partition) == rows);
-            ask(partition, *command)
+            assert!(rt; partition.history().len() == kept && numbers(rt, partition)[0] == rows);
+            ask(partition, command)
         }
     };
-    reply.expect(rt, "an answer")
+    reply.expect(rt, "an answer").is_same(&wanted)
 }
 
-/// Fills three cells with rows of the column, and dooms two of them.
-fn doom_two(rt: &impl Abort, partition: &mut Partition) {
-    let steps = [
-        (insert(1), 0),
-        (insert(2), 1),
-        (insert(3), 2),
-        (Command::Count(KeyRange::all()), 3),
-        (delete(0), 3),
-        (delete(2), 2),
-    ];
-    for (command, rows) in steps {
-        let _reply = answer(rt, partition, &command, rows);
+/// Makes a step, before which there are this many rows; returns whether it gave what it should.
+fn make(rt: &impl Abort, partition: &mut Partition, step: Step, rows: u64) -> bool {
+    match step {
+        Step::Insert(key, serial) => {
+            let wanted = Reply::Placed(Serial(serial));
+            is_answered(rt, partition, insert(key), rows, wanted)
+        }
+        Step::InsertNone(key) => ask(partition, insert(key)).err() == Some(Refusal::NoCell),
+        Step::Delete(serial, key) => {
+            let gone = row(serial, key);
+            let delete = Command::Delete {
+                serial: gone.serial,
+            };
+            is_answered(rt, partition, delete, rows, Reply::Gone(gone))
+        }
+        Step::Count(count) => {
+            let all = Command::Count(KeyRange::all());
+            is_answered(rt, partition, all, rows, Reply::Counted(count))
+        }
+        Step::Look(wanted) => numbers(rt, partition) == wanted,
     }
 }
 
-/// Asserts that a row is placed under this serial, where there were this many rows.
-fn assert_placed(rt: &impl Abort, partition: &mut Partition, key: u16, rows: u64, serial: u64) {
-    let reply = answer(rt, partition, &insert(key), rows);
-    assert!(rt; matches!(reply, Reply::Placed(placed) if placed == Serial(serial)));
+/// Asserts what each step gives.
+fn assert_steps(rt: &impl Abort, partition: &mut Partition, steps: Steps) {
+    'steps: for place in 0..steps.len() {
+        let (step, rows) = steps[place];
+        let is_right = make(rt, partition, step, rows);
+        assert!(rt; is_right, "step {place}");
+    }
 }
 
-/// Asserts that there is no cell for a row of this key.
-fn assert_no_cell(rt: &impl Abort, partition: &mut Partition, key: u16) {
-    let refused = ask(partition, insert(key)).err();
-    assert!(rt; refused == Some(Refusal::NoCell));
-}
-
-/// Inserts rows until no cell is left: before the first one the doomed rows are taken out.
-fn fill(rt: &impl Abort, partition: &mut Partition) {
-    assert_placed(rt, partition, 4, 1, 3);
-    assert_counts(rt, partition, 2, 1, 0);
-    assert_placed(rt, partition, 5, 2, 4);
-    assert_no_cell(rt, partition, 6);
-    let reply = answer(rt, partition, &Command::Count(KeyRange::all()), 3);
-    assert!(rt; matches!(reply, Reply::Counted(3)));
-}
-
-/// The limits of a partition of at most three cells.
-fn of_three_cells(upkeep: Upkeep) -> Limits {
-    Limits {
+/// Asserts what each step gives after `DOOM_TWO`, in a partition of at most three cells.
+fn assert_script(rt: &impl Abort, alloc: Global, upkeep: Upkeep, steps: Steps) {
+    let limits = Limits {
         cells: 3,
         upkeep,
         ..Limits::of_history(GREATEST_LIMIT)
-    }
-}
-
-/// An empty partition of at most three cells.
-fn three_cells(rt: &impl Abort, alloc: Global, upkeep: Upkeep) -> Partition {
-    let opened = Partition::open_with(alloc, KeyRange::all(), of_three_cells(upkeep));
-    opened.expect(rt, "a partition")
+    };
+    let opened = Partition::open_with(alloc, KeyRange::all(), limits);
+    let mut partition = opened.expect(rt, "a partition");
+    assert_steps(rt, &mut partition, DOOM_TWO);
+    assert_steps(rt, &mut partition, steps);
+    drop(partition);
 }
 
 #[test]
 fn sweep_partition_that_frees_cells(rt: HostRuntime) {
-    let mut partition = three_cells(&rt, rt.alloc(), Upkeep::Automatic);
-    doom_two(&rt, &mut partition);
-    fill(&rt, &mut partition);
-    drop(partition);
+    assert_script(&rt, rt.alloc(), Upkeep::Automatic, FILL);
 }
 
 /// Without upkeep the doomed rows wait for a range.
 #[test]
 fn partition_frees_no_cell_unasked(rt: HostRuntime) {
-    let mut partition = three_cells(&rt, rt.alloc(), Upkeep::OnRequest);
-    doom_two(&rt, &mut partition);
-    assert_no_cell(&rt, &mut partition, 4);
-    assert_counts(&rt, &partition, 1, 0, 2);
-    drop(partition);
+    const STEPS: Steps = &[(Step::InsertNone(4), 1), (Step::Look([1, 0, 2]), 1)];
+    assert_script(&rt, rt.alloc(), Upkeep::OnRequest, STEPS);
 }

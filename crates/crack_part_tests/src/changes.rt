@@ -1,162 +1,54 @@
-//! Partitions whose rows are deleted, changed, added up and listed, and the layout after a merge.
+//! What partitions answer and keep: refusals, rows that are deleted, changed, added up and listed, and the layout after
+//! a merge.
 use crate::part::{ALL, Case, assert_case};
+use crack_row::GREATEST_LIMIT;
 
-const CASES: &[Case] = &[
+/// Answers that are kept, and refusals.
+const ANSWERS: &[Case] = &[
     Case {
-        name: "a pull through two bounds",
+        name: "partition answers and keeps",
         keys: ALL,
-        limit: 1000,
+        limit: GREATEST_LIMIT,
         script: &[
-            ("policy gradual", "policy gradual"),
-            ("insert 10 10", "row 0.0"),
-            ("insert 20 20", "row 0.1"),
-            ("insert 30 30", "row 0.2"),
-            ("count 0 18446744073709551616", "count 3"),
-            ("count 15 25", "count 1"),
-            ("delete 0.0", "gone 10 10"),
-            ("count 0 15", "count 0"),
-            (
-                "layout 0",
-                "layout 0 rows 2 column 2 out 0 in 0 cells 3 free 1 pieces 3\n\
-            piece 0 15 0\npiece 15 25 1\npiece 25 18446744073709551616 1",
-            ),
+            ("insert 7 70", "row 0.0"),
+            ("count 0 18446744073709551616", "count 1"),
         ],
-        accepted: 7,
+        accepted: 2,
     },
-    // The doomed row that is carried on stays doomed.
+    // A read is also kept, even one that can't find a row.
     Case {
-        name: "a gradual pull past a doomed row",
+        name: "partition keeps a count of no key",
         keys: ALL,
-        limit: 1000,
-        script: &[
-            ("policy gradual", "policy gradual"),
-            ("insert 10 10", "row 0.0"),
-            ("insert 20 20", "row 0.1"),
-            ("insert 30 30", "row 0.2"),
-            ("count 0 18446744073709551616", "count 3"),
-            ("count 15 25", "count 1"),
-            ("delete 0.0", "gone 10 10"),
-            ("delete 0.2", "gone 30 30"),
-            ("count 0 15", "count 0"),
-            (
-                "layout 0",
-                "layout 0 rows 1 column 2 out 1 in 0 cells 3 free 1 pieces 3\n\
-            piece 0 15 0\npiece 15 25 1\npiece 25 18446744073709551616 1",
-            ),
-        ],
-        accepted: 8,
+        limit: 1,
+        script: &[("count 5 5", "count 0")],
+        accepted: 1,
     },
     Case {
-        name: "a complete merge takes all out",
+        name: "partition refuses at its limit",
         keys: ALL,
-        limit: 1000,
+        limit: 2,
         script: &[
-            ("policy gradual", "policy gradual"),
-            ("insert 10 10", "row 0.0"),
-            ("insert 20 20", "row 0.1"),
-            ("insert 30 30", "row 0.2"),
-            ("count 0 18446744073709551616", "count 3"),
-            ("count 15 25", "count 1"),
-            ("delete 0.0", "gone 10 10"),
-            ("delete 0.2", "gone 30 30"),
-            ("policy complete", "policy complete"),
-            ("count 0 15", "count 0"),
-            (
-                "layout 0",
-                "layout 0 rows 1 column 1 out 0 in 0 cells 3 free 2 pieces 3\n\
-            piece 0 15 0\npiece 15 25 1\npiece 25 18446744073709551616 0",
-            ),
+            ("insert 1 10", "row 0.0"),
+            ("insert 2 20", "row 0.1"),
+            ("count 0 18446744073709551616", "refused 6 2"),
         ],
-        accepted: 8,
+        accepted: 2,
     },
-    // A doomed row that is in the way is buried, and its cell is used again.
     Case {
-        name: "a doomed row in the way",
-        keys: ALL,
-        limit: 1000,
+        name: "partition refuses keys outside",
+        keys: [100, 200],
+        limit: 10,
         script: &[
-            ("policy gradual", "policy gradual"),
-            ("insert 10 10", "row 0.0"),
-            ("insert 20 20", "row 0.1"),
-            ("insert 30 30", "row 0.2"),
-            ("count 0 18446744073709551616", "count 3"),
-            ("count 15 25", "count 1"),
-            ("delete 0.2", "gone 30 30"),
-            ("insert 17 17", "row 0.3"),
-            ("count 15 25", "count 2"),
-            (
-                "layout 0",
-                "layout 0 rows 3 column 3 out 0 in 0 cells 4 free 1 pieces 3\n\
-            piece 0 15 1\npiece 15 25 2\npiece 25 18446744073709551616 0",
-            ),
-            ("insert 99 99", "row 0.4"),
-            (
-                "layout 0",
-                "layout 0 rows 4 column 3 out 0 in 1 cells 4 free 0 pieces 3\n\
-            piece 0 15 1\npiece 15 25 2\npiece 25 18446744073709551616 0",
-            ),
+            ("insert 50 500", "refused 4"),
+            ("insert 200 2000", "refused 4"),
+            ("insert 199 1990", "row 0.0"),
         ],
-        accepted: 9,
+        accepted: 1,
     },
-    // The rows outside the range stay pending.
-    Case {
-        name: "a gradual merge",
-        keys: ALL,
-        limit: 1000,
-        script: &[
-            ("policy gradual", "policy gradual"),
-            ("insert 10 10", "row 0.0"),
-            ("insert 20 20", "row 0.1"),
-            ("insert 30 30", "row 0.2"),
-            ("insert 40 40", "row 0.3"),
-            ("count 0 18446744073709551616", "count 4"),
-            ("insert 17 17", "row 0.4"),
-            ("insert 90 90", "row 0.5"),
-            ("count 15 25", "count 2"),
-            (
-                "layout 0",
-                "layout 0 rows 6 column 5 out 0 in 1 cells 6 free 0 pieces 3\n\
-            piece 0 15 1\npiece 15 25 2\npiece 25 18446744073709551616 2",
-            ),
-        ],
-        accepted: 8,
-    },
-    // Rows are pending until a count needs one of them; then all are merged, and no row is missing on the way.
-    Case {
-        name: "partition cracks and merges",
-        keys: ALL,
-        limit: 1000,
-        script: &[
-            ("policy gradual", "policy gradual"),
-            ("insert 10 10", "row 0.0"),
-            ("insert 20 20", "row 0.1"),
-            ("insert 30 30", "row 0.2"),
-            ("insert 40 40", "row 0.3"),
-            (
-                "layout 0",
-                "layout 0 rows 4 column 0 out 0 in 4 cells 4 free 0 pieces 1\npiece 0 18446744073709551616 0",
-            ),
-            ("policy complete", "policy complete"),
-            ("count 0 18446744073709551616", "count 4"),
-            ("count 15 25", "count 1"),
-            ("policy gradual", "policy gradual"),
-            ("insert 17 17", "row 0.4"),
-            ("insert 90 90", "row 0.5"),
-            (
-                "layout 0",
-                "layout 0 rows 6 column 4 out 0 in 2 cells 6 free 0 pieces 3\n\
-            piece 0 15 1\npiece 15 25 1\npiece 25 18446744073709551616 2",
-            ),
-            ("policy complete", "policy complete"),
-            ("count 15 25", "count 2"),
-            (
-                "layout 0",
-                "layout 0 rows 6 column 6 out 0 in 0 cells 6 free 0 pieces 3\n\
-            piece 0 15 1\npiece 15 25 2\npiece 25 18446744073709551616 3",
-            ),
-        ],
-        accepted: 9,
-    },
+];
+
+/// A row that is deleted or updated, and payloads.
+const CHANGES: &[Case] = &[
     // A pending row is removed immediately; a delete that finds no row is kept.
     Case {
         name: "a row is deleted twice",
@@ -231,9 +123,199 @@ const CASES: &[Case] = &[
     },
 ];
 
+/// Rows that are taken out of the column.
+const PULLS: &[Case] = &[
+    Case {
+        name: "a pull through two bounds",
+        keys: ALL,
+        limit: 1000,
+        script: &[
+            ("policy gradual", "policy gradual"),
+            ("insert 10 10", "row 0.0"),
+            ("insert 20 20", "row 0.1"),
+            ("insert 30 30", "row 0.2"),
+            ("count 0 18446744073709551616", "count 3"),
+            ("count 15 25", "count 1"),
+            ("delete 0.0", "gone 10 10"),
+            ("count 0 15", "count 0"),
+            (
+                "layout 0",
+                "layout 0 rows 2 column 2 out 0 in 0 cells 3 free 1 pieces 3\n\
+            piece 0 15 0\npiece 15 25 1\npiece 25 18446744073709551616 1",
+            ),
+        ],
+        accepted: 7,
+    },
+    // The doomed row that is carried on stays doomed.
+    Case {
+        name: "a gradual pull past a doomed row",
+        keys: ALL,
+        limit: 1000,
+        script: &[
+            ("policy gradual", "policy gradual"),
+            ("insert 10 10", "row 0.0"),
+            ("insert 20 20", "row 0.1"),
+            ("insert 30 30", "row 0.2"),
+            ("count 0 18446744073709551616", "count 3"),
+            ("count 15 25", "count 1"),
+            ("delete 0.0", "gone 10 10"),
+            ("delete 0.2", "gone 30 30"),
+            ("count 0 15", "count 0"),
+            (
+                "layout 0",
+                "layout 0 rows 1 column 2 out 1 in 0 cells 3 free 1 pieces 3\n\
+            piece 0 15 0\npiece 15 25 1\npiece 25 18446744073709551616 1",
+            ),
+        ],
+        accepted: 8,
+    },
+    Case {
+        name: "a complete merge takes all out",
+        keys: ALL,
+        limit: 1000,
+        script: &[
+            ("policy gradual", "policy gradual"),
+            ("insert 10 10", "row 0.0"),
+            ("insert 20 20", "row 0.1"),
+            ("insert 30 30", "row 0.2"),
+            ("count 0 18446744073709551616", "count 3"),
+            ("count 15 25", "count 1"),
+            ("delete 0.0", "gone 10 10"),
+            ("delete 0.2", "gone 30 30"),
+            ("policy complete", "policy complete"),
+            ("count 0 15", "count 0"),
+            (
+                "layout 0",
+                "layout 0 rows 1 column 1 out 0 in 0 cells 3 free 2 pieces 3\n\
+            piece 0 15 0\npiece 15 25 1\npiece 25 18446744073709551616 0",
+            ),
+        ],
+        accepted: 8,
+    },
+];
+
+/// Rows that a gradual merge puts in.
+const MERGES: &[Case] = &[
+    // A doomed row that is in the way is buried, and its cell is used again.
+    Case {
+        name: "a doomed row in the way",
+        keys: ALL,
+        limit: 1000,
+        script: &[
+            ("policy gradual", "policy gradual"),
+            ("insert 10 10", "row 0.0"),
+            ("insert 20 20", "row 0.1"),
+            ("insert 30 30", "row 0.2"),
+            ("count 0 18446744073709551616", "count 3"),
+            ("count 15 25", "count 1"),
+            ("delete 0.2", "gone 30 30"),
+            ("insert 17 17", "row 0.3"),
+            ("count 15 25", "count 2"),
+            (
+                "layout 0",
+                "layout 0 rows 3 column 3 out 0 in 0 cells 4 free 1 pieces 3\n\
+            piece 0 15 1\npiece 15 25 2\npiece 25 18446744073709551616 0",
+            ),
+            ("insert 99 99", "row 0.4"),
+            (
+                "layout 0",
+                "layout 0 rows 4 column 3 out 0 in 1 cells 4 free 0 pieces 3\n\
+            piece 0 15 1\npiece 15 25 2\npiece 25 18446744073709551616 0",
+            ),
+        ],
+        accepted: 9,
+    },
+    // The rows outside the range stay pending.
+    Case {
+        name: "a gradual merge",
+        keys: ALL,
+        limit: 1000,
+        script: &[
+            ("policy gradual", "policy gradual"),
+            ("insert 10 10", "row 0.0"),
+            ("insert 20 20", "row 0.1"),
+            ("insert 30 30", "row 0.2"),
+            ("insert 40 40", "row 0.3"),
+            ("count 0 18446744073709551616", "count 4"),
+            ("insert 17 17", "row 0.4"),
+            ("insert 90 90", "row 0.5"),
+            ("count 15 25", "count 2"),
+            (
+                "layout 0",
+                "layout 0 rows 6 column 5 out 0 in 1 cells 6 free 0 pieces 3\n\
+            piece 0 15 1\npiece 15 25 2\npiece 25 18446744073709551616 2",
+            ),
+        ],
+        accepted: 8,
+    },
+];
+
+/// Rows are pending until a count needs one of them; then all are merged, and no row is missing on the way.
+const IN_TURN: Case = Case {
+    name: "partition cracks and merges",
+    keys: ALL,
+    limit: 1000,
+    script: &[
+        ("policy gradual", "policy gradual"),
+        ("insert 10 10", "row 0.0"),
+        ("insert 20 20", "row 0.1"),
+        ("insert 30 30", "row 0.2"),
+        ("insert 40 40", "row 0.3"),
+        (
+            "layout 0",
+            "layout 0 rows 4 column 0 out 0 in 4 cells 4 free 0 pieces 1\npiece 0 18446744073709551616 0",
+        ),
+        ("policy complete", "policy complete"),
+        ("count 0 18446744073709551616", "count 4"),
+        ("count 15 25", "count 1"),
+        ("policy gradual", "policy gradual"),
+        ("insert 17 17", "row 0.4"),
+        ("insert 90 90", "row 0.5"),
+        (
+            "layout 0",
+            "layout 0 rows 6 column 4 out 0 in 2 cells 6 free 0 pieces 3\n\
+            piece 0 15 1\npiece 15 25 1\npiece 25 18446744073709551616 2",
+        ),
+        ("policy complete", "policy complete"),
+        ("count 15 25", "count 2"),
+        (
+            "layout 0",
+            "layout 0 rows 6 column 6 out 0 in 0 cells 6 free 0 pieces 3\n\
+            piece 0 15 1\npiece 15 25 2\npiece 25 18446744073709551616 3",
+        ),
+    ],
+    accepted: 9,
+};
+
 #[test]
-fn rows_are_changed_and_merged(rt: HostRuntime) {
-    'cases: for place in 0..CASES.len() {
-        assert_case(&rt, rt.alloc(), CASES[place]);
+fn partitions_answer_and_keep(rt: HostRuntime) {
+    'cases: for place in 0..ANSWERS.len() {
+        assert_case(&rt, rt.alloc(), ANSWERS[place]);
     }
+}
+
+#[test]
+fn rows_are_changed_and_added_up(rt: HostRuntime) {
+    'cases: for place in 0..CHANGES.len() {
+        assert_case(&rt, rt.alloc(), CHANGES[place]);
+    }
+}
+
+#[test]
+fn rows_are_pulled_out(rt: HostRuntime) {
+    'cases: for place in 0..PULLS.len() {
+        assert_case(&rt, rt.alloc(), PULLS[place]);
+    }
+}
+
+#[test]
+fn rows_are_merged_for_a_range(rt: HostRuntime) {
+    'cases: for place in 0..MERGES.len() {
+        assert_case(&rt, rt.alloc(), MERGES[place]);
+    }
+}
+
+#[test]
+fn rows_are_merged_by_policies_in_turn(rt: HostRuntime) {
+    assert_case(&rt, rt.alloc(), IN_TURN);
 }

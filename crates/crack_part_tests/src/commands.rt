@@ -56,27 +56,21 @@ fn write_least<W: Write>(writer: &mut Watched<W>) -> Result<(), Refusal> {
     write_row(0, &greatest_row(LEAST_PAYLOAD), writer)
 }
 
-#[test]
-fn greatest_numbers_are_written(rt: HostRuntime) {
-    let mut writer = Watched::new(Vec::new(rt.alloc()));
-    assert!(rt; write_greatest(&mut writer).is_ok());
-    let text = writer.into_inner();
-    let told =
-        "row 4294967295.18446744073709551615\ngone 18446744073709551615 9223372036854775807\n\
-        sum 170141183460469231731687303715884105727\n\
-rows 18446744073709551615\n4294967295.18446744073709551615 18446744073709551615 9223372036854775807\n";
-    assert_eq!(rt; text.as_slice(), told.as_bytes());
-}
+/// The texts of these replies.
+const REPLIES: &[u8] =
+    b"row 4294967295.18446744073709551615\ngone 18446744073709551615 9223372036854775807\n\
+sum 170141183460469231731687303715884105727\n\
+rows 18446744073709551615\n4294967295.18446744073709551615 18446744073709551615 9223372036854775807\n\
+gone 18446744073709551615 -9223372036854775808\nsum -170141183460469231731687303715884105728\nsum -1\nsum 0\n\
+0.18446744073709551615 18446744073709551615 -9223372036854775808\n";
 
 #[test]
-fn numbers_below_0_are_written(rt: HostRuntime) {
+fn greatest_numbers_and_least_are_written(rt: HostRuntime) {
     let mut writer = Watched::new(Vec::new(rt.alloc()));
+    assert!(rt; write_greatest(&mut writer).is_ok());
     assert!(rt; write_least(&mut writer).is_ok());
     let text = writer.into_inner();
-    let told =
-        "gone 18446744073709551615 -9223372036854775808\nsum -170141183460469231731687303715884105728\nsum -1\nsum 0\n\
-0.18446744073709551615 18446744073709551615 -9223372036854775808\n";
-    assert_eq!(rt; text.as_slice(), told.as_bytes());
+    assert_eq!(rt; text.as_slice(), REPLIES);
 }
 
 /// The text of the layout of the greatest numbers.

@@ -2,7 +2,9 @@
 use crate::script::{Script, assert_text, command_of};
 use crack_commands::{Statement, parse_statement, write_folded, write_refusal, write_reply};
 use crack_core::{Core, Done, Job, Step};
-use crack_row::{GREATEST_LIMIT, Limits, Policy, Refusal, Watched};
+use crack_row::{
+    GREATEST_CELLS, GREATEST_LIFE, GREATEST_LIMIT, Limits, Policy, Refusal, Upkeep, Watched,
+};
 use std::alloc::Global;
 use std::process::Abort;
 
@@ -48,8 +50,28 @@ fn run(rt: &impl Abort, core: &mut Core, jobs: &[Job]) -> Vec<Result<Done, Refus
     core.run_jobs(jobs).expect(rt, "memory")
 }
 
-/// Asserts the outcome of the jobs of a script at a core of one partition with these limits.
-fn assert_jobs(rt: &impl Abort, alloc: Global, limits: Limits, script: Script) {
+/// Jobs at a core of one partition within limits, each with its outcome.
+#[derive(Clone, Copy)]
+struct Case {
+    name: &'static str,
+    /// The limits of history, cells and life.
+    limits: [u64; 3],
+    script: Script,
+}
+
+/// Asserts the outcome of the jobs of a case.
+fn assert_jobs(rt: &impl Abort, alloc: Global, case: Case) {
+    let Case {
+        name,
+        limits: [history, cells, life],
+        script,
+    } = case;
+    let limits = Limits {
+        history,
+        cells,
+        life,
+        upkeep: Upkeep::OnRequest,
+    };
     let mut core = Core::open_with(alloc, &[], limits).expect(rt, "a core");
     let jobs = jobs_of(rt, alloc, script);
     let done = run(rt, &mut core, &jobs);
@@ -58,63 +80,62 @@ fn assert_jobs(rt: &impl Abort, alloc: Global, limits: Limits, script: Script) {
     'script: for place in 0..script.len() {
         let (line, wanted) = script[place];
         let text = text_of(rt, alloc, &done[place]);
-        assert_text(rt, &text, "jobs", line, wanted);
+        assert_text(rt, &text, name, line, wanted);
     }
 }
 
-#[test]
-fn a_checkpoint_empties_the_history(rt: HostRuntime) {
-    const SCRIPT: Script = &[
-        ("insert 1 1", "row 0.0"),
-        ("insert 2 2", "row 0.1"),
-        ("count 0 18446744073709551616", "refused 6 2"),
-        ("checkpoint 0", "folded 2"),
-        ("count 0 18446744073709551616", "count 2"),
-        ("insert 3 3", "row 0.2"),
-        ("insert 4 4", "refused 6 2"),
-        ("checkpoint 0", "folded 2"),
-        ("checkpoint 0", "folded 0"),
-        ("delete 0.0", "gone 1 1"),
-        ("checkpoint 1", "refused 5"),
-    ];
-    assert_jobs(&rt, rt.alloc(), Limits::of_history(2), SCRIPT);
-}
+const CASES: &[Case] = &[
+    Case {
+        name: "a checkpoint empties the history",
+        limits: [2, GREATEST_CELLS, GREATEST_LIFE],
+        script: &[
+            ("insert 1 1", "row 0.0"),
+            ("insert 2 2", "row 0.1"),
+            ("count 0 18446744073709551616", "refused 6 2"),
+            ("checkpoint 0", "folded 2"),
+            ("count 0 18446744073709551616", "count 2"),
+            ("insert 3 3", "row 0.2"),
+            ("insert 4 4", "refused 6 2"),
+            ("checkpoint 0", "folded 2"),
+            ("checkpoint 0", "folded 0"),
+            ("delete 0.0", "gone 1 1"),
+            ("checkpoint 1", "refused 5"),
+        ],
+    },
+    Case {
+        name: "a row without a cell is refused",
+        limits: [GREATEST_LIMIT, 2, GREATEST_LIFE],
+        script: &[
+            ("insert 1 1", "row 0.0"),
+            ("insert 2 2", "row 0.1"),
+            ("insert 3 3", "refused 9"),
+            ("count 0 18446744073709551616", "count 2"),
+            ("delete 0.0", "gone 1 1"),
+            ("insert 3 3", "refused 9"),
+            ("count 0 18446744073709551616", "count 1"),
+            ("insert 3 3", "row 0.2"),
+            ("update 0.1 2 9", "refused 9"),
+            ("update 0.2 4 4", "changed"),
+        ],
+    },
+    Case {
+        name: "a life ends",
+        limits: [GREATEST_LIMIT, GREATEST_CELLS, 3],
+        script: &[
+            ("insert 1 1", "row 0.0"),
+            ("count 0 18446744073709551616", "count 1"),
+            ("checkpoint 0", "folded 2"),
+            ("count 0 18446744073709551616", "count 1"),
+            ("count 0 18446744073709551616", "refused 10"),
+        ],
+    },
+];
 
 #[test]
-fn a_row_without_a_cell_is_refused(rt: HostRuntime) {
-    const SCRIPT: Script = &[
-        ("insert 1 1", "row 0.0"),
-        ("insert 2 2", "row 0.1"),
-        ("insert 3 3", "refused 9"),
-        ("count 0 18446744073709551616", "count 2"),
-        ("delete 0.0", "gone 1 1"),
-        ("insert 3 3", "refused 9"),
-        ("count 0 18446744073709551616", "count 1"),
-        ("insert 3 3", "row 0.2"),
-        ("update 0.1 2 9", "refused 9"),
-        ("update 0.2 4 4", "changed"),
-    ];
-    let limits = Limits {
-        cells: 2,
-        ..Limits::of_history(GREATEST_LIMIT)
-    };
-    assert_jobs(&rt, rt.alloc(), limits, SCRIPT);
-}
-
-#[test]
-fn a_life_ends(rt: HostRuntime) {
-    const SCRIPT: Script = &[
-        ("insert 1 1", "row 0.0"),
-        ("count 0 18446744073709551616", "count 1"),
-        ("checkpoint 0", "folded 2"),
-        ("count 0 18446744073709551616", "count 1"),
-        ("count 0 18446744073709551616", "refused 10"),
-    ];
-    let limits = Limits {
-        life: 3,
-        ..Limits::of_history(GREATEST_LIMIT)
-    };
-    assert_jobs(&rt, rt.alloc(), limits, SCRIPT);
+fn jobs_are_done_or_refused(rt: HostRuntime) {
+    'cases: for place in 0..CASES.len() {
+        assert_jobs(&rt, rt.alloc(), CASES[place]);
+    }
 }
 
 #[test]

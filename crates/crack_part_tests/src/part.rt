@@ -122,56 +122,6 @@ fn partition_is_opened_empty(rt: HostRuntime) {
     drop(partition);
 }
 
-const CASES: &[Case] = &[
-    Case {
-        name: "partition answers and keeps",
-        keys: ALL,
-        limit: GREATEST_LIMIT,
-        script: &[
-            ("insert 7 70", "row 0.0"),
-            ("count 0 18446744073709551616", "count 1"),
-        ],
-        accepted: 2,
-    },
-    // A read is also kept, even one that can't find a row.
-    Case {
-        name: "partition keeps a count of no key",
-        keys: ALL,
-        limit: 1,
-        script: &[("count 5 5", "count 0")],
-        accepted: 1,
-    },
-    Case {
-        name: "partition refuses at its limit",
-        keys: ALL,
-        limit: 2,
-        script: &[
-            ("insert 1 10", "row 0.0"),
-            ("insert 2 20", "row 0.1"),
-            ("count 0 18446744073709551616", "refused 6 2"),
-        ],
-        accepted: 2,
-    },
-    Case {
-        name: "partition refuses keys outside",
-        keys: [100, 200],
-        limit: 10,
-        script: &[
-            ("insert 50 500", "refused 4"),
-            ("insert 200 2000", "refused 4"),
-            ("insert 199 1990", "row 0.0"),
-        ],
-        accepted: 1,
-    },
-];
-
-#[test]
-fn partitions_answer_and_keep(rt: HostRuntime) {
-    'cases: for place in 0..CASES.len() {
-        assert_case(&rt, rt.alloc(), CASES[place]);
-    }
-}
-
 #[test]
 fn partition_refuses_bad_limits(rt: HostRuntime) {
     for limit in [0, GREATEST_LIMIT + 1] {

@@ -145,27 +145,29 @@ fn refused(alloc: Global, splits: &[Bound], limit: u64) -> Option<Refusal> {
 }
 
 #[test]
-fn bad_splits_are_refused(rt: HostRuntime) {
-    let twice = refused(
-        rt.alloc(),
-        &[Bound::from_number(100), Bound::from_number(100)],
-        0,
-    );
-    assert!(rt; matches!(twice, Some(Refusal::BadSplits)));
-    let least = refused(rt.alloc(), &[Bound::from_number(0)], 1);
-    assert!(rt; matches!(least, Some(Refusal::BadSplits)));
-    let greatest = refused(rt.alloc(), &[Bound::from_number(GREATEST_BOUND)], 1);
-    assert!(rt; matches!(greatest, Some(Refusal::BadSplits)));
-    let limit = refused(rt.alloc(), &[Bound::from_number(GREATEST_BOUND - 1)], 0);
-    assert!(rt; matches!(limit, Some(Refusal::BadLimit)));
-}
-
-#[test]
-fn too_many_splits_are_refused(rt: HostRuntime) {
-    let mut splits = [Bound::from_number(0); 64];
+fn openings_are_refused(rt: HostRuntime) {
+    let alloc: Global = rt.alloc();
+    let mut many = [Bound::from_number(0); 64];
     for place in 0..64 {
-        splits[place] = Bound::from_number(place as BoundNumber + 1);
+        many[place] = Bound::from_number(place as BoundNumber + 1);
     }
-    let many = refused(rt.alloc(), &splits, 0);
-    assert!(rt; matches!(many, Some(Refusal::TooManyPartitions)));
+    let told = [
+        refused(
+            alloc,
+            &[Bound::from_number(100), Bound::from_number(100)],
+            0,
+        ),
+        refused(alloc, &[Bound::from_number(0)], 1),
+        refused(alloc, &[Bound::from_number(GREATEST_BOUND)], 1),
+        refused(alloc, &[Bound::from_number(GREATEST_BOUND - 1)], 0),
+        refused(alloc, &many, 0),
+    ];
+    let wanted = [
+        Some(Refusal::BadSplits),
+        Some(Refusal::BadSplits),
+        Some(Refusal::BadSplits),
+        Some(Refusal::BadLimit),
+        Some(Refusal::TooManyPartitions),
+    ];
+    assert_eq!(rt; told, wanted);
 }

@@ -1,5 +1,5 @@
 //! Sums of the same ranges, again and again, among changes and checkpoints, compared with a plain list of rows.
-ghost use Rattle.std.specs.Prelude.{◌<◌, ◌≤◌};
+ghost use Rattle.std.specs.Prelude.{◌<◌, ◌≤◌, ◌^◌, ◌-◌};
 
 use crack_part::Partition;
 use crack_row::{
@@ -74,68 +74,10 @@ impl Session {
         Ok(reply)
     }
 
-    fn insert(&mut self, rt: &impl Abort, numbers: &mut Numbers) -> Result<(), Refusal> {
-        let (key, payload) = drawn(numbers);
-        let reply = self.ask(Command::Insert { key, payload })?;
-        let serial = Serial(self.rows.len() as u64);
-        assert!(rt; matches!(reply, Reply::Placed(placed) if placed == serial));
-        self.rows.push(Some(Row {
-            serial,
-            key,
-            payload,
-        }))?;
-        Ok(())
-    }
-
-    fn delete(&mut self, rt: &impl Abort, numbers: &mut Numbers) -> Result<(), Refusal> {
-        let place = numbers.below(self.rows.len() as u64 + 1) as usize;
-        let reply = self.ask(Command::Delete {
-            serial: Serial(place as u64),
-        })?;
-        let there = self.row_at(place);
-        match reply {
-            Reply::Gone(row) => assert_eq!(rt; Some(row), there),
-            Reply::NoRow => assert!(rt; there.is_none()),
-            _ => assert!(rt; false),
-        }
-        self.put_at(place, None);
-        Ok(())
-    }
-
-    fn update(&mut self, rt: &impl Abort, numbers: &mut Numbers) -> Result<(), Refusal> {
-        let place = numbers.below(self.rows.len() as u64 + 1) as usize;
-        let (key, payload) = drawn(numbers);
-        let serial = Serial(place as u64);
-        let reply = self.ask(Command::Update {
-            serial,
-            key,
-            payload,
-        })?;
-        let is_there = self.row_at(place).is_some();
-        assert_eq!(rt; matches!(reply, Reply::Changed), is_there);
-        if is_there {
-            self.put_at(
-                place,
-                Some(Row {
-                    serial,
-                    key,
-                    payload,
-                }),
-            );
-        }
-        Ok(())
-    }
-
-    fn row_at(&self, place: usize) -> Option<Row> {
-        match self.rows.get(place) {
+    fn row_at(&self, serial: Serial) -> Option<Row> {
+        match self.rows.get(serial.0 as usize) {
             Some(row) => *row,
             None => None,
-        }
-    }
-
-    fn put_at(&mut self, place: usize, row: Option<Row>) {
-        if let Some(there) = self.rows.get_mut(place) {
-            *there = row;
         }
     }
 
@@ -154,35 +96,90 @@ impl Session {
         (count, sum)
     }
 
-    /// Asserts the sum of the range, twice, and how many rows there are.
-    fn assert_read(&mut self, rt: &impl Abort, range: KeyRange) -> Result<(), Refusal> {
-        let (rows, total) = self.found(range);
-        let first = self.ask(Command::Sum(range))?;
-        assert!(rt; matches!(first, Reply::Summed(sum) if sum == total));
-        let again = self.ask(Command::Sum(range))?;
-        assert!(rt; matches!(again, Reply::Summed(sum) if sum == total));
-        let counted = self.ask(Command::Count(range))?;
-        assert!(rt; matches!(counted, Reply::Counted(count) if count == rows));
+    /// The reply to a command other than a select, by the rows.
+    fn wanted(&self, command: &Command) -> Reply {
+        match *command {
+            Command::Insert { .. } => Reply::Placed(Serial(self.rows.len() as u64)),
+            Command::Delete { serial } => match self.row_at(serial) {
+                Some(row) => Reply::Gone(row),
+                None => Reply::NoRow,
+            },
+            Command::Update { serial, .. } => match self.row_at(serial) {
+                Some(_) => Reply::Changed,
+                None => Reply::NoRow,
+            },
+            Command::Sum(range) => Reply::Summed(self.found(range).1),
+            Command::Count(range) | Command::Select(range) => Reply::Counted(self.found(range).0),
+        }
+    }
+
+    /// Puts a row in the place of one that is there.
+    fn put_at(&mut self, serial: Serial, row: Option<Row>) {
+        if let Some(there) = self.rows.get_mut(serial.0 as usize) {
+            if there.is_some() {
+                *there = row;
+            }
+        }
+    }
+
+    /// Changes the rows as the command does.
+    fn change(&mut self, command: &Command) -> Result<(), Refusal> {
+        match *command {
+            Command::Insert { key, payload } => {
+                let serial = Serial(self.rows.len() as u64);
+                self.rows.push(Some(Row {
+                    serial,
+                    key,
+                    payload,
+                }))?;
+            }
+            Command::Delete { serial } => self.put_at(serial, None),
+            Command::Update {
+                serial,
+                key,
+                payload,
+            } => {
+                let row = Row {
+                    serial,
+                    key,
+                    payload,
+                };
+                self.put_at(serial, Some(row));
+            }
+            _ => {}
+        }
         Ok(())
     }
 
+    /// Asserts the answer to a command.
+    fn assert_answered(&mut self, rt: &impl Abort, command: Command) -> Result<(), Refusal> {
+        let reply = self.ask(command)?;
+        assert!(rt; reply.is_same(&self.wanted(&command)));
+        self.change(&command)
+    }
+
+    /// Asserts the sum of the range, twice, and how many rows there are.
+    fn assert_read(&mut self, rt: &impl Abort, range: KeyRange) -> Result<(), Refusal> {
+        self.assert_answered(rt, Command::Sum(range))?;
+        self.assert_answered(rt, Command::Sum(range))?;
+        self.assert_answered(rt, Command::Count(range))
+    }
+
     /// Makes this many changes: of three, one or two are inserts.
-    fn change(
+    fn make_changes(
         &mut self,
         rt: &impl Abort,
         numbers: &mut Numbers,
         changes: u64,
     ) -> Result<(), Refusal> {
         'changes: for _ in 0..changes {
-            match numbers.below(6) {
-                0 => self.delete(rt, numbers)?,
-                1 => self.update(rt, numbers)?,
-                2 => {
-                    self.delete(rt, numbers)?;
-                    self.update(rt, numbers)?;
-                }
-                _ => self.insert(rt, numbers)?,
+            let kind = numbers.below(6);
+            if kind == 2 {
+                let delete = drawn(numbers, 0, self.rows.len() as u64);
+                self.assert_answered(rt, delete)?;
             }
+            let command = drawn(numbers, kind, self.rows.len() as u64);
+            self.assert_answered(rt, command)?;
         }
         Ok(())
     }
@@ -207,7 +204,7 @@ impl Session {
         'rounds: for _ in 0..60 {
             let most = if numbers.below(8) == 0 { 1000 } else { 12 };
             let changes = numbers.below(most);
-            self.change(rt, numbers, changes)?;
+            self.make_changes(rt, numbers, changes)?;
             if numbers.below(10) == 0 {
                 self.partition.checkpoint()?;
             }
@@ -217,30 +214,45 @@ impl Session {
     }
 }
 
-/// A key and a payload, which is often at a limit.
-fn drawn(numbers: &mut Numbers) -> (Key, Payload) {
-    let key = numbers.below(KEYS);
+/// A command of a kind that a number names: a delete by 0, an update by 1 and 2, else an insert. Its serial is at most
+/// this one, its key and its payload, which is often at a limit, are any.
+fn drawn(numbers: &mut Numbers, kind: u64, last: u64) -> Command
+    requires { last < 2 ^ 64 - 1 }
+{
+    let serial = Serial(if kind < 3 { numbers.below(last + 1) } else { 0 });
+    if kind == 0 {
+        return Command::Delete { serial };
+    }
+    let key = Key::from_number(numbers.below(KEYS));
     let place = numbers.below(PAYLOADS.len() as u64) as usize;
-    (Key::from_number(key), Payload::from_number(PAYLOADS[place]))
+    let payload = Payload::from_number(PAYLOADS[place]);
+    if kind > 2 {
+        return Command::Insert { key, payload };
+    }
+    Command::Update {
+        serial,
+        key,
+        payload,
+    }
 }
 
-fn run_session(rt: &impl Abort, alloc: Global, policy: Policy, seed: u64) -> Result<(), Refusal> {
+fn run_session(rt: &impl Abort, alloc: Global, policy: Policy, seed: u64) {
+    let opened = Partition::open(alloc, KeyRange::all(), GREATEST_LIMIT);
     let mut session = Session {
-        partition: Partition::open(alloc, KeyRange::all(), GREATEST_LIMIT)?,
+        partition: opened.expect(rt, "a partition"),
         rows: Vec::new(alloc),
         policy,
     };
     let told = session.run(rt, &mut Numbers(seed));
     drop(session);
-    told
+    assert!(rt; told.is_ok());
 }
 
 #[test]
-fn sums_among_changes_are_those_of_the_rows(rt: HostRuntime) -> Result<(), Refusal> {
+fn sums_among_changes_are_those_of_the_rows(rt: HostRuntime) {
     'policies: for policy in POLICIES {
         'seeds: for seed in 0..10u64 {
-            run_session(&rt, rt.alloc(), policy, seed)?;
+            run_session(&rt, rt.alloc(), policy, seed);
         }
     }
-    Ok(())
 }
