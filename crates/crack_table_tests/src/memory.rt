@@ -68,13 +68,12 @@ fn ask_beside<R: Abort + Wait>(
     let before = shares(worker.book());
     match worker.ask(rt, table, &OpenGate, 0, command, policy) {
         Ok(reply) => {
-            assert!(rt; reply.is_same(&plain_reply(rt, plain, &command)));
-            assert_eq!(rt; worker.book().accepted(), plain.accepted());
+            let is_same = reply.is_same(&plain_reply(rt, plain, &command));
+            assert!(rt; is_same && worker.book().accepted() == plain.accepted());
             false
         }
         Err(refusal) => {
-            assert_eq!(rt; refusal, Refusal::OutOfMemory);
-            assert_eq!(rt; shares(worker.book()), before);
+            assert!(rt; refusal == Refusal::OutOfMemory && shares(worker.book()) == before);
             true
         }
     }
@@ -105,7 +104,7 @@ fn gather_at_last(rt: &impl Abort, alloc: Global, table: Table, workers: Vec<Wor
                 table,
                 workers,
             } = refused;
-            assert_eq!(rt; refusal, Refusal::OutOfMemory);
+            assert!(rt; refusal == Refusal::OutOfMemory);
             gather(alloc, table, workers).ok().expect(rt, "gathered")
         }
     }

@@ -1,9 +1,9 @@
 //! Scripts: statements in the order in which workers put them to a table, each with its answer.
-use crate::values::{ask_by, assert_totals, open_within};
+use crate::values::ask_by;
 use crack_commands::{
     Statement, parse_statement, write_folded, write_layout, write_refusal, write_reply,
 };
-use crack_row::{Bound, Command, Limits, Refusal, Watched};
+use crack_row::{Command, Refusal, Watched};
 use crack_table::{Gate, OpenGate, Table, Worker};
 use std::alloc::Global;
 use std::io::Write;
@@ -97,13 +97,13 @@ fn answer<R: Wait + Abort, G: Gate>(
     writer.into_inner()
 }
 
-/// Asserts that this is the text of the wanted answer to a line.
-fn assert_text(rt: &impl Abort, text: &[u8], line: &str, wanted: &str) {
+/// Asserts that this is the text of the wanted answer to a line of a test.
+fn assert_text(rt: &impl Abort, text: &[u8], name: &str, line: &str, wanted: &str) {
     let told = match text.split_last() {
         Some((b'\n', told)) => told,
         _ => text,
     };
-    assert_eq!(rt; told, wanted.as_bytes(), "{line}");
+    assert!(rt; told == wanted.as_bytes(), "{name}: {line}");
 }
 
 /// Asserts the answers that workers get behind a gate.
@@ -113,15 +113,16 @@ pub(crate) fn assert_behind<R: Wait + Abort, G: Gate>(
     workers: &mut Vec<Worker>,
     table: &Table,
     gate: &G,
+    name: &str,
     script: Script,
 ) {
     'script: for place in 0..script.len() {
         let (number, part, line, wanted) = script[place];
         let Some(worker) = workers.get_mut(number) else {
-            panic!(rt; "no worker {number}");
+            panic!(rt; "no such worker");
         };
         let text = answer(rt, alloc, worker, table, gate, part, line);
-        assert_text(rt, &text, line, wanted);
+        assert_text(rt, &text, name, line, wanted);
     }
 }
 
@@ -131,24 +132,8 @@ pub(crate) fn assert_answers<R: Wait + Abort>(
     alloc: Global,
     workers: &mut Vec<Worker>,
     table: &Table,
+    name: &str,
     script: Script,
 ) {
-    assert_behind(rt, alloc, workers, table, &OpenGate, script);
-}
-
-/// Asserts the answers that the workers of a fresh table get, and its totals once they are gathered, the last one
-/// first.
-pub(crate) fn assert_table<R: Wait + Abort>(
-    rt: &R,
-    alloc: Global,
-    splits: &[Bound],
-    limits: Limits,
-    count: u64,
-    script: Script,
-    wanted: [u64; 4],
-) {
-    let (table, mut workers) = open_within(rt, alloc, splits, limits, count);
-    assert_answers(rt, alloc, &mut workers, &table, script);
-    workers.reverse();
-    assert_totals(rt, alloc, table, workers, wanted);
+    assert_behind(rt, alloc, workers, table, &OpenGate, name, script);
 }

@@ -1,6 +1,6 @@
 //! Tables and workers, on one thread.
 use crate::script::{Script, assert_answers, assert_behind};
-use crate::values::{ask_by, assert_totals, give_back, open, splits, take_last};
+use crate::values::{ask_by, assert_totals, four, give_back, open, splits, take_last};
 use crack_gates::{Counting, Shut, ShutAt, totals};
 use crack_row::{Bound, Command, KeyRange, Refusal, Reply};
 use crack_table::{GatherRefused, Table, Worker, gather};
@@ -13,7 +13,7 @@ fn a_shut_gate_keeps_a_worker_out(rt: HostRuntime) {
     const SCRIPT: Script = &[(0, 0, "count 7 8", "refused 7")];
     let alloc: Global = rt.alloc();
     let (table, mut workers) = open(&rt, alloc, &[], 10, 1);
-    assert_behind(&rt, alloc, &mut workers, &table, &Shut, SCRIPT);
+    assert_behind(&rt, alloc, &mut workers, &table, &Shut, "shut", SCRIPT);
     assert_totals(&rt, alloc, table, workers, [0, 0, 0, 0]);
 }
 
@@ -23,19 +23,10 @@ fn a_shut_gate_is_asked_at_a_thousand_turns_in_order(rt: HostRuntime) {
     let alloc: Global = rt.alloc();
     let (table, mut workers) = open(&rt, alloc, &splits(), 10, 1);
     let gate = Counting::new(1, u32::MAX);
-    assert_behind(&rt, alloc, &mut workers, &table, &gate, SCRIPT);
+    assert_behind(&rt, alloc, &mut workers, &table, &gate, "shut", SCRIPT);
     assert_eq!(rt; gate.asked(), 1000);
     assert!(rt; gate.is_orderly());
     assert_totals(&rt, alloc, table, workers, [0, 0, 0, 0]);
-}
-
-/// Four partitions.
-fn four() -> [Bound; 3] {
-    [
-        Bound::from_number(100),
-        Bound::from_number(200),
-        Bound::from_number(300),
-    ]
 }
 
 /// Whether a worker that asks each of four partitions for a count is refused 7 by the one at which the gate refuses,
@@ -71,38 +62,6 @@ fn a_gate_shut_at_one_partition_refuses_it_alone(rt: HostRuntime) {
     assert_kept_out_there(&rt, &mut worker, &table);
     give_back(&rt, &mut workers, worker);
     assert_totals(&rt, alloc, table, workers, [12, 0, 0, 0]);
-}
-
-/// Asserts the answers that the workers of a fresh table of this limit get, and its totals.
-fn assert_limited<R: Wait + Abort>(
-    rt: &R,
-    alloc: Global,
-    splits: &[Bound],
-    limit: u64,
-    script: Script,
-    wanted: [u64; 4],
-) {
-    let (table, mut workers) = open(rt, alloc, splits, limit, 1);
-    assert_answers(rt, alloc, &mut workers, &table, script);
-    assert_totals(rt, alloc, table, workers, wanted);
-}
-
-/// A layout isn't kept, so a full history refuses none.
-#[test]
-fn a_worker_is_refused_as_its_partition_is(rt: HostRuntime) {
-    const SCRIPT: Script = &[
-        (0, 2, "insert 7 1", "refused 5"),
-        (0, 1, "insert 7 1", "refused 4"),
-        (0, 0, "insert 7 1", "row 0.0"),
-        (0, 0, "insert 7 1", "refused 6 1"),
-        (
-            0,
-            0,
-            "layout 0",
-            "layout 0 rows 1 column 0 out 0 in 1 cells 1 free 0 pieces 1\npiece 0 1000000 0",
-        ),
-    ];
-    assert_limited(&rt, rt.alloc(), &splits(), 1, SCRIPT, [1, 1, 0, 1]);
 }
 
 /// The refusal of an opening.
@@ -162,7 +121,7 @@ fn a_missing_worker_is_told_and_all_are_handed_back(rt: HostRuntime) {
     const SCRIPT: Script = &[(1, 0, "insert 7 1", "row 0.0")];
     let alloc: Global = rt.alloc();
     let (table, mut workers) = open(&rt, alloc, &splits(), 10, 2);
-    assert_answers(&rt, alloc, &mut workers, &table, SCRIPT);
+    assert_answers(&rt, alloc, &mut workers, &table, "two workers", SCRIPT);
     let second = take_last(&rt, &mut workers);
     let (refusal, table, mut workers) = refused_by(&rt, alloc, table, workers);
     assert!(rt; refusal == Refusal::WorkersMissing { missing: 2 });
@@ -184,7 +143,7 @@ fn a_stranger_of_the_same_number_is_found(rt: HostRuntime) {
     const SCRIPT: Script = &[(0, 0, "insert 7 1", "row 0.0")];
     let alloc: Global = rt.alloc();
     let (other, mut strangers) = open(&rt, alloc, &[], 10, 1);
-    assert_answers(&rt, alloc, &mut strangers, &other, SCRIPT);
+    assert_answers(&rt, alloc, &mut strangers, &other, "a stranger", SCRIPT);
     drop(other);
     let stranger = take_last(&rt, &mut strangers);
     let (table, mut workers) = open(&rt, alloc, &[], 10, 1);
@@ -212,9 +171,9 @@ fn assert_around_a_stranger<R: Wait + Abort>(
     wanted: [u64; 4],
 ) {
     let (table, mut workers) = open(rt, alloc, &splits(), 10, 1);
-    assert_answers(rt, alloc, &mut workers, &table, before);
+    assert_answers(rt, alloc, &mut workers, &table, "before", before);
     let table = refuse_a_stranger(rt, alloc, table);
-    assert_answers(rt, alloc, &mut workers, &table, after);
+    assert_answers(rt, alloc, &mut workers, &table, "after", after);
     assert_totals(rt, alloc, table, workers, wanted);
 }
 
@@ -241,27 +200,4 @@ fn a_refused_gathering_folds_nothing(rt: HostRuntime) {
         (0, 1, "checkpoint 1", "folded 1"),
     ];
     assert_around_a_stranger(&rt, rt.alloc(), INSERTS, CHECKPOINTS, [3, 3, 0, 3]);
-}
-
-/// A checkpoint is of the partition that it names, and of no other: each still counts its own entries, in whatever
-/// order they are checkpointed.
-#[test]
-fn a_checkpoint_folds_its_own_partition_alone(rt: HostRuntime) {
-    const SCRIPT: Script = &[
-        (0, 0, "insert 0 1", "row 0.0"),
-        (0, 1, "insert 100 1", "row 1.0"),
-        (0, 1, "insert 101 1", "row 1.1"),
-        (0, 2, "insert 200 1", "row 2.0"),
-        (0, 2, "insert 201 1", "row 2.1"),
-        (0, 2, "insert 202 1", "row 2.2"),
-        (0, 3, "insert 300 1", "row 3.0"),
-        (0, 3, "insert 301 1", "row 3.1"),
-        (0, 3, "insert 302 1", "row 3.2"),
-        (0, 3, "insert 303 1", "row 3.3"),
-        (0, 2, "checkpoint 2", "folded 3"),
-        (0, 0, "checkpoint 0", "folded 1"),
-        (0, 3, "checkpoint 3", "folded 4"),
-        (0, 1, "checkpoint 1", "folded 2"),
-    ];
-    assert_limited(&rt, rt.alloc(), &four(), 10, SCRIPT, [10, 10, 0, 10]);
 }

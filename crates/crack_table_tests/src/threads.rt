@@ -75,36 +75,37 @@ fn one_partition_lets_one_inside(rt: HostRuntime) {
     assert_totals(&rt, alloc, table, workers, [2, 2, 0, 2]);
 }
 
-/// The workers of some that are done, each of which was answered as expected.
-fn all_fine(rt: &impl Abort, alloc: Global, done: Vec<(Worker, bool)>) -> Vec<Worker> {
+/// A worker that is done, and how many of its answers were as expected, and how many were refused as expected.
+type Done = (Worker, [u32; 2]);
+
+/// The workers of some that are done, of whose answers so many were as expected, and so many refused, in all.
+fn all_counted(rt: &impl Abort, alloc: Global, done: Vec<Done>, wanted: [u32; 2]) -> Vec<Worker> {
     let mut workers = Vec::new(alloc);
-    'done: for (worker, fine) in done {
-        assert!(rt; fine);
+    let [mut answered, mut refused] = [0u32, 0u32];
+    'done: for (worker, [one, two]) in done {
+        answered = answered.wrapping_add(one);
+        refused = refused.wrapping_add(two);
         give_back(rt, &mut workers, worker);
     }
+    assert_eq!(rt; [answered, refused], wanted);
     workers
 }
 
 /// Inserts 1000 rows into partition 0 behind a gate that lists the worker, and checks for each row that this worker is
 /// listed at its place in the history, which is its serial.
-fn enter_listed<R: Wait>(
-    rt: &R,
-    mut worker: Worker,
-    table: &Table,
-    visitors: &Visitors,
-) -> (Worker, bool) {
+fn enter_listed<R: Wait>(rt: &R, mut worker: Worker, table: &Table, visitors: &Visitors) -> Done {
     let own = worker.book().worker();
     let gate = Listing {
         worker: own,
         visitors,
     };
-    let mut fine = true;
+    let mut placed = 0u32;
     'rows: for key in 0..1000u32 {
         let reply = ask_by(rt, &mut worker, table, &gate, 0, insert(key));
         let listed = matches!(reply, Ok(Reply::Placed(serial)) if visitors.has(serial.0, own));
-        fine = listed && fine;
+        placed = placed.wrapping_add(u32::from(listed));
     }
-    (worker, fine)
+    (worker, [placed, 0])
 }
 
 /// If the lock were released between the gate's consent and the command, another worker would be at some row's
@@ -120,13 +121,13 @@ fn each_command_is_let_in_once_and_follows_at_once(rt: HostRuntime) {
         workers,
         &|worker| { enter_listed(runtime, worker, shared, listed) },
     );
-    let back = all_fine(&rt, alloc, done.expect(&rt, "threads"));
+    let back = all_counted(&rt, alloc, done.expect(&rt, "threads"), [4000, 0]);
     assert_eq!(rt; visitors.entered(), 4000);
     assert_totals(&rt, alloc, table, back, [4000, 4000, 0, 4000]);
 }
 
 /// Ten counts of one worker: how many were answered, and how many were refused since the history has ten entries.
-fn count_ten_times<R: Wait>(rt: &R, mut worker: Worker, table: &Table) -> (Worker, [u32; 2]) {
+fn count_ten_times<R: Wait>(rt: &R, mut worker: Worker, table: &Table) -> Done {
     let [mut answered, mut refused] = [0u32, 0u32];
     'counts: for _ in 0..10u32 {
         match ask(rt, &mut worker, table, 0, Command::Count(KeyRange::all())) {
@@ -136,24 +137,6 @@ fn count_ten_times<R: Wait>(rt: &R, mut worker: Worker, table: &Table) -> (Worke
         }
     }
     (worker, [answered, refused])
-}
-
-/// The workers of some that are done, of whose counts so many were answered and refused in all.
-fn all_counted(
-    rt: &impl Abort,
-    alloc: Global,
-    done: Vec<(Worker, [u32; 2])>,
-    wanted: [u32; 2],
-) -> Vec<Worker> {
-    let mut workers = Vec::new(alloc);
-    let [mut answered, mut refused] = [0u32, 0u32];
-    'done: for (worker, [one, two]) in done {
-        answered = answered.wrapping_add(one);
-        refused = refused.wrapping_add(two);
-        give_back(rt, &mut workers, worker);
-    }
-    assert_eq!(rt; [answered, refused], wanted);
-    workers
 }
 
 /// If room in the history were found before the lock is acquired, more would be answered than it has room for.
@@ -212,63 +195,39 @@ fn sees_own_rows<R: Wait>(rt: &R, worker: &mut Worker, table: &Table, own: u16) 
     shown && matches!(counted, Ok(Reply::Counted(1)))
 }
 
-/// 1000 inserts and 250 deletes of one worker.
-fn insert_all<R: Wait>(rt: &R, worker: &mut Worker, table: &Table, own: u16) -> bool {
-    let mut fine = true;
-    'rows: for number in 0..1000u16 {
-        fine = insert_one(rt, worker, table, own, number) && fine;
-    }
-    fine
-}
-
-/// 1000 inserts and 250 deletes of one worker, and whether it sees its own rows then.
-fn work<R: Wait>(rt: &R, mut worker: Worker, table: &Table) -> (Worker, bool) {
-    let own = (worker.book().worker() % 64) as u16 * 1000;
-    let placed = insert_all(rt, &mut worker, table, own);
-    let seen = sees_own_rows(rt, &mut worker, table, own);
-    (worker, placed && seen)
-}
-
 /// Whether a worker that checkpoints both partitions is answered that they were.
 fn folds_both<R: Wait>(rt: &R, worker: &Worker, table: &Table) -> bool {
     worker.checkpoint(rt, table, 0).is_ok() && worker.checkpoint(rt, table, 1).is_ok()
 }
 
-/// The same, with a checkpoint of each partition by worker 0 between each hundred of its rows.
-fn work_and_fold<R: Wait>(rt: &R, mut worker: Worker, table: &Table) -> (Worker, bool) {
+/// 1000 inserts and 250 deletes of one worker, and whether it sees its own rows then. If it folds, worker 0 makes a
+/// checkpoint of each partition between each hundred of its rows.
+fn work<R: Wait>(rt: &R, mut worker: Worker, table: &Table, folds: bool) -> Done {
     let own = (worker.book().worker() % 64) as u16 * 1000;
     let mut fine = true;
     'rows: for number in 0..1000u16 {
-        if own == 0 && number % 100 == 50 {
+        if folds && own == 0 && number % 100 == 50 {
             fine = folds_both(rt, &worker, table) && fine;
         }
         fine = insert_one(rt, &mut worker, table, own, number) && fine;
     }
     let seen = sees_own_rows(rt, &mut worker, table, own);
-    (worker, fine && seen)
+    (worker, [u32::from(fine && seen), 0])
 }
 
+/// The totals are the same if partitions are checkpointed during the work.
 #[test]
 fn four_workers_come_to_one_account(rt: HostRuntime) {
     let alloc: Global = rt.alloc();
-    let (table, workers) = open(&rt, alloc, &splits(), 1000000, 4);
-    let (shared, runtime) = (&table, &rt);
-    let done = thread::map_vec(&rt, workers, &|worker| work(runtime, worker, shared));
-    let back = all_fine(&rt, alloc, done.expect(&rt, "threads"));
-    assert_totals(&rt, alloc, table, back, [5004, 4000, 1000, 3000]);
-}
-
-/// The same totals if partitions are checkpointed during the work.
-#[test]
-fn four_workers_come_to_one_account_over_folded_histories(rt: HostRuntime) {
-    let alloc: Global = rt.alloc();
-    let (table, workers) = open(&rt, alloc, &splits(), 1000000, 4);
-    let (shared, runtime) = (&table, &rt);
-    let done = thread::map_vec(
-        &rt,
-        workers,
-        &|worker| { work_and_fold(runtime, worker, shared) },
-    );
-    let back = all_fine(&rt, alloc, done.expect(&rt, "threads"));
-    assert_totals(&rt, alloc, table, back, [5004, 4000, 1000, 3000]);
+    'ways: for folds in [false, true] {
+        let (table, workers) = open(&rt, alloc, &splits(), 1000000, 4);
+        let (shared, runtime) = (&table, &rt);
+        let done = thread::map_vec(
+            &rt,
+            workers,
+            &|worker| { work(runtime, worker, shared, folds) },
+        );
+        let back = all_counted(&rt, alloc, done.expect(&rt, "threads"), [4, 0]);
+        assert_totals(&rt, alloc, table, back, [5004, 4000, 1000, 3000]);
+    }
 }

@@ -13,6 +13,15 @@ pub(crate) fn splits() -> [Bound; 1] {
     [Bound::from_number(1000000)]
 }
 
+/// Four partitions, which meet at keys 100, 200 and 300.
+pub(crate) fn four() -> [Bound; 3] {
+    [
+        Bound::from_number(100),
+        Bound::from_number(200),
+        Bound::from_number(300),
+    ]
+}
+
 /// A table and its workers. It promises nothing, so that no test carries the contract of `open`.
 pub(crate) fn open(
     rt: &impl Abort,
