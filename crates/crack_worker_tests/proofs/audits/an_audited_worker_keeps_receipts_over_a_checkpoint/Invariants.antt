@@ -1,5 +1,5 @@
 use Rattle.std.proofs.Common.{slice_index_or}
-use Rattle.crack_witness_tests.proofs.audits.an_audited_worker_keeps_receipts_over_a_checkpoint.Given as goal
+use Rattle.crack_worker_tests.proofs.audits.an_audited_worker_keeps_receipts_over_a_checkpoint.Given as goal
 
 -- the book that was just opened, and its owners
 abbrev pub ghosts-audited : goal.ghosts-audited

@@ -1,5 +1,5 @@
 use Rattle.std.proofs.Common.{slice_index_or}
-use Rattle.crack_witness_tests.proofs.threads.two_workers_over_two_partitions.Given as goal
+use Rattle.crack_worker_tests.proofs.threads.two_workers_over_two_partitions.Given as goal
 
 -- the book that was just opened, and its owners
 abbrev pub ghosts-two_work : goal.ghosts-two_work

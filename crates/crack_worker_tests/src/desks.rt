@@ -128,6 +128,8 @@ fn a_core_is_told_the_script(rt: HostRuntime) {
 /// A session at a worker's desk.
 #[derive(Clone, Copy)]
 struct Session {
+    /// Whether the table has two partitions, which meet at key 100.
+    is_divided: bool,
     input: &'static [u8],
     replies: &'static [u8],
     /// How it ends, and after how many statements.
@@ -165,63 +167,97 @@ fn assert_desk<R: Abort + Wait, G: Gate>(
     assert!(rt; accepted == session.accepted && has_splits && told == Ok(session.totals));
 }
 
-#[test]
-fn a_worker_desk_is_told_the_same(rt: HostRuntime) {
-    const SESSION: Session = Session {
+/// Sessions whose commands go through no gate.
+const SESSIONS: &[Session] = &[
+    // what a core is told
+    Session {
+        is_divided: true,
         input: SCRIPT,
         replies: REPLIES,
         end: (How::Quit, 25),
         accepted: 18,
         totals: [18, 6, 1, 5],
-    };
-    assert_desk(&rt, rt.alloc(), &hundred(), &OpenGate, SESSION);
-}
-
-/// Sessions of nine statements over one partition, each with its replies.
-const UNDIVIDED: &[(&[u8], &[u8])] = &[
+    },
     // by the session's policy, whichever that is
-    (COMPLETE, COMPLETED),
-    (GRADUAL, MERGED),
-    (RIPPLE, RIPPLED),
+    Session {
+        is_divided: false,
+        input: COMPLETE,
+        replies: COMPLETED,
+        end: (How::InputEnded, 9),
+        accepted: 7,
+        totals: [7, 4, 0, 4],
+    },
+    Session {
+        is_divided: false,
+        input: GRADUAL,
+        replies: MERGED,
+        end: (How::InputEnded, 9),
+        accepted: 7,
+        totals: [7, 4, 0, 4],
+    },
+    Session {
+        is_divided: false,
+        input: RIPPLE,
+        replies: RIPPLED,
+        end: (How::InputEnded, 9),
+        accepted: 7,
+        totals: [7, 4, 0, 4],
+    },
     // by a sum and by a select, as by a count
-    (GRADUAL_SUM, MERGED_BY_A_SUM),
-    (GRADUAL_SELECT, MERGED_BY_A_SELECT),
-    (WIDE, ADDED),
-];
-
-/// A worker's desk asks each question about a range by the session's policy, and adds up below 0.
-#[test]
-fn a_worker_desk_merges_by_the_policy(rt: HostRuntime) {
-    'sessions: for place in 0..UNDIVIDED.len() {
-        let (input, replies) = UNDIVIDED[place];
-        let session = Session {
-            input,
-            replies,
-            end: (How::InputEnded, 9),
-            accepted: 7,
-            totals: [7, 4, 0, 4],
-        };
-        assert_desk(&rt, rt.alloc(), &[], &OpenGate, session);
-    }
-}
-
-/// Each checkpoint is of the partition that it names, and of no other.
-#[test]
-fn a_worker_desk_folds_one_partition_at_a_time(rt: HostRuntime) {
-    const SESSION: Session = Session {
+    Session {
+        is_divided: false,
+        input: GRADUAL_SUM,
+        replies: MERGED_BY_A_SUM,
+        end: (How::InputEnded, 9),
+        accepted: 7,
+        totals: [7, 4, 0, 4],
+    },
+    Session {
+        is_divided: false,
+        input: GRADUAL_SELECT,
+        replies: MERGED_BY_A_SELECT,
+        end: (How::InputEnded, 9),
+        accepted: 7,
+        totals: [7, 4, 0, 4],
+    },
+    Session {
+        is_divided: false,
+        input: WIDE,
+        replies: ADDED,
+        end: (How::InputEnded, 9),
+        accepted: 7,
+        totals: [7, 4, 0, 4],
+    },
+    // each checkpoint is of the partition that it names, and of no other
+    Session {
+        is_divided: true,
         input: b"insert 50 5\ninsert 60 6\ninsert 150 7\ncheckpoint 1\ncheckpoint 0\ncheckpoint 0\ncheckpoint 2\n",
         replies: b"row 0.0\nrow 0.1\nrow 1.0\nfolded 1\nfolded 2\nfolded 0\nrefused 5\n",
         end: (How::InputEnded, 7),
         accepted: 3,
         totals: [3, 3, 0, 3],
-    };
-    assert_desk(&rt, rt.alloc(), &hundred(), &OpenGate, SESSION);
+    },
+];
+
+/// A worker's desk is told what a core is told, asks each question about a range by the session's policy, adds up below
+/// 0, and makes checkpoints.
+#[test]
+fn a_worker_desk_serves_sessions(rt: HostRuntime) {
+    'sessions: for place in 0..SESSIONS.len() {
+        let session = SESSIONS[place];
+        if session.is_divided {
+            assert_desk(&rt, rt.alloc(), &hundred(), &OpenGate, session);
+        } else {
+            assert_desk(&rt, rt.alloc(), &[], &OpenGate, session);
+        }
+    }
 }
 
 /// A layout goes through no gate.
 #[test]
 fn a_shut_gate_refuses_each_command_of_a_session(rt: HostRuntime) {
     const SESSION: Session = Session {
+        is_divided: true,
         input: b"insert 50 5\ncount 0 18446744073709551616\ndelete 1.0\nlayout 0\npolicy ripple\n",
         replies: b"refused 7\nrefused 7\nrefused 7\n\
 layout 0 rows 0 column 0 out 0 in 0 cells 0 free 0 pieces 1\npiece 0 100 0\npolicy ripple\n",

@@ -2,7 +2,7 @@ use denote.Param.Send.{sendable}
 use Rattle.std.proofs.Crossing.{crosses}
 use Rattle.crack_witness.proofs.Crosses.{asker-send}
 use Rattle.crack_witness_table.proofs.Crosses.{table-sync}
-use Rattle.crack_witness_tests.proofs.threads.two_work.Goals as goal
+use Rattle.crack_worker_tests.proofs.threads.two_work.Goals as goal
 
 pub join-first-requires-send-F : goal.join-first-requires-send-F
 join-first-requires-send-F g c κs within =

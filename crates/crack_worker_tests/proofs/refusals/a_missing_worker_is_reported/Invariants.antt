@@ -1,5 +1,5 @@
 use Rattle.std.proofs.Common.{slice_index_or}
-use Rattle.crack_witness_tests.proofs.refusals.a_missing_worker_is_reported.Given as goal
+use Rattle.crack_worker_tests.proofs.refusals.a_missing_worker_is_reported.Given as goal
 
 -- the book that was just opened, and its owners
 abbrev pub ghosts-refused : goal.ghosts-refused
