@@ -4,6 +4,7 @@ use crack_row::{Bound, Limits, Policy, Refusal};
 use crack_server::run_batch;
 use crack_table::{Gate, OpenGate};
 use std::alloc::Global;
+use std::process::Abort;
 use std::sync::Wait;
 use std::thread::Threads;
 
@@ -30,40 +31,61 @@ fn batch<H: Threads + Wait + Sync, G: Gate + Sync>(
     (ended, output)
 }
 
-#[test]
-fn lines_go_to_the_workers_of_their_numbers(rt: HostRuntime) {
-    let input = b"0 insert 50 5\n1 insert 150 6\n3 count 100 200\n";
-    let (ended, output) = batch(&rt, rt.alloc(), &OpenGate, input);
-    assert_eq!(rt; ended, Ok(()));
-    let wanted =
-        b"worker 0\nrow 0.0\nworker 1\nrow 1.0\ncount 1\naccepted 3 inserted 2 deleted 0 held 2\n";
-    assert_eq!(rt; output.as_slice(), wanted.as_slice());
+/// The input of a batch, how it ends, and its output.
+#[derive(Clone, Copy)]
+struct Case {
+    input: &'static [u8],
+    ended: Result<(), Refusal>,
+    output: &'static [u8],
+}
+
+const CASES: &[Case] = &[
+    // lines go to the workers of their numbers
+    Case {
+        input: b"0 insert 50 5\n1 insert 150 6\n3 count 100 200\n",
+        ended: Ok(()),
+        output: b"worker 0\nrow 0.0\nworker 1\nrow 1.0\ncount 1\naccepted 3 inserted 2 deleted 0 held 2\n",
+    },
+    // a checkpoint leaves the totals as they are
+    Case {
+        input: b"0 insert 50 5\n0 checkpoint 0\n0 count 0 100\n1 insert 150 6\n",
+        ended: Ok(()),
+        output: b"worker 0\nrow 0.0\nfolded 1\ncount 1\nworker 1\nrow 1.0\naccepted 3 inserted 2 deleted 0 held 2\n",
+    },
+    // a line without a number refuses the batch
+    Case {
+        input: b"x insert 1 1\n",
+        ended: Err(Refusal::BadStatement),
+        output: b"",
+    },
+];
+
+/// Asserts how a batch ends, and its output.
+fn assert_batch<H: Threads + Wait + Sync + Abort, G: Gate + Sync>(
+    rt: &H,
+    alloc: Global,
+    gate: &G,
+    case: Case,
+) {
+    let (ended, output) = batch(rt, alloc, gate, case.input);
+    assert_eq!(rt; ended, case.ended);
+    assert_eq!(rt; output.as_slice(), case.output);
 }
 
 #[test]
-fn a_checkpoint_leaves_the_totals_as_they_are(rt: HostRuntime) {
-    let input = b"0 insert 50 5\n0 checkpoint 0\n0 count 0 100\n1 insert 150 6\n";
-    let (ended, output) = batch(&rt, rt.alloc(), &OpenGate, input);
-    assert_eq!(rt; ended, Ok(()));
-    let wanted =
-        b"worker 0\nrow 0.0\nfolded 1\ncount 1\nworker 1\nrow 1.0\naccepted 3 inserted 2 deleted 0 held 2\n";
-    assert_eq!(rt; output.as_slice(), wanted.as_slice());
-}
-
-#[test]
-fn a_line_without_a_number_refuses_the_batch(rt: HostRuntime) {
-    let (ended, output) = batch(&rt, rt.alloc(), &OpenGate, b"x insert 1 1\n");
-    assert_eq!(rt; ended, Err(Refusal::BadStatement));
-    assert!(rt; output.is_empty());
+fn batches_end_and_write(rt: HostRuntime) {
+    'cases: for place in 0..CASES.len() {
+        assert_batch(&rt, rt.alloc(), &OpenGate, CASES[place]);
+    }
 }
 
 /// Workers that run one after the other, or under one lock, never meet: they are refused with 7.
 #[test]
 fn two_workers_are_at_two_partitions_at_once(rt: HostRuntime) {
-    let gate = Meeting::new();
-    let input = b"0 insert 50 1\n1 insert 150 1\n";
-    let (ended, output) = batch(&rt, rt.alloc(), &gate, input);
-    assert_eq!(rt; ended, Ok(()));
-    let wanted = b"worker 0\nrow 0.0\nworker 1\nrow 1.0\naccepted 2 inserted 2 deleted 0 held 2\n";
-    assert_eq!(rt; output.as_slice(), wanted.as_slice());
+    const CASE: Case = Case {
+        input: b"0 insert 50 1\n1 insert 150 1\n",
+        ended: Ok(()),
+        output: b"worker 0\nrow 0.0\nworker 1\nrow 1.0\naccepted 2 inserted 2 deleted 0 held 2\n",
+    };
+    assert_batch(&rt, rt.alloc(), &Meeting::new(), CASE);
 }

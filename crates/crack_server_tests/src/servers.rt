@@ -6,8 +6,8 @@ use crack_table::{OpenGate, Table};
 use std::alloc::Global;
 use std::io::{Read, Write};
 use std::net::{Net, Shutdown, TcpListener, TcpStream};
+use std::process::Abort;
 use std::sync::Wait;
-use std::test::Fail;
 use std::thread::Threads;
 use std::time::Duration;
 use std::{io, thread};
@@ -36,6 +36,12 @@ fn server<H: Threads + Wait + Sync>(
         Ok(()) => Ok(output),
         Err(refusal) => Err(refusal),
     }
+}
+
+/// The port of a listener.
+fn port_of(rt: &impl Abort, listener: &TcpListener) -> u16 {
+    let address = listener.local_addr().ok();
+    address.expect(rt, "an address").port()
 }
 
 /// A client that sent these bytes. A read of it fails if nothing comes for ten seconds, as from a server that
@@ -79,27 +85,6 @@ fn two_clients<N: Net<Listener = TcpListener, Stream = TcpStream>>(
     Ok((first, second))
 }
 
-#[test]
-fn one_worker_serves_two_sessions(rt: HostRuntime) -> Result<(), Fail> {
-    let alloc: Global = rt.alloc();
-    let listener = TcpListener::bind(&rt, "127.0.0.1:0")?;
-    let port = listener.local_addr()?.port();
-    let (written, answered) = thread::join(
-        &rt,
-        || server(&rt, alloc, &listener, 1, 2),
-        || two_clients(&rt, alloc, port),
-    );
-    let written = written?;
-    let (first, second) = answered?;
-    assert_eq!(rt; first.as_slice(), b"row 0.0\nbye\n".as_slice());
-    assert_eq!(rt; second.as_slice(), b"count 1\nbye\n".as_slice());
-    assert_eq!(rt;
-        written.as_slice(),
-        b"accepted 2 inserted 1 deleted 0 held 1\n".as_slice()
-    );
-    Ok(())
-}
-
 /// A client that sends these bytes, and ends its writing there.
 fn ended<N: Net<Listener = TcpListener, Stream = TcpStream>>(
     rt: &N,
@@ -126,58 +111,107 @@ fn clients_who_break_off<N: Net<Listener = TcpListener, Stream = TcpStream>>(
     Ok((first, last))
 }
 
-#[test]
-fn clients_who_break_off_harm_nobody(rt: HostRuntime) -> Result<(), Fail> {
-    let alloc: Global = rt.alloc();
-    let listener = TcpListener::bind(&rt, "127.0.0.1:0")?;
-    let port = listener.local_addr()?.port();
-    let (written, answered) = thread::join(
-        &rt,
-        || server(&rt, alloc, &listener, 2, 3),
-        || clients_who_break_off(&rt, alloc, port),
-    );
-    let written = written?;
-    let (first, last) = answered?;
-    assert_eq!(rt; first.as_slice(), b"row 0.0\nrefused 1\n".as_slice());
-    let last = last.as_slice();
-    assert!(rt; last == b"count 0\n".as_slice() || last == b"count 1\n".as_slice());
-    assert_eq!(rt;
-        written.as_slice(),
-        b"accepted 2 inserted 1 deleted 0 held 1\n".as_slice()
-    );
-    Ok(())
-}
-
-/// The answers that a client gets after one that reads a byte of its reply and goes: what is left of the reply resets
-/// the connection, which cuts that one's session off.
+/// No answers of a client that reads a byte of its reply and goes, and those that a client gets after it: what is left
+/// of the reply resets the connection, which cuts the first one's session off.
 fn behind_one_cut_off<N: Net<Listener = TcpListener, Stream = TcpStream>>(
     rt: &N,
     alloc: Global,
     port: u16,
-) -> io::Result<Vec<u8>> {
+) -> io::Result<(Vec<u8>, Vec<u8>)> {
     let mut first = sender(rt, port, b"insert 7 70\n")?;
     first.read_exact(&mut [0u8; 1])?;
     drop(first);
-    client(rt, alloc, port, b"count 0 18446744073709551616\nquit\n")
+    let last = client(rt, alloc, port, b"count 0 18446744073709551616\nquit\n")?;
+    Ok((Vec::new(alloc), last))
+}
+
+/// What the clients of a server do.
+#[derive(Clone, Copy)]
+enum Clients {
+    /// Two have a session, one after the other.
+    TakeTurns,
+    /// One breaks off in a line, one says nothing, and one ends without a line feed.
+    BreakOff,
+    /// One goes before it reads its reply, and another has a session then.
+    CutOff,
+}
+
+/// A server of this many workers and sessions, what its clients do, and what they and its owner read then.
+#[derive(Clone, Copy)]
+struct Case {
+    workers: u64,
+    sessions: u64,
+    clients: Clients,
+    /// The answers to the first client.
+    first: &'static [u8],
+    /// The answers to the last client: either of these.
+    last: [&'static [u8]; 2],
+}
+
+const CASES: &[Case] = &[
+    // one worker serves two sessions
+    Case {
+        workers: 1,
+        sessions: 2,
+        clients: Clients::TakeTurns,
+        first: b"row 0.0\nbye\n",
+        last: [b"count 1\nbye\n", b"count 1\nbye\n"],
+    },
+    // clients who break off harm nobody
+    Case {
+        workers: 2,
+        sessions: 3,
+        clients: Clients::BreakOff,
+        first: b"row 0.0\nrefused 1\n",
+        last: [b"count 0\n", b"count 1\n"],
+    },
+    // a session that is cut off ends no other
+    Case {
+        workers: 1,
+        sessions: 2,
+        clients: Clients::CutOff,
+        first: b"",
+        last: [b"count 1\nbye\n", b"count 1\nbye\n"],
+    },
+];
+
+/// The output of each of these servers.
+const WRITTEN: &[u8] = b"accepted 2 inserted 1 deleted 0 held 1\n";
+
+/// The answers that the first and the last of some clients get.
+fn answers<N: Net<Listener = TcpListener, Stream = TcpStream>>(
+    rt: &N,
+    alloc: Global,
+    port: u16,
+    clients: Clients,
+) -> io::Result<(Vec<u8>, Vec<u8>)> {
+    match clients {
+        Clients::TakeTurns => two_clients(rt, alloc, port),
+        Clients::BreakOff => clients_who_break_off(rt, alloc, port),
+        Clients::CutOff => behind_one_cut_off(rt, alloc, port),
+    }
 }
 
 #[test]
-fn a_session_that_is_cut_off_ends_no_other(rt: HostRuntime) -> Result<(), Fail> {
+fn servers_answer_whatever_other_clients_do(rt: HostRuntime) {
     let alloc: Global = rt.alloc();
-    let listener = TcpListener::bind(&rt, "127.0.0.1:0")?;
-    let port = listener.local_addr()?.port();
-    let (written, answered) = thread::join(
-        &rt,
-        || server(&rt, alloc, &listener, 1, 2),
-        || behind_one_cut_off(&rt, alloc, port),
-    );
-    let (written, answered) = (written?, answered?);
-    assert_eq!(rt; answered.as_slice(), b"count 1\nbye\n".as_slice());
-    assert_eq!(rt;
-        written.as_slice(),
-        b"accepted 2 inserted 1 deleted 0 held 1\n".as_slice()
-    );
-    Ok(())
+    'cases: for place in 0..CASES.len() {
+        let case = CASES[place];
+        let bound = TcpListener::bind(&rt, "127.0.0.1:0");
+        let listener = bound.ok().expect(&rt, "a listener");
+        let port = port_of(&rt, &listener);
+        let (written, answered) = thread::join(
+            &rt,
+            || server(&rt, alloc, &listener, case.workers, case.sessions),
+            || answers(&rt, alloc, port, case.clients),
+        );
+        let written = written.expect(&rt, "an output");
+        let (first, last) = answered.ok().expect(&rt, "answers");
+        let [one, other] = case.last;
+        let is_last = last.as_slice() == one || last.as_slice() == other;
+        assert!(rt; is_last && first.as_slice() == case.first, "case {place}");
+        assert!(rt; written.as_slice() == WRITTEN, "case {place}");
+    }
 }
 
 /// A host whose knock reaches a listener of this port.
@@ -232,14 +266,15 @@ fn server_at_its_end<H: Threads + Wait + Net<Listener = TcpListener, Stream = Tc
 }
 
 #[test]
-fn workers_that_wait_end_with_the_input(rt: HostRuntime) -> Result<(), Fail> {
+fn workers_that_wait_end_with_the_input(rt: HostRuntime) {
     let alloc: Global = rt.alloc();
-    let listener = TcpListener::bind(&rt, "127.0.0.1:0")?;
-    let port = listener.local_addr()?.port();
-    let written = server_at_its_end(&rt, alloc, &listener, port)?;
+    let bound = TcpListener::bind(&rt, "127.0.0.1:0");
+    let listener = bound.ok().expect(&rt, "a listener");
+    let port = port_of(&rt, &listener);
+    let written = server_at_its_end(&rt, alloc, &listener, port);
+    let written = written.expect(&rt, "an output");
     assert_eq!(rt;
         written.as_slice(),
         b"accepted 0 inserted 0 deleted 0 held 0\n".as_slice()
     );
-    Ok(())
 }
