@@ -1,6 +1,6 @@
 //! Measures the table, layer by layer, and prints histories of its workers:
 //!
-//! - `crack_bench arena|column|counts|sums|cold|pass|updates|merge|pulls|fold ..`: one layer on one thread;
+//! - `crack_bench arena|column|counts|sums|each|cold|pass|updates|merge|pulls|fold ..`: one layer on one thread;
 //! - `crack_bench workers ..`: workers on threads;
 //! - `crack_bench histories ..`: what workers on threads asked and were answered;
 //! - `crack_bench all`: small runs of these.
@@ -26,6 +26,7 @@ const ALL: &[&[&str]] = &[
     &["column", "100"],
     &["counts", "complete", "100", "20"],
     &["sums", "gradual", "100", "20"],
+    &["each", "gradual", "100", "20"],
     &["fold", "gradual", "100", "20"],
     &["workers", "own", "2", "50", "20"],
     &["workers", "shared", "2", "50", "20"],

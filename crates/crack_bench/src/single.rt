@@ -1,5 +1,6 @@
 //! Measurements on one thread, of the arena, the cracker column and a partition that merges by a policy:
-//! `crack_bench arena STEPS ROWS`, `crack_bench column ROWS`, `crack_bench counts|sums|cold|pass POLICY ROWS RANGES`,
+//! `crack_bench arena STEPS ROWS`, `crack_bench column ROWS`,
+//! `crack_bench counts|sums|each|cold|pass POLICY ROWS RANGES`,
 //! `crack_bench updates POLICY ROWS BATCHES SIZE`, `crack_bench merge POLICY ROWS PIECES PENDING`,
 //! `crack_bench pulls POLICY ROWS PIECES DELETES`, or `crack_bench fold POLICY ROWS CHANGES`.
 //!

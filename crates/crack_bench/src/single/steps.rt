@@ -32,6 +32,8 @@ enum Times {
 #[derive(Clone, Copy)]
 enum Step {
     Ask(Ask, Times),
+    /// Asks as often. Writes the time of each under this name.
+    Each(Ask, Times, &'static str),
     /// Updates in batches, with a sum after each.
     Batches,
     /// Lists the rows from which updates and deletions choose.
@@ -135,6 +137,16 @@ const SUMS: Kind = Kind {
     ],
 };
 
+/// Sums, and the time of each.
+const EACH: Kind = Kind {
+    numbers: 1,
+    load: COUNTED,
+    steps: &[
+        Step::Each(Ask::Sum(Keys::Random), Times::First, "sum"),
+        Step::Sum("each"),
+    ],
+};
+
 /// Batches of updates.
 const UPDATES: Kind = Kind {
     numbers: 2,
@@ -215,6 +227,7 @@ pub fn kind_of(name: &str) -> Option<Kind> {
         "pass" => Some(PASS),
         "counts" => Some(COUNTS),
         "sums" => Some(SUMS),
+        "each" => Some(EACH),
         "updates" => Some(UPDATES),
         "merge" => Some(MERGE),
         "pulls" => Some(PULLS),
@@ -269,6 +282,7 @@ fn take<R: Output>(
 fn carry_out<R: Output>(rt: &R, table: &mut Measured, step: Step) -> Told {
     match step {
         Step::Ask(ask, times) => Ok(table.repeat(ask, number_of(times, table.sizes))?),
+        Step::Each(ask, times, name) => measure_each(rt, table, ask, times, name),
         Step::Batches => Ok(table.update_in_batches()?),
         Step::List => Ok(table.list_rows(rt.alloc())?),
         Step::Again => {
@@ -282,6 +296,22 @@ fn carry_out<R: Output>(rt: &R, table: &mut Measured, step: Step) -> Told {
         Step::Checkpoint(name) => measure_checkpoint(rt, table, name),
         Step::Begin | Step::Time(_) => Ok(()),
     }
+}
+
+/// Asks as often, and writes the time of each.
+fn measure_each<R: Output>(
+    rt: &R,
+    table: &mut Measured,
+    ask: Ask,
+    times: Times,
+    name: &str,
+) -> Told {
+    let mut start = Instant::now(rt)?;
+    'times: for _ in 0..number_of(times, table.sizes) {
+        table.repeat(ask, 1)?;
+        start = report(rt, name, start)?;
+    }
+    Ok(())
 }
 
 /// How often that is.
