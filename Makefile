@@ -9,7 +9,7 @@ help:
 	@echo '             lib/crackd.h; the package finds it'
 	@echo 'make lib-unproved  the same without a proof, in a minute: lib/libcrackd-unproved.so'
 	@echo 'make test    proves everything from nothing, runs the tests, the programs and the acceptance cases:'
-	@echo '             39 minutes on 4'
+	@echo '             36 minutes on 4'
 	@echo 'make edits   tests that the prover refuses the wrong bodies, with OF="NAME .." only those of these crates:'
 	@echo '             after make test 35 minutes on 4'
 	@echo 'make trust   prints what a reader must read to know what is promised, and counts it;'
