@@ -18,7 +18,7 @@ import definitions
 import sources
 
 # the crates that tests use, and those for measurements: like the tests themselves they promise nothing
-LEFT_OUT = {"crack_failing", "crack_gates", "crack_bench"}
+LEFT_OUT = {"crack_failing", "crack_bench"}
 HEADLINE = "headline"
 CALLS = re.compile(r"`([\w:]+)::(\w+|\{[\w, ]+\})`(?: \(((?:`\w+`(?:, )?)+)\))?")
 

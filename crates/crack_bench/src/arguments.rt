@@ -2,6 +2,8 @@
 
 use crack_row::Policy;
 use std::alloc::Global;
+use std::num::ParseIntError;
+use std::str::FromStr;
 
 /// The policy with this name.
 pub fn policy_of(name: &str) -> Option<Policy> {
@@ -14,8 +16,11 @@ pub fn policy_of(name: &str) -> Option<Policy> {
     }
 }
 
-/// The numbers at the end of a command line, each of which fits 32 bits.
-pub fn numbers_of(alloc: Global, words: &[&str]) -> anyhow::Result<Vec<u32>> {
+/// The numbers that the words are, each of which fits its type.
+pub fn numbers_of<N: FromStr<Err = ParseIntError> + Drop>(
+    alloc: Global,
+    words: &[&str],
+) -> anyhow::Result<Vec<N>> {
     let mut numbers = Vec::new(alloc);
     'words: for word in words {
         numbers.push(word.parse()?)?;

@@ -15,38 +15,12 @@ mod recorder;
 mod runs;
 mod texts;
 
-use crate::arguments::policy_of;
+use crate::arguments::{numbers_of, policy_of};
 use crate::histories::runs::{Plan, carry_out};
 use crate::report::{Host, explained};
 use crack_row::{Limits, Policy, Upkeep, Watched};
 use std::io;
 use std::io::BufWriter;
-
-fn planned(policy: Policy, numbers: [u64; 6]) -> Plan {
-    let [seed, workers, statements, history, cells, life] = numbers;
-    let limits = Limits {
-        history,
-        cells,
-        life,
-        upkeep: Upkeep::OnRequest,
-    };
-    Plan {
-        seed,
-        workers,
-        statements,
-        policy,
-        limits,
-    }
-}
-
-/// The numbers that the words are, each of which fits 64 bits.
-fn numbers_of(words: &[&str; 6]) -> anyhow::Result<[u64; 6]> {
-    let mut numbers = [0; 6];
-    'words: for place in 0..6 {
-        numbers[place] = words[place].parse()?;
-    }
-    Ok(numbers)
-}
 
 /// Has the workers ask, and writes their replies and the histories.
 fn run_planned<R: Host>(rt: &R, plan: Plan) -> anyhow::Result<()> {
@@ -55,14 +29,39 @@ fn run_planned<R: Host>(rt: &R, plan: Plan) -> anyhow::Result<()> {
     Ok(())
 }
 
+/// Prints the histories that a policy and the other words ask for.
+fn run_numbered<R: Host>(rt: &R, policy: Policy, words: &[&str]) -> anyhow::Result<()> {
+    let numbers = numbers_of(rt.alloc(), words)?;
+    let plan = match numbers.as_slice() {
+        [seed, workers, statements, history, cells, life] => Some(Plan {
+            seed: *seed,
+            workers: *workers,
+            statements: *statements,
+            policy,
+            limits: Limits {
+                history: *history,
+                cells: *cells,
+                life: *life,
+                upkeep: Upkeep::OnRequest,
+            },
+        }),
+        _ => None,
+    };
+    drop(numbers);
+    match plan {
+        Some(plan) => run_planned(rt, plan),
+        None => explained(None),
+    }
+}
+
 /// Prints the histories that the words ask for.
 pub fn run<R: Host>(rt: &R, words: &[&str]) -> anyhow::Result<()> {
     let [seed, workers, statements, policy, limit, cells, life] = words else {
         return explained(None);
     };
-    let Some(policy) = policy_of(policy) else {
-        return explained(None);
-    };
-    let numbers = numbers_of(&[*seed, *workers, *statements, *limit, *cells, *life])?;
-    run_planned(rt, planned(policy, numbers))
+    let numbers = [*seed, *workers, *statements, *limit, *cells, *life];
+    match policy_of(policy) {
+        Some(policy) => run_numbered(rt, policy, &numbers),
+        None => explained(None),
+    }
 }

@@ -10,15 +10,16 @@
 #![tactic(auto)]
 
 mod arguments;
-mod hands;
 mod histories;
 mod report;
 mod seats;
 mod single;
 mod workers;
 
-use report::Host;
+use arguments::policy_of;
+use report::{Host, explained};
 use std::env;
+use workers::Kind;
 
 /// The words of small runs, whose results are always the same.
 const ALL: &[&[&str]] = &[
@@ -54,9 +55,12 @@ const ALL: &[&[&str]] = &[
 /// Runs what the words ask for.
 fn run<R: Host>(rt: &R, words: &[&str]) -> anyhow::Result<()> {
     match words {
-        ["workers", rest @ ..] => workers::run(rt, rest),
+        ["workers", "witnessed", name, rest @ ..] => workers::run(rt, Kind::Witnessed, name, rest),
+        ["workers", name, rest @ ..] => workers::run(rt, Kind::Booked, name, rest),
         ["histories", rest @ ..] => histories::run(rt, rest),
-        _ => single::run(rt, words),
+        [name @ ("arena" | "column"), rest @ ..] => single::run(rt, name, None, rest),
+        [name, policy, rest @ ..] => single::run(rt, name, policy_of(policy), rest),
+        _ => explained(None),
     }
 }
 
@@ -69,12 +73,11 @@ fn run_all<R: Host>(rt: &R) -> anyhow::Result<()> {
 
 fn main(rt: HostRuntime) -> anyhow::Result<()> {
     let words: Vec<String> = env::args(&rt)?.collect(rt.alloc())?;
-    let words: Vec<&str> = words
-        .iter()
-        .skip(1)
-        .map(|it| it.as_str())
-        .collect(rt.alloc())?;
-    match words.as_slice() {
+    let mut texts = Vec::new(rt.alloc());
+    'words: for word in words.iter().skip(1) {
+        texts.push(word.as_str())?;
+    }
+    match texts.as_slice() {
         ["all"] => run_all(&rt),
         words => run(&rt, words),
     }

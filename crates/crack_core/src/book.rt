@@ -15,13 +15,26 @@ use std::alloc::Global;
 use std::marker::Model;
 
 /// A worker's number and its receipts, with three shares that always equal the totals of the receipts' entries.
-#[derive(Drop)]
 pub struct Book {
     worker: u32,
     receipts: Vec<Receipt>,
     accepted: u64,
     inserted: u64,
     deleted: u64,
+}
+
+// (Written out, so that the crates above call this function, and prove nothing about the fields.)
+impl Drop for Book {
+    fn drop(self) {
+        let Book {
+            worker: _,
+            receipts,
+            accepted: _,
+            inserted: _,
+            deleted: _,
+        } = self;
+        drop(receipts);
+    }
 }
 
 impl Model for Book {

@@ -1,15 +1,20 @@
 //! The index of a cracked column: the bounds that divide it, each with the place at which it does
-//! ("Database Cracking", CIDR 2007).
+//! ("Database Cracking", CIDR 2007); and the sums of the pieces into which bounds divide the keys.
 #![tactic(auto)]
 
+mod amounts;
 pub mod index;
 mod lowering;
 pub mod mark;
 mod raising;
+pub mod source;
+pub mod sums;
 mod tree;
 pub mod visitor;
 mod walk;
 
 pub use index::{CrackerIndex, Piece};
 pub use mark::Mark;
+pub use source::Source;
+pub use sums::PieceSums;
 pub use visitor::{Placer, Raiser, Visitor};

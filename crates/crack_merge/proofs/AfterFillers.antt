@@ -9,9 +9,9 @@ use Rattle.crack_pending.specs.Pending.{Finds, NoneIn, IsFirstIn}
 use Rattle.crack_pending.proofs.Searches.{StandsAt-get_or}
 use Rattle.crack_state.specs.State.{State, Carried, IsIntact}
 use Rattle.crack_state.specs.Steps.{lifted}
-use Rattle.crack_bulk.specs.Pulled.{buried_all}
-use Rattle.crack_bulk.specs.Filled.{IsFilled}
-use Rattle.crack_bulk.proofs.FilledLaws.{FillsOn, AreFilled, doomed_first, filled_by, fills-on}
+use Rattle.crack_state.specs.Pulled.{buried_all}
+use Rattle.crack_state.specs.Filled.{IsFilled}
+use Rattle.crack_state.proofs.FilledLaws.{FillsOn, AreFilled, doomed_first, filled_by, fills-on}
 use Rattle.crack_merge.specs.Merges.{Begins, fills, takes_last, PullsOut, PullsAll, begins, pulls}
 use Rattle.crack_merge.proofs.PulledInBulk.{Pulls-Draws}
 

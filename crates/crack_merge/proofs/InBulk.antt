@@ -6,9 +6,9 @@ use Rattle.crack_arena.specs.Rows.{keys_at}
 use Rattle.crack_pending.specs.Pending.{Finds}
 use Rattle.crack_state.specs.State.{State, Carried, IsIntact}
 use Rattle.crack_state.specs.Steps.{pushed_on, hand_key, SameButRoom}
-use Rattle.crack_bulk.specs.Carried.{carried_in_bulk}
-use Rattle.crack_bulk.proofs.Carried.{Leads}
-use Rattle.crack_bulk.proofs.AllLaws.{IsUnder, in_bulk-through}
+use Rattle.crack_state.specs.Carried.{carried_in_bulk}
+use Rattle.crack_state.proofs.Carried.{Leads}
+use Rattle.crack_state.proofs.AllCarriedLaws.{IsUnder, in_bulk-through}
 use Rattle.crack_merge.specs.Merges.{IsCeiling, Carries, buries, evicts, ends, goes_on, CarriesIn, CarriesAll, begins, carries}
 
 -- if a carry leads to a store, it leads there by its rules

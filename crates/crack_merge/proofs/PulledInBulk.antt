@@ -8,9 +8,9 @@ use Rattle.crack_pending.specs.Pending.{Finds, NoneIn}
 use Rattle.crack_pending.proofs.Searches.{StandsAt-get_or}
 use Rattle.crack_state.specs.State.{State, Carried, IsIntact}
 use Rattle.crack_state.specs.Steps.{lifted_last, pulled_back}
-use Rattle.crack_bulk.specs.Pulled.{pulled_in_bulk}
-use Rattle.crack_bulk.proofs.AllPulledLaws.{DrawsOn, pulled_in_bulk-through}
-use Rattle.crack_bulk.proofs.Draws.{Draws}
+use Rattle.crack_state.specs.Pulled.{pulled_in_bulk}
+use Rattle.crack_state.proofs.AllPulledLaws.{DrawsOn, pulled_in_bulk-through}
+use Rattle.crack_state.proofs.Draws.{Draws}
 use Rattle.crack_merge.specs.Merges.{takes_last, Pulls, reaches, exchanges, draws, PullsOut, PullsAll, begins, pulls}
 
 -- if a pull leads to a store, it leads there by its rules

@@ -7,9 +7,11 @@ pub mod complete;
 pub mod gradual;
 pub mod pulls;
 mod report;
+pub mod ripple;
 
 pub use carries::carry_range;
 pub use complete::merge_complete;
 pub use gradual::merge_gradual;
 pub use pulls::pull_range;
 pub use report::counted_between;
+pub use ripple::{merge_ripple, ripple_in, ripple_out};

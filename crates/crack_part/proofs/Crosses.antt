@@ -6,10 +6,10 @@ use Rattle.std.proofs.MapsCrossing.{BTreeMap-send}
 use Rattle.crack_row.specs.contracts.command.Command as Command
 use Rattle.crack_row.specs.contracts.command.Entry as Entry
 use Rattle.crack_row.specs.contracts.command.Reply as Reply
+use Rattle.crack_index.specs.contracts.sums.PieceSums as PieceSums
 use Rattle.crack_store.proofs.Crosses.{index-send}
 use Rattle.crack_store.specs.contracts.inside.Inside as Inside
 use Rattle.crack_store.specs.contracts.store.Store as Store
-use Rattle.crack_sums.specs.contracts.sums.PieceSums as PieceSums
 use Rattle.crack_part.specs.contracts.known.KnownSums as KnownSums
 use Rattle.crack_part.specs.contracts.partition.Partition as Partition
 use Rattle.crack_part.specs.contracts.partition.Partition.TheInside as part

@@ -11,7 +11,7 @@ use Rattle.crack_state.proofs.CrackLaws.{keys-refined}
 use Rattle.crack_state.proofs.FollowLaws.{Follows-refl, Tallies-room}
 use Rattle.crack_state.proofs.MergeLaws.{Merges-untouched}
 use Rattle.crack_state.proofs.OutsideLaws.{SomeOf-none, SomeOf-refl}
-use Rattle.crack_ripple.specs.Near.{MergesNear, fillers_of}
+use Rattle.crack_merge.specs.Near.{MergesNear, fillers_of}
 use Rattle.crack_part.specs.Parts.{LeavesNear, read_by, CracksAndMerges}
 
 LeavesOutside-idle : (s : State) (r : Range) → s.pending_in ≡ [] → s.pending_out ≡ [] → LeavesOutside s s r

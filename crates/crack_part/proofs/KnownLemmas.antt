@@ -19,7 +19,7 @@ use Rattle.crack_row.specs.declared.refusal.Refusal.{Refusal}
 use Rattle.crack_row.specs.declared.command.Command.TheVariants.{Insert, Delete, Update}
 use Rattle.crack_plain.specs.Plain.{PlainState, row_in, after}
 use Rattle.crack_plain.proofs.Laws.{others-same, replaced-same}
-use Rattle.crack_sums.specs.Sums.{AreRight, Changes}
+use Rattle.crack_index.specs.Sums.{AreRight, Changes}
 use Rattle.crack_part.specs.KnownSums.{Known, Knows, KnowsThen, adds, added, sum_before, with_row, IsFresh, left}
 use Rattle.crack_part.specs.declared.known.TheConstants.{MOST_PLACED}
 use Rattle.crack_part.proofs.SumLaws.{sum-placed, total-taken, total-put, found-serial, apart-none}

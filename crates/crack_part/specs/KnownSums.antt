@@ -9,9 +9,9 @@ use Rattle.crack_row.specs.declared.command.Command.{Command}
 use Rattle.crack_row.specs.declared.command.Reply.{Reply}
 use Rattle.crack_row.specs.declared.refusal.Refusal.{Refusal}
 use Rattle.crack_plain.specs.Plain.{PlainState, rows_in, after}
+use Rattle.crack_index.specs.Sums.{AreRight}
 use Rattle.crack_state.specs.State.{State, live_rows}
 use Rattle.crack_state.specs.Merge.{IsSettled}
-use Rattle.crack_sums.specs.Sums.{AreRight}
 use Rattle.crack_part.specs.declared.known.TheConstants.{MOST_PLACED}
 use Rattle.crack_part.specs.Parts.{Part, IsSound, state_of}
 

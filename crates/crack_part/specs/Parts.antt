@@ -20,7 +20,7 @@ use Rattle.crack_state.specs.Steps.{admitted, SameButRoom}
 use Rattle.crack_state.specs.Points.{pending_by, Removes, Rewrites}
 use Rattle.crack_state.specs.Merge.{Refines, Merges, Tallies}
 use Rattle.crack_merge.specs.Merges.{Stops}
-use Rattle.crack_ripple.specs.Near.{MergesNear}
+use Rattle.crack_merge.specs.Near.{MergesNear}
 use Rattle.crack_part.specs.Cells.{is_cleared_first}
 
 -- its keys, its limits, its past, the serial of the next row, and the store of its rows

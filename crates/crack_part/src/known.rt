@@ -3,14 +3,14 @@ ghost use Rattle.std.specs.Prelude.{◌≡◌, ℕ, ℤ, ◌<◌, ◌≤◌, ◌
 ghost use Rattle.std.specs.Map.{keys_of};
 ghost use Rattle.crack_row.specs.Rows.{sum_of};
 ghost use Rattle.crack_plain.specs.Plain.{PlainState, IsNumbered, row_in, rows_in, after};
+ghost use Rattle.crack_index.specs.Sums.{AreRight, AreKnown, IsEnd, distance_in};
 ghost use Rattle.crack_state.specs.Merge.{IsCracked, IsSettled};
-ghost use Rattle.crack_sums.specs.Sums.{AreRight, AreKnown, IsEnd, distance_in};
 ghost use Rattle.crack_part.specs.Parts.{IsFaithful};
 ghost use Rattle.crack_part.specs.KnownSums.{Knows, IsFresh, SaysSettled, left, sum_before, with_row};
 
+use crack_index::{PieceSums, Source};
 use crack_row::{Command, KeyRange, Row, Serial};
 use crack_store::Store;
-use crack_sums::{PieceSums, Source};
 use std::alloc::Global;
 use std::marker::Model;
 

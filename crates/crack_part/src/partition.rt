@@ -36,7 +36,6 @@ use std::marker::Model;
 /// The rows whose keys lie in one range, with a base, which is the effect of the commands up to the last checkpoint,
 /// and a history: every command answered since, with its worker and its reply. Contracts also see the layout of the
 /// store of its rows; the plain rows are those after the history, from the base on.
-#[derive(Drop)]
 pub struct Partition {
     alloc: Global,
     keys: KeyRange,
@@ -46,6 +45,26 @@ pub struct Partition {
     known: KnownSums,
     base: Base,
     history: Vec<Entry>,
+}
+
+// (Written out, so that the crates above call this function, and prove nothing about the fields.)
+impl Drop for Partition {
+    fn drop(self) {
+        let Partition {
+            alloc: _,
+            keys: _,
+            limits: _,
+            next: _,
+            store,
+            known,
+            base,
+            history,
+        } = self;
+        drop(store);
+        drop(known);
+        drop(base);
+        drop(history);
+    }
 }
 
 impl Model for Partition {

@@ -6,8 +6,7 @@ ghost use Rattle.crack_part.specs.Parts.{is_merged_first, read_by, CracksAndMerg
 ghost use Rattle.crack_part.specs.Inside.{Readies};
 ghost use Rattle.crack_part.specs.Parts.{LeavesNear, StopsAt, StopsRead};
 
-use crack_merge::{merge_complete, merge_gradual};
-use crack_ripple::merge_ripple;
+use crack_merge::{merge_complete, merge_gradual, merge_ripple};
 use crack_row::{KeyRange, Policy, Refusal};
 use crack_store::{MergeReport, Store};
 use std::alloc::Global;

@@ -41,35 +41,35 @@ pub const GREATEST_CELLS: u64 = 1048576;
 pub const GREATEST_LIFE: u64 = 1099511627776;
 
 /// What rows are looked up by: 0 to `GREATEST_KEY`.
-#[derive(Clone, Copy, PartialEq, Eq, PartialOrd, Ord, Hash, Debug)]
+#[derive(Clone, Copy, PartialEq, Eq, Debug)]
 pub struct Key(KeyNumber);
 
 /// The value of a row: a signed integer, `LEAST_PAYLOAD` to `GREATEST_PAYLOAD`.
-#[derive(Clone, Copy, PartialEq, Eq, PartialOrd, Ord, Hash, Debug)]
+#[derive(Clone, Copy, PartialEq, Eq, Debug)]
 pub struct Payload(PayloadNumber);
 
 /// The number of insertions that a partition accepted before a row. It is never reused.
-#[derive(Clone, Copy, PartialEq, Eq, PartialOrd, Ord, Hash, Debug)]
+#[derive(Clone, Copy, PartialEq, Eq, Debug)]
 pub struct Serial(pub u64);
 
 /// An end of a range: it lies between the keys below it and the keys at or above it.
-#[derive(Clone, Copy, PartialEq, Eq, PartialOrd, Ord, Hash, Debug)]
+#[derive(Clone, Copy, PartialEq, Eq, PartialOrd, Ord, Debug)]
 pub struct Bound(BoundNumber);
 
 /// A bound between two keys: 1 to `GREATEST_KEY`. It is as wide as a key, and a cracker index has no other
 /// bounds.
-#[derive(Clone, Copy, PartialEq, Eq, PartialOrd, Ord, Hash, Debug)]
+#[derive(Clone, Copy, PartialEq, Eq, Debug)]
 pub struct InnerBound(KeyNumber);
 
 /// A row's number: its partition, and its serial there.
-#[derive(Clone, Copy, PartialEq, Eq, PartialOrd, Ord, Hash, Debug)]
+#[derive(Clone, Copy, PartialEq, Eq, Debug)]
 pub struct RowNo {
     pub part: u32,
     pub serial: Serial,
 }
 
 /// A row of a partition.
-#[derive(Clone, Copy, PartialEq, Eq, Hash, Debug)]
+#[derive(Clone, Copy, PartialEq, Eq, Debug)]
 pub struct Row {
     pub serial: Serial,
     pub key: Key,

@@ -5,7 +5,7 @@ ghost use Rattle.crack_row.specs.Limits.{AreLimits, are_limits, is_limit, of_his
 use crate::{GREATEST_CELLS, GREATEST_LIFE, GREATEST_LIMIT};
 
 /// What a partition does at its limits.
-#[derive(Clone, Copy, PartialEq, Eq, Hash, Debug)]
+#[derive(Clone, Copy, PartialEq, Eq, Debug)]
 pub enum Upkeep {
     /// It refuses the command: checkpoints are made on request.
     OnRequest,
@@ -16,7 +16,7 @@ pub enum Upkeep {
 /// The limits of a partition: how many entries its history may have (1 to `GREATEST_LIMIT`), how many cells its rows
 /// may take (1 to `GREATEST_CELLS`), and how many commands it may accept in total (1 to `GREATEST_LIFE`); and what it
 /// does at these limits.
-#[derive(Clone, Copy, PartialEq, Eq, Hash, Debug)]
+#[derive(Clone, Copy, PartialEq, Eq, Debug)]
 pub struct Limits {
     pub history: u64,
     pub cells: u64,

@@ -6,9 +6,17 @@ use std::alloc::Global;
 use std::marker::Model;
 
 /// The rows of a reply. Contracts see a list.
-#[derive(Drop, Debug)]
+#[derive(Debug)]
 pub struct RowList {
     rows: Vec<Row>,
+}
+
+// (Written out, so that the crates above call this function, and prove nothing about the fields.)
+impl Drop for RowList {
+    fn drop(self) {
+        let Self { rows } = self;
+        drop(rows);
+    }
 }
 
 impl Model for RowList {
@@ -32,7 +40,8 @@ impl RowList {
     pub fn into_vec(self) -> Vec<Row>
         ensures { result.items ≡ self }
     {
-        self.rows
+        let Self { rows } = self;
+        rows
     }
 
     /// The rows, to read.

@@ -4,6 +4,7 @@
 pub mod audited;
 pub mod batch;
 mod reporting;
+mod seats;
 pub mod server;
 mod totals;
 pub mod witnessed;

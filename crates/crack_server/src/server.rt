@@ -1,11 +1,11 @@
 //! A server: sessions over TCP, each worker's on a thread of its own.
 use crate::reporting::Reporting;
+use crate::seats::{AtTable, serve_workers};
 use crate::totals::totals_of;
 use crack_row::{Policy, Refusal};
-use crack_service::{Alone, Ending, Host, Terms, serve_desks};
+use crack_service::{Alone, Ending, Host, Terms};
 use crack_table::{Gate, Table, Worker};
-use crack_worker_desk::WorkerDesk;
-use std::alloc::{AllocError, Global};
+use std::alloc::Global;
 use std::io::{Read, Write};
 use std::net::TcpListener;
 use std::sync::Wait;
@@ -56,53 +56,25 @@ pub fn run_service<Rt: Threads + Wait + Sync, G: Gate + Sync, H: Host + Sync, I:
     writer: &mut W,
 ) -> Result<(), Refusal> {
     let served = if terms.notes_checkpoints {
-        let reporting = Reporting::new(gate, host);
-        serve_table(
-            rt, alloc, listener, &table, workers, terms, &reporting, host, input,
-        )
+        let seats = AtTable {
+            rt,
+            table: &table,
+            gate: &Reporting::new(gate, host),
+        };
+        serve_workers(rt, alloc, listener, &seats, workers, terms, host, input)
     } else {
-        serve_table(
-            rt, alloc, listener, &table, workers, terms, gate, host, input,
-        )
+        let seats = AtTable {
+            rt,
+            table: &table,
+            gate,
+        };
+        serve_workers(rt, alloc, listener, &seats, workers, terms, host, input)
     };
     match served {
         Ok(workers) => totals_of(alloc, table, workers)?.write(writer),
-        Err(refusal) => Err(refusal),
+        Err(refusal) => {
+            drop(table);
+            Err(refusal)
+        }
     }
-}
-
-/// Has each worker of a table serve sessions, at a desk of its own.
-fn serve_table<Rt: Threads + Wait + Sync, G: Gate + Sync, H: Host + Sync, I: Read>(
-    rt: &Rt,
-    alloc: Global,
-    listener: &TcpListener,
-    table: &Table,
-    workers: Vec<Worker>,
-    terms: Terms,
-    gate: &G,
-    host: &H,
-    input: &mut I,
-) -> Result<Vec<Worker>, Refusal> {
-    let mut back = Vec::with_capacity(alloc, workers.len())?;
-    let desks = desks_of(rt, alloc, table, workers, gate)?;
-    let served = serve_desks(rt, alloc, listener, desks, terms, host, input)?;
-    'desks: for desk in served {
-        back.push(desk.into_worker())?;
-    }
-    Ok(back)
-}
-
-/// The desks at which workers ask their table.
-fn desks_of<'a, Rt: Wait, G: Gate>(
-    rt: &'a Rt,
-    alloc: Global,
-    table: &'a Table,
-    workers: Vec<Worker>,
-    gate: &'a G,
-) -> Result<Vec<WorkerDesk<'a, Rt, G>>, AllocError> {
-    let mut desks = Vec::with_capacity(alloc, workers.len())?;
-    'workers: for worker in workers {
-        desks.push(WorkerDesk::new(rt, table, gate, worker))?;
-    }
-    Ok(desks)
 }

@@ -3,7 +3,9 @@ use crack_core::Book;
 use crack_row::Refusal;
 use crack_table::{Closed, Table, Worker, gather};
 use crack_witness::{Asker, Naming};
-use crack_witness_table::{AuditedAsker, Gathered, WitnessedTable, audit};
+use crack_witness_table::{
+    AuditedAsker, Gathered, WitnessedTable, audit, gather as gather_witnessed,
+};
 use std::alloc::{AllocError, Global};
 use std::io::Write;
 
@@ -39,7 +41,11 @@ pub(crate) fn totals_of(
                 held,
             })
         }
-        Err(refused) => Err(refused.refusal),
+        Err(refused) => {
+            let refusal = refused.refusal;
+            drop(refused);
+            Err(refusal)
+        }
     }
 }
 
@@ -49,10 +55,10 @@ pub(crate) fn witnessed_totals_of<J: Naming>(
     table: WitnessedTable<J>,
     askers: Vec<Asker<J>>,
 ) -> Result<Totals, Refusal> {
-    match crack_witness_table::gather(alloc, table, askers) {
-        Ok(gathered) => Ok(totals_in(&gathered)),
-        Err(refused) => Err(refused.refusal),
-    }
+    let gathered = gathered(alloc, table, askers)?;
+    let totals = totals_in(&gathered);
+    drop(gathered);
+    Ok(totals)
 }
 
 /// Gathers the workers of a table that witnesses its replies, and compares their receipts with the histories. Refused
@@ -62,13 +68,43 @@ pub(crate) fn audited_totals_of<J: Naming>(
     table: WitnessedTable<J>,
     workers: Vec<AuditedAsker<J>>,
 ) -> Result<Totals, Refusal> {
-    let (askers, books) = parted(alloc, workers)?;
-    match crack_witness_table::gather(alloc, table, askers) {
-        Ok(gathered) => match audit(alloc, &gathered.parts, &books) {
-            Ok(()) => Ok(totals_in(&gathered)),
-            Err(refusal) => Err(refusal),
-        },
-        Err(refused) => Err(refused.refusal),
+    let (askers, books) = match parted(alloc, workers) {
+        Ok(parted) => parted,
+        Err(_) => {
+            drop(table);
+            return Err(Refusal::OutOfMemory);
+        }
+    };
+    let gathered = match gathered(alloc, table, askers) {
+        Ok(gathered) => gathered,
+        Err(refusal) => {
+            drop(books);
+            return Err(refusal);
+        }
+    };
+    let audited = audit(alloc, &gathered.parts, &books);
+    let totals = totals_in(&gathered);
+    drop(gathered);
+    drop(books);
+    match audited {
+        Ok(()) => Ok(totals),
+        Err(refusal) => Err(refusal),
+    }
+}
+
+/// The gathered workers of a table. What a refusal hands back is dropped.
+fn gathered<J: Naming>(
+    alloc: Global,
+    table: WitnessedTable<J>,
+    askers: Vec<Asker<J>>,
+) -> Result<Gathered<J>, Refusal> {
+    match gather_witnessed(alloc, table, askers) {
+        Ok(gathered) => Ok(gathered),
+        Err(refused) => {
+            let refusal = refused.refusal;
+            drop(refused);
+            Err(refusal)
+        }
     }
 }
 

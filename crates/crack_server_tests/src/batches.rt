@@ -1,35 +1,15 @@
 //! Batches over memory.
-use crack_gates::Meeting;
+ghost use Rattle.std.specs.Prelude.{◌<◌};
+
 use crack_row::{Bound, Limits, Policy, Refusal};
 use crack_server::run_batch;
 use crack_table::{Gate, OpenGate};
 use std::alloc::Global;
 use std::process::Abort;
 use std::sync::Wait;
+use std::sync::atomic::{AtomicBool, Ordering};
+use std::thread;
 use std::thread::Threads;
-
-/// How a batch of two workers over the partitions below and from 100 ends, and its output.
-fn batch<H: Threads + Wait + Sync, G: Gate + Sync>(
-    rt: &H,
-    alloc: Global,
-    gate: &G,
-    input: &[u8],
-) -> (Result<(), Refusal>, Vec<u8>) {
-    let mut reader = input;
-    let mut output = Vec::new(alloc);
-    let ended = run_batch(
-        rt,
-        alloc,
-        &[Bound::from_number(100)],
-        Limits::of_history(10),
-        Policy::Ripple,
-        2,
-        gate,
-        &mut reader,
-        &mut output,
-    );
-    (ended, output)
-}
 
 /// The input of a batch, how it ends, and its output.
 #[derive(Clone, Copy)]
@@ -60,22 +40,58 @@ const CASES: &[Case] = &[
     },
 ];
 
-/// Asserts how a batch ends, and its output.
+/// Asserts how a batch of two workers over the partitions below and from 100 ends, and its output.
 fn assert_batch<H: Threads + Wait + Sync + Abort, G: Gate + Sync>(
     rt: &H,
     alloc: Global,
     gate: &G,
     case: Case,
 ) {
-    let (ended, output) = batch(rt, alloc, gate, case.input);
-    assert_eq!(rt; ended, case.ended);
-    assert_eq!(rt; output.as_slice(), case.output);
+    let mut reader = case.input;
+    let mut output = Vec::new(alloc);
+    let ended = run_batch(
+        rt,
+        alloc,
+        &[Bound::from_number(100)],
+        Limits::of_history(10),
+        Policy::Ripple,
+        2,
+        gate,
+        &mut reader,
+        &mut output,
+    );
+    assert!(rt; ended == case.ended && output.as_slice() == case.output);
 }
 
 #[test]
 fn batches_end_and_write(rt: HostRuntime) {
     'cases: for place in 0..CASES.len() {
         assert_batch(&rt, rt.alloc(), &OpenGate, CASES[place]);
+    }
+}
+
+/// A gate that refuses each of two partitions until the other has been inside. It yields before each refusal, long
+/// enough for another thread to arrive.
+#[derive(Drop)]
+struct Meeting {
+    arrived: [AtomicBool; 2],
+}
+
+impl Gate for Meeting {
+    ghost may_refuse = { λ gate part turn. part < 2 };
+
+    fn inside(&self, part: u32, _turn: u32) -> bool {
+        if part > 1 {
+            return true;
+        }
+        self.arrived[part as usize].store(true, Ordering::SeqCst);
+        if self.arrived[1 - part as usize].load(Ordering::SeqCst) {
+            return true;
+        }
+        'turns: for _ in 0..1000u32 {
+            thread::yield_now();
+        }
+        false
     }
 }
 
@@ -87,5 +103,8 @@ fn two_workers_are_at_two_partitions_at_once(rt: HostRuntime) {
         ended: Ok(()),
         output: b"worker 0\nrow 0.0\nworker 1\nrow 1.0\naccepted 2 inserted 2 deleted 0 held 2\n",
     };
-    assert_batch(&rt, rt.alloc(), &Meeting::new(), CASE);
+    let gate = Meeting {
+        arrived: [AtomicBool::new(false), AtomicBool::new(false)],
+    };
+    assert_batch(&rt, rt.alloc(), &gate, CASE);
 }

@@ -1,5 +1,6 @@
-//! A server whose input ends, and whose host first fails to wake its worker.
-use crack_row::{Policy, Refusal};
+//! Servers whose input ends, and hosts that wake their workers.
+use crate::servers::port_of;
+use crack_row::Policy;
 use crack_server::run_service;
 use crack_service::{Ending, Host, Notice, Terms};
 use crack_table::{OpenGate, Table};
@@ -7,16 +8,17 @@ use std::alloc::Global;
 use std::io;
 use std::io::Read;
 use std::net::{Net, TcpListener, TcpStream};
+use std::process::Abort;
 use std::sync::Wait;
 use std::sync::atomic::{AtomicU32, Ordering};
-use std::test::Fail;
 use std::thread::Threads;
 
-/// A host whose first knock reaches nobody, and every further one the listener of this port.
+/// A host whose first `lost` knocks reach nobody, and every further one the listener of this port.
 #[derive(Drop)]
 struct Late<'a, N: Net<Listener = TcpListener, Stream = TcpStream>> {
     rt: &'a N,
     port: u16,
+    lost: u32,
     knocks: AtomicU32,
     pauses: AtomicU32,
 }
@@ -26,7 +28,7 @@ impl<'a, N: Net<Listener = TcpListener, Stream = TcpStream>> Host for Late<'a, N
 
     fn knock(&self) -> bool {
         let knocks = self.knocks.fetch_add(1, Ordering::SeqCst);
-        knocks > 0 && TcpStream::connect(self.rt, ("127.0.0.1", self.port)).is_ok()
+        knocks >= self.lost && TcpStream::connect(self.rt, ("127.0.0.1", self.port)).is_ok()
     }
 
     fn pause(&self) {
@@ -34,54 +36,59 @@ impl<'a, N: Net<Listener = TcpListener, Stream = TcpStream>> Host for Late<'a, N
     }
 }
 
-/// The output of a server of one worker, to which nobody comes. Its input is long, so its end comes when the worker
-/// waits for a connection.
-fn server_at_its_end<H: Threads + Wait + Net<Listener = TcpListener, Stream = TcpStream> + Sync>(
-    rt: &H,
-    alloc: Global,
-    listener: &TcpListener,
-    host: &Late<'_, H>,
-) -> Result<Vec<u8>, Refusal> {
-    let (table, workers) = Table::open(alloc, &[], 10, 1)?;
+/// Asserts the output of a server of this many workers, to which nobody comes until its input ends. Returns how often
+/// its host knocked and paused; the first `lost` knocks reach nobody.
+fn assert_end<
+    H: Threads + Wait + Net<Listener = TcpListener, Stream = TcpStream> + Sync + Abort,
+    I: Read,
+>(rt: &H, alloc: Global, lost: u32, workers: u64, idle: Option<u32>, input: &mut I) -> [u32; 2] {
+    let bound = TcpListener::bind(rt, "127.0.0.1:0");
+    let listener = bound.ok().expect(rt, "a listener");
+    let host = Late {
+        rt,
+        port: port_of(rt, &listener),
+        lost,
+        knocks: AtomicU32::new(0),
+        pauses: AtomicU32::new(0),
+    };
     let terms = Terms {
         policy: Policy::Ripple,
         ending: Ending::AtEndOfInput,
-        idle: None,
+        idle,
         notes_checkpoints: false,
     };
-    let mut input = io::repeat(0).take(50000000);
+    let (table, workers) = Table::open(alloc, &[], 10, workers).expect(rt, "a table");
     let mut output = Vec::new(alloc);
-    match run_service(
+    let ended = run_service(
         rt,
         alloc,
-        listener,
+        &listener,
         table,
         workers,
         terms,
         &OpenGate,
-        host,
-        &mut input,
+        &host,
+        input,
         &mut output,
-    ) {
-        Ok(()) => Ok(output),
-        Err(refusal) => Err(refusal),
-    }
+    );
+    let written = b"accepted 0 inserted 0 deleted 0 held 0\n";
+    assert!(rt; ended.is_ok() && output.as_slice() == written.as_slice());
+    [
+        host.knocks.load(Ordering::SeqCst),
+        host.pauses.load(Ordering::SeqCst),
+    ]
+}
+
+/// The input is long, so its end comes when the worker waits for a connection.
+#[test]
+fn a_knock_that_fails_is_repeated_after_a_pause(rt: HostRuntime) {
+    let mut input = io::repeat(0).take(50000000);
+    let counts = assert_end(&rt, rt.alloc(), 1, 1, None, &mut input);
+    assert!(rt; counts == [2, 1] || counts == [0, 0]);
 }
 
 #[test]
-fn a_knock_that_fails_is_repeated_after_a_pause(rt: HostRuntime) -> Result<(), Fail> {
-    let alloc: Global = rt.alloc();
-    let listener = TcpListener::bind(&rt, "127.0.0.1:0")?;
-    let host = Late {
-        rt: &rt,
-        port: listener.local_addr()?.port(),
-        knocks: AtomicU32::new(0),
-        pauses: AtomicU32::new(0),
-    };
-    let written = server_at_its_end(&rt, alloc, &listener, &host)?;
-    assert!(rt; written.as_slice() == b"accepted 0 inserted 0 deleted 0 held 0\n".as_slice());
-    let knocks = host.knocks.load(Ordering::SeqCst);
-    let pauses = host.pauses.load(Ordering::SeqCst);
-    assert!(rt; knocks == 2 && pauses == 1 || knocks == 0 && pauses == 0);
-    Ok(())
+fn workers_that_wait_end_with_the_input(rt: HostRuntime) {
+    let mut input: &[u8] = b"what is read is ignored";
+    assert_end(&rt, rt.alloc(), 0, 3, Some(60), &mut input);
 }

@@ -1,7 +1,6 @@
 //! A server over loopback.
 use crack_row::{Policy, Refusal};
-use crack_server::{run_server, run_service};
-use crack_service::{Ending, Host, Notice, Terms};
+use crack_server::run_server;
 use crack_table::{OpenGate, Table};
 use std::alloc::Global;
 use std::io::{Read, Write};
@@ -39,7 +38,7 @@ fn server<H: Threads + Wait + Sync>(
 }
 
 /// The port of a listener.
-fn port_of(rt: &impl Abort, listener: &TcpListener) -> u16 {
+pub(crate) fn port_of(rt: &impl Abort, listener: &TcpListener) -> u16 {
     let address = listener.local_addr().ok();
     address.expect(rt, "an address").port()
 }
@@ -65,7 +64,7 @@ fn answers_of(alloc: Global, mut stream: TcpStream) -> io::Result<Vec<u8>> {
 }
 
 /// The answers to a client that sends these bytes.
-fn client<N: Net<Listener = TcpListener, Stream = TcpStream>>(
+pub(crate) fn client<N: Net<Listener = TcpListener, Stream = TcpStream>>(
     rt: &N,
     alloc: Global,
     port: u16,
@@ -212,69 +211,4 @@ fn servers_answer_whatever_other_clients_do(rt: HostRuntime) {
         assert!(rt; is_last && first.as_slice() == case.first, "case {place}");
         assert!(rt; written.as_slice() == WRITTEN, "case {place}");
     }
-}
-
-/// A host whose knock reaches a listener of this port.
-#[derive(Drop)]
-struct Knocking<'a, N: Net<Listener = TcpListener, Stream = TcpStream>> {
-    rt: &'a N,
-    port: u16,
-}
-
-impl<'a, N: Net<Listener = TcpListener, Stream = TcpStream>> Host for Knocking<'a, N> {
-    fn note(&self, _notice: Notice) {}
-
-    fn knock(&self) -> bool {
-        TcpStream::connect(self.rt, ("127.0.0.1", self.port)).is_ok()
-    }
-
-    fn pause(&self) {}
-}
-
-/// The output of a server of three workers whose input has ended.
-fn server_at_its_end<H: Threads + Wait + Net<Listener = TcpListener, Stream = TcpStream> + Sync>(
-    rt: &H,
-    alloc: Global,
-    listener: &TcpListener,
-    port: u16,
-) -> Result<Vec<u8>, Refusal> {
-    let (table, workers) = Table::open(alloc, &[], 10, 3)?;
-    let terms = Terms {
-        policy: Policy::Ripple,
-        ending: Ending::AtEndOfInput,
-        idle: Some(60),
-        notes_checkpoints: false,
-    };
-    let host = Knocking { rt, port };
-    let mut input: &[u8] = b"what is read is ignored";
-    let mut output = Vec::new(alloc);
-    match run_service(
-        rt,
-        alloc,
-        listener,
-        table,
-        workers,
-        terms,
-        &OpenGate,
-        &host,
-        &mut input,
-        &mut output,
-    ) {
-        Ok(()) => Ok(output),
-        Err(refusal) => Err(refusal),
-    }
-}
-
-#[test]
-fn workers_that_wait_end_with_the_input(rt: HostRuntime) {
-    let alloc: Global = rt.alloc();
-    let bound = TcpListener::bind(&rt, "127.0.0.1:0");
-    let listener = bound.ok().expect(&rt, "a listener");
-    let port = port_of(&rt, &listener);
-    let written = server_at_its_end(&rt, alloc, &listener, port);
-    let written = written.expect(&rt, "an output");
-    assert_eq!(rt;
-        written.as_slice(),
-        b"accepted 0 inserted 0 deleted 0 held 0\n".as_slice()
-    );
 }

@@ -1,23 +1,21 @@
 //! Servers whose gate refuses at first, and whose host is notified.
 ghost use Rattle.crack_witness.specs.Witnesses.{AreNames};
 
-use crack_row::{Limits, Policy, Refusal, Upkeep};
+use crate::servers::{client, port_of};
+use crack_row::{GREATEST_CELLS, GREATEST_LIFE, Limits, Policy, Refusal, Upkeep};
 use crack_server::{run_audited_service, run_server, run_service, run_witnessed_service};
 use crack_service::{Ending, Host, Notice, Terms};
 use crack_table::{Gate, Table};
 use crack_witness::Naming;
 use crack_witness_table::UnnamedTable;
 use std::alloc::Global;
-use std::io::{Read, Write};
 use std::marker::Brand;
 use std::net::{Net, TcpListener, TcpStream};
 use std::process::Abort;
 use std::sync::Wait;
 use std::sync::atomic::{AtomicU64, Ordering};
-use std::test::Fail;
+use std::thread;
 use std::thread::Threads;
-use std::time::Duration;
-use std::{io, thread};
 
 /// A gate that consents when it is asked again, and counts how often it is asked, and how many entries were
 /// checkpointed.
@@ -70,7 +68,7 @@ impl Host for Notes {
 }
 
 /// How a server of one session is run.
-#[derive(Clone, Copy, PartialEq, Eq, Drop)]
+#[derive(Clone, Copy)]
 enum Way {
     Alone,
     NotingCheckpoints,
@@ -92,11 +90,12 @@ fn terms(way: Way) -> Terms {
 }
 
 /// Histories have four entries, and checkpoints are automatic.
-fn limits() -> Limits {
-    let mut limits = Limits::of_history(4);
-    limits.upkeep = Upkeep::Automatic;
-    limits
-}
+const LIMITS: Limits = Limits {
+    history: 4,
+    cells: GREATEST_CELLS,
+    life: GREATEST_LIFE,
+    upkeep: Upkeep::Automatic,
+};
 
 /// Runs a server of one worker over a table.
 fn serve_plain<H: Threads + Wait + Sync>(
@@ -108,9 +107,9 @@ fn serve_plain<H: Threads + Wait + Sync>(
     host: &Notes,
     output: &mut Vec<u8>,
 ) -> Result<(), Refusal> {
-    let (table, workers) = Table::open_with(alloc, &[], limits(), 1)?;
+    let (table, workers) = Table::open_with(alloc, &[], LIMITS, 1)?;
     let mut input: &[u8] = b"";
-    if way == Way::Alone {
+    if matches!(way, Way::Alone) {
         run_server(
             rt,
             alloc,
@@ -148,7 +147,7 @@ fn serve_witnessed<H: Threads + Wait + Sync>(
     host: &Notes,
     output: &mut Vec<u8>,
 ) -> Result<(), Refusal> {
-    let table = UnnamedTable::open(alloc, &[], limits(), 1)?;
+    let table = UnnamedTable::open(alloc, &[], LIMITS, 1)?;
     serve_named::<Brand, H>(rt, alloc, listener, way, table, gate, host, output)
 }
 
@@ -196,28 +195,6 @@ fn serve_named<J: Naming + Send + Sync, H: Threads + Wait + Sync>(
     }
 }
 
-/// The output of a server.
-fn service<H: Threads + Wait + Sync>(
-    rt: &H,
-    alloc: Global,
-    listener: &TcpListener,
-    way: Way,
-    gate: &Second,
-    host: &Notes,
-) -> Result<Vec<u8>, Refusal> {
-    let mut output = Vec::new(alloc);
-    let ended = match way {
-        Way::Alone | Way::NotingCheckpoints | Way::NotingNone => {
-            serve_plain(rt, alloc, listener, way, gate, host, &mut output)
-        }
-        _ => serve_witnessed(rt, alloc, listener, way, gate, host, &mut output),
-    };
-    match ended {
-        Ok(()) => Ok(output),
-        Err(refusal) => Err(refusal),
-    }
-}
-
 /// Seven commands, and a layout that shows by which policy they were answered.
 const ASKED: &[u8] = b"insert 10 1\ninsert 40 4\ncount 0 18446744073709551616\ncount 20 30\n\
     insert 15 5\ninsert 50 6\nsum 10 20\nlayout 0\nquit\n";
@@ -226,27 +203,45 @@ const ANSWERED: &[u8] = b"row 0.0\nrow 0.1\ncount 2\ncount 0\nrow 0.2\nrow 0.3\n
     layout 0 rows 4 column 3 out 0 in 1 cells 4 free 0 pieces 4\n\
     piece 0 10 0\npiece 10 20 2\npiece 20 30 0\npiece 30 18446744073709551616 1\nbye\n";
 
-/// The answers to a client that asks this.
-fn client<N: Net<Listener = TcpListener, Stream = TcpStream>>(
-    rt: &N,
+/// How a server is run, and what is counted then: how often its gate was asked, and how many checkpointed entries the
+/// gate was notified of; then the numbers of checkpoints, sessions and sessions cut off that the host was notified of.
+const WAYS: &[(Way, [u64; 5])] = &[
+    (Way::NotingCheckpoints, [14, 4, 1, 1, 0]),
+    (Way::NotingNone, [14, 4, 0, 1, 0]),
+    (Way::Alone, [14, 4, 0, 0, 0]),
+    // over a table that witnesses its replies, whose workers keep receipts or none
+    (Way::Witnessed, [14, 4, 1, 1, 0]),
+    (Way::WitnessedNotingNone, [14, 4, 0, 1, 0]),
+    (Way::Audited, [14, 4, 1, 1, 0]),
+    (Way::AuditedNotingNone, [14, 4, 0, 1, 0]),
+];
+
+/// The output of a server, and how it ends.
+fn service<H: Threads + Wait + Sync>(
+    rt: &H,
     alloc: Global,
-    port: u16,
-) -> io::Result<Vec<u8>> {
-    let mut stream = TcpStream::connect(rt, ("127.0.0.1", port))?;
-    stream.set_read_timeout(Some(Duration::from_secs(10)))?;
-    stream.write_all(ASKED)?;
-    let mut answers = Vec::new(alloc);
-    stream.read_to_end(&mut answers)?;
-    Ok(answers)
+    listener: &TcpListener,
+    way: Way,
+    gate: &Second,
+    host: &Notes,
+) -> (Vec<u8>, Result<(), Refusal>) {
+    let mut output = Vec::new(alloc);
+    let ended = match way {
+        Way::Alone | Way::NotingCheckpoints | Way::NotingNone => {
+            serve_plain(rt, alloc, listener, way, gate, host, &mut output)
+        }
+        _ => serve_witnessed(rt, alloc, listener, way, gate, host, &mut output),
+    };
+    (output, ended)
 }
 
-/// Runs a server, with one client. Returns how often its gate was asked, and how many checkpointed entries the gate was
-/// notified of; then the numbers of checkpoints, sessions and sessions cut off that the host was notified of.
-fn counts_of<H: Threads + Wait + Net<Listener = TcpListener, Stream = TcpStream> + Sync + Abort>(
+/// Runs a server, with one client, and asserts what both read and what is counted.
+fn assert_way<H: Threads + Wait + Net<Listener = TcpListener, Stream = TcpStream> + Sync + Abort>(
     rt: &H,
     alloc: Global,
     way: Way,
-) -> Result<[u64; 5], Fail> {
+    wanted: [u64; 5],
+) {
     let gate = Second {
         asked: AtomicU64::new(0),
         entries: AtomicU64::new(0),
@@ -256,48 +251,33 @@ fn counts_of<H: Threads + Wait + Net<Listener = TcpListener, Stream = TcpStream>
         sessions: AtomicU64::new(0),
         cut_off: AtomicU64::new(0),
     };
-    let listener = TcpListener::bind(rt, "127.0.0.1:0")?;
-    let port = listener.local_addr()?.port();
-    let (written, answered) = thread::join(
+    let bound = TcpListener::bind(rt, "127.0.0.1:0");
+    let listener = bound.ok().expect(rt, "a listener");
+    let port = port_of(rt, &listener);
+    let ((written, ended), answered) = thread::join(
         rt,
         || service(rt, alloc, &listener, way, &gate, &host),
-        || client(rt, alloc, port),
+        || client(rt, alloc, port, ASKED),
     );
-    let (written, answered) = (written?, answered?);
-    assert!(rt; answered.as_slice() == ANSWERED);
+    let answered = answered.ok().expect(rt, "answers");
+    assert!(rt; ended.is_ok() && answered.as_slice() == ANSWERED);
     assert!(rt; written.as_slice() == b"accepted 7 inserted 4 deleted 0 held 4\n".as_slice());
-    Ok([
+    let counts = [
         gate.asked.load(Ordering::SeqCst),
         gate.entries.load(Ordering::SeqCst),
         host.checkpoints.load(Ordering::SeqCst),
         host.sessions.load(Ordering::SeqCst),
         host.cut_off.load(Ordering::SeqCst),
-    ])
+    ];
+    assert!(rt; counts == wanted);
 }
 
 /// Each command asks the server's own gate twice, its policy is the server's, and the one checkpoint that was due is
 /// reported to the gate, and to a host that asks for it.
 #[test]
-fn a_server_asks_its_gate_and_notifies_its_host(rt: HostRuntime) -> Result<(), Fail> {
-    let noting = counts_of(&rt, rt.alloc(), Way::NotingCheckpoints)?;
-    assert!(rt; noting == [14, 4, 1, 1, 0]);
-    let noting_none = counts_of(&rt, rt.alloc(), Way::NotingNone)?;
-    assert!(rt; noting_none == [14, 4, 0, 1, 0]);
-    let alone = counts_of(&rt, rt.alloc(), Way::Alone)?;
-    assert!(rt; alone == [14, 4, 0, 0, 0]);
-    Ok(())
-}
-
-/// The same over a table that witnesses its replies, whose workers keep receipts or none.
-#[test]
-fn a_witnessed_server_asks_its_gate_and_notifies_its_host(rt: HostRuntime) -> Result<(), Fail> {
-    let witnessed = counts_of(&rt, rt.alloc(), Way::Witnessed)?;
-    assert!(rt; witnessed == [14, 4, 1, 1, 0]);
-    let noting_none = counts_of(&rt, rt.alloc(), Way::WitnessedNotingNone)?;
-    assert!(rt; noting_none == [14, 4, 0, 1, 0]);
-    let audited = counts_of(&rt, rt.alloc(), Way::Audited)?;
-    assert!(rt; audited == [14, 4, 1, 1, 0]);
-    let noting_none = counts_of(&rt, rt.alloc(), Way::AuditedNotingNone)?;
-    assert!(rt; noting_none == [14, 4, 0, 1, 0]);
-    Ok(())
+fn a_server_asks_its_gate_and_notifies_its_host(rt: HostRuntime) {
+    'ways: for place in 0..WAYS.len() {
+        let (way, wanted) = WAYS[place];
+        assert_way(&rt, rt.alloc(), way, wanted);
+    }
 }

@@ -1,8 +1,8 @@
 //! Sessions whose reader or writer fails, at each of its calls.
-use crate::session::{assert_text, core, ends, joined, session};
+use crate::session::{core, ended, joined, session};
 use crack_failing::{ONE_BYTE, Sink, Source};
-use crack_row::{GREATEST_LIMIT, Refusal, Watched};
-use crack_session::{End, Fault, How};
+use crack_row::{GREATEST_LIMIT, Policy, Refusal, Watched};
+use crack_session::{End, Fault};
 use std::alloc::Global;
 use std::process::Abort;
 
@@ -48,6 +48,16 @@ fn whole_parts(parts: &[&[u8]], bytes: usize) -> (u64, usize) {
     (count, bytes.saturating_sub(left))
 }
 
+/// The devices of a session: the sizes of what is read, and the most that is written at a time; the reader fails at
+/// its read of one number, from 1, and the writer at its call of another.
+#[derive(Clone, Copy)]
+struct Devices {
+    sizes: &'static [usize],
+    most: usize,
+    read: u64,
+    call: u64,
+}
+
 /// The observed result of a session.
 #[derive(Drop)]
 struct Seen {
@@ -63,95 +73,84 @@ struct Seen {
 }
 
 /// Serves a session over a fresh core of this limit.
-fn see(rt: &impl Abort, alloc: Global, limit: u64, source: Source<'_>, sink: Sink) -> Seen {
-    let mut desk = core(rt, alloc, limit);
-    let mut reader = Watched::new(source);
-    let mut writer = Watched::new(sink);
-    let result = session(alloc, &mut desk, &mut reader, &mut writer);
+fn see(rt: &impl Abort, alloc: Global, limit: u64, input: &[u8], devices: Devices) -> Seen {
+    let source = Source::new(input).cut(devices.sizes);
+    let sink = Sink::new(Vec::new(alloc)).taking(devices.most);
+    let mut desk = core(rt, alloc, &[], limit);
+    let mut reader = Watched::new(source.failing_at(devices.read));
+    let mut writer = Watched::new(sink.failing_at(devices.call));
+    let result = session(alloc, &mut desk, Policy::Complete, &mut reader, &mut writer);
     drop(desk);
     let failed = reader.failed() || writer.failed();
     let reads = reader.reads();
     let left = reader.into_inner().left().len();
     let sink = writer.into_inner();
     let calls = sink.calls();
-    let text = sink.into_bytes();
     Seen {
         result,
         failed,
         left,
         reads,
-        text,
+        text: sink.into_bytes(),
         calls,
     }
 }
 
-/// Asserts how a session ended.
-fn assert_ended(rt: &impl Abort, seen: &Seen, wanted: Result<End, Fault>) {
-    assert_eq!(rt; seen.result, wanted);
-}
-
-/// Asserts that all statements are answered.
-fn assert_whole(rt: &impl Abort, seen: &Seen, replies: &[u8]) {
-    assert_text(rt, &seen.text, replies);
-    assert_ended(rt, seen, Ok(ends(How::InputEnded, 10)));
-}
-
-/// Asserts that as many statements are done as are answered whole, and that the output is a prefix of all replies;
-/// returns how many bytes the whole ones are.
-fn assert_cut_off(rt: &impl Abort, seen: &Seen, refusal: Refusal, replies: &[u8]) -> usize {
-    let written = seen.text.len();
-    assert!(rt; replies.starts_with(seen.text.as_slice()));
-    let (done, whole) = whole_parts(&REPLIES, written);
+/// Asserts that as many statements are done as are answered whole, and that the output is a prefix of all replies. If
+/// the reader fails, the whole lines before that are answered, and nothing else; a writer isn't called again.
+fn fail(
+    rt: &impl Abort,
+    alloc: Global,
+    input: &[u8],
+    replies: &[u8],
+    devices: Devices,
+    refusal: Refusal,
+) {
+    let seen = see(rt, alloc, GREATEST_LIMIT, input, devices);
+    let is_prefix = replies.starts_with(seen.text.as_slice());
+    let (done, whole) = whole_parts(&REPLIES, seen.text.len());
     let fault = Fault {
         refusal,
         done,
         first_short: None,
     };
-    assert_ended(rt, seen, Err(fault));
-    whole
+    assert_eq!(rt; seen.result, Err(fault));
+    let (asked, _) = whole_parts(&LINES, input.len().saturating_sub(seen.left));
+    let is_as_wanted = if refusal == Refusal::ReadFault {
+        seen.text.len() == whole && asked == done
+    } else {
+        seen.calls == devices.call
+    };
+    assert!(rt; is_prefix && is_as_wanted);
+    drop(seen);
 }
 
-/// Asserts that the whole lines from a reader which fails at its k-th read are answered, and nothing else.
-fn fail_read(
+/// Devices that fail with this refusal at each of their calls in turn, and then at none.
+fn fail_each(
     rt: &impl Abort,
     alloc: Global,
     input: &[u8],
     replies: &[u8],
-    sizes: &[usize],
-    k: u64,
+    devices: Devices,
+    refusal: Refusal,
 ) {
-    let source = Source::new(input).cut(sizes).failing_at(k);
-    let seen = see(
-        rt,
-        alloc,
-        GREATEST_LIMIT,
-        source,
-        Sink::new(Vec::new(alloc)),
+    let seen = see(rt, alloc, GREATEST_LIMIT, input, devices);
+    assert_eq!(rt;
+        (seen.result, seen.text.as_slice()),
+        (Ok(ended(10, None)), replies)
     );
-    let whole = assert_cut_off(rt, &seen, Refusal::ReadFault, replies);
-    assert!(rt; seen.text.len() == whole);
-    let given = input.len().saturating_sub(seen.left);
-    let (asked, _) = whole_parts(&LINES, given);
-    let (answered, _) = whole_parts(&REPLIES, whole);
-    assert!(rt; answered == asked);
+    let (reads, calls) = (seen.reads, seen.calls);
     drop(seen);
-}
-
-/// A reader that fails at each of its reads in turn, and then at none.
-fn fail_each_read(rt: &impl Abort, alloc: Global, input: &[u8], replies: &[u8], sizes: &[usize]) {
-    let source = Source::new(input).cut(sizes);
-    let seen = see(
-        rt,
-        alloc,
-        GREATEST_LIMIT,
-        source,
-        Sink::new(Vec::new(alloc)),
-    );
-    assert_whole(rt, &seen, replies);
-    let reads = seen.reads;
-    drop(seen);
-    for before in 0..reads {
-        fail_read(rt, alloc, input, replies, sizes, before + 1);
+    let is_read = refusal == Refusal::ReadFault;
+    let count = if is_read { reads } else { calls };
+    for before in 0..count {
+        let mut failing = devices;
+        if is_read {
+            failing.read = before + 1;
+        } else {
+            failing.call = before + 1;
+        }
+        fail(rt, alloc, input, replies, failing, refusal);
     }
 }
 
@@ -160,42 +159,15 @@ fn a_reader_fails_at_each_read(rt: HostRuntime) {
     let alloc: Global = rt.alloc();
     let input = joined(&rt, alloc, &LINES);
     let replies = joined(&rt, alloc, &REPLIES);
-    let cuts: [&[usize]; 3] = [&[], ONE_BYTE, &[2, 30, 1, 5]];
+    let cuts: [&'static [usize]; 3] = [&[], ONE_BYTE, &[2, 30, 1, 5]];
     for sizes in cuts {
-        fail_each_read(&rt, alloc, input.as_slice(), replies.as_slice(), sizes);
-    }
-}
-
-/// Asserts that a writer which fails at its k-th call has all before it, of the reply that it cuts off a part.
-fn fail_call(rt: &impl Abort, alloc: Global, input: &[u8], replies: &[u8], most: usize, k: u64) {
-    let sink = Sink::new(Vec::new(alloc)).taking(most).failing_at(k);
-    let seen = see(
-        rt,
-        alloc,
-        GREATEST_LIMIT,
-        Source::new(input).cut(&[9]),
-        sink,
-    );
-    assert_cut_off(rt, &seen, Refusal::WriteFault, replies);
-    assert!(rt; seen.calls == k);
-    drop(seen);
-}
-
-/// A writer that fails at each of its calls in turn, and then at none.
-fn fail_each_call(rt: &impl Abort, alloc: Global, input: &[u8], replies: &[u8], most: usize) {
-    let sink = Sink::new(Vec::new(alloc)).taking(most);
-    let seen = see(
-        rt,
-        alloc,
-        GREATEST_LIMIT,
-        Source::new(input).cut(&[9]),
-        sink,
-    );
-    assert_whole(rt, &seen, replies);
-    let calls = seen.calls;
-    drop(seen);
-    for before in 0..calls {
-        fail_call(rt, alloc, input, replies, most, before + 1);
+        let devices = Devices {
+            sizes,
+            most: usize::MAX,
+            read: u64::MAX,
+            call: u64::MAX,
+        };
+        fail_each(&rt, alloc, &input, &replies, devices, Refusal::ReadFault);
     }
 }
 
@@ -205,56 +177,89 @@ fn a_writer_fails_at_each_call(rt: HostRuntime) {
     let input = joined(&rt, alloc, &LINES);
     let replies = joined(&rt, alloc, &REPLIES);
     for most in [usize::MAX, 1, 5] {
-        fail_each_call(&rt, alloc, input.as_slice(), replies.as_slice(), most);
+        let devices = Devices {
+            sizes: &[9],
+            most,
+            read: u64::MAX,
+            call: u64::MAX,
+        };
+        fail_each(&rt, alloc, &input, &replies, devices, Refusal::WriteFault);
     }
 }
 
-/// Asserts that a device failed, and that the session was cut short so, after this text.
-fn assert_fault(rt: &impl Abort, seen: &Seen, text: &[u8], fault: Fault) {
-    assert!(rt; seen.failed);
-    assert_text(rt, &seen.text, text);
-    assert_ended(rt, seen, Err(fault));
+/// A session over a core of this limit that a device cuts short so, after this text.
+#[derive(Clone, Copy)]
+struct Case {
+    limit: u64,
+    input: &'static [u8],
+    devices: Devices,
+    text: &'static [u8],
+    fault: Fault,
 }
 
-/// The third reply is the writer's fourth call, after a flush.
-#[test]
-fn writer_fails_in_the_third_reply(rt: HostRuntime) {
-    let source = Source::new(b"insert 1 1\ninsert 2 2\nfoo\nquit\n");
-    let sink = Sink::new(Vec::new(rt.alloc())).failing_at(4);
-    let fault = Fault {
-        refusal: Refusal::WriteFault,
-        done: 2,
-        first_short: None,
-    };
-    let seen = see(&rt, rt.alloc(), GREATEST_LIMIT, source, sink);
-    assert_fault(&rt, &seen, b"row 0.0\nrow 0.1\n", fault);
-    drop(seen);
-}
+const CASES: &[Case] = &[
+    // the third reply is the writer's fourth call, after a flush
+    Case {
+        limit: GREATEST_LIMIT,
+        input: b"insert 1 1\ninsert 2 2\nfoo\nquit\n",
+        devices: Devices {
+            sizes: &[],
+            most: usize::MAX,
+            read: u64::MAX,
+            call: 4,
+        },
+        text: b"row 0.0\nrow 0.1\n",
+        fault: Fault {
+            refusal: Refusal::WriteFault,
+            done: 2,
+            first_short: None,
+        },
+    },
+    // the writer fails after a lack of room
+    Case {
+        limit: 1,
+        input: b"insert 1 1\ninsert 2 2\nfoo\nquit\n",
+        devices: Devices {
+            sizes: &[],
+            most: usize::MAX,
+            read: u64::MAX,
+            call: 4,
+        },
+        text: b"row 0.0\nrefused 6 1\n",
+        fault: Fault {
+            refusal: Refusal::WriteFault,
+            done: 2,
+            first_short: Some(2),
+        },
+    },
+    // the reader fails in a line
+    Case {
+        limit: GREATEST_LIMIT,
+        input: b"insert 1 1\ncount 0 9",
+        devices: Devices {
+            sizes: &[16],
+            most: usize::MAX,
+            read: 3,
+            call: u64::MAX,
+        },
+        text: b"row 0.0\n",
+        fault: Fault {
+            refusal: Refusal::ReadFault,
+            done: 1,
+            first_short: None,
+        },
+    },
+];
 
 #[test]
-fn writer_fails_behind_a_want_of_room(rt: HostRuntime) {
-    let source = Source::new(b"insert 1 1\ninsert 2 2\nfoo\nquit\n");
-    let sink = Sink::new(Vec::new(rt.alloc())).failing_at(4);
-    let fault = Fault {
-        refusal: Refusal::WriteFault,
-        done: 2,
-        first_short: Some(2),
-    };
-    let seen = see(&rt, rt.alloc(), 1, source, sink);
-    assert_fault(&rt, &seen, b"row 0.0\nrefused 6 1\n", fault);
-    drop(seen);
-}
-
-#[test]
-fn reader_fails_in_a_line(rt: HostRuntime) {
-    let source = Source::new(b"insert 1 1\ncount 0 9").cut(&[16]);
-    let sink = Sink::new(Vec::new(rt.alloc()));
-    let fault = Fault {
-        refusal: Refusal::ReadFault,
-        done: 1,
-        first_short: None,
-    };
-    let seen = see(&rt, rt.alloc(), GREATEST_LIMIT, source.failing_at(3), sink);
-    assert_fault(&rt, &seen, b"row 0.0\n", fault);
-    drop(seen);
+fn sessions_are_cut_short(rt: HostRuntime) {
+    'cases: for place in 0..CASES.len() {
+        let case = CASES[place];
+        let seen = see(&rt, rt.alloc(), case.limit, case.input, case.devices);
+        assert_eq!(rt;
+            (seen.failed, seen.result, seen.text.as_slice()),
+            (true, Err(case.fault), case.text)
+        );
+        drop(seen);
+    }
 }

@@ -1,24 +1,19 @@
 //! Lines by themselves, each on a fresh core, however they are cut.
-use crate::session::{assert_told, core, ends, joined};
+use crate::session::{assert_told, core, ended, joined};
 use crack_failing::{ONE_BYTE, Source};
 use crack_row::GREATEST_LIMIT;
-use crack_session::{How, LINE_BYTES};
+use crack_session::LINE_BYTES;
 use std::alloc::Global;
 use std::process::Abort;
 
 /// A line that is to be answered so, by reads of these sizes.
 fn assert_line(rt: &impl Abort, alloc: Global, line: &[u8], text: &[u8], sizes: &[usize]) {
     let statements = if text.is_empty() { 0 } else { 1 };
-    let end = ends(How::InputEnded, statements);
-    let reader = Source::new(line).cut(sizes);
-    assert_told(
-        rt,
-        alloc,
-        core(rt, alloc, GREATEST_LIMIT),
-        reader,
-        text,
-        end,
-    );
+    let end = ended(statements, None);
+    let mut desk = core(rt, alloc, &[], GREATEST_LIMIT);
+    let source = Source::new(line).cut(sizes);
+    assert_told(rt, alloc, &mut desk, source, text, end);
+    drop(desk);
 }
 
 /// Lines that are to be answered so each.
@@ -32,7 +27,7 @@ fn assert_each(rt: &impl Abort, alloc: Global, lines: &[&[u8]], text: &[u8]) {
 
 #[test]
 fn bad_lines_are_refused(rt: HostRuntime) {
-    const LINES: [&[u8]; 51] = [
+    const LINES: [&[u8]; 28] = [
         b"insert",
         b"insert 1",
         b"insert 1 2 3",
@@ -61,6 +56,13 @@ fn bad_lines_are_refused(rt: HostRuntime) {
         b"delete 4294967296.0",
         b"delete 0.18446744073709551616",
         b"delete 0.000000000000000000001",
+    ];
+    assert_each(&rt, rt.alloc(), &LINES, b"refused 1\n");
+}
+
+#[test]
+fn other_bad_lines_are_refused(rt: HostRuntime) {
+    const LINES: [&[u8]; 23] = [
         b"update 0.0 1",
         b"update 0.0 1 2 3",
         b"update 0 1 2",
@@ -86,30 +88,52 @@ fn bad_lines_are_refused(rt: HostRuntime) {
         &[b' '; LINE_BYTES + 1],
     ];
     assert_each(&rt, rt.alloc(), &LINES, b"refused 1\n");
-    const RANGES: [&[u8]; 5] = [
-        b"count 18446744073709551616 0",
-        b"count 0 99999999999999999999",
-        b"sum 2 1",
-        b"sum 0 18446744073709551617",
-        b"select 6 5",
-    ];
-    assert_each(&rt, rt.alloc(), &RANGES, b"refused 2\n");
 }
 
-/// A minus sign is right before a payload's digits, which may be as many as ever.
+/// Answers, each with its lines.
+const ANSWERS: &[(&[u8], &[&[u8]])] = &[
+    (
+        b"refused 2\n",
+        &[
+            b"count 18446744073709551616 0",
+            b"count 0 99999999999999999999",
+            b"sum 2 1",
+            b"sum 0 18446744073709551617",
+            b"select 6 5",
+        ],
+    ),
+    // a minus sign is right before a payload's digits, which may be as many as ever
+    (
+        b"row 0.0\n",
+        &[
+            b"insert 1 -2",
+            b"insert 1 -0",
+            b"insert 18446744073709551615 -9223372036854775808",
+            b"insert 4294967296 9223372036854775807",
+            b"insert 1 -09223372036854775808",
+            b"  insert   007   -00000000000000000008  ",
+        ],
+    ),
+    // no row is there
+    (
+        b"none\n",
+        &[
+            b"update 0.0 18446744073709551615 -1",
+            b"update 0.0 0 -0",
+            b"delete 0.18446744073709551615",
+        ],
+    ),
+    // no such partition is there
+    (b"refused 5\n", &[b"delete 1.0", b"layout 4294967295"]),
+    (b"", &[b"\r", b"\r\n", b"   \n"]),
+];
+
 #[test]
-fn payloads_have_a_sign(rt: HostRuntime) {
-    const INSERTS: [&[u8]; 6] = [
-        b"insert 1 -2",
-        b"insert 1 -0",
-        b"insert 18446744073709551615 -9223372036854775808",
-        b"insert 4294967296 9223372036854775807",
-        b"insert 1 -09223372036854775808",
-        b"  insert   007   -00000000000000000008  ",
-    ];
-    assert_each(&rt, rt.alloc(), &INSERTS, b"row 0.0\n");
-    const UPDATES: [&[u8]; 2] = [b"update 0.0 18446744073709551615 -1", b"update 0.0 0 -0"];
-    assert_each(&rt, rt.alloc(), &UPDATES, b"none\n");
+fn lines_are_answered(rt: HostRuntime) {
+    'answers: for place in 0..ANSWERS.len() {
+        let (text, lines) = ANSWERS[place];
+        assert_each(&rt, rt.alloc(), lines, text);
+    }
 }
 
 /// A line of `insert 1 1`, filled with spaces to the greatest length, and so much more after it.
@@ -131,14 +155,4 @@ fn lines_are_long_and_spaced(rt: HostRuntime) {
     assert_each(&rt, alloc, &inserts, b"row 0.0\n");
     let longer = filled(&rt, alloc, b" ");
     assert_each(&rt, alloc, &[longer.as_slice()], b"refused 1\n");
-    const BLANK: [&[u8]; 3] = [b"\r", b"\r\n", b"   \n"];
-    assert_each(&rt, alloc, &BLANK, b"");
-}
-
-#[test]
-fn rows_and_partitions_that_are_not_there(rt: HostRuntime) {
-    const ROWS: [&[u8]; 1] = [b"delete 0.18446744073709551615"];
-    assert_each(&rt, rt.alloc(), &ROWS, b"none\n");
-    const PARTITIONS: [&[u8]; 2] = [b"delete 1.0", b"layout 4294967295"];
-    assert_each(&rt, rt.alloc(), &PARTITIONS, b"refused 5\n");
 }

@@ -32,39 +32,17 @@ impl Log {
             is_orderly: Cell::new(true),
         }
     }
-
-    /// Notes a read for this many bytes.
-    fn note_read(&self, bytes: usize) {
-        self.reads.set(self.reads.get().saturating_add(1));
-        if bytes != 4096 || self.asked.get() != self.answered.get() {
-            self.is_orderly.set(false);
-        }
-    }
-
-    /// Notes that these bytes were given.
-    fn note_given(&self, bytes: &[u8]) {
-        self.asked
-            .set(self.asked.get().saturating_add(count_feeds(bytes)));
-    }
-
-    /// Notes a write of these bytes.
-    fn note_write(&self, bytes: &[u8]) {
-        self.writes.set(self.writes.get().saturating_add(1));
-        self.left.set(self.left.get().saturating_add(bytes.len()));
-        self.answered
-            .set(self.answered.get().saturating_add(count_feeds(bytes)));
-    }
-
-    /// Notes a flush.
-    fn note_flush(&self) {
-        self.flushes.set(self.flushes.get().saturating_add(1));
-        self.left.set(0);
-    }
 }
 
 /// How many line feeds there are.
 fn count_feeds(bytes: &[u8]) -> usize {
-    bytes.iter().filter(|b| **b == b'\n').count()
+    let mut count = 0usize;
+    for byte in bytes {
+        if *byte == b'\n' {
+            count = count.saturating_add(1);
+        }
+    }
+    count
 }
 
 /// A device that notes its calls in a log.
@@ -76,21 +54,32 @@ pub struct Logged<'a, D> {
 
 impl<R: Read> Read for Logged<'_, R> {
     fn read(&mut self, buf: &mut [u8]) -> io::Result<usize> {
-        self.log.note_read(buf.len());
+        let log = self.log;
+        log.reads.set(log.reads.get().saturating_add(1));
+        if buf.len() != 4096 || log.asked.get() != log.answered.get() {
+            log.is_orderly.set(false);
+        }
         let count = self.device.read(buf)?;
-        self.log.note_given(&buf[..count]);
+        let feeds = count_feeds(&buf[..count]);
+        log.asked.set(log.asked.get().saturating_add(feeds));
         Ok(count)
     }
 }
 
 impl<W: Write> Write for Logged<'_, W> {
     fn write(&mut self, buf: &[u8]) -> io::Result<usize> {
-        self.log.note_write(buf);
+        let log = self.log;
+        log.writes.set(log.writes.get().saturating_add(1));
+        log.left.set(log.left.get().saturating_add(buf.len()));
+        let feeds = count_feeds(buf);
+        log.answered.set(log.answered.get().saturating_add(feeds));
         self.device.write(buf)
     }
 
     fn flush(&mut self) -> io::Result<()> {
-        self.log.note_flush();
+        let log = self.log;
+        log.flushes.set(log.flushes.get().saturating_add(1));
+        log.left.set(0);
         self.device.flush()
     }
 }

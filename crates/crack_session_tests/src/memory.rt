@@ -2,13 +2,12 @@
 //!
 //! The tests `sweep_..` hold whichever one of their allocations is refused, so they may be run with each of them
 //! refused in turn.
-use crate::desks::{Refusing, Starved};
-use crate::session::{assert_run, assert_text, ends_short, joined, session};
+use crate::desks::Refusing;
+use crate::session::{assert_told, ended, joined, session, tell};
 use crack_core::Core;
-use crack_failing::Sink;
+use crack_failing::Source;
 use crack_plain::PlainTable;
 use crack_row::{GREATEST_LIMIT, Layout, Policy, Refusal, Watched};
-use crack_session::{Desk, How, serve};
 use std::alloc::Global;
 use std::io::Write;
 use std::process::Abort;
@@ -34,33 +33,27 @@ static LINES: [&[u8]; 17] = [
     b"count 0 50\n",
 ];
 
-/// Has one line answered.
-fn answer<D: Desk, W: Write>(
-    rt: &impl Abort,
-    alloc: Global,
-    desk: &mut D,
-    line: &[u8],
-    writer: &mut Watched<W>,
-) {
-    let mut reader = Watched::new(line);
-    assert!(rt; session(alloc, desk, &mut reader, writer).is_ok());
-}
-
 /// The replies of a plain table that skips the line at one place, with a refusal there.
 fn replies_without(rt: &impl Abort, alloc: Global, place: u64) -> Vec<u8> {
     let mut plain = PlainTable::new(alloc);
-    let mut refusing = Refusing {
-        refusal: Refusal::OutOfMemory,
-    };
     let mut writer = Watched::new(Vec::new(alloc));
     let mut at = 0u64;
     for line in LINES {
         at = at.saturating_add(1);
-        if at == place {
-            answer(rt, alloc, &mut refusing, line, &mut writer);
+        let is_told = if at == place {
+            writer.write_all(b"refused 8\n").is_ok()
         } else {
-            answer(rt, alloc, &mut plain, line, &mut writer);
-        }
+            let mut reader = Watched::new(line);
+            session(
+                alloc,
+                &mut plain,
+                Policy::Complete,
+                &mut reader,
+                &mut writer,
+            )
+            .is_ok()
+        };
+        assert!(rt; is_told);
     }
     drop(plain);
     writer.into_inner()
@@ -74,37 +67,20 @@ fn a_want_of_memory_stops_nothing(rt: HostRuntime) {
     'places: for before in 0..17u64 {
         let place = before + 1;
         let replies = replies_without(&rt, alloc, place);
-        let desk = Starved::new(PlainTable::new(alloc), place);
-        let end = ends_short(How::InputEnded, 17, place);
-        assert_run(&rt, alloc, desk, &input, &replies, end);
-    }
-}
-
-/// The answer of a desk to one line by a policy, and whether it is a lack of room. Room for the text is found at
-/// the second time.
-fn told<D: Desk>(
-    rt: &impl Abort,
-    alloc: Global,
-    desk: &mut D,
-    policy: Policy,
-    line: &[u8],
-) -> (bool, Vec<u8>) {
-    let room = Vec::with_capacity(alloc, 256).or_else(|_| Vec::with_capacity(alloc, 256));
-    let mut reader = Watched::new(line);
-    let mut writer = Watched::new(Sink::new(room.expect(rt, "room")));
-    let end = serve(alloc, desk, policy, &mut reader, &mut writer);
-    let text = writer.into_inner().into_bytes();
-    match end {
-        Ok(end) => (end.first_short == Some(1), text),
-        Err(_) => (false, text),
+        let mut desk = Refusing::new(alloc, Refusal::OutOfMemory, place, place);
+        let end = ended(17, Some(place));
+        assert_told(&rt, alloc, &mut desk, Source::new(&input), &replies, end);
+        drop(desk);
     }
 }
 
 /// Asserts that each cell is in one place, that the rows are those of the column less the doomed ones and more the
 /// pending ones, and that the pieces are all of the column.
 fn assert_layout(rt: &impl Abort, layout: &Layout) {
-    let whole = layout.pieces.as_slice().iter().map(|piece| piece.size);
-    let column = whole.fold(0u64, |sum, size| sum.saturating_add(size));
+    let mut column = 0u64;
+    for piece in layout.pieces.as_slice() {
+        column = column.saturating_add(piece.size);
+    }
     let placed = layout.column.saturating_add(layout.pending_in);
     let cells = placed.saturating_add(layout.free);
     let kept = layout.rows.saturating_add(layout.pending_out);
@@ -123,18 +99,19 @@ fn answer_beside(
     policy: Policy,
     line: &[u8],
 ) -> bool {
-    let (is_short, text) = told(rt, alloc, core, policy, line);
-    if is_short {
-        assert_text(rt, &text, b"refused 8\n");
+    let short = Ok(ended(1, Some(1)));
+    let (told, text) = tell(rt, alloc, core, policy, Source::new(line));
+    if told == short {
+        assert!(rt; text.as_slice() == b"refused 8\n".as_slice());
         let layout = core.layout(0).expect(rt, "a layout");
         assert_layout(rt, &layout);
         return true;
     }
-    let (is_short, mut wanted) = told(rt, alloc, plain, policy, line);
-    if is_short {
-        wanted = told(rt, alloc, plain, policy, line).1;
+    let (told, mut wanted) = tell(rt, alloc, plain, policy, Source::new(line));
+    if told == short {
+        wanted = tell(rt, alloc, plain, policy, Source::new(line)).1;
     }
-    assert_text(rt, &text, &wanted);
+    assert!(rt; text.as_slice() == wanted.as_slice());
     false
 }
 

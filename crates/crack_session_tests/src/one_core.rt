@@ -14,6 +14,7 @@ use crack_row::{Bound, Policy, Refusal, Watched};
 use crack_session::{End, serve};
 use std::alloc::Global;
 use std::io::{Read, Write};
+use std::process::Abort;
 
 /// Serves one session and then another. Both have the limit and the splits that the core had before, and the second
 /// has the rows and the bytes that the first left.
@@ -68,26 +69,23 @@ fn serve_and_export<R: Read, W: Write>(
 
 /// The outputs of the three, one after another. It promises nothing, so that the test carries nothing of their
 /// contracts.
-fn tell_all(alloc: Global, core: &mut Core) -> Result<Vec<u8>, Refusal> {
+fn tell_all(rt: &impl Abort, alloc: Global, core: &mut Core) -> Vec<u8> {
     let mut first = Watched::new(b"insert 150 6\nquit\ninsert 1 1\n".as_slice());
     let mut second = Watched::new(b"insert 50 5\ncount 0 200\n".as_slice());
     let mut third = Watched::new(b"delete 1.0\ninsert 160 7\n".as_slice());
     let mut writer = Watched::new(Vec::new(alloc));
     let both = serve_both(alloc, core, &mut first, &mut second, &mut writer);
     let last = serve_and_export(alloc, core, &mut third, &mut writer);
-    let text = writer.into_inner();
-    both?;
-    last?;
-    Ok(text)
+    assert!(rt; both.is_ok() && last.is_ok());
+    writer.into_inner()
 }
 
 #[test]
 fn one_core_is_served_and_then_exported(rt: HostRuntime) {
     let splits = [Bound::from_number(100)];
     let mut core = Core::open(rt.alloc(), &splits, 10).expect(&rt, "a core");
-    let told = tell_all(rt.alloc(), &mut core);
+    let text = tell_all(&rt, rt.alloc(), &mut core);
     drop(core);
-    let text = told.expect(&rt, "three outputs");
     let wanted = b"row 1.0\nbye\nrow 0.0\ncount 2\ngone 150 6\nrow 1.1\nkey,payload\n50,5\n160,7\n";
     assert!(rt; text.as_slice() == wanted.as_slice());
 }

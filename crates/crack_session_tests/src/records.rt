@@ -1,54 +1,37 @@
 //! Loads and exports of CSV: the forms of records, texts that are cut off, and devices that fail.
+use crate::session::core;
 use crack_core::Core;
 use crack_csv::{LoadFault, export_csv, load_csv};
 use crack_failing::{ONE_BYTE, Sink, Source};
-use crack_row::{Bound, BoundNumber, GREATEST_LIMIT, Policy, Refusal, Watched};
+use crack_row::{BoundNumber, GREATEST_LIMIT, Policy, Refusal, Watched};
 use std::alloc::Global;
-use std::io::{Read, Write};
 use std::process::Abort;
 
 /// A header and two records.
 const TEXT: &[u8] = b"key,payload\n150,6\n50,5\n";
 
 /// How a load ends. It promises nothing, so that no test carries all that `load_csv` promises.
-fn load<R: Read + Drop>(alloc: Global, core: &mut Core, reader: R) -> Result<u64, LoadFault> {
-    load_csv(alloc, core, Policy::Ripple, reader)
+fn load(alloc: Global, core: &mut Core, source: Source<'_>) -> Result<u64, LoadFault> {
+    load_csv(alloc, core, Policy::Ripple, source)
 }
 
 /// How an export ends. It promises nothing either.
-fn export<W: Write>(
-    alloc: Global,
-    core: &mut Core,
-    writer: &mut Watched<W>,
-) -> Result<u64, Refusal> {
+fn export(alloc: Global, core: &mut Core, writer: &mut Watched<Sink>) -> Result<u64, Refusal> {
     export_csv(alloc, core, Policy::Ripple, writer)
 }
 
-/// An empty core.
-fn open(rt: &impl Abort, alloc: Global, splits: &[Bound], limit: u64) -> Core {
-    Core::open(alloc, splits, limit).expect(rt, "a core")
+/// How a load of a reader's bytes into one partition ends.
+fn end_of(rt: &impl Abort, alloc: Global, source: Source<'_>) -> Result<u64, LoadFault> {
+    let mut desk = core(rt, alloc, &[], GREATEST_LIMIT);
+    let ended = load(alloc, &mut desk, source);
+    drop(desk);
+    ended
 }
 
 /// A load that a record cuts short.
 fn bad_record(number: u64, loaded: u64) -> Result<u64, LoadFault> {
     let refusal = Refusal::BadRecord { number };
     Err(LoadFault { refusal, loaded })
-}
-
-/// How a load of a reader's bytes into one partition ends.
-fn end_of(rt: &impl Abort, alloc: Global, source: Source<'_>) -> Result<u64, LoadFault> {
-    let mut core = open(rt, alloc, &[], GREATEST_LIMIT);
-    let ended = load(alloc, &mut core, source);
-    drop(core);
-    ended
-}
-
-/// Asserts that an export of a core ends with this count, and writes this text.
-fn assert_text(rt: &impl Abort, alloc: Global, core: &mut Core, count: u64, text: &[u8]) {
-    let mut writer = Watched::new(Vec::new(alloc));
-    let ended = export(alloc, core, &mut writer);
-    let written = writer.into_inner();
-    assert!(rt; ended == Ok(count) && written.as_slice() == text);
 }
 
 /// How the load of this many bytes of the text is to end.
@@ -125,92 +108,156 @@ fn bad_records_are_refused(rt: HostRuntime) {
     }
 }
 
-/// Texts that are loaded, each with the ends of the partitions before the last, and with the count and the text of the
-/// export that follows.
-const THROUGH: &[(&[u8], &[BoundNumber], u64, &[u8])] = &[
+/// A text that is loaded into a core with these splits and this limit, by a reader that gives bytes by these sizes and
+/// fails at the read of one number, from 1, and that is then exported to a writer that fails at the call of another.
+#[derive(Clone, Copy)]
+struct Case {
+    splits: &'static [BoundNumber],
+    limit: u64,
+    text: &'static [u8],
+    sizes: &'static [usize],
+    read: u64,
+    loaded: Result<u64, LoadFault>,
+    call: u64,
+    exported: Result<u64, Refusal>,
+    /// What the writer took.
+    written: &'static [u8],
+}
+
+const CASES: &[Case] = &[
     // rows come out partition by partition
-    (TEXT, &[100], 2, b"key,payload\n50,5\n150,6\n"),
+    Case {
+        splits: &[100],
+        limit: GREATEST_LIMIT,
+        text: TEXT,
+        sizes: &[],
+        read: u64::MAX,
+        loaded: Ok(2),
+        call: u64::MAX,
+        exported: Ok(2),
+        written: b"key,payload\n50,5\n150,6\n",
+    },
     // nothing is exported as a header
-    (b"", &[], 0, b"key,payload\n"),
+    Case {
+        splits: &[],
+        limit: GREATEST_LIMIT,
+        text: b"",
+        sizes: &[],
+        read: u64::MAX,
+        loaded: Ok(0),
+        call: u64::MAX,
+        exported: Ok(0),
+        written: b"key,payload\n",
+    },
     // a byte order mark, quotes, blank lines, a lone carriage return, and no end of line at the end
-    (
-        b"\xEF\xBB\xBFkey,payload\r\n\r\n\"7\",\"70\"\r8,80\n\n00000000000000000009,9223372036854775807",
-        &[],
-        3,
-        b"key,payload\n7,70\n8,80\n9,9223372036854775807\n",
-    ),
+    Case {
+        splits: &[],
+        limit: GREATEST_LIMIT,
+        text: b"\xEF\xBB\xBFkey,payload\r\n\r\n\"7\",\"70\"\r8,80\n\n00000000000000000009,9223372036854775807",
+        sizes: &[],
+        read: u64::MAX,
+        loaded: Ok(3),
+        call: u64::MAX,
+        exported: Ok(3),
+        written: b"key,payload\n7,70\n8,80\n9,9223372036854775807\n",
+    },
     // a payload's sign is read and written; numbers above 0 have none
-    (b"key,payload\n5,-6\n", &[], 1, b"key,payload\n5,-6\n"),
-    (
-        b"18446744073709551615,-9223372036854775808\n4294967296,\"-1\"\n1,-0\n",
-        &[],
-        3,
-        b"key,payload\n18446744073709551615,-9223372036854775808\n4294967296,-1\n1,0\n",
-    ),
+    Case {
+        splits: &[],
+        limit: GREATEST_LIMIT,
+        text: b"key,payload\n5,-6\n",
+        sizes: &[],
+        read: u64::MAX,
+        loaded: Ok(1),
+        call: u64::MAX,
+        exported: Ok(1),
+        written: b"key,payload\n5,-6\n",
+    },
+    Case {
+        splits: &[],
+        limit: GREATEST_LIMIT,
+        text: b"18446744073709551615,-9223372036854775808\n4294967296,\"-1\"\n1,-0\n",
+        sizes: &[],
+        read: u64::MAX,
+        loaded: Ok(3),
+        call: u64::MAX,
+        exported: Ok(3),
+        written: b"key,payload\n18446744073709551615,-9223372036854775808\n4294967296,-1\n1,0\n",
+    },
+    // a reader fails after two records; its first byte is read separately
+    Case {
+        splits: &[],
+        limit: GREATEST_LIMIT,
+        text: TEXT,
+        sizes: &[5],
+        read: 7,
+        loaded: Err(LoadFault {
+            refusal: Refusal::ReadFault,
+            loaded: 2,
+        }),
+        call: u64::MAX,
+        exported: Ok(2),
+        written: b"key,payload\n150,6\n50,5\n",
+    },
+    // a writer fails after the header, and where it is to hand on what it has
+    Case {
+        splits: &[],
+        limit: GREATEST_LIMIT,
+        text: TEXT,
+        sizes: &[],
+        read: u64::MAX,
+        loaded: Ok(2),
+        call: 2,
+        exported: Err(Refusal::WriteFault),
+        written: b"key,payload\n",
+    },
+    Case {
+        splits: &[],
+        limit: GREATEST_LIMIT,
+        text: b"",
+        sizes: &[],
+        read: u64::MAX,
+        loaded: Ok(0),
+        call: 2,
+        exported: Err(Refusal::WriteFault),
+        written: b"key,payload\n",
+    },
+    // a history fills up
+    Case {
+        splits: &[],
+        limit: 1,
+        text: TEXT,
+        sizes: &[],
+        read: u64::MAX,
+        loaded: Err(LoadFault {
+            refusal: Refusal::HistoryFull { length: 1 },
+            loaded: 1,
+        }),
+        call: u64::MAX,
+        exported: Err(Refusal::HistoryFull { length: 1 }),
+        written: b"key,payload\n",
+    },
 ];
 
-/// An empty core with at most two partitions.
-fn open_at(rt: &impl Abort, alloc: Global, splits: &[BoundNumber]) -> Core {
-    match splits.first() {
-        Some(split) => open(rt, alloc, &[Bound::from_number(*split)], GREATEST_LIMIT),
-        None => open(rt, alloc, &[], GREATEST_LIMIT),
-    }
+/// Asserts how a load and an export go.
+fn assert_case(rt: &impl Abort, alloc: Global, case: Case) {
+    let source = Source::new(case.text).cut(case.sizes);
+    let sink = Sink::new(Vec::new(alloc)).failing_at(case.call);
+    let mut desk = core(rt, alloc, case.splits, case.limit);
+    let mut writer = Watched::new(sink);
+    let loaded = load(alloc, &mut desk, source.failing_at(case.read));
+    let exported = export(alloc, &mut desk, &mut writer);
+    drop(desk);
+    let written = writer.into_inner().into_bytes();
+    assert_eq!(rt;
+        (loaded, exported, written.as_slice()),
+        (case.loaded, case.exported, case.written)
+    );
 }
 
 #[test]
 fn records_go_through(rt: HostRuntime) {
-    'texts: for place in 0..THROUGH.len() {
-        let (bytes, splits, count, text) = THROUGH[place];
-        let mut core = open_at(&rt, rt.alloc(), splits);
-        let ended = load(rt.alloc(), &mut core, bytes);
-        assert!(rt; ended == Ok(count), "text {place}");
-        assert_text(&rt, rt.alloc(), &mut core, count, text);
-        drop(core);
+    'cases: for place in 0..CASES.len() {
+        assert_case(&rt, rt.alloc(), CASES[place]);
     }
-}
-
-#[test]
-fn a_reader_fails_behind_two_records(rt: HostRuntime) {
-    // Its first byte is read separately.
-    let reader = Source::new(TEXT).cut(&[5]).failing_at(7);
-    let mut core = open(&rt, rt.alloc(), &[], GREATEST_LIMIT);
-    let ended = load(rt.alloc(), &mut core, reader);
-    let refusal = Refusal::ReadFault;
-    assert!(rt; ended == Err(LoadFault { refusal, loaded: 2 }));
-    assert_text(&rt, rt.alloc(), &mut core, 2, b"key,payload\n150,6\n50,5\n");
-    drop(core);
-}
-
-/// How an export of a core to a writer that fails at the second call ends.
-fn end_of_export(alloc: Global, core: &mut Core) -> Result<u64, Refusal> {
-    let mut writer = Watched::new(Sink::new(Vec::new(alloc)).failing_at(2));
-    let ended = export(alloc, core, &mut writer);
-    drop(writer);
-    ended
-}
-
-/// A writer fails after the header, and where it is to hand on what it has.
-#[test]
-fn a_writer_fails_at_the_second_call(rt: HostRuntime) {
-    let mut core = open(&rt, rt.alloc(), &[], GREATEST_LIMIT);
-    let empty = end_of_export(rt.alloc(), &mut core);
-    drop(core);
-    let mut core = open(&rt, rt.alloc(), &[], GREATEST_LIMIT);
-    let loaded = load(rt.alloc(), &mut core, TEXT);
-    let full = end_of_export(rt.alloc(), &mut core);
-    drop(core);
-    assert!(rt; loaded == Ok(2));
-    assert!(rt; [empty, full] == [Err(Refusal::WriteFault), Err(Refusal::WriteFault)]);
-}
-
-#[test]
-fn a_history_fills_up(rt: HostRuntime) {
-    let mut core = open(&rt, rt.alloc(), &[], 1);
-    let loaded = load(rt.alloc(), &mut core, TEXT);
-    let mut writer = Watched::new(Vec::new(rt.alloc()));
-    let exported = export(rt.alloc(), &mut core, &mut writer);
-    drop(core);
-    drop(writer);
-    let refusal = Refusal::HistoryFull { length: 1 };
-    assert!(rt; loaded == Err(LoadFault { refusal, loaded: 1 }) && exported == Err(refusal));
 }

@@ -1,12 +1,80 @@
 //! How often a session reads, writes and flushes.
 use crate::log::{Log, Logged};
-use crate::session::{core, ends, session};
+use crate::session::{core, session};
 use crack_failing::{Sink, Source};
-use crack_row::{GREATEST_LIMIT, Watched};
-use crack_session::{Desk, How};
+use crack_row::{GREATEST_LIMIT, Policy, Watched};
+use crack_session::{End, How};
 use std::alloc::Global;
-use std::io::{BufWriter, Write};
+use std::io::BufWriter;
 use std::process::Abort;
+
+/// A session whose calls are counted.
+#[derive(Clone, Copy)]
+struct Case {
+    /// A line that is read so often, and other bytes after it.
+    line: &'static [u8],
+    times: u64,
+    last: &'static [u8],
+    /// How many bytes a read gives at most, and which read fails, from 1.
+    size: usize,
+    fails_at: u64,
+    /// How many bytes the writer keeps before it writes.
+    room: usize,
+    how: How,
+    statements: u64,
+    /// Whether there are several writes, and no more of them than reads and one.
+    is_buffered: bool,
+}
+
+const CASES: &[Case] = &[
+    Case {
+        line: b"insert 1 1\n",
+        times: 1000,
+        last: b"count 0 9",
+        size: 4096,
+        fails_at: u64::MAX,
+        room: 8192,
+        how: How::InputEnded,
+        statements: 1001,
+        is_buffered: true,
+    },
+    // each two bytes get ten, and the writer keeps the replies to a whole read
+    Case {
+        line: b"x\n",
+        times: 8192,
+        last: b"",
+        size: 4096,
+        fails_at: u64::MAX,
+        room: 24576,
+        how: How::InputEnded,
+        statements: 8192,
+        is_buffered: true,
+    },
+    // the reads cut the lines
+    Case {
+        line: b"insert 1 1\n",
+        times: 1000,
+        last: b"count 0 9",
+        size: 29,
+        fails_at: u64::MAX,
+        room: 8,
+        how: How::InputEnded,
+        statements: 1001,
+        is_buffered: false,
+    },
+    // nothing is read after `quit`, though the reader would fail
+    Case {
+        line: b"insert 1 1\n",
+        times: 1,
+        last: b"quit\n",
+        size: 4096,
+        fails_at: 2,
+        room: 8,
+        how: How::Quit,
+        statements: 2,
+        is_buffered: false,
+    },
+];
 
 /// A line so often, and then other bytes.
 fn repeated(rt: &impl Abort, alloc: Global, line: &[u8], times: u64, last: &[u8]) -> Vec<u8> {
@@ -18,107 +86,44 @@ fn repeated(rt: &impl Abort, alloc: Global, line: &[u8], times: u64, last: &[u8]
     input
 }
 
-/// A thousand inserts, and a count.
-fn insert_often(rt: &impl Abort, alloc: Global) -> Vec<u8> {
-    repeated(rt, alloc, b"insert 1 1\n", 1000, b"count 0 9")
-}
-
-/// Asserts that there are several writes, no more of them than reads and one, a flush before each read and at the end,
-/// and nothing after the last flush.
-fn assert_few_writes(rt: &impl Abort, log: &Log) {
-    let most = log.reads.get().saturating_add(1);
-    let writes = log.writes.get();
-    assert!(rt; 1 < writes && writes <= most);
-    assert_eq!(rt; [log.flushes.get(), log.left.get() as u64], [most, 0]);
-}
-
-/// Asserts that each read asked for 4,096 bytes, and once each whole line was answered; each line of this many is in
-/// the end.
-fn assert_orderly(rt: &impl Abort, log: &Log, lines: usize) {
-    assert!(rt; log.is_orderly.get() && log.answered.get() == lines);
-}
-
-/// A session of a desk and a writer whose reader gives this many bytes at a time, and which is to end.
-fn log_reads<D: Desk, W: Write>(
-    rt: &impl Abort,
-    alloc: Global,
-    desk: &mut D,
-    writer: &mut Watched<W>,
-    input: &[u8],
-    most: usize,
-    log: &Log,
-) {
-    let sizes = [most];
-    let mut reader = Watched::new(Logged {
-        device: Source::new(input).cut(&sizes),
-        log,
-    });
-    let result = session(alloc, desk, &mut reader, writer);
-    assert!(rt; result.is_ok());
-}
-
-/// A session whose reader gives this many bytes at a time, and whose writer keeps this many before it writes.
-fn log_it(rt: &impl Abort, alloc: Global, input: &[u8], most: usize, room: usize, log: &Log) {
-    let mut desk = core(rt, alloc, GREATEST_LIMIT);
+/// Notes the calls of a session, and asserts how it ends, and that no read fails.
+fn log_it(rt: &impl Abort, alloc: Global, case: Case, log: &Log) {
+    let input = repeated(rt, alloc, case.line, case.times, case.last);
+    let sizes = [case.size];
+    let mut desk = core(rt, alloc, &[], GREATEST_LIMIT);
+    let source = Source::new(&input).cut(&sizes);
+    let device = source.failing_at(case.fails_at);
+    let mut reader = Watched::new(Logged { device, log });
     let device = Sink::new(Vec::new(alloc));
-    let buffered = BufWriter::with_capacity(alloc, room, Logged { device, log });
+    let buffered = BufWriter::with_capacity(alloc, case.room, Logged { device, log });
     let mut writer = Watched::new(buffered.expect(rt, "a buffer"));
-    log_reads(rt, alloc, &mut desk, &mut writer, input, most, log);
+    let result = session(alloc, &mut desk, Policy::Complete, &mut reader, &mut writer);
     drop(writer);
     drop(desk);
+    let end = End {
+        how: case.how,
+        statements: case.statements,
+        first_short: None,
+    };
+    assert!(rt; result == Ok(end) && !reader.failed());
 }
 
-/// Output is flushed before each read and at the end, and so is buffered to at most one write for each read.
-#[test]
-fn writes_are_as_few_as_reads(rt: HostRuntime) {
-    let input = insert_often(&rt, rt.alloc());
-    let log = Log::new();
-    log_it(&rt, rt.alloc(), input.as_slice(), 4096, 8192, &log);
-    assert_few_writes(&rt, &log);
-    assert_orderly(&rt, &log, 1001);
-}
-
-/// The same if each two bytes get ten, and the writer keeps the replies to a whole read.
-#[test]
-fn short_lines_get_few_writes(rt: HostRuntime) {
-    let input = repeated(&rt, rt.alloc(), b"x\n", 8192, b"");
-    let log = Log::new();
-    log_it(&rt, rt.alloc(), input.as_slice(), 4096, 24576, &log);
-    assert_few_writes(&rt, &log);
-    assert_orderly(&rt, &log, 8192);
-}
-
-/// A session that ends by its `quit`, though its reader fails once its bytes are read.
-fn quit_it(rt: &impl Abort, alloc: Global, log: &Log) {
-    let mut desk = core(rt, alloc, GREATEST_LIMIT);
-    let mut reader = Watched::new(Logged {
-        device: Source::new(b"insert 1 1\nquit\n").failing_at(2),
-        log,
-    });
-    let mut writer = Watched::new(Logged {
-        device: Sink::new(Vec::new(alloc)),
-        log,
-    });
-    let result = session(alloc, &mut desk, &mut reader, &mut writer);
-    drop(desk);
-    assert!(rt; result == Ok(ends(How::Quit, 2)) && !reader.failed());
-}
-
-/// After `quit` nothing is read, and the output is flushed: there is one read, with a flush before it and one at the
-/// end.
-#[test]
-fn quit_reads_no_more_and_hands_on(rt: HostRuntime) {
-    let log = Log::new();
-    quit_it(&rt, rt.alloc(), &log);
-    let told = [log.reads.get(), log.flushes.get(), log.left.get() as u64];
-    assert_eq!(rt; told, [1, 2, 0]);
-}
-
-/// Each whole line is answered before the next read, wherever the reads cut the lines.
+/// Each whole line is answered before the next read, wherever the reads cut the lines, and each read asks for 4,096
+/// bytes. Output is flushed before each read and at the end, and so is buffered to at most one write for each read.
 #[test]
 fn lines_are_answered_before_the_next_read(rt: HostRuntime) {
-    let input = insert_often(&rt, rt.alloc());
-    let log = Log::new();
-    log_it(&rt, rt.alloc(), input.as_slice(), 29, 8, &log);
-    assert_orderly(&rt, &log, 1001);
+    'cases: for place in 0..CASES.len() {
+        let case = CASES[place];
+        let log = Log::new();
+        log_it(&rt, rt.alloc(), case, &log);
+        let most = log.reads.get().saturating_add(1);
+        let told = [
+            log.answered.get() as u64,
+            log.flushes.get(),
+            log.left.get() as u64,
+        ];
+        assert_eq!(rt; told, [case.statements, most, 0]);
+        let writes = log.writes.get();
+        assert!(rt; log.is_orderly.get() && (!case.is_buffered || 1 < writes && writes <= most));
+    }
 }

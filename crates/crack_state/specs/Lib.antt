@@ -4,3 +4,9 @@ pub mod Merge
 pub mod Points
 pub mod Stretch
 pub mod Inside
+pub mod Pieces
+pub mod Queues
+pub mod Carried
+pub mod Pulled
+pub mod Filled
+pub mod Sweeps

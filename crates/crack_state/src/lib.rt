@@ -1,6 +1,8 @@
 //! The state of a partition's store, and its invariant: its cells and where each is, the steps by which rows move
-//! between the pending columns, a hand and the cracked column, and what a refinement and a merge may change. The
-//! definitions are in `specs/`, over one record of plain lists, and the laws that the crates above cite in `proofs/`.
+//! between the pending columns, a hand and the cracked column, and what a refinement and a merge may change. A column
+//! after many carries or pulls is defined piece by piece: for one piece they are a queue, so pieces can be processed
+//! one after the other. The definitions are in `specs/`, over one record of plain lists, and the laws that the crates
+//! above cite in `proofs/`.
 #![tactic(auto)]
 
 /// What merges have counted; each counter stops at its greatest value.

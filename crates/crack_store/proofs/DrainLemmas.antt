@@ -21,12 +21,12 @@ use Rattle.crack_index.specs.Places.{Places, at_place}
 use Rattle.crack_state.specs.State.{State, Reads, IsIntact, greatest}
 use Rattle.crack_state.specs.Steps.{buried}
 use Rattle.crack_state.proofs.CellLaws.{AgreeOff-set, read-off}
-use Rattle.crack_bulk.specs.Pieces.{Pieces, column_of, marks_of, cut}
-use Rattle.crack_bulk.specs.Carried.{pieces_of, inside_of}
-use Rattle.crack_bulk.specs.Pulled.{any_doomed, ends_above, pulled, all_drawn, itself, pulled_by, buried_all}
-use Rattle.crack_bulk.proofs.SiftedLaws.{min_and}
-use Rattle.crack_bulk.proofs.AllPulledLaws.{IsDrained-in_bulk}
-use Rattle.crack_bulk.proofs.FallLaws.{AreBuried as Bulk, count_under, fallen_by, AreCounted-in_bulk}
+use Rattle.crack_state.specs.Pieces.{Pieces, column_of, marks_of, cut}
+use Rattle.crack_state.specs.Carried.{pieces_of, inside_of}
+use Rattle.crack_state.specs.Pulled.{any_doomed, ends_above, pulled, all_drawn, itself, pulled_by, buried_all}
+use Rattle.crack_state.proofs.SiftedLaws.{min_and}
+use Rattle.crack_state.proofs.AllPulledLaws.{IsDrained-in_bulk}
+use Rattle.crack_state.proofs.FallLaws.{AreBuried as Bulk, count_under, fallen_by, AreCounted-in_bulk}
 use Rattle.crack_row.specs.Ranges.{Range}
 use Rattle.crack_store.specs.declared.draining.Drain.{Drain}
 use Rattle.crack_store.specs.Drainings.{doomed_of, IsReady, Passes, Empties, IsDrainedTo, AreBuried, CanBePulled}

@@ -11,7 +11,7 @@ use Rattle.crack_row.specs.declared.Row.{Row}
 use Rattle.crack_arena.specs.Arena.{Cell, Handle, no_handle, times, slots}
 use Rattle.crack_arena.specs.Rows.{key_at}
 use Rattle.crack_arena.proofs.Times.{times-cons, times-map-append}
-use Rattle.crack_bulk.specs.Carried.{inside_of}
+use Rattle.crack_state.specs.Carried.{inside_of}
 use Rattle.crack_arena.specs.Memories.{Memory, Remembers, memory_at}
 use Rattle.crack_column.specs.Column.{Column}
 use Rattle.crack_pending.specs.Pending.{Pending}

@@ -18,16 +18,16 @@ use Rattle.crack_index.specs.Places.{Places, at_place}
 use Rattle.crack_pending.specs.Pending.{Pending, Finds, NoneIn, IsFirstIn}
 use Rattle.crack_pending.proofs.Searches.{is_in-true, is_in-false}
 use Rattle.crack_state.specs.State.{State, Reads, IsIntact, live_rows, greatest}
-use Rattle.crack_bulk.specs.Pieces.{Pieces, column_of, marks_of, cut}
-use Rattle.crack_bulk.specs.Carried.{inside_of}
-use Rattle.crack_bulk.specs.Pulled.{any_doomed, pulled, all_drawn, itself}
-use Rattle.crack_bulk.specs.Filled.{lacking, pieces_under, IsFilled}
-use Rattle.crack_bulk.proofs.AllLaws.{All-left, All-right, inside_or}
-use Rattle.crack_bulk.proofs.FilledLaws.{FirstInside, first-inside, first-found, none-before, filled_by, doomed_first, AreFilled, fills-on}
-use Rattle.crack_bulk.proofs.FillLaws.{high-are}
-use Rattle.crack_bulk.proofs.FallLaws.{AreBuried as Bulk, count_under, fallen_by}
-use Rattle.crack_bulk.proofs.LastMarkLaws.{last-is}
-use Rattle.crack_bulk.proofs.StepsDown.{AreFrom}
+use Rattle.crack_state.specs.Pieces.{Pieces, column_of, marks_of, cut}
+use Rattle.crack_state.specs.Carried.{inside_of}
+use Rattle.crack_state.specs.Pulled.{any_doomed, pulled, all_drawn, itself}
+use Rattle.crack_state.specs.Filled.{lacking, pieces_under, IsFilled}
+use Rattle.crack_state.proofs.AllCarriedLaws.{All-left, All-right, inside_or}
+use Rattle.crack_state.proofs.FilledLaws.{FirstInside, first-inside, first-found, none-before, filled_by, doomed_first, AreFilled, fills-on}
+use Rattle.crack_state.proofs.FillLaws.{high-are}
+use Rattle.crack_state.proofs.FallLaws.{AreBuried as Bulk, count_under, fallen_by}
+use Rattle.crack_state.proofs.LastMarkLaws.{last-is}
+use Rattle.crack_state.proofs.StepsDown.{AreFrom}
 use Rattle.crack_store.specs.declared.draining.Drain.{Drain}
 use Rattle.crack_store.specs.declared.filling.DrainBelow.{DrainBelow}
 use Rattle.crack_store.specs.Drainings.{doomed_of, Empties, AreBuried}

@@ -19,14 +19,14 @@ use Rattle.crack_pending.specs.Pending.{Finds}
 use Rattle.crack_state.specs.State.{State, IsIntact, greatest}
 use Rattle.crack_state.specs.Steps.{SameButRoom}
 use Rattle.crack_state.proofs.StepLaws.{IsIntact-room}
-use Rattle.crack_bulk.specs.Carried.{inside_of, carried_in_bulk, pieces_of}
-use Rattle.crack_bulk.proofs.Carried.{carried_by_sifting}
-use Rattle.crack_bulk.proofs.Sifts.{all_made_way, count_below, risen}
-use Rattle.crack_bulk.proofs.SiftLaws.{count-below_bound}
-use Rattle.crack_bulk.proofs.SiftedLaws.{GoThrough, carried-sifting, min_and}
-use Rattle.crack_bulk.proofs.StepsDown.{sifted_from, made_way_from, queued-lowest, made_way-lowest, sifted_from-none, made_way_from-none, sifted_down-is}
-use Rattle.crack_bulk.proofs.AllLaws.{IsKept, IsKept-in_bulk}
-use Rattle.crack_bulk.proofs.ClearLaws.{OfMet-clear}
+use Rattle.crack_state.specs.Carried.{inside_of, carried_in_bulk, pieces_of}
+use Rattle.crack_state.proofs.Carried.{carried_by_sifting}
+use Rattle.crack_state.proofs.Sifts.{all_made_way, count_below, risen}
+use Rattle.crack_state.proofs.SiftLaws.{count-below_bound}
+use Rattle.crack_state.proofs.SiftedLaws.{GoThrough, carried-sifting, min_and}
+use Rattle.crack_state.proofs.StepsDown.{sifted_from, made_way_from, queued-lowest, made_way-lowest, sifted_from-none, made_way_from-none, sifted_down-is}
+use Rattle.crack_state.proofs.AllCarriedLaws.{IsKept, IsKept-in_bulk}
+use Rattle.crack_state.proofs.ClearLaws.{OfMet-clear}
 use Rattle.crack_store.specs.declared.sifting.Sieve.{Sieve}
 use Rattle.crack_store.specs.Sieves.{AreClear, Passes, Rises}
 

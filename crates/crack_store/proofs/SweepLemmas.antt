@@ -11,8 +11,8 @@ use Rattle.crack_row.specs.declared.Row.{Row}
 use Rattle.crack_arena.specs.Arena.{Cell, Handle, no_handle}
 use Rattle.crack_arena.specs.Rows.{key_at}
 use Rattle.crack_column.specs.Column.{swapped}
-use Rattle.crack_bulk.specs.Sweeps.{Swept, Round, with_more, goes_on, round, swept, is_lower}
-use Rattle.crack_bulk.proofs.SweepLaws.{by-step}
+use Rattle.crack_state.specs.Sweeps.{Swept, Round, with_more, goes_on, round, swept, is_lower}
+use Rattle.crack_state.proofs.SweepLaws.{by-step}
 use Rattle.crack_store.specs.Sweepings.{ends_in, up_to, sweep_of, leaving}
 
 -- Two rows are exchanged

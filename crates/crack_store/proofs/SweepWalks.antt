@@ -19,17 +19,17 @@ use Rattle.crack_pending.proofs.Searches.{is_in-true, is_in-false}
 use Rattle.crack_state.specs.State.{State, IsIntact, greatest}
 use Rattle.crack_state.specs.Steps.{SameButRoom, buried}
 use Rattle.crack_state.proofs.StepLaws.{IsIntact-room}
-use Rattle.crack_bulk.specs.Carried.{carried_in_bulk, inside_of, pieces_of}
-use Rattle.crack_bulk.specs.Pieces.{cut}
-use Rattle.crack_bulk.specs.Pulled.{buried_all}
-use Rattle.crack_bulk.specs.Sweeps.{Swept, goes_on, is_lower}
-use Rattle.crack_bulk.proofs.SweptUp.{swept_up, swept_marks}
-use Rattle.crack_bulk.proofs.EndLaws.{AreBuried-apart}
-use Rattle.crack_bulk.proofs.FallLaws.{AreBuried as Bulk}
-use Rattle.crack_bulk.proofs.SiftedLaws.{min_and}
-use Rattle.crack_bulk.proofs.AllLaws.{inside_or}
-use Rattle.crack_bulk.proofs.SweepLaws.{length-swept_by, length-swept_up, few-turn_by, swept_by-off}
-use Rattle.crack_bulk.proofs.SweptLaws.{rows_in, sweep, unburied, hands-apart, carried-sweeping}
+use Rattle.crack_state.specs.Carried.{carried_in_bulk, inside_of, pieces_of}
+use Rattle.crack_state.specs.Pieces.{cut}
+use Rattle.crack_state.specs.Pulled.{buried_all}
+use Rattle.crack_state.specs.Sweeps.{Swept, goes_on, is_lower}
+use Rattle.crack_state.proofs.SweptUp.{swept_up, swept_marks}
+use Rattle.crack_state.proofs.EndLaws.{AreBuried-apart}
+use Rattle.crack_state.proofs.FallLaws.{AreBuried as Bulk}
+use Rattle.crack_state.proofs.SiftedLaws.{min_and}
+use Rattle.crack_state.proofs.AllCarriedLaws.{inside_or}
+use Rattle.crack_state.proofs.SweepLaws.{length-swept_by, length-swept_up, few-turn_by, swept_by-off}
+use Rattle.crack_state.proofs.SweptLaws.{rows_in, sweep, unburied, hands-apart, carried-sweeping}
 use Rattle.crack_store.specs.Drainings.{AreBuried}
 use Rattle.crack_store.specs.declared.sweeping.Sweep.{Sweep}
 use Rattle.crack_store.specs.Sweepings.{ends_in, up_to, sweep_of, going_on, IsReady, IsSweptTo, Passes, Sweeps, Turns}

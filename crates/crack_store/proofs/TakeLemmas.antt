@@ -15,7 +15,7 @@ use Rattle.crack_pending.proofs.Searches.{is_in-true, is_in-false}
 use Rattle.crack_arena.specs.Memories.{memory_at}
 use Rattle.crack_column.specs.Column.{Column}
 use Rattle.crack_column.specs.Sifts.{AreRead}
-use Rattle.crack_bulk.specs.Carried.{inside_of}
+use Rattle.crack_state.specs.Carried.{inside_of}
 use Rattle.crack_state.specs.Merge.{outside_of}
 
 module _ (cells : List (Cell Row)) (r : Range) where

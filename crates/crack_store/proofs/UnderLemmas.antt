@@ -21,12 +21,12 @@ use Rattle.crack_state.specs.Steps.{SameButRoom}
 use Rattle.crack_state.proofs.CellLaws.{cell_within, row_read}
 use Rattle.crack_state.proofs.OwnedLaws.{times-places, once-most}
 use Rattle.crack_state.proofs.StepLaws.{IsIntact-room}
-use Rattle.crack_bulk.specs.Pieces.{Pieces, column_of, cut}
-use Rattle.crack_bulk.specs.Carried.{is_doomed, inside_of, carried_in_bulk}
-use Rattle.crack_bulk.proofs.AllLaws.{inside_or, IsKept, IsKept-in_bulk}
-use Rattle.crack_bulk.proofs.CeilingLaws.{GoUnder, parted, met-all, carried_under, carried-under}
-use Rattle.crack_bulk.proofs.Sifts.{sifted, all_made_way, risen}
-use Rattle.crack_bulk.proofs.StepsDown.{sifted_down-is}
+use Rattle.crack_state.specs.Pieces.{Pieces, column_of, cut}
+use Rattle.crack_state.specs.Carried.{is_doomed, inside_of, carried_in_bulk}
+use Rattle.crack_state.proofs.AllCarriedLaws.{inside_or, IsKept, IsKept-in_bulk}
+use Rattle.crack_state.proofs.CeilingLaws.{GoUnder, parted, met-all, carried_under, carried-under}
+use Rattle.crack_state.proofs.Sifts.{sifted, all_made_way, risen}
+use Rattle.crack_state.proofs.StepsDown.{sifted_down-is}
 use Rattle.crack_store.specs.declared.sifting.Sieve.{Sieve}
 use Rattle.crack_store.specs.declared.inside.Inside.{Inside}
 use Rattle.crack_store.specs.Inside.{lists_of}

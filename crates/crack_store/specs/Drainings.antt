@@ -11,7 +11,7 @@ use Rattle.crack_column.specs.Column.{Column, StillRemembers}
 use Rattle.crack_column.specs.Drains.{count_below, doomed_handle, Drains}
 use Rattle.crack_index.specs.declared.mark.Mark.{Mark}
 use Rattle.crack_state.specs.State.{State, Reads, IsIntact, freed_of, greatest}
-use Rattle.crack_bulk.specs.Pulled.{pulled_from}
+use Rattle.crack_state.specs.Pulled.{pulled_from}
 use Rattle.crack_store.specs.declared.draining.Drain.{Drain}
 use Rattle.crack_store.specs.declared.inside.Inside.{Inside}
 

@@ -5,7 +5,7 @@ use Rattle.std.specs.List.{All}
 use Rattle.crack_row.specs.Ranges.{Range}
 use Rattle.crack_row.specs.declared.Row.{Row}
 use Rattle.crack_arena.specs.Arena.{Cell, Handle, times, slots}
-use Rattle.crack_bulk.specs.Carried.{inside_of}
+use Rattle.crack_state.specs.Carried.{inside_of}
 use Rattle.crack_arena.specs.Memories.{Remembers, memory_at}
 use Rattle.crack_column.specs.Column.{Column}
 use Rattle.crack_column.specs.Sifts.{AreRead}

@@ -6,10 +6,10 @@ use Rattle.crack_row.specs.Ranges.{Range}
 use Rattle.crack_row.specs.declared.Row.{Row}
 use Rattle.crack_arena.specs.Arena.{Cell}
 use Rattle.crack_arena.specs.Rows.{key_at}
-use Rattle.crack_bulk.specs.Pieces.{column_of, marks_of}
-use Rattle.crack_bulk.specs.Carried.{inside_of}
-use Rattle.crack_bulk.specs.Pulled.{pulled, itself}
-use Rattle.crack_bulk.specs.Filled.{lacking, pieces_under, filled_from}
+use Rattle.crack_state.specs.Pieces.{column_of, marks_of}
+use Rattle.crack_state.specs.Carried.{inside_of}
+use Rattle.crack_state.specs.Pulled.{pulled, itself}
+use Rattle.crack_state.specs.Filled.{lacking, pieces_under, filled_from}
 use Rattle.crack_column.specs.declared.draining.Doomed.{Doomed}
 use Rattle.crack_arena.specs.Memories.{Remembers}
 use Rattle.crack_column.specs.Column.{Column}

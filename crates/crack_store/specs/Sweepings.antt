@@ -8,7 +8,7 @@ use Rattle.crack_row.specs.declared.InnerBound.{InnerBound}
 use Rattle.crack_row.specs.declared.Row.{Row}
 use Rattle.crack_arena.specs.Memories.{Remembers}
 use Rattle.crack_index.specs.declared.mark.Mark.{Mark}
-use Rattle.crack_bulk.specs.Sweeps.{Swept, goes_on, is_lower, any_lower, swept_by}
+use Rattle.crack_state.specs.Sweeps.{Swept, goes_on, is_lower, any_lower, swept_by}
 use Rattle.crack_state.specs.State.{greatest}
 use Rattle.crack_store.specs.declared.sweeping.Sweep.{Sweep}
 

@@ -3,8 +3,8 @@
 ghost use Rattle.std.specs.Prelude.{◌≡◌, ◌<◌, ◌≤◌, [], length, map, All, IfSome, IsTrue, IsFalse};
 ghost use Rattle.crack_arena.specs.Rows.{key_at};
 ghost use Rattle.crack_arena.specs.Memories.{Remembers};
-ghost use Rattle.crack_bulk.specs.Carried.{inside_of};
-ghost use Rattle.crack_bulk.specs.Pulled.{buried_all, pulled_from, pulled_in_bulk};
+ghost use Rattle.crack_state.specs.Carried.{inside_of};
+ghost use Rattle.crack_state.specs.Pulled.{buried_all, pulled_from, pulled_in_bulk};
 ghost use Rattle.crack_column.specs.Drains.{doomed_handle};
 ghost use Rattle.crack_state.specs.Merge.{outside_of};
 ghost use Rattle.crack_state.specs.State.{live_rows};

@@ -3,7 +3,7 @@
 ghost use Rattle.std.specs.Prelude.{◌≡◌, ◌+◌, ◌-◌, ◌<◌, ◌≤◌, ◌^◌, [], Some, length, min, drop, vec_capacity};
 ghost use Rattle.std.specs.Prelude.{All, Contains, IsTrue, IsFalse, IfSome};
 ghost use Rattle.crack_arena.specs.Rows.{keys_at};
-ghost use Rattle.crack_bulk.specs.Carried.{carried_in_bulk, inside_of};
+ghost use Rattle.crack_state.specs.Carried.{carried_in_bulk, inside_of};
 ghost use Rattle.crack_arena.specs.Memories.{Agrees, Remembers};
 ghost use Rattle.crack_index.specs.Marks.{Rising};
 ghost use Rattle.crack_pending.specs.Pending.{Finds};

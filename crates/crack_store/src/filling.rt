@@ -3,8 +3,8 @@
 //! arrival.
 ghost use Rattle.std.specs.Prelude.{◌≡◌, ◌<◌, ◌≤◌, [], Some, length, All, Contains, IfSome, IsTrue, IsFalse};
 ghost use Rattle.crack_arena.specs.Rows.{keys_at};
-ghost use Rattle.crack_bulk.specs.Carried.{inside_of};
-ghost use Rattle.crack_bulk.specs.Filled.{IsFilled};
+ghost use Rattle.crack_state.specs.Carried.{inside_of};
+ghost use Rattle.crack_state.specs.Filled.{IsFilled};
 ghost use Rattle.crack_arena.specs.Memories.{Remembers};
 ghost use Rattle.crack_pending.specs.Pending.{Finds};
 ghost use Rattle.crack_state.specs.State.{Reads, live_rows};

@@ -3,7 +3,7 @@
 ghost use Rattle.std.specs.Prelude.{◌≡◌, ◌≤◌, ◌^◌, [], None, Some, length, vec_capacity, IsTrue, IsFalse};
 ghost use Rattle.crack_arena.specs.Rows.{keys_at};
 ghost use Rattle.crack_arena.specs.Memories.{Remembers};
-ghost use Rattle.crack_bulk.specs.Carried.{carried_in_bulk, inside_of};
+ghost use Rattle.crack_state.specs.Carried.{carried_in_bulk, inside_of};
 ghost use Rattle.crack_pending.specs.Pending.{Finds};
 ghost use Rattle.crack_state.specs.Merge.{outside_of};
 ghost use Rattle.crack_state.specs.State.{live_rows};

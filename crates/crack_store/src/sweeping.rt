@@ -4,8 +4,8 @@ ghost use Rattle.std.specs.Prelude.{◌≡◌, ◌+◌, ◌-◌, ◌<◌, ◌≤
 ghost use Rattle.std.specs.Prelude.{length, take, drop, filter, vec_capacity, slice_index_or, IsTrue, IsFalse, IfSome};
 ghost use Rattle.crack_arena.specs.Arena.{no_handle};
 ghost use Rattle.crack_arena.specs.Rows.{key_at, keys_at};
-ghost use Rattle.crack_bulk.specs.Carried.{carried_in_bulk, inside_of};
-ghost use Rattle.crack_bulk.specs.Sweeps.{goes_on, is_lower};
+ghost use Rattle.crack_state.specs.Carried.{carried_in_bulk, inside_of};
+ghost use Rattle.crack_state.specs.Sweeps.{goes_on, is_lower};
 ghost use Rattle.crack_arena.specs.Memories.{Remembers};
 ghost use Rattle.crack_column.specs.Drains.{doomed_handle};
 ghost use Rattle.crack_pending.specs.Pending.{Finds};

@@ -1,6 +1,6 @@
 //! Taking the pending insertions of a range out of their list, all at once, and appending them to the column.
 ghost use Rattle.std.specs.Prelude.{◌≡◌, ◌≤◌, ◌++◌, [], length, vec_capacity};
-ghost use Rattle.crack_bulk.specs.Carried.{inside_of};
+ghost use Rattle.crack_state.specs.Carried.{inside_of};
 ghost use Rattle.crack_arena.specs.Memories.{Remembers};
 ghost use Rattle.crack_column.specs.Sifts.{AreRead};
 ghost use Rattle.crack_state.specs.Merge.{outside_of};

@@ -147,7 +147,7 @@ pub(crate) fn note_counted(rt: &impl Abort, store: &Store, noted: &mut Vec<u64>)
 
 /// Merges up to twelve rows of random keys into a store of random rows: all at once, or one after the other. Returns
 /// the counts and its contents then.
-fn merged(rt: &impl Abort, alloc: Global, seed: u64, at_once: bool) -> Vec<u64> {
+pub(crate) fn merged(rt: &impl Abort, alloc: Global, seed: u64, at_once: bool) -> Vec<u64> {
     let mut numbers = Numbers(seed);
     let keys = numbers.below(60) + 1;
     let mut store = some_store(rt, alloc, &mut numbers, keys);
@@ -170,18 +170,4 @@ fn merged(rt: &impl Abort, alloc: Global, seed: u64, at_once: bool) -> Vec<u64> 
     note_counted(rt, &store, &mut noted);
     note_contents(rt, store, &mut noted);
     noted
-}
-
-/// Asserts that two ways to the store of a seed have the same counts and contents.
-pub(crate) fn assert_same(rt: &impl Abort, seed: u64, one: &[u64], other: &[u64]) {
-    assert!(rt; one == other, "seed {seed}");
-}
-
-#[test]
-fn carries_in_bulk_leave_what_one_after_the_other_leaves(rt: HostRuntime) {
-    for seed in 0..2000u64 {
-        let at_once = merged(&rt, rt.alloc(), seed, true);
-        let each = merged(&rt, rt.alloc(), seed, false);
-        assert_same(&rt, seed, at_once.as_slice(), each.as_slice());
-    }
 }

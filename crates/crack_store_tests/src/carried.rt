@@ -2,17 +2,17 @@
 //! in its cell, and the free cells in their order.
 //!
 //! The test `sweep_..` holds whichever one of its allocations is refused, so it may be run with each of them refused in
-//! turn.
+//! turn; it is a list of work on stores.
 ghost use Rattle.std.specs.Prelude.{◌<◌, ◌≤◌};
 ghost use Rattle.crack_row.specs.declared.TheConstants.{GREATEST_BOUND};
 ghost use Rattle.crack_state.specs.Merge.{IsCracked};
 
 use crate::bulk::{
-    Numbers, assert_same, insert, note_contents, note_counted, some_range, some_store, take_first,
-    take_last,
+    Numbers, insert, note_contents, note_counted, some_range, some_store, take_first, take_last,
 };
-use crate::merge::crack_between;
-use crate::script::{admits, assert_all_keys, dooms, row};
+use crate::filled::pulled_at_last;
+use crate::merge::{crack_between, numbers_of};
+use crate::script::{admits, assert_all_keys, assert_at, dooms, row};
 use crack_merge::{carry_range, merge_complete};
 use crack_row::{Bound, Key, KeyNumber, KeyRange, Serial};
 use crack_store::Store;
@@ -100,12 +100,14 @@ fn carried_each(
     store
 }
 
-/// Puts a row with this serial and this key among the pending insertions, at the second time if memory was refused
-/// once.
-fn admit(rt: &impl Abort, store: &mut Store, serial: u64, key: KeyNumber) {
-    let new = row((serial, key, 0));
-    let is_in = admits(rt, store, new) || admits(rt, store, new);
-    assert!(rt; is_in);
+/// Puts rows of these keys among the pending insertions, with serials from this one on; each at the second time if
+/// memory was refused once.
+fn admit_all(rt: &impl Abort, store: &mut Store, first: u64, keys: &[KeyNumber]) {
+    for place in 0..keys.len() {
+        let new = row((first.wrapping_add(place as u64), keys[place], 0));
+        let is_in = admits(rt, store, new) || admits(rt, store, new);
+        assert!(rt; is_in);
+    }
 }
 
 /// Admits six rows, which take free cells first, and notes the contents of the store then, after what it had counted
@@ -114,87 +116,46 @@ pub(crate) fn noted_with_six_more(rt: &impl Abort, alloc: Global, store: Store) 
     let mut store = store;
     let mut noted = Vec::new(alloc);
     note_counted(rt, &store, &mut noted);
-    for serial in 5000..5006u64 {
-        admit(rt, &mut store, serial, 1);
-    }
+    admit_all(rt, &mut store, 5000, &[1, 1, 1, 1, 1, 1]);
     note_contents(rt, store, &mut noted);
     noted
 }
 
-/// Where `note_counted` notes how many rows were taken out and evicted.
-pub(crate) const TAKEN_OUT: usize = 1;
-
-const EVICTED: usize = 2;
-
-/// How pending insertions are carried: all at once, or one after the other; under the ceiling at their range's end, or
-/// none.
-#[derive(Clone, Copy)]
-struct Carry {
+/// Carries pending insertions of random keys in a store of random rows, of which some may be doomed: all at once, or
+/// one after the other; under the ceiling at their range's end, or none. Returns the counts, and the contents of the
+/// store once it has six more rows.
+pub(crate) fn carried_by(
+    rt: &impl Abort,
+    alloc: Global,
+    seed: u64,
     at_once: bool,
     under: bool,
-}
-
-/// Carries pending insertions of random keys in a store of random rows, of which some may be doomed. Returns the
-/// counts, and the contents of the store once it has six more rows.
-fn carried_by(rt: &impl Abort, alloc: Global, seed: u64, carry: Carry) -> Vec<u64> {
+) -> Vec<u64> {
     let mut numbers = Numbers(seed);
     let keys = numbers.below(60) + 1;
     let mut store = some_store(rt, alloc, &mut numbers, keys);
-    if !carry.under || numbers.below(2) == 0 {
+    if !under || numbers.below(2) == 0 {
         doom_some(rt, &mut store, &mut numbers);
     }
     let part = some_range(rt, &mut numbers, keys);
     let whole = numbers.below(2) == 0;
-    let range = if whole && !carry.under {
+    let range = if whole && !under {
         KeyRange::all()
     } else {
         part
     };
-    let ceiling = if carry.under { Some(part.high()) } else { None };
-    if carry.under {
+    let ceiling = if under { Some(part.high()) } else { None };
+    if under {
         crack_between(rt, &mut store, part);
     }
     let inserted = insert_some(rt, alloc, &mut store, &mut numbers, keys);
-    let store = if carry.at_once {
+    let store = if at_once {
         carried(rt, store, range, ceiling)
     } else {
         carried_each(rt, store, range, ceiling, inserted.as_slice())
     };
     drop(inserted);
     noted_with_six_more(rt, alloc, store)
-}
-
-/// Asserts for each seed that carrying all rows at once and one after the other has the same result; returns how many
-/// rows were evicted.
-fn assert_alike(rt: &impl Abort, alloc: Global, seeds: u64, under: bool) -> u64 {
-    let mut evicted = 0u64;
-    for seed in 0..seeds {
-        let all = Carry {
-            at_once: true,
-            under,
-        };
-        let each = Carry {
-            at_once: false,
-            under,
-        };
-        let at_once = carried_by(rt, alloc, seed, all);
-        let each = carried_by(rt, alloc, seed, each);
-        assert_same(rt, seed, at_once.as_slice(), each.as_slice());
-        evicted = evicted.saturating_add(at_once.get(EVICTED).copied().unwrap_or(0));
-    }
-    evicted
-}
-
-#[test]
-fn carries_past_doomed_rows_leave_what_one_after_the_other_leaves(rt: HostRuntime) {
-    let evicted = assert_alike(&rt, rt.alloc(), 2000, false);
-    assert!(rt; evicted == 0);
-}
-
-#[test]
-fn carries_under_a_ceiling_leave_what_one_after_the_other_leaves(rt: HostRuntime) {
-    let evicted = assert_alike(&rt, rt.alloc(), 2000, true);
-    assert!(rt; evicted > 100);
 }
 
 /// Cracks at the ends of a range, at the second time if memory was refused once.
@@ -233,40 +194,25 @@ pub(crate) fn make_room_at_last(rt: &impl Abort, store: &mut Store)
     assert!(rt; again.is_ok());
 }
 
-/// Takes rows out of the column, from its end on, and asserts their serials.
-pub(crate) fn assert_column(rt: &impl Abort, store: Store, serials: &[u64]) {
+/// Takes rows out of the column, from its end on, or puts each pending insertion after the others, from the first one
+/// on; asserts their serials.
+fn assert_serials(rt: &impl Abort, store: Store, serials: &[u64], of_column: bool) -> Store {
     let mut store = store;
     for place in 0..serials.len() {
         make_room_at_last(rt, &mut store);
-        let (next, row) = take_last(rt, store);
-        assert!(rt; row[0] == serials[place], "at {place}");
-        store = next;
-    }
-    drop(store);
-}
-
-/// Puts each pending insertion after the others, from the first one on, and asserts their serials.
-fn assert_pending(rt: &impl Abort, store: Store, serials: &[u64]) -> Store {
-    let mut store = store;
-    assert!(rt; store.pending_in() == serials.len());
-    for place in 0..serials.len() {
-        make_room_at_last(rt, &mut store);
-        let (next, row) = take_first(rt, store);
-        assert!(rt; row[0] == serials[place], "at {place}");
+        let (next, row) = if of_column {
+            take_last(rt, store)
+        } else {
+            take_first(rt, store)
+        };
+        assert_at(rt, row[0] == serials[place], "serials", place);
         store = next;
     }
     store
 }
 
-/// Admits rows of these keys, with serials from this one on.
-pub(crate) fn admit_all(rt: &impl Abort, store: &mut Store, first: u64, keys: &[KeyNumber]) {
-    for place in 0..keys.len() {
-        admit(rt, store, first.wrapping_add(place as u64), keys[place]);
-    }
-}
-
 /// The keys from 15 up to 25.
-pub(crate) fn middle(rt: &impl Abort) -> KeyRange
+fn middle(rt: &impl Abort) -> KeyRange
     ensures some { result.low < result.high }
     ensures within { result.high ≤ GREATEST_BOUND }
 {
@@ -274,7 +220,7 @@ pub(crate) fn middle(rt: &impl Abort) -> KeyRange
 }
 
 /// A store whose column has rows of these keys, with serials from 0 on, and is cracked at 15 and 25.
-pub(crate) fn merged_store(rt: &impl Abort, alloc: Global, keys: &[KeyNumber]) -> Store {
+fn merged_store(rt: &impl Abort, alloc: Global, keys: &[KeyNumber]) -> Store {
     let mut store = Store::new(alloc, KeyRange::all());
     admit_all(rt, &mut store, 0, keys);
     let mut store = merge_at_last(rt, store);
@@ -282,33 +228,13 @@ pub(crate) fn merged_store(rt: &impl Abort, alloc: Global, keys: &[KeyNumber]) -
     store
 }
 
-/// Three rows are carried into three pieces.
-#[test]
-fn sweep_carries_in_bulk(rt: HostRuntime) {
-    let mut store = merged_store(&rt, rt.alloc(), &[10, 20, 30]);
-    admit_all(&rt, &mut store, 3, &[17, 12, 90]);
-    let store = merge_at_last(&rt, store);
-    assert!(rt; store.tally().moved == 3);
-    assert_column(&rt, store, &[5, 2, 1, 3, 4, 0]);
-}
-
-/// Dooms a row of the column, at the second time if memory was refused once.
-pub(crate) fn doom_at_last(rt: &impl Abort, store: &mut Store, serial: u64) {
-    let gone = store.row_of(Serial(serial)).expect(rt, "a row");
-    let is_gone = dooms(store, gone) || dooms(store, gone);
-    assert!(rt; is_gone);
-}
-
-/// Three rows are carried into three pieces, and the second of them meets a doomed row.
-#[test]
-fn sweep_carries_past_a_doomed_row(rt: HostRuntime) {
-    let mut store = merged_store(&rt, rt.alloc(), &[10, 20, 30]);
-    doom_at_last(&rt, &mut store, 1);
-    admit_all(&rt, &mut store, 3, &[17, 12, 90]);
-    let store = merge_at_last(&rt, store);
-    let tally = store.tally();
-    assert!(rt; tally.moved == 2 && tally.taken_out == 1);
-    assert_column(&rt, store, &[5, 2, 3, 4, 0]);
+/// Dooms rows of the column, each at the second time if memory was refused once.
+fn doom_all(rt: &impl Abort, store: &mut Store, serials: &[u64]) {
+    for place in 0..serials.len() {
+        let gone = store.row_of(Serial(serials[place])).expect(rt, "a row");
+        let is_gone = dooms(store, gone) || dooms(store, gone);
+        assert!(rt; is_gone);
+    }
 }
 
 /// Carries the pending insertions of a range under its end, at the second time if memory was refused once.
@@ -321,14 +247,96 @@ fn carried_at_last(rt: &impl Abort, store: Store, range: KeyRange) -> Store {
     }
 }
 
-/// Three rows are carried into a piece under a ceiling, beyond which there are two rows.
+/// What is done to a store that is cracked at 15 and 25.
+#[derive(Clone, Copy)]
+enum Work {
+    /// All of its rows are merged.
+    Merge,
+    /// The rows from 15 up to 25 are carried under the ceiling 25.
+    Carry,
+    /// The doomed rows from 15 up to 25 are pulled, each by a filler.
+    Pull,
+}
+
+/// Work on a store, which holds whichever one allocation is refused.
+#[derive(Clone, Copy)]
+struct Sweep {
+    /// The keys of the rows in the column, whose serials begin at 0; the serials of those that are doomed; and the keys
+    /// of the rows that are pending.
+    column: &'static [KeyNumber],
+    doomed: &'static [u64],
+    pending: &'static [KeyNumber],
+    work: Work,
+    /// How many rows were put in, taken out, evicted, moved and pulled by then.
+    counted: [u64; 5],
+    /// The serials of the rows that are pending then, and of those in the column, from its end on.
+    left: &'static [u64],
+    serials: &'static [u64],
+}
+
+const SWEEPS: &[Sweep] = &[
+    // three rows are carried into three pieces
+    Sweep {
+        column: &[10, 20, 30],
+        doomed: &[],
+        pending: &[17, 12, 90],
+        work: Work::Merge,
+        counted: [6, 0, 0, 3, 0],
+        left: &[],
+        serials: &[5, 2, 1, 3, 4, 0],
+    },
+    // three rows are carried into three pieces, and the second of them meets a doomed row
+    Sweep {
+        column: &[10, 20, 30],
+        doomed: &[1],
+        pending: &[17, 12, 90],
+        work: Work::Merge,
+        counted: [6, 1, 0, 2, 0],
+        left: &[],
+        serials: &[5, 2, 3, 4, 0],
+    },
+    // three rows are carried into a piece under a ceiling, beyond which there are two rows
+    Sweep {
+        column: &[10, 20, 30, 40],
+        doomed: &[],
+        pending: &[17, 18, 16],
+        work: Work::Carry,
+        counted: [7, 0, 2, 2, 0],
+        left: &[2, 3],
+        serials: &[6, 5, 4, 1, 0],
+    },
+    // two doomed rows of a piece are pulled, each by a filler
+    Sweep {
+        column: &[10, 20, 22, 40],
+        doomed: &[1, 2],
+        pending: &[27, 26],
+        work: Work::Pull,
+        counted: [6, 2, 0, 0, 2],
+        left: &[],
+        serials: &[3, 4, 5, 0],
+    },
+];
+
+/// Asserts the counts and the rows of a store after a sweep's work.
+fn assert_sweep(rt: &impl Abort, alloc: Global, sweep: Sweep) {
+    let mut store = merged_store(rt, alloc, sweep.column);
+    doom_all(rt, &mut store, sweep.doomed);
+    admit_all(rt, &mut store, sweep.column.len() as u64, sweep.pending);
+    let store = match sweep.work {
+        Work::Merge => merge_at_last(rt, store),
+        Work::Carry => carried_at_last(rt, store, middle(rt)),
+        Work::Pull => pulled_at_last(rt, store, middle(rt)),
+    };
+    assert!(rt; numbers_of(store.tally()) == sweep.counted);
+    assert!(rt; store.pending_in() == sweep.left.len());
+    let store = assert_serials(rt, store, sweep.left, false);
+    drop(assert_serials(rt, store, sweep.serials, true));
+}
+
 #[test]
-fn sweep_carries_under_a_ceiling(rt: HostRuntime) {
-    let mut store = merged_store(&rt, rt.alloc(), &[10, 20, 30, 40]);
-    admit_all(&rt, &mut store, 4, &[17, 18, 16]);
-    let store = carried_at_last(&rt, store, middle(&rt));
-    let tally = store.tally();
-    assert!(rt; tally.moved == 2 && tally.evicted == 2);
-    let store = assert_pending(&rt, store, &[2, 3]);
-    assert_column(&rt, store, &[6, 5, 4, 1, 0]);
+fn sweep_carries_and_pulls(rt: HostRuntime) {
+    let sweeps = SWEEPS;
+    'sweeps: for place in 0..sweeps.len() {
+        assert_sweep(&rt, rt.alloc(), sweeps[place]);
+    }
 }

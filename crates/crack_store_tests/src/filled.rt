@@ -1,11 +1,9 @@
 //! Pulls by fillers in bulk have the result of one after the other, in random stores.
 ghost use Rattle.std.specs.Prelude.{◌≤◌};
+ghost use Rattle.crack_row.specs.declared.TheConstants.{GREATEST_BOUND};
 
-use crate::bulk::{Numbers, assert_same, insert, some_range, some_store};
-use crate::carried::{
-    TAKEN_OUT, admit_all, assert_column, doom_at_last, doom_some, make_room_at_last, merged_store,
-    middle, noted_with_six_more,
-};
+use crate::bulk::{Numbers, insert, some_range, some_store};
+use crate::carried::{doom_some, make_room_at_last, noted_with_six_more};
 use crate::merge::crack_between;
 use crate::script::assert_all_keys;
 use crack_merge::pull_range;
@@ -56,7 +54,7 @@ fn pulled_with(rt: &impl Abort, store: Store, range: KeyRange, fillers: KeyRange
 /// Pulls pending deletions of a random range in a store of random rows, as long as there are fillers by these: in bulk,
 /// or one after the other, as where the fillers' keys begin at no bound. Returns the counts, and the contents of the
 /// store once it has six more rows.
-fn pulled_by(rt: &impl Abort, alloc: Global, seed: u64, in_bulk: bool) -> Vec<u64> {
+pub(crate) fn pulled_by(rt: &impl Abort, alloc: Global, seed: u64, in_bulk: bool) -> Vec<u64> {
     let mut numbers = Numbers(seed);
     let keys = numbers.below(60) + 1;
     let mut store = some_store(rt, alloc, &mut numbers, keys);
@@ -71,30 +69,11 @@ fn pulled_by(rt: &impl Abort, alloc: Global, seed: u64, in_bulk: bool) -> Vec<u6
     noted_with_six_more(rt, alloc, store)
 }
 
-#[test]
-fn pulls_by_fillers_in_bulk_leave_what_one_after_the_other_leaves(rt: HostRuntime) {
-    let mut taken = 0u64;
-    for seed in 0..3000u64 {
-        let in_bulk = pulled_by(&rt, rt.alloc(), seed, true);
-        let each = pulled_by(&rt, rt.alloc(), seed, false);
-        assert_same(&rt, seed, in_bulk.as_slice(), each.as_slice());
-        taken = taken.saturating_add(in_bulk.get(TAKEN_OUT).copied().unwrap_or(0));
-    }
-    assert!(rt; taken > 1000);
-}
-
-/// Two doomed rows of a piece are pulled, each by a filler.
-#[test]
-fn sweep_pulls_by_fillers(rt: HostRuntime) {
-    let mut store = merged_store(&rt, rt.alloc(), &[10, 20, 22, 40]);
-    doom_at_last(&rt, &mut store, 1);
-    doom_at_last(&rt, &mut store, 2);
-    admit_all(&rt, &mut store, 4, &[27, 26]);
-    assert_all_keys(&rt, &store);
-    let fillers = store.keys_beyond(middle(&rt));
-    let store = pulled_with(&rt, store, middle(&rt), fillers);
-    let tally = store.tally();
-    assert!(rt; tally.put_in == 6 && tally.taken_out == 2);
-    assert!(rt; store.pending_in() == 0);
-    assert_column(&rt, store, &[3, 4, 5, 0]);
+/// Pulls the pending deletions of a range by all fillers of the keys beyond it.
+pub(crate) fn pulled_at_last(rt: &impl Abort, store: Store, range: KeyRange) -> Store
+    requires { range.high ≤ GREATEST_BOUND }
+{
+    assert_all_keys(rt, &store);
+    let fillers = store.keys_beyond(range);
+    pulled_with(rt, store, range, fillers)
 }

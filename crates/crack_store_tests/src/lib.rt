@@ -1,17 +1,34 @@
-//! Tests that run through the public calls of a store and of the merges: what no clause says.
+//! Tests that run through the public calls of rows, cells, pending lists, the cracker column, its index and sums, a
+//! store and the merges: what no clause says.
 #![tactic(auto)]
 
+#[cfg(test)]
+mod alike;
+#[cfg(test)]
+mod arena;
 #[cfg(test)]
 mod bulk;
 #[cfg(test)]
 mod carried;
 #[cfg(test)]
+mod column;
+#[cfg(test)]
 mod filled;
 #[cfg(test)]
+mod index;
+#[cfg(test)]
 mod merge;
+#[cfg(test)]
+mod pending;
+#[cfg(test)]
+mod row;
 #[cfg(test)]
 mod script;
 #[cfg(test)]
 mod serial_hash;
 #[cfg(test)]
+mod sorted_index;
+#[cfg(test)]
 mod store;
+#[cfg(test)]
+mod sums;

@@ -3,8 +3,7 @@ ghost use Rattle.std.specs.Prelude.{◌<◌, ◌≤◌};
 ghost use Rattle.crack_state.specs.Merge.{IsCracked};
 
 use crate::script::{Script, Step, assert_all_keys, assert_script};
-use crack_merge::{merge_complete, merge_gradual};
-use crack_ripple::merge_ripple;
+use crack_merge::{merge_complete, merge_gradual, merge_ripple};
 use crack_row::{BoundNumber, GREATEST_BOUND, KeyRange, Policy};
 use crack_store::{MergeReport, Store};
 use std::process::Abort;
@@ -241,7 +240,8 @@ const SCRIPTS: &[Script] = &[
 
 #[test]
 fn merges_count_the_rows_that_they_move(rt: HostRuntime) {
-    'scripts: for place in 0..SCRIPTS.len() {
-        assert_script(&rt, rt.alloc(), SCRIPTS[place]);
+    let scripts = SCRIPTS;
+    'scripts: for place in 0..scripts.len() {
+        assert_script(&rt, rt.alloc(), scripts[place]);
     }
 }

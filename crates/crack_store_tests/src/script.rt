@@ -1,5 +1,5 @@
 //! Scripts: steps in a fresh store of all keys, each with what it gives.
-ghost use Rattle.std.specs.Prelude.{◌≡◌, ◌<◌, ◌≤◌, length};
+ghost use Rattle.std.specs.Prelude.{◌≡◌, ◌<◌, length};
 
 use crate::merge::{merge_at, numbers_of};
 use crack_row::{
@@ -321,15 +321,6 @@ fn change(rt: &impl Abort, store: &mut Store, step: Step) -> bool {
     }
 }
 
-/// The range between two ends, which isn't empty.
-fn keys_between(rt: &impl Abort, low: BoundNumber, high: BoundNumber) -> KeyRange
-    ensures some { result.low < result.high }
-    ensures within { result.high ≤ GREATEST_BOUND }
-{
-    assert!(rt; low < high);
-    KeyRange::new(low, high).expect(rt, "a range")
-}
-
 /// Merges at a range; returns the store, whether the merge counts this, and whether as many rows are in the range then.
 fn merges(
     rt: &impl Abort,
@@ -339,7 +330,9 @@ fn merges(
     counted: [u64; 5],
     rows: u64,
 ) -> (Store, bool) {
-    let range = keys_between(rt, ends[0], ends[1]);
+    let [low, high] = ends;
+    assert!(rt; low < high);
+    let range = KeyRange::new(low, high).expect(rt, "a range");
     let (store, report) = merge_at(rt, store, range, policy);
     let count = store.count_between(range);
     (store, numbers_of(report) == counted && count == rows)
@@ -359,13 +352,18 @@ fn make(rt: &impl Abort, store: Store, step: Step) -> (Store, bool) {
     }
 }
 
+/// Asserts what holds at a place of a list with this name.
+pub(crate) fn assert_at(rt: &impl Abort, holds: bool, name: &str, place: usize) {
+    assert!(rt; holds, "{name}: at {place}");
+}
+
 /// Makes steps, and asserts what each gives.
 fn make_all(rt: &impl Abort, store: Store, name: &str, steps: &[Step]) -> Store {
     let mut store = store;
     'steps: for place in 0..steps.len() {
         let (next, is_right) = make(rt, store, steps[place]);
         store = next;
-        assert!(rt; is_right, "{name}: step {place}");
+        assert_at(rt, is_right, name, place);
     }
     store
 }

@@ -68,5 +68,5 @@ fn rows_in_order_find_their_groups_free(rt: HostRuntime) {
 fn rows_kept_far_apart_do_not_pile_up(rt: HostRuntime) {
     let large = most_in_one(&rt, rt.alloc(), 131072, 8192, 123);
     let small = most_in_one(&rt, rt.alloc(), 512, 8192, 123);
-    assert_eq!(rt; [large, small], [1, 1]);
+    assert!(rt; [large, small] == [1, 1]);
 }

@@ -162,7 +162,8 @@ const SCRIPTS: &[Script] = &[
 
 #[test]
 fn stores_are_changed_and_read(rt: HostRuntime) {
-    'scripts: for place in 0..SCRIPTS.len() {
-        assert_script(&rt, rt.alloc(), SCRIPTS[place]);
+    let scripts = SCRIPTS;
+    'scripts: for place in 0..scripts.len() {
+        assert_script(&rt, rt.alloc(), scripts[place]);
     }
 }

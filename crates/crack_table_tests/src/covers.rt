@@ -8,7 +8,7 @@ use crack_table::{Kept, cover};
 use std::alloc::Global;
 use std::process::Abort;
 
-/// What a receipt says.
+/// What a receipt says. Each entry is one of a receipt, too.
 #[derive(Clone, Copy)]
 enum Said {
     /// Worker 3's count of all keys, which found none, in this partition at this position.
@@ -17,6 +17,8 @@ enum Said {
     Placed(u64),
     /// Worker 5's insert, with a reply of no row, at this position of partition 0.
     NoRow(u64),
+    /// Worker 0's insert of this payload, which placed row 0, at position 0 of partition 0.
+    Inserted(PayloadNumber),
 }
 
 /// What a partition keeps of its past.
@@ -24,7 +26,7 @@ enum Said {
 struct Past {
     /// How many commands are in its base, and how many of them placed and removed a row.
     base: [u64; 3],
-    /// How many entries it keeps. Each is worker 3's count of all keys, which found none.
+    /// How many entries it keeps.
     entries: usize,
 }
 
@@ -45,12 +47,12 @@ const TWO: Past = Past {
 };
 
 /// Two commands in the base, which changed nothing; and the same before an entry.
-const FOLDED: Past = Past {
+const BASE: Past = Past {
     base: [2, 0, 0],
     entries: 0,
 };
 
-const FOLDED_AND_ONE: Past = Past {
+const BASE_AND_ONE: Past = Past {
     base: [2, 0, 0],
     entries: 1,
 };
@@ -71,9 +73,12 @@ const REMOVED_AND_ONE: Past = Past {
 #[derive(Clone, Copy)]
 struct Case {
     name: &'static str,
-    /// The pasts of the partitions: of one, or of two.
-    past: Past,
-    next: Option<Past>,
+    /// How many partitions there are. Only the last two keep something.
+    parts: usize,
+    /// The pasts of the last but one, if there is one, and of the last.
+    pasts: [Past; 2],
+    /// What each entry is.
+    entry: Said,
     /// The receipts: one list, or two.
     receipts: &'static [Said],
     more: Option<&'static [Said]>,
@@ -81,115 +86,132 @@ struct Case {
     strange: Option<(u32, u64)>,
 }
 
+/// Worker 3's count of all keys, which found none.
+const COUNTED: Said = Said::Counted(0, 0);
+
 const CASES: &[Case] = &[
     Case {
         name: "receipts of all entries cover them",
-        past: TWO,
-        next: Some(EMPTY),
+        parts: 2,
+        pasts: [TWO, EMPTY],
+        entry: COUNTED,
         receipts: &[Said::Counted(0, 0)],
         more: Some(&[Said::Counted(0, 1)]),
         strange: None,
     },
     Case {
         name: "a receipt without entries is strange",
-        past: EMPTY,
-        next: None,
+        parts: 1,
+        pasts: [EMPTY, EMPTY],
+        entry: COUNTED,
         receipts: &[Said::Counted(0, 0)],
         more: None,
         strange: Some((0, 0)),
     },
     Case {
         name: "a receipt given twice is strange",
-        past: ONE,
-        next: None,
+        parts: 1,
+        pasts: [EMPTY, ONE],
+        entry: COUNTED,
         receipts: &[Said::Counted(0, 0), Said::Counted(0, 0)],
         more: None,
         strange: Some((0, 0)),
     },
     Case {
         name: "an entry without receipt goes before a stranger",
-        past: EMPTY,
-        next: Some(ONE),
+        parts: 2,
+        pasts: [EMPTY, ONE],
+        entry: COUNTED,
         receipts: &[Said::Counted(5, 7)],
         more: None,
         strange: Some((1, 0)),
     },
     Case {
         name: "a receipt of another place is a stranger",
-        past: ONE,
-        next: None,
+        parts: 1,
+        pasts: [EMPTY, ONE],
+        entry: COUNTED,
         receipts: &[Said::Counted(0, 0), Said::Counted(5, 7)],
         more: None,
         strange: Some((5, 7)),
     },
     Case {
         name: "receipts out of order are strange",
-        past: TWO,
-        next: None,
+        parts: 1,
+        pasts: [EMPTY, TWO],
+        entry: COUNTED,
         receipts: &[Said::Counted(0, 1), Said::Counted(0, 0)],
         more: None,
         strange: Some((0, 0)),
     },
     Case {
-        name: "folded places are named by position alone",
-        past: FOLDED_AND_ONE,
-        next: None,
+        name: "checkpointed places are named by position alone",
+        parts: 1,
+        pasts: [EMPTY, BASE_AND_ONE],
+        entry: COUNTED,
         receipts: &[Said::Counted(0, 1), Said::Counted(0, 2)],
         more: Some(&[Said::NoRow(0)]),
         strange: None,
     },
     Case {
-        name: "a folded place named by two workers is strange",
-        past: FOLDED,
-        next: None,
+        name: "a checkpointed place named by two workers is strange",
+        parts: 1,
+        pasts: [EMPTY, BASE],
+        entry: COUNTED,
         receipts: &[Said::Counted(0, 0)],
         more: Some(&[Said::NoRow(0)]),
         strange: Some((0, 0)),
     },
     Case {
-        name: "a folded place without receipt is strange",
-        past: FOLDED,
-        next: None,
+        name: "a checkpointed place without receipt is strange",
+        parts: 1,
+        pasts: [EMPTY, BASE],
+        entry: COUNTED,
         receipts: &[Said::Counted(0, 0)],
         more: None,
         strange: Some((0, 1)),
     },
     Case {
-        name: "folded totals are those of the receipts",
-        past: PLACED,
-        next: None,
+        name: "checkpointed totals are those of the receipts",
+        parts: 1,
+        pasts: [EMPTY, PLACED],
+        entry: COUNTED,
         receipts: &[Said::NoRow(0), Said::Placed(1)],
         more: None,
         strange: None,
     },
     Case {
-        name: "other folded totals are strange at the last place",
-        past: REMOVED_AND_ONE,
-        next: None,
+        name: "other checkpointed totals are strange at the last place",
+        parts: 1,
+        pasts: [EMPTY, REMOVED_AND_ONE],
+        entry: COUNTED,
         receipts: &[Said::NoRow(0), Said::Placed(1)],
         more: None,
         strange: Some((0, 1)),
     },
     Case {
-        name: "more folded rows than told are strange",
-        past: PLACED,
-        next: None,
+        name: "more checkpointed rows than receipts say are strange",
+        parts: 1,
+        pasts: [EMPTY, PLACED],
+        entry: COUNTED,
         receipts: &[Said::Placed(0), Said::Placed(1)],
         more: None,
         strange: Some((0, 1)),
     },
     Case {
-        name: "an entry of an earlier partition goes before a folded place",
-        past: ONE,
-        next: Some(FOLDED),
+        name: "an entry of an earlier partition goes before a checkpointed place",
+        parts: 2,
+        pasts: [ONE, BASE],
+        entry: COUNTED,
         receipts: &[Said::Counted(1, 0)],
         more: None,
         strange: Some((0, 0)),
     },
     Case {
-        name: "the order is tested over folded places too",
-        past: FOLDED_AND_ONE,
-        next: None,
+        name: "the order is tested over checkpointed places too",
+        parts: 1,
+        pasts: [EMPTY, BASE_AND_ONE],
+        entry: COUNTED,
         receipts: &[
             Said::Counted(0, 1),
             Said::Counted(0, 2),
@@ -198,16 +220,26 @@ const CASES: &[Case] = &[
         more: None,
         strange: Some((0, 0)),
     },
+    // A partition's number is one of 32 bits, so more may be kept than a table has.
+    Case {
+        name: "more partitions than a table has are covered",
+        parts: 101,
+        pasts: [EMPTY, ONE],
+        entry: COUNTED,
+        receipts: &[Said::Counted(100, 0)],
+        more: None,
+        strange: None,
+    },
+    Case {
+        name: "an altered receipt is strange",
+        parts: 1,
+        pasts: [EMPTY, ONE],
+        entry: Said::Inserted(1),
+        receipts: &[Said::Inserted(2)],
+        more: None,
+        strange: Some((0, 0)),
+    },
 ];
-
-/// Worker 3's count of all keys, which found none, as an entry.
-fn entry() -> Entry {
-    Entry {
-        worker: 3,
-        command: Command::Count(KeyRange::all()),
-        reply: Reply::Counted(0),
-    }
-}
 
 /// An insert of key 1 with this payload.
 fn insert(payload: PayloadNumber) -> Command {
@@ -218,14 +250,14 @@ fn insert(payload: PayloadNumber) -> Command {
 }
 
 fn receipt(said: Said) -> Receipt {
-    let (part, position, worker) = match said {
-        Said::Counted(part, position) => (part, position, 3),
-        Said::Placed(position) | Said::NoRow(position) => (0, position, 5),
-    };
-    let (command, reply) = match said {
-        Said::Counted(_, _) => (Command::Count(KeyRange::all()), Reply::Counted(0)),
-        Said::Placed(_) => (insert(1), Reply::Placed(Serial(0))),
-        Said::NoRow(_) => (insert(1), Reply::NoRow),
+    let (part, position, worker, command, reply) = match said {
+        Said::Counted(part, position) => {
+            let command = Command::Count(KeyRange::all());
+            (part, position, 3, command, Reply::Counted(0))
+        }
+        Said::Placed(position) => (0, position, 5, insert(1), Reply::Placed(Serial(0))),
+        Said::NoRow(position) => (0, position, 5, insert(1), Reply::NoRow),
+        Said::Inserted(payload) => (0, 0, 0, insert(payload), Reply::Placed(Serial(0))),
     };
     Receipt {
         part,
@@ -236,9 +268,24 @@ fn receipt(said: Said) -> Receipt {
     }
 }
 
+/// The entry of such a receipt.
+fn entry(said: Said) -> Entry {
+    let Receipt {
+        worker,
+        command,
+        reply,
+        ..
+    } = receipt(said);
+    Entry {
+        worker,
+        command,
+        reply,
+    }
+}
+
 fn receipts_of(rt: &impl Abort, alloc: Global, list: &[Said]) -> Vec<Receipt> {
     let mut receipts = Vec::new(alloc);
-    for place in 0..list.len() {
+    'list: for place in 0..list.len() {
         assert!(rt; receipts.push(receipt(list[place])).is_ok());
     }
     receipts
@@ -249,22 +296,15 @@ fn kept_of<'a>(rt: &impl Abort, past: Past, entries: &'a [Entry]) -> Kept<'a>
     ensures { IsKept (told result) }
 {
     let [folded, inserted, deleted] = past.base;
-    assert!(rt; inserted <= folded);
-    assert!(rt; deleted <= folded - inserted);
-    assert!(rt; past.entries <= entries.len());
+    assert!(rt;
+        inserted <= folded && deleted <= folded - inserted && past.entries <= entries.len()
+    );
     Kept {
         folded,
         inserted,
         deleted,
         tail: &entries[..past.entries],
     }
-}
-
-/// Whether the receipts cover the past that one partition keeps.
-fn cover_one(alloc: Global, kept: Kept<'_>, receipts: &[&[Receipt]]) -> Result<(), Refusal>
-    requires { IsKept (told kept) }
-{
-    cover(alloc, &[kept], receipts)
 }
 
 /// Whether the receipts cover the pasts that the partitions of a case keep.
@@ -274,12 +314,15 @@ fn cover_case(
     case: Case,
     receipts: &[&[Receipt]],
 ) -> Result<(), Refusal> {
-    let entries = [entry(), entry()];
-    let kept = kept_of(rt, case.past, &entries);
-    match case.next {
-        Some(next) => cover(alloc, &[kept, kept_of(rt, next, &entries)], receipts),
-        None => cover_one(alloc, kept, receipts),
-    }
+    let entries = [entry(case.entry), entry(case.entry)];
+    let others = kept_of(rt, EMPTY, &entries);
+    let earlier = kept_of(rt, case.pasts[0], &entries);
+    let last = kept_of(rt, case.pasts[1], &entries);
+    let mut kept = [others; 101];
+    kept[99] = earlier;
+    kept[100] = last;
+    assert!(rt; case.parts <= 101);
+    cover(alloc, &kept[101 - case.parts..], receipts)
 }
 
 /// How a case ends.
@@ -294,61 +337,15 @@ fn end_of(rt: &impl Abort, alloc: Global, case: Case) -> Result<(), Refusal> {
     }
 }
 
-/// Refusal 16 at this place, or none.
-fn strange(place: Option<(u32, u64)>) -> Result<(), Refusal> {
-    match place {
-        Some((part, position)) => Err(Refusal::StrangeReceipt { part, position }),
-        None => Ok(()),
-    }
-}
-
 #[test]
 fn receipts_cover_pasts_or_are_strange(rt: HostRuntime) {
     'cases: for place in 0..CASES.len() {
         let case = CASES[place];
+        let wanted = match case.strange {
+            Some((part, position)) => Err(Refusal::StrangeReceipt { part, position }),
+            None => Ok(()),
+        };
         let ended = end_of(&rt, rt.alloc(), case);
-        assert!(rt; ended == strange(case.strange), "{}", case.name);
+        assert!(rt; ended == wanted, "{}", case.name);
     }
-}
-
-/// Whether the receipts cover what a partition keeps if a hundred partitions that keep nothing precede it.
-fn cover_behind_others(
-    rt: &impl Abort,
-    alloc: Global,
-    last: Kept<'_>,
-    receipts: &[&[Receipt]],
-) -> Result<(), Refusal>
-    requires { IsKept (told last) }
-{
-    let mut kept = [kept_of(rt, EMPTY, &[]); 101];
-    kept[100] = last;
-    cover(alloc, &kept, receipts)
-}
-
-/// A partition's number is one of 32 bits, so more may be kept than a table has.
-#[test]
-fn more_than_a_table_has_are_covered(rt: HostRuntime) {
-    let entries = [entry()];
-    let last = kept_of(&rt, ONE, &entries);
-    let receipts = [receipt(Said::Counted(100, 0))];
-    let found = cover_behind_others(&rt, rt.alloc(), last, &[&receipts]);
-    assert!(rt; found == Ok(()));
-}
-
-#[test]
-fn an_altered_receipt_is_strange(rt: HostRuntime) {
-    let entries = [Entry {
-        worker: 0,
-        command: insert(1),
-        reply: Reply::Placed(Serial(0)),
-    }];
-    let altered = [Receipt {
-        part: 0,
-        position: 0,
-        worker: 0,
-        command: insert(2),
-        reply: Reply::Placed(Serial(0)),
-    }];
-    let found = cover_one(rt.alloc(), kept_of(&rt, ONE, &entries), &[&altered]);
-    assert!(rt; found == strange(Some((0, 0))));
 }

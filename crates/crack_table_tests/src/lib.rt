@@ -1,11 +1,19 @@
-//! Tests that run through the public calls of a table, its workers, their gathering and their receipts: what no
-//! clause says.
+//! Tests of tables, of their workers, and of desks at which workers serve sessions and loads. They check what no clause
+//! says.
 #![tactic(auto)]
 
 #[cfg(test)]
+mod checkpoints;
+#[cfg(test)]
 mod covers;
 #[cfg(test)]
-mod folds;
+mod desks;
+#[cfg(test)]
+mod gates;
+#[cfg(test)]
+mod gatherings;
+#[cfg(test)]
+mod loads;
 #[cfg(test)]
 mod memory;
 #[cfg(test)]
@@ -16,3 +24,5 @@ mod tables;
 mod threads;
 #[cfg(test)]
 mod values;
+#[cfg(test)]
+mod witnessed;

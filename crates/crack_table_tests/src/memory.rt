@@ -2,53 +2,32 @@
 //!
 //! The tests `sweep_..` hold whichever one of their allocations is refused, so they may be run with each of them
 //! refused in turn.
-use crate::values::insert;
+use crate::script::command_of;
+use crate::values::GREATEST;
+use crack_commands::parse_statement;
 use crack_core::Book;
 use crack_plain::PlainTable;
-use crack_row::{
-    Command, GREATEST_LIMIT, Key, KeyRange, Limits, Payload, Policy, Refusal, Reply, Serial, Upkeep,
-};
+use crack_row::{Command, Limits, Policy, Refusal, Upkeep};
 use crack_table::{Closed, GatherRefused, OpenGate, Table, Worker, gather};
 use std::alloc::Global;
 use std::process::Abort;
 use std::sync::Wait;
 
-/// A command and the policy by which it is asked.
-type Asked = (Command, Policy);
-
-/// Inserts, changes and reads, with pending rows in between.
-fn commands() -> [Asked; 12] {
-    let all = KeyRange::all();
-    let serial = Serial(1);
-    let update = Command::Update {
-        serial,
-        key: Key::from_number(25),
-        payload: Payload::from_number(9),
-    };
-    [
-        (insert(10), Policy::Ripple),
-        (insert(20), Policy::Ripple),
-        (insert(30), Policy::Ripple),
-        (Command::Count(all), Policy::Complete),
-        (insert(15), Policy::Ripple),
-        (update, Policy::Ripple),
-        (Command::Sum(all), Policy::Ripple),
-        (Command::Delete { serial }, Policy::Ripple),
-        (insert(16), Policy::Gradual),
-        (Command::Count(all), Policy::Gradual),
-        (Command::Delete { serial }, Policy::Ripple),
-        (Command::Select(all), Policy::Ripple),
-    ]
-}
-
-/// The reply of a plain table, which finds memory at the second time.
-fn plain_reply(rt: &impl Abort, plain: &mut PlainTable, command: &Command) -> Reply {
-    let reply = match plain.apply(command) {
-        Ok(reply) => Ok(reply),
-        Err(_) => plain.apply(command),
-    };
-    reply.expect(rt, "a reply")
-}
+/// Inserts, changes and reads, with pending rows in between, and the policies by which they are asked.
+const ASKED: [(&str, Policy); 12] = [
+    ("insert 10 1", Policy::Ripple),
+    ("insert 20 1", Policy::Ripple),
+    ("insert 30 1", Policy::Ripple),
+    ("count 0 18446744073709551616", Policy::Complete),
+    ("insert 15 1", Policy::Ripple),
+    ("update 0.1 25 9", Policy::Ripple),
+    ("sum 0 18446744073709551616", Policy::Ripple),
+    ("delete 0.1", Policy::Ripple),
+    ("insert 16 1", Policy::Gradual),
+    ("count 0 18446744073709551616", Policy::Gradual),
+    ("delete 0.1", Policy::Ripple),
+    ("select 0 18446744073709551616", Policy::Ripple),
+];
 
 /// How many receipts a book has, and its shares.
 fn shares(book: &Book) -> [u64; 4] {
@@ -56,25 +35,31 @@ fn shares(book: &Book) -> [u64; 4] {
     [receipts, book.accepted(), book.inserted(), book.deleted()]
 }
 
-/// Asks a worker, and a plain table if the worker finds memory; returns whether it didn't.
+/// Asks a worker, and a plain table if the worker finds memory; the plain table finds it at the second time. Returns
+/// how many answers are refused.
 fn ask_beside<R: Abort + Wait>(
     rt: &R,
     worker: &mut Worker,
     table: &Table,
     plain: &mut PlainTable,
-    asked: Asked,
-) -> bool {
-    let (command, policy) = asked;
+    command: Command,
+    policy: Policy,
+) -> u64 {
     let before = shares(worker.book());
     match worker.ask(rt, table, &OpenGate, 0, command, policy) {
         Ok(reply) => {
-            let is_same = reply.is_same(&plain_reply(rt, plain, &command));
-            assert!(rt; is_same && worker.book().accepted() == plain.accepted());
-            false
+            let plain_reply = match plain.apply(&command) {
+                Ok(reply) => reply,
+                Err(_) => plain.apply(&command).expect(rt, "a reply"),
+            };
+            assert!(rt;
+                reply.is_same(&plain_reply) && worker.book().accepted() == plain.accepted()
+            );
+            0
         }
         Err(refusal) => {
             assert!(rt; refusal == Refusal::OutOfMemory && shares(worker.book()) == before);
-            true
+            1
         }
     }
 }
@@ -83,10 +68,12 @@ fn ask_beside<R: Abort + Wait>(
 fn ask_all<R: Abort + Wait>(rt: &R, alloc: Global, worker: &mut Worker, table: &Table) -> [u64; 2] {
     let mut plain = PlainTable::new(alloc);
     let mut refused = 0u64;
-    for asked in commands() {
-        if ask_beside(rt, worker, table, &mut plain, asked) {
-            refused = refused.saturating_add(1);
-        }
+    'asked: for place in 0..ASKED.len() {
+        let (line, policy) = ASKED[place];
+        let statement = parse_statement(line.as_bytes()).expect(rt, "a statement");
+        let command = command_of(statement).expect(rt, "a command");
+        let now = ask_beside(rt, worker, table, &mut plain, command, policy);
+        refused = refused.saturating_add(now);
     }
     let told = [plain.accepted(), plain.rows().len() as u64];
     drop(plain);
@@ -126,14 +113,15 @@ fn work_within<R: Abort + Wait>(rt: &R, alloc: Global, limits: Limits) {
 
 #[test]
 fn sweep_worker(rt: HostRuntime) {
-    work_within(&rt, rt.alloc(), Limits::of_history(GREATEST_LIMIT));
+    work_within(&rt, rt.alloc(), GREATEST);
 }
 
 #[test]
 fn sweep_worker_whose_checkpoints_are_due(rt: HostRuntime) {
     let limits = Limits {
+        history: 2,
         upkeep: Upkeep::Automatic,
-        ..Limits::of_history(2)
+        ..GREATEST
     };
     work_within(&rt, rt.alloc(), limits);
 }

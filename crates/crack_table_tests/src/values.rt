@@ -1,52 +1,59 @@
-//! Tables, commands and totals of the tests.
-use crack_gates::totals;
+//! Tables, their workers and their totals, and what workers ask.
 use crack_row::{
-    Bound, BoundNumber, Command, Key, KeyNumber, KeyRange, Limits, Payload, Policy, Refusal, Reply,
+    Bound, BoundNumber, Command, GREATEST_CELLS, GREATEST_LIFE, GREATEST_LIMIT, Key, KeyNumber,
+    Limits, Payload, Policy, Refusal, Reply, Upkeep,
 };
-use crack_table::{Gate, OpenGate, Table, Worker};
+use crack_table::{Gate, Table, Worker, gather};
 use std::alloc::Global;
 use std::process::Abort;
 use std::sync::Wait;
 
+/// No splits: there is one partition.
+pub(crate) const ONE: &[BoundNumber] = &[];
+
 /// Two partitions, which meet at key 1000000.
-pub(crate) fn splits() -> [Bound; 1] {
-    [Bound::from_number(1000000)]
-}
+pub(crate) const TWO: &[BoundNumber] = &[1000000];
+
+/// Two partitions, which meet at key 100.
+pub(crate) const HUNDRED: &[BoundNumber] = &[100];
 
 /// Four partitions, which meet at keys 100, 200 and 300.
-pub(crate) fn four() -> [Bound; 3] {
-    [
-        Bound::from_number(100),
-        Bound::from_number(200),
-        Bound::from_number(300),
-    ]
+pub(crate) const FOUR: &[BoundNumber] = &[100, 200, 300];
+
+/// The greatest limits, with checkpoints on request.
+pub(crate) const GREATEST: Limits = Limits {
+    history: GREATEST_LIMIT,
+    cells: GREATEST_CELLS,
+    life: GREATEST_LIFE,
+    upkeep: Upkeep::OnRequest,
+};
+
+/// The same with ten entries in each history.
+pub(crate) const TEN: Limits = Limits {
+    history: 10,
+    ..GREATEST
+};
+
+/// The bounds with these numbers.
+pub(crate) fn bounds(rt: &impl Abort, alloc: Global, numbers: &[BoundNumber]) -> Vec<Bound> {
+    let mut bounds = Vec::new(alloc);
+    'numbers: for place in 0..numbers.len() {
+        assert!(rt; bounds.push(Bound::from_number(numbers[place])).is_ok());
+    }
+    bounds
 }
 
-/// A table and its workers. It promises nothing, so that no test carries the contract of `open`.
+/// A table between these splits, and its workers. It promises nothing, so that no test carries the contract of
+/// `open_with`.
 pub(crate) fn open(
     rt: &impl Abort,
     alloc: Global,
-    splits: &[Bound],
-    limit: u64,
-    workers: u64,
-) -> (Table, Vec<Worker>) {
-    Table::open(alloc, splits, limit, workers).expect(rt, "a table")
-}
-
-/// The same within limits.
-pub(crate) fn open_within(
-    rt: &impl Abort,
-    alloc: Global,
-    splits: &[Bound],
+    splits: &[BoundNumber],
     limits: Limits,
     workers: u64,
 ) -> (Table, Vec<Worker>) {
-    Table::open_with(alloc, splits, limits, workers).expect(rt, "a table")
-}
-
-/// The last of some workers, which isn't among them then.
-pub(crate) fn take_last(rt: &impl Abort, workers: &mut Vec<Worker>) -> Worker {
-    workers.pop().expect(rt, "a worker")
+    let splits = bounds(rt, alloc, splits);
+    Table::open_with(alloc, &splits, limits, workers).expect(rt, "a table")
 }
 
 /// Puts a worker after the others.
@@ -62,8 +69,15 @@ pub(crate) fn assert_totals(
     workers: Vec<Worker>,
     wanted: [u64; 4],
 ) {
-    let told = totals(alloc, table, workers);
-    assert_eq!(rt; told, Ok(wanted));
+    let closed = gather(alloc, table, workers).ok().expect(rt, "gathered");
+    let told = [
+        closed.accepted,
+        closed.inserted,
+        closed.deleted,
+        closed.held,
+    ];
+    drop(closed);
+    assert_eq!(rt; told, wanted);
 }
 
 /// An insert of a key.
@@ -74,15 +88,8 @@ pub(crate) fn insert(key: u32) -> Command {
     }
 }
 
-/// A count of one key.
-pub(crate) fn count(key: u32) -> Result<Command, Refusal> {
-    let low = BoundNumber::from(key);
-    let range = KeyRange::new(low, low + 1)?;
-    Ok(Command::Count(range))
-}
-
-/// The answers that a worker gets with a gate.
-pub(crate) fn ask_by<R: Wait, G: Gate>(
+/// The answer that a worker gets with a gate.
+pub(crate) fn ask<R: Wait, G: Gate>(
     rt: &R,
     worker: &mut Worker,
     table: &Table,
@@ -91,15 +98,4 @@ pub(crate) fn ask_by<R: Wait, G: Gate>(
     command: Command,
 ) -> Result<Reply, Refusal> {
     worker.ask(rt, table, gate, part, command, Policy::Complete)
-}
-
-/// The answers that a worker gets.
-pub(crate) fn ask<R: Wait>(
-    rt: &R,
-    worker: &mut Worker,
-    table: &Table,
-    part: u32,
-    command: Command,
-) -> Result<Reply, Refusal> {
-    ask_by(rt, worker, table, &OpenGate, part, command)
 }

@@ -17,18 +17,13 @@ const PATIENCE: u32 = 100000;
 /// A gate that counts the commands of each partition, and by that number yields or refuses at every turn.
 #[derive(Drop)]
 pub struct Restless {
-    begun: AtomicU32,
-    entered: [AtomicU32; PARTS],
+    /// How many threads have begun.
+    pub begun: AtomicU32,
+    /// How many commands each partition's lock was taken for.
+    pub entered: [AtomicU32; PARTS],
 }
 
 impl Restless {
-    pub fn new() -> Restless {
-        Restless {
-            begun: AtomicU32::new(0),
-            entered: [AtomicU32::new(0), AtomicU32::new(0), AtomicU32::new(0)],
-        }
-    }
-
     /// Waits, not forever, until this many threads have come here.
     pub fn begin_together(&self, threads: u64) {
         self.begun.fetch_add(1, Ordering::SeqCst);

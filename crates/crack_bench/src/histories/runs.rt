@@ -1,17 +1,17 @@
 //! A table with its workers, each on a thread of its own.
 
-use crate::hands::{Hand, leave, work_on_threads};
-use crate::histories::draws::{Draws, splits};
+use crate::histories::draws::{Draws, FIRST_KEYS};
 use crate::histories::gate::Restless;
 use crate::histories::recorder::Recorder;
-use crate::histories::texts::{write_base, write_entry, written};
+use crate::histories::texts::{write_answer, write_base, written};
 use crate::report::Host;
-use crate::seats::Seated;
+use crate::seats::{Hand, Seated, leave, work_on_threads};
 use crack_part::Partition;
-use crack_row::{Limits, Policy, Refusal, Watched};
+use crack_row::{Key, Limits, Policy, Refusal, Watched};
 use crack_table::{Closed, Table, Worker, gather};
 use std::alloc::Global;
 use std::io::Write;
+use std::sync::atomic::AtomicU32;
 
 /// The parameters of a run.
 #[derive(Clone, Copy)]
@@ -35,7 +35,12 @@ pub fn carry_out<R: Host, W: Write>(
     writer: &mut Watched<W>,
 ) -> Result<(), Refusal> {
     let alloc = rt.alloc();
-    let (table, workers) = Table::open_with(alloc, &splits(), plan.limits, plan.workers)?;
+    let [_, second, third] = FIRST_KEYS;
+    let splits = [
+        Key::from_number(second).bound(),
+        Key::from_number(third).bound(),
+    ];
+    let (table, workers) = Table::open_with(alloc, &splits, plan.limits, plan.workers)?;
     let mut left = Vec::new(alloc);
     match ask_and_write(rt, plan, &table, workers, &mut left, writer) {
         Ok(()) => gather_and_write(alloc, table, left, writer),
@@ -56,7 +61,10 @@ fn ask_and_write<R: Host + Sync, W: Write>(
     left: &mut Vec<Worker>,
     writer: &mut Watched<W>,
 ) -> Result<(), Refusal> {
-    let gate = Restless::new();
+    let gate = Restless {
+        begun: AtomicU32::new(0),
+        entered: [AtomicU32::new(0), AtomicU32::new(0), AtomicU32::new(0)],
+    };
     let mut hands = Vec::new(rt.alloc());
     match work(rt, &gate, plan, table, workers, &mut hands, writer) {
         Ok(()) => leave(hands, left),
@@ -77,8 +85,13 @@ fn work<'a, R: Host + Sync, W: Write>(
     writer: &mut Watched<W>,
 ) -> Result<(), Refusal> {
     'workers: for worker in workers {
-        let draws = Draws::new(plan.seed, worker.book().worker());
-        let questions = Recorder::new(rt.alloc(), gate, draws, plan.workers);
+        let questions = Recorder {
+            draws: Draws::new(plan.seed, worker.book().worker()),
+            gate,
+            workers: plan.workers,
+            text: Vec::new(rt.alloc()),
+            cut: false,
+        };
         let worker = Seated {
             rt,
             gate,
@@ -133,10 +146,8 @@ fn write_closed<W: Write>(closed: &Closed, writer: &mut Watched<W>) -> Result<()
     }
     let (accepted, inserted) = (closed.accepted, closed.inserted);
     let (deleted, held) = (closed.deleted, closed.held);
-    written(writeln!(
-        writer,
-        "accepted {accepted} inserted {inserted} deleted {deleted} held {held}"
-    ))?;
+    written(write!(writer, "accepted {accepted} inserted {inserted} "))?;
+    written(writeln!(writer, "deleted {deleted} held {held}"))?;
     written(writer.flush())
 }
 
@@ -147,7 +158,8 @@ fn write_history<W: Write>(
 ) -> Result<(), Refusal> {
     write_base(part, partition, writer)?;
     'entries: for entry in partition.history() {
-        write_entry(part, entry, writer)?;
+        let reply = Ok(&entry.reply);
+        write_answer(entry.worker, part, &entry.command, reply, writer)?;
     }
     Ok(())
 }

@@ -1,10 +1,10 @@
 //! Questions and answers as lines: a statement, and after it the lines of its reply. Refused with 18 if the writer
 //! fails.
 
-use crack_commands::{write_folded, write_refusal, write_reply, write_row};
+use crack_commands::{send, write_each_row, write_folded, write_refusal, write_reply, write_row};
 use crack_core::Receipt;
 use crack_part::Partition;
-use crack_row::{Command, Entry, KeyRange, Refusal, Reply, Watched};
+use crack_row::{Command, Key, KeyRange, Payload, Refusal, Reply, Row, Watched};
 use std::io;
 use std::io::Write;
 
@@ -22,67 +22,59 @@ fn write_command<W: Write>(
     command: &Command,
     writer: &mut Watched<W>,
 ) -> Result<(), Refusal> {
-    let line = match *command {
-        Command::Insert { key, payload } => {
-            writeln!(writer, "insert {} {}", key.number(), payload.number())
-        }
-        Command::Delete { serial } => writeln!(writer, "delete {part}.{}", serial.0),
+    match *command {
+        Command::Insert { key, payload } => write_insert(key, payload, writer),
+        Command::Delete { serial } => written(writeln!(writer, "delete {part}.{}", serial.0)),
         Command::Update {
             serial,
             key,
             payload,
-        } => writeln!(
-            writer,
-            "update {part}.{} {} {}",
-            serial.0,
-            key.number(),
-            payload.number()
-        ),
+        } => {
+            send(writer, b"update ")?;
+            let row = Row {
+                serial,
+                key,
+                payload,
+            };
+            write_row(part, &row, writer)
+        }
         Command::Count(range) => write_query("count", range, writer),
         Command::Sum(range) => write_query("sum", range, writer),
         Command::Select(range) => write_query("select", range, writer),
-    };
-    written(line)
+    }
 }
 
-fn write_query<W: Write>(name: &str, range: KeyRange, writer: &mut Watched<W>) -> io::Result<()> {
+fn write_insert<W: Write>(
+    key: Key,
+    payload: Payload,
+    writer: &mut Watched<W>,
+) -> Result<(), Refusal> {
+    let (key, payload) = (key.number(), payload.number());
+    written(writeln!(writer, "insert {key} {payload}"))
+}
+
+fn write_query<W: Write>(
+    name: &str,
+    range: KeyRange,
+    writer: &mut Watched<W>,
+) -> Result<(), Refusal> {
     let (low, high) = (range.low().number(), range.high().number());
-    writeln!(writer, "{name} {low} {high}")
+    written(writeln!(writer, "{name} {low} {high}"))
 }
 
-/// Writes a command and its reply.
-fn write_replied<W: Write>(
-    part: u32,
-    command: &Command,
-    reply: &Reply,
-    writer: &mut Watched<W>,
-) -> Result<(), Refusal> {
-    write_command(part, command, writer)?;
-    write_reply(part, reply, writer)
-}
-
-/// Writes a command and its refusal.
-fn write_refused<W: Write>(
-    part: u32,
-    command: &Command,
-    refusal: &Refusal,
-    writer: &mut Watched<W>,
-) -> Result<(), Refusal> {
-    write_command(part, command, writer)?;
-    write_refusal(refusal, writer)
-}
-
-/// Writes a question to a partition, and its answer.
+/// Writes a number, a command to a partition, and its answer.
 pub fn write_answer<W: Write>(
+    number: u32,
     part: u32,
     command: &Command,
-    answer: &Result<Reply, Refusal>,
+    answer: Result<&Reply, &Refusal>,
     writer: &mut Watched<W>,
 ) -> Result<(), Refusal> {
-    written(write!(writer, "{part} "))?;
+    written(write!(writer, "{number} "))?;
+    write_command(part, command, writer)?;
     match answer {
-        Ok(reply) => write_replied(part, command, reply, writer),
-        Err(refusal) => write_refused(part, command, refusal, writer),
+        Ok(reply) => write_reply(part, reply, writer),
+        Err(refusal) => write_refusal(refusal, writer),
     }
 }
 
@@ -113,30 +105,21 @@ pub fn write_base<W: Write>(
     let (inserted, deleted) = (partition.folded_insertions(), partition.folded_deletions());
     let rows = partition.base_rows();
     let count = rows.len();
-    written(writeln!(
-        writer,
-        "partition {part} folded {folded} inserted {inserted} deleted {deleted} rows {count}"
-    ))?;
-    'rows: for row in rows {
-        write_row(part, row, writer)?;
-    }
-    Ok(())
+    written(write!(writer, "partition {part} folded {folded} "))?;
+    written(write!(writer, "inserted {inserted} deleted {deleted} "))?;
+    written(writeln!(writer, "rows {count}"))?;
+    write_each_row(part, rows, writer)
 }
 
 /// Writes a receipt: its partition, position and worker, and the command and its reply.
 pub fn write_receipt<W: Write>(receipt: &Receipt, writer: &mut Watched<W>) -> Result<(), Refusal> {
-    let (part, position, worker) = (receipt.part, receipt.position, receipt.worker);
-    written(write!(writer, "{part} {position} {worker} "))?;
-    write_replied(part, &receipt.command, &receipt.reply, writer)
-}
-
-/// Writes an entry: its worker, and the command and its reply.
-pub fn write_entry<W: Write>(
-    part: u32,
-    entry: &Entry,
-    writer: &mut Watched<W>,
-) -> Result<(), Refusal> {
-    let worker = entry.worker;
-    written(write!(writer, "{worker} "))?;
-    write_replied(part, &entry.command, &entry.reply, writer)
+    let (part, position) = (receipt.part, receipt.position);
+    written(write!(writer, "{part} {position} "))?;
+    write_answer(
+        receipt.worker,
+        part,
+        &receipt.command,
+        Ok(&receipt.reply),
+        writer,
+    )
 }

@@ -1,55 +1,48 @@
 //! Puts, gets and frees on the arena.
-ghost use Rattle.std.specs.Prelude.{◌<◌, ◌^◌, length, IfOk, IfSome};
 
 use crate::report::{Output, Told, report};
 use crate::single::numbers::{Numbers, mixed};
 use crack_arena::{Arena, Handle};
 use crack_row::{Key, KeyNumber, Payload, Refusal, Row, Serial};
-use std::alloc::Global;
 use std::time::Instant;
-
-/// An arena with rows, and handles that read them.
-#[derive(Drop)]
-pub struct Filled {
-    pub arena: Arena<Row>,
-    pub handles: Vec<Handle<Row>>,
-}
-
-impl Filled {
-    /// No rows yet.
-    pub fn new(alloc: Global) -> Filled {
-        Filled {
-            arena: Arena::new(alloc),
-            handles: Vec::new(alloc),
-        }
-    }
-}
 
 /// Steps at random handles.
 pub fn measure<R: Output>(rt: &R, steps: u64, rows: u32) -> Told {
-    let mut filled = Filled::new(rt.alloc());
-    let told = measure_steps(rt, &mut filled, steps, rows);
-    drop(filled);
+    let mut arena = Arena::new(rt.alloc());
+    let mut handles = Vec::new(rt.alloc());
+    let told = measure_steps(rt, &mut arena, &mut handles, steps, rows);
+    drop(handles);
+    drop(arena);
     told
 }
 
-fn measure_steps<R: Output>(rt: &R, filled: &mut Filled, count: u64, rows: u32) -> Told {
-    let mut numbers = Numbers::new(1);
-    fill(filled, rows, &mut numbers)?;
+fn measure_steps<R: Output>(
+    rt: &R,
+    arena: &mut Arena<Row>,
+    handles: &mut Vec<Handle<Row>>,
+    count: u64,
+    rows: u32,
+) -> Told {
+    let mut numbers = Numbers { state: 1 };
+    fill(arena, handles, rows, &mut numbers)?;
     let start = Instant::now(rt)?;
-    let sum = steps(filled, count, &mut numbers)?;
+    let sum = steps(arena, handles, count, &mut numbers)?;
     report(rt, "steps", start)?;
-    let handles = filled.handles.len();
-    let cells = filled.arena.cells();
-    let freed = filled.arena.freed();
-    println!(rt; "arena {handles} cells {cells} freed {freed} sum {sum}")?;
+    let (left, cells, freed) = (handles.len(), arena.cells(), arena.freed());
+    print!(rt; "arena {left} cells {cells} ")?;
+    println!(rt; "freed {freed} sum {sum}")?;
     Ok(())
 }
 
 /// Puts this many rows of random keys, and keeps their handles in order.
-pub fn fill(filled: &mut Filled, rows: u32, numbers: &mut Numbers) -> Result<(), Refusal> {
-    filled.arena.reserve(rows as usize)?;
-    filled.handles.reserve(rows as usize)?;
+pub fn fill(
+    arena: &mut Arena<Row>,
+    handles: &mut Vec<Handle<Row>>,
+    rows: u32,
+    numbers: &mut Numbers,
+) -> Result<(), Refusal> {
+    arena.reserve(rows as usize)?;
+    handles.reserve(rows as usize)?;
     'rows: for serial in 0..rows {
         let key = numbers.below(1 << 31) as KeyNumber;
         let row = Row {
@@ -57,7 +50,7 @@ pub fn fill(filled: &mut Filled, rows: u32, numbers: &mut Numbers) -> Result<(),
             key: Key::from_number(key),
             payload: Payload::from_number(1),
         };
-        put(&mut filled.arena, &mut filled.handles, row)?;
+        put(arena, handles, row)?;
     }
     Ok(())
 }
@@ -71,49 +64,44 @@ fn put(arena: &mut Arena<Row>, handles: &mut Vec<Handle<Row>>, row: Row) -> Resu
     Ok(())
 }
 
-/// Gets the row of the handle at the place.
-fn get(filled: &Filled, at: usize) -> Option<Row>
-    requires { at < length filled.now.handles.items }
-{
-    filled.arena.get(filled.handles[at]).copied()
-}
-
-/// Frees the row of the handle at the place, and drops the handle.
-fn free(filled: &mut Filled, at: usize) -> Option<Row>
-    requires { at < length filled.old.handles.items }
-{
-    if filled.arena.freed() == u64::MAX {
-        return None;
-    }
-    filled.arena.free(filled.handles.swap_remove(at))
-}
-
-/// One step: a put, a get or a free, a third each; a put if there is no handle.
-fn step(filled: &mut Filled, number: u64, numbers: &mut Numbers) -> Result<Option<Row>, Refusal> {
+/// One step: a put, a get of the row of a random handle, or a free of it, a third each; a put if there is no handle.
+fn step(
+    arena: &mut Arena<Row>,
+    handles: &mut Vec<Handle<Row>>,
+    number: u64,
+    numbers: &mut Numbers,
+) -> Result<Option<Row>, Refusal> {
     let which = numbers.below(3);
-    let len = filled.handles.len();
+    let len = handles.len();
     if which == 0 || len == 0 {
         let row = Row {
             serial: Serial(number),
             key: Key::from_number(1),
             payload: Payload::from_number(2),
         };
-        put(&mut filled.arena, &mut filled.handles, row)?;
+        put(arena, handles, row)?;
         return Ok(None);
     }
     let at = numbers.below(len as u64) as usize;
     if which == 1 {
-        Ok(get(filled, at))
-    } else {
-        Ok(free(filled, at))
+        return Ok(arena.get(handles[at]).copied());
     }
+    if arena.freed() == u64::MAX {
+        return Ok(None);
+    }
+    Ok(arena.free(handles.swap_remove(at)))
 }
 
-/// As many steps at random handles. Returns a checksum of the rows that they read.
-fn steps(filled: &mut Filled, count: u64, numbers: &mut Numbers) -> Result<u64, Refusal> {
+/// As many steps. Returns a checksum of the rows that they read.
+fn steps(
+    arena: &mut Arena<Row>,
+    handles: &mut Vec<Handle<Row>>,
+    count: u64,
+    numbers: &mut Numbers,
+) -> Result<u64, Refusal> {
     let mut sum = 0;
     for number in 0..count {
-        if let Some(row) = step(filled, number, numbers)? {
+        if let Some(row) = step(arena, handles, number, numbers)? {
             sum = mixed(sum, row.serial.0);
         }
     }

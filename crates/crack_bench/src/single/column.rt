@@ -3,7 +3,7 @@ ghost use Rattle.std.specs.Prelude.{◌≡◌, [], length, OnOk};
 ghost use Rattle.crack_arena.specs.Memories.{Remembers};
 
 use crate::report::{Output, Told, report};
-use crate::single::arena::{Filled, fill};
+use crate::single::arena::fill;
 use crate::single::numbers::{Numbers, mixed};
 use crack_arena::{Arena, Handle};
 use crack_column::{CrackerColumn, MOST_PLACES};
@@ -21,27 +21,30 @@ const LATER_STEP: u32 = 134217728;
 
 /// Cracks of a column of random rows.
 pub fn measure<R: Output>(rt: &R, rows: u32) -> Told {
-    let mut filled = Filled::new(rt.alloc());
+    let mut arena = Arena::new(rt.alloc());
+    let mut handles = Vec::new(rt.alloc());
     let mut column = CrackerColumn::new(rt.alloc());
-    let told = fill_and_crack(rt, &mut filled, &mut column, rows);
+    let told = fill_and_crack(rt, &mut arena, &mut handles, &mut column, rows);
     drop(column);
-    drop(filled);
+    drop(handles);
+    drop(arena);
     told
 }
 
 fn fill_and_crack<R: Output>(
     rt: &R,
-    filled: &mut Filled,
+    arena: &mut Arena<Row>,
+    handles: &mut Vec<Handle<Row>>,
     column: &mut CrackerColumn,
     rows: u32,
 ) -> Told
     requires { (column.old.handles ≡ []) × (column.old.remembered ≡ []) }
 {
-    let mut numbers = Numbers::new(7);
-    fill(filled, rows, &mut numbers)?;
-    shuffle(filled, &mut numbers);
-    append_all(column, filled.handles.as_slice(), &filled.arena)?;
-    measure_cracks(rt, column, &filled.arena)
+    let mut numbers = Numbers { state: 7 };
+    fill(arena, handles, rows, &mut numbers)?;
+    shuffle(handles.as_mut_slice(), &mut numbers);
+    append_all(column, handles.as_slice(), arena)?;
+    measure_cracks(rt, column, arena)
 }
 
 fn measure_cracks<R: Output>(rt: &R, column: &mut CrackerColumn, arena: &Arena<Row>) -> Told
@@ -58,8 +61,7 @@ fn measure_cracks<R: Output>(rt: &R, column: &mut CrackerColumn, arena: &Arena<R
 }
 
 /// Puts the handles into random order.
-fn shuffle(filled: &mut Filled, numbers: &mut Numbers) {
-    let handles = filled.handles.as_mut_slice();
+fn shuffle(handles: &mut [Handle<Row>], numbers: &mut Numbers) {
     'places: for i in 1..handles.len() {
         let other = numbers.below(i as u64 + 1) as usize;
         handles.swap(i, other);
@@ -83,21 +85,15 @@ fn append_all(
     Ok(())
 }
 
-/// The bound with this number; the least between two keys if the number is 0.
-fn bound_at(number: u32) -> InnerBound {
-    match Key::from_number(KeyNumber::from(number)).bound().inner() {
-        Some(bound) => bound,
-        None => InnerBound::least(),
-    }
-}
-
-/// Cracks the whole column at the bound with this number. Returns the place of the bound.
+/// Cracks the whole column at the bound with this number, at the least between two keys if the number is 0. Returns the
+/// place of the bound.
 fn crack(column: &mut CrackerColumn, number: u32, arena: &Arena<Row>) -> usize
     requires { Remembers arena.now.cells column.old.handles column.old.remembered }
     ensures { Remembers arena.now.cells column.new.handles column.new.remembered }
 {
+    let bound = Key::from_number(KeyNumber::from(number)).bound().inner();
     let len = column.len();
-    column.crack_two(0, len, bound_at(number), arena)
+    column.crack_two(0, len, bound.unwrap_or(InnerBound::least()), arena)
 }
 
 /// Cracks the whole column at bounds that rise. Returns a checksum of their places.

@@ -4,34 +4,25 @@ ghost use Rattle.std.specs.Prelude.{◌<◌};
 /// A linear congruential generator (Knuth's MMIX), of which the high bits are used.
 #[derive(Clone, Copy)]
 pub struct Numbers {
-    state: u64,
+    pub state: u64,
 }
 
 impl Numbers {
-    pub fn new(state: u64) -> Numbers {
-        Numbers { state }
-    }
-
     /// The next number below `bound`, which is at most 2^31.
     pub fn below(&mut self, bound: u64) -> u64
         requires { 0 < bound }
         ensures { result < bound }
     {
-        self.step();
-        (self.state >> 33) % bound
+        u64::from(self.word() >> 1) % bound
     }
 
     /// The next number of 32 bits.
     pub fn word(&mut self) -> u32 {
-        self.step();
-        (self.state >> 32) as u32
-    }
-
-    fn step(&mut self) {
         self.state = self
             .state
             .wrapping_mul(6364136223846793005)
             .wrapping_add(1442695040888963407);
+        (self.state >> 32) as u32
     }
 }
 

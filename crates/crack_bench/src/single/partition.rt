@@ -1,11 +1,12 @@
 //! A partition that is asked commands of random keys, rows and ranges.
 ghost use Rattle.std.specs.Prelude.{◌<◌};
 
+use crate::seats::number_of;
 use crate::single::numbers::{Numbers, mixed};
 use crack_part::Partition;
 use crack_row::{
     BoundNumber, Command, GREATEST_BOUND, GREATEST_LIMIT, Key, KeyNumber, KeyRange, Payload,
-    PayloadNumber, Policy, Refusal, Reply, Serial,
+    PayloadNumber, Policy, Refusal, Serial,
 };
 use std::alloc::Global;
 
@@ -47,7 +48,7 @@ pub enum Keys {
 }
 
 /// The numbers of a measurement. What they count depends on it.
-#[derive(Clone, Copy, Drop)]
+#[derive(Clone, Copy)]
 pub struct Sizes {
     pub rows: u32,
     /// How many ranges, changes, batches or pieces there are.
@@ -62,14 +63,12 @@ pub struct Measured {
     pub partition: Partition,
     policy: Policy,
     pub sizes: Sizes,
-    numbers: Numbers,
+    pub numbers: Numbers,
     /// The numbers that there were when the last part began.
-    begun: Numbers,
+    pub begun: Numbers,
     /// The serials of the rows that are to be deleted.
     rows: Vec<u64>,
-    /// The serial in the last reply that has one.
-    placed: u64,
-    /// The count or the sum in the last reply that has one.
+    /// The number in the last reply; 0 if it has none.
     pub told: u64,
     /// A checksum of the counts and sums in the replies.
     pub sum: u64,
@@ -77,7 +76,7 @@ pub struct Measured {
 
 impl Measured {
     pub fn open(alloc: Global, policy: Policy, sizes: Sizes) -> Result<Measured, Refusal> {
-        let numbers = Numbers::new(11);
+        let numbers = Numbers { state: 11 };
         Ok(Measured {
             partition: Partition::open(alloc, KeyRange::all(), GREATEST_LIMIT)?,
             policy,
@@ -85,21 +84,9 @@ impl Measured {
             numbers,
             begun: numbers,
             rows: Vec::new(alloc),
-            placed: 0,
             told: 0,
             sum: 0,
         })
-    }
-
-    /// Begins a part, with another checksum.
-    pub fn begin(&mut self) {
-        self.begun = self.numbers;
-        self.sum = 0;
-    }
-
-    /// Begins a part with the same numbers as the last.
-    pub fn begin_again(&mut self) {
-        self.numbers = self.begun;
     }
 
     /// Lists the serials of the first rows.
@@ -110,18 +97,11 @@ impl Measured {
 
     /// Carries out a command, and keeps the number in the reply.
     fn apply(&mut self, command: Command) -> Result<(), Refusal> {
-        match self.partition.apply(0, command, self.policy)?.0 {
-            Reply::Placed(serial) => self.placed = serial.0,
-            Reply::Counted(count) => self.tell(count),
-            Reply::Summed(sum) => self.tell(u64::try_from(sum).unwrap_or(u64::MAX)),
-            _ => {}
+        self.told = number_of(&self.partition.apply(0, command, self.policy)?.0);
+        if matches!(command, Command::Count(_) | Command::Sum(_)) {
+            self.sum = mixed(self.sum, self.told);
         }
         Ok(())
-    }
-
-    fn tell(&mut self, number: u64) {
-        self.told = number;
-        self.sum = mixed(self.sum, number);
     }
 
     /// The range of a query; of several queries the one with this number.
@@ -131,7 +111,10 @@ impl Measured {
             Keys::Random => (self.place(), WIDTH),
             Keys::Upper => (KEYS_END / 2, WIDTH),
             Keys::RandomUpper => (KEYS_END / 2 + self.place() / 2, WIDTH / 2),
-            Keys::Below => (0, self.end_of(at)),
+            Keys::Below => {
+                let width = KEYS_END / BoundNumber::from(self.sizes.first.max(1));
+                (0, width * (BoundNumber::from(at) + 1))
+            }
         };
         KeyRange::new(low, low.saturating_add(width))
     }
@@ -141,12 +124,6 @@ impl Measured {
         ensures { result < 4294967296 }
     {
         BoundNumber::from(self.numbers.word()) % (KEYS_END - WIDTH)
-    }
-
-    /// Where a piece ends, of as many pieces of one width.
-    fn end_of(&self, piece: u32) -> BoundNumber {
-        let width = KEYS_END / BoundNumber::from(self.sizes.first.max(1));
-        width * (BoundNumber::from(piece) + 1)
     }
 
     /// Takes a random row out of the list; none if it is empty.
@@ -169,7 +146,7 @@ impl Measured {
         let key = self.numbers.word();
         self.apply(insertion(key, key))?;
         if let Some(row) = self.rows.get_mut(at) {
-            *row = self.placed;
+            *row = self.told;
         }
         Ok(())
     }

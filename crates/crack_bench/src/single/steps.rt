@@ -94,6 +94,7 @@ const COLD: Kind = Kind {
     numbers: 1,
     load: PENDING,
     steps: &[
+        Step::Begin,
         Step::Ask(Ask::Sum(Keys::Random), Times::First),
         Step::Time("cold"),
         Step::Sum("cold"),
@@ -106,6 +107,7 @@ const PASS: Kind = Kind {
     numbers: 1,
     load: LOW,
     steps: &[
+        Step::Begin,
         Step::Ask(Ask::Sum(Keys::RandomUpper), Times::First),
         Step::Time("pass"),
         Step::Sum("pass"),
@@ -117,6 +119,7 @@ const COUNTS: Kind = Kind {
     numbers: 1,
     load: COUNTED,
     steps: &[
+        Step::Begin,
         Step::Ask(Ask::Count(Keys::Random), Times::First),
         Step::Time("counts"),
         Step::Sum("counts"),
@@ -128,6 +131,7 @@ const SUMS: Kind = Kind {
     numbers: 1,
     load: COUNTED,
     steps: &[
+        Step::Begin,
         Step::Ask(Ask::Sum(Keys::Random), Times::First),
         Step::Time("sums"),
         Step::Again,
@@ -142,6 +146,7 @@ const EACH: Kind = Kind {
     numbers: 1,
     load: COUNTED,
     steps: &[
+        Step::Begin,
         Step::Each(Ask::Sum(Keys::Random), Times::First, "sum"),
         Step::Sum("each"),
     ],
@@ -239,19 +244,16 @@ pub fn kind_of(name: &str) -> Option<Kind> {
 /// Carries out a measurement.
 pub fn measure<R: Output>(rt: &R, kind: Kind, policy: Policy, sizes: Sizes) -> Told {
     let mut table = Measured::open(rt.alloc(), policy, sizes)?;
-    let told = measure_table(rt, &mut table, kind);
+    let told = match take_all(rt, &mut table, kind.load) {
+        Ok(()) => take_all(rt, &mut table, kind.steps),
+        told => told,
+    };
     drop(table);
     told
 }
 
-fn measure_table<R: Output>(rt: &R, table: &mut Measured, kind: Kind) -> Told {
-    take_all(rt, table, kind.load)?;
-    take_all(rt, table, kind.steps)
-}
-
-/// Takes the steps of a part.
+/// Takes the steps of a list.
 fn take_all<R: Output>(rt: &R, table: &mut Measured, steps: &[Step]) -> Told {
-    table.begin();
     let mut start = Instant::now(rt)?;
     'steps: for step in steps {
         start = take(rt, table, *step, start)?;
@@ -268,7 +270,8 @@ fn take<R: Output>(
 ) -> Result<Instant, Failure> {
     match step {
         Step::Begin => {
-            table.begin();
+            table.begun = table.numbers;
+            table.sum = 0;
             Ok(Instant::now(rt)?)
         }
         Step::Time(name) => Ok(report(rt, name, start)?),
@@ -286,7 +289,7 @@ fn carry_out<R: Output>(rt: &R, table: &mut Measured, step: Step) -> Told {
         Step::Batches => Ok(table.update_in_batches()?),
         Step::List => Ok(table.list_rows(rt.alloc())?),
         Step::Again => {
-            table.begin_again();
+            table.numbers = table.begun;
             Ok(())
         }
         Step::Told(name) => write(rt, name, table.told),
@@ -357,7 +360,8 @@ fn measure_checkpoint<R: Output>(rt: &R, table: &mut Measured, name: &str) -> To
     let rows = table.partition.base_rows();
     let len = rows.len();
     let sum = sum_of(rows);
-    println!(rt; "{name} {entries} rows {len} sum {sum}")?;
+    print!(rt; "{name} {entries} ")?;
+    println!(rt; "rows {len} sum {sum}")?;
     Ok(())
 }
 

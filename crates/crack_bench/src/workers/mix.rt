@@ -1,12 +1,14 @@
 //! The commands of each worker: half sums of a hundredth of a partition's keys, a quarter deletes, and a quarter
-//! inserts.
+//! inserts; and the keys of the partitions.
 
-use crate::hands::Questions;
-use crate::seats::{Asks, Works};
+use crate::seats::{Asks, Questions, Works, number_of};
 use crack_row::{
-    BoundNumber, Command, Key, KeyNumber, KeyRange, Payload, PayloadNumber, Refusal, Reply, Serial,
+    Bound, BoundNumber, Command, Key, KeyNumber, KeyRange, Payload, PayloadNumber, Refusal, Serial,
 };
 use std::alloc::Global;
+
+/// How many partitions there are for each worker.
+pub const PARTS_EACH: u32 = 2;
 
 /// The width of a partition's keys.
 pub const PART_WIDTH: u32 = 67108864;
@@ -15,14 +17,14 @@ pub const PART_WIDTH: u32 = 67108864;
 const RANGE_WIDTH: u32 = PART_WIDTH / 100;
 
 /// Partitions that are adjacent.
-#[derive(Clone, Copy, Drop)]
+#[derive(Clone, Copy)]
 pub struct Parts {
     pub first: u32,
     pub count: u32,
 }
 
 /// A row that was placed.
-#[derive(Clone, Copy, Drop)]
+#[derive(Clone, Copy)]
 struct Placed {
     part: u32,
     serial: Serial,
@@ -55,10 +57,12 @@ impl Mix {
         }
     }
 
-    /// The next number, which looks random.
+    /// The next number, which looks random (the end of MurmurHash3 for numbers that rise by 1).
     fn next(&mut self) -> u32 {
         self.number = self.number.wrapping_add(1);
-        scattered(self.number)
+        let mixed = (self.number ^ (self.number >> 16)).wrapping_mul(2246822507);
+        let mixed = (mixed ^ (mixed >> 13)).wrapping_mul(3266489909);
+        mixed ^ (mixed >> 16)
     }
 
     /// One of the partitions.
@@ -70,7 +74,9 @@ impl Mix {
     /// Inserts a row into one of the partitions.
     fn insert<A: Asks>(&mut self, asked: &mut A) -> Result<Placed, Refusal> {
         let part = self.next_part();
-        let key = lowest_key(part).wrapping_add(self.next() % PART_WIDTH);
+        let key = part
+            .wrapping_mul(PART_WIDTH)
+            .wrapping_add(self.next() % PART_WIDTH);
         let insert = Command::Insert {
             key: Key::from_number(KeyNumber::from(key)),
             payload: Payload::from_number(PayloadNumber::from(key)),
@@ -85,35 +91,25 @@ impl Mix {
     /// The sum of a range of one of the partitions.
     fn sum<A: Asks>(&mut self, asked: &mut A) -> Result<u64, Refusal> {
         let part = self.next_part();
-        let low = lowest_key(part).wrapping_add(self.next() % (PART_WIDTH - RANGE_WIDTH));
+        let low = part
+            .wrapping_mul(PART_WIDTH)
+            .wrapping_add(self.next() % (PART_WIDTH - RANGE_WIDTH));
         let low = BoundNumber::from(low);
         let range = KeyRange::new(low, low + BoundNumber::from(RANGE_WIDTH))?;
         let reply = asked.ask(part, Command::Sum(range))?;
         Ok(number_of(&reply))
     }
 
-    /// Deletes one of the rows. Returns its place; none if there is no row.
-    fn delete<A: Asks>(&mut self, asked: &mut A) -> Result<Option<usize>, Refusal> {
+    /// Deletes one of the rows. Returns its place; 0 if there is no row.
+    fn delete<A: Asks>(&mut self, asked: &mut A) -> Result<usize, Refusal> {
         let number = self.next() as usize;
         if self.rows.is_empty() {
-            return Ok(None);
+            return Ok(0);
         }
         let at = number % self.rows.len();
         let Placed { part, serial } = self.rows[at];
         asked.ask(part, Command::Delete { serial })?;
-        Ok(Some(at))
-    }
-
-    /// A row for the one that was deleted.
-    fn replace<A: Asks>(&mut self, asked: &mut A, at: Option<usize>) -> Result<(), Refusal> {
-        let placed = self.insert(asked)?;
-        let Some(at) = at else {
-            return Ok(());
-        };
-        if let Some(row) = self.rows.get_mut(at) {
-            *row = placed;
-        }
-        Ok(())
+        Ok(at)
     }
 
     /// Inserts as many rows.
@@ -125,12 +121,15 @@ impl Mix {
         Ok(())
     }
 
-    /// A sum, a delete, a sum and an insert. Returns the sum of both sums.
+    /// A sum, a delete, a sum and an insert, of a row for the one that was deleted. Returns the sum of both sums.
     fn step<A: Asks>(&mut self, asked: &mut A) -> Result<u64, Refusal> {
         let first = self.sum(asked)?;
         let at = self.delete(asked)?;
         let second = self.sum(asked)?;
-        self.replace(asked, at)?;
+        let placed = self.insert(asked)?;
+        if let Some(row) = self.rows.get_mut(at) {
+            *row = placed;
+        }
         Ok(first.wrapping_add(second))
     }
 
@@ -154,24 +153,11 @@ pub fn count_all<A: Asks>(asked: &mut A, parts: u32) -> Result<u64, Refusal> {
     Ok(total)
 }
 
-/// The number that a reply has; 0 if it has none.
-fn number_of(reply: &Reply) -> u64 {
-    match reply {
-        Reply::Placed(serial) => serial.0,
-        Reply::Counted(count) => *count,
-        Reply::Summed(sum) => u64::try_from(*sum).unwrap_or(u64::MAX),
-        _ => 0,
+/// Where the partitions meet.
+pub fn splits(alloc: Global, parts: u32) -> Result<Vec<Bound>, Refusal> {
+    let mut splits = Vec::new(alloc);
+    'parts: for part in 1..parts {
+        splits.push(Bound::from_number(BoundNumber::from(part.wrapping_mul(PART_WIDTH))))?;
     }
-}
-
-/// Where a partition's keys begin.
-pub fn lowest_key(part: u32) -> u32 {
-    part.wrapping_mul(PART_WIDTH)
-}
-
-/// Another number for each number, which looks random (the end of MurmurHash3).
-fn scattered(number: u32) -> u32 {
-    let mixed = (number ^ (number >> 16)).wrapping_mul(2246822507);
-    let mixed = (mixed ^ (mixed >> 13)).wrapping_mul(3266489909);
-    mixed ^ (mixed >> 16)
+    Ok(splits)
 }

@@ -3,13 +3,12 @@ ghost use Rattle.crack_witness.specs.Witnesses.{AreNames};
 
 use crate::report::{Host, Output, Told, report};
 use crate::seats::AskedBy;
-use crate::workers::measuring::{Run, print_totals};
-use crate::workers::pool::splits;
-use crate::workers::runs::{Gathers, run_over};
+use crate::workers::measuring::{Gathers, Run, print_totals, run_over};
+use crate::workers::mix::splits;
 use crack_row::{Command, GREATEST_LIMIT, Limits, Policy, Refusal, Reply};
 use crack_table::Gate;
 use crack_witness::{Asker, Naming};
-use crack_witness_table::{Gathered, UnnamedTable, WitnessedTable, gather};
+use crack_witness_table::{UnnamedTable, WitnessedTable, gather};
 use std::marker::Brand;
 use std::sync::Wait;
 use std::time::Instant;
@@ -39,9 +38,11 @@ impl<J: Naming> Gathers<Asker<J>> for WitnessedTable<J> {
         match gather(rt.alloc(), self, workers) {
             Ok(gathered) => {
                 let reported = report(rt, "settle", start);
-                let totals = totals_of(gathered);
+                let (accepted, inserted) = (gathered.accepted, gathered.inserted);
+                let (deleted, held) = (gathered.deleted, gathered.held);
+                drop(gathered);
                 reported?;
-                Ok(print_totals(rt, start, totals)?)
+                Ok(print_totals(rt, start, [accepted, inserted, deleted, held])?)
             }
             Err(refused) => {
                 let refusal = refused.refusal;
@@ -54,9 +55,9 @@ impl<J: Naming> Gathers<Asker<J>> for WitnessedTable<J> {
 
 /// Opens a table, and carries out the run.
 pub fn run<R: Host>(rt: &R, run: Run) -> Told {
-    let splits = splits(rt.alloc(), run.plan.parts())?;
+    let splits = splits(rt.alloc(), run.parts())?;
     let limits = Limits::of_history(GREATEST_LIMIT);
-    let workers = u64::from(run.plan.workers);
+    let workers = u64::from(run.workers);
     let opened = UnnamedTable::open(rt.alloc(), splits.as_slice(), limits, workers);
     drop(splits);
     match opened {
@@ -73,16 +74,4 @@ fn run_named<J: Naming + Send + Sync, R: Host>(rt: &R, table: UnnamedTable, run:
         Ok((table, askers)) => run_over(rt, table, askers, run),
         Err(refusal) => Err(refusal.into()),
     }
-}
-
-/// How many commands were accepted, and rows inserted, deleted and held, by all workers together.
-fn totals_of<J: Naming>(gathered: Gathered<J>) -> [u64; 4] {
-    let totals = [
-        gathered.accepted,
-        gathered.inserted,
-        gathered.deleted,
-        gathered.held,
-    ];
-    drop(gathered);
-    totals
 }

@@ -1,7 +1,7 @@
 use Rattle.std.proofs.Common.{◌<◌, inl, inr, arith}
 use Rattle.std.proofs.lemmas.List.{length-map}
 use Rattle.crack_arena.specs.Rows.{key_at, keys_at}
-use Rattle.crack_bulk.specs.Filled.{IsFilled}
+use Rattle.crack_state.specs.Filled.{IsFilled}
 use Rattle.crack_merge.specs.Merges.{begins}
 use Rattle.crack_merge.proofs.AfterFillers.{found-later, PullsAll-filled, room-filled}
 use Rattle.crack_merge.proofs.pulls.pull_range.Goals as goal

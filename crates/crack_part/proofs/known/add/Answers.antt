@@ -1,5 +1,5 @@
 use Rattle.std.proofs.Common.{Some, ℤ, sym, subst}
-use Rattle.crack_sums.specs.Sums.{Changes}
+use Rattle.crack_index.specs.Sums.{Changes}
 use Rattle.crack_part.specs.KnownSums.{with_row}
 use Rattle.crack_part.proofs.KnownLemmas.{Changes-added, gained}
 use Rattle.crack_part.proofs.known.add.Goals as goal

@@ -1,5 +1,5 @@
 use Rattle.std.proofs.Common.{ℕ, ◌+◌, arith, sym, subst, ◌∙◌}
-use Rattle.crack_sums.specs.Sums.{AreRight}
+use Rattle.crack_index.specs.Sums.{AreRight}
 use Rattle.crack_state.proofs.LookUpLaws.{row_by-find}
 use Rattle.crack_part.specs.KnownSums.{sum_before, with_row}
 use Rattle.crack_part.proofs.SumLaws.{sum-next}

@@ -1,7 +1,7 @@
 use Rattle.std.proofs.Common.{◌≡◌, ◌≤◌}
 use Rattle.std.specs.Map.{keys_of}
 use Rattle.crack_plain.specs.Plain.{PlainState, IsNumbered}
-use Rattle.crack_sums.specs.Sums.{AreRight}
+use Rattle.crack_index.specs.Sums.{AreRight}
 use Rattle.crack_part.specs.Parts.{IsFaithful}
 use Rattle.crack_part.specs.KnownSums.{sum_before}
 use Rattle.crack_part.proofs.known.take_in.Given as goal

@@ -1,5 +1,5 @@
 use Rattle.std.proofs.Common.{◌≡◌, drop, map}
-use Rattle.crack_bulk.specs.Pulled.{buried_all}
+use Rattle.crack_state.specs.Pulled.{buried_all}
 use Rattle.crack_column.specs.Drains.{doomed_handle}
 use Rattle.crack_store.specs.Drainings.{AreBuried, KeepsKeys}
 use Rattle.crack_store.specs.Inside.{lists_of}

@@ -3,7 +3,7 @@ use Rattle.std.specs.Prelude.{is_ok}
 use Rattle.std.proofs.lemmas.List.{map-append, get_or_default}
 use Rattle.crack_arena.specs.Arena.{Handle, no_handle}
 use Rattle.crack_arena.specs.Rows.{key_at}
-use Rattle.crack_bulk.specs.Carried.{inside_of}
+use Rattle.crack_state.specs.Carried.{inside_of}
 use Rattle.crack_column.specs.declared.draining.Doomed.{Doomed}
 use Rattle.crack_store.specs.Drainings.{doomed_of}
 use Rattle.crack_store.proofs.TakeLemmas.{found, found_none}

@@ -1,5 +1,5 @@
 use Rattle.std.proofs.Common.{◌≡◌, ◌-◌, ◌≤◌, length, map, take}
-use Rattle.crack_bulk.specs.Carried.{inside_of}
+use Rattle.crack_state.specs.Carried.{inside_of}
 use Rattle.crack_store.specs.Drainings.{doomed_of}
 use Rattle.crack_store.proofs.draining.doomed_in.Given as goal
 

@@ -1,5 +1,5 @@
 use Rattle.std.proofs.Common.{◌≡◌, [], map, refl, ap, ◌∙◌, arith}
-use Rattle.crack_bulk.specs.Pulled.{buried_all}
+use Rattle.crack_state.specs.Pulled.{buried_all}
 use Rattle.crack_column.specs.Column.{Column}
 use Rattle.crack_column.specs.Drains.{doomed_handle}
 use Rattle.crack_state.specs.State.{State, IsIntact}

@@ -1,10 +1,10 @@
 use Rattle.std.proofs.Common.{◌≡◌, ◌≤◌, ◌+◌, ◌++◌, ◌∷◌, [], min, length, take, drop, map, refl, ap, ◌∙◌, arith}
 use Rattle.std.proofs.lemmas.List.{length-append, length-drop, length-take-le}
-use Rattle.crack_bulk.specs.Carried.{inside_of}
-use Rattle.crack_bulk.specs.Pieces.{cut}
-use Rattle.crack_bulk.proofs.CeilingLaws.{carried_under}
-use Rattle.crack_bulk.proofs.Sifts.{all_made_way, risen}
-use Rattle.crack_bulk.proofs.SiftedLaws.{min_and}
+use Rattle.crack_state.specs.Carried.{inside_of}
+use Rattle.crack_state.specs.Pieces.{cut}
+use Rattle.crack_state.proofs.CeilingLaws.{carried_under}
+use Rattle.crack_state.proofs.Sifts.{all_made_way, risen}
+use Rattle.crack_state.proofs.SiftedLaws.{min_and}
 use Rattle.crack_arena.specs.Rows.{key_at}
 use Rattle.crack_column.specs.Column.{Column}
 use Rattle.crack_pending.specs.Pending.{Pending}

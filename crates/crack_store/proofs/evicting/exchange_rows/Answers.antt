@@ -1,5 +1,5 @@
 use Rattle.std.proofs.Common.{◌≡◌, length, ap, ◌∙◌, arith}
-use Rattle.crack_bulk.specs.Carried.{inside_of}
+use Rattle.crack_state.specs.Carried.{inside_of}
 use Rattle.crack_pending.proofs.Remembering.{Remembers-none}
 use Rattle.crack_store.proofs.TakeLemmas.{inside-few}
 use Rattle.crack_store.proofs.ExchangeLemmas.{apart-left, IsExchanged-put}

@@ -2,12 +2,12 @@ use Rattle.std.proofs.Common.{◌≡◌, ℕ, ◌+◌, ◌-◌, List, [], ◌∷
 use Rattle.std.proofs.lemmas.List.{length-map, length-take-le}
 use Rattle.crack_arena.specs.Arena.{Handle}
 use Rattle.crack_arena.specs.Rows.{key_at}
-use Rattle.crack_bulk.specs.Pieces.{column_of, marks_of}
-use Rattle.crack_bulk.specs.Carried.{inside_of}
-use Rattle.crack_bulk.specs.Pulled.{all_drawn, itself, pulled, buried_all}
-use Rattle.crack_bulk.specs.Filled.{lacking, pieces_under}
-use Rattle.crack_bulk.proofs.FillLaws.{edge-within}
-use Rattle.crack_bulk.proofs.SiftedLaws.{min_and}
+use Rattle.crack_state.specs.Pieces.{column_of, marks_of}
+use Rattle.crack_state.specs.Carried.{inside_of}
+use Rattle.crack_state.specs.Pulled.{all_drawn, itself, pulled, buried_all}
+use Rattle.crack_state.specs.Filled.{lacking, pieces_under}
+use Rattle.crack_state.proofs.FillLaws.{edge-within}
+use Rattle.crack_state.proofs.SiftedLaws.{min_and}
 use Rattle.crack_column.specs.Drains.{doomed_handle}
 use Rattle.crack_arena.specs.Memories.{Remembers}
 use Rattle.crack_column.specs.Column.{Column}

@@ -2,8 +2,8 @@ use Rattle.std.proofs.Common.{◌≡◌, ◌+◌, ◌-◌, length, refl, sym, ap
 use Rattle.crack_column.specs.Column.{Column}
 use Rattle.crack_pending.specs.Pending.{Pending}
 use Rattle.crack_state.specs.Steps.{SameButRoom}
-use Rattle.crack_bulk.specs.Carried.{inside_of}
-use Rattle.crack_bulk.proofs.Carried.{carried_by_sifting}
+use Rattle.crack_state.specs.Carried.{inside_of}
+use Rattle.crack_state.proofs.Carried.{carried_by_sifting}
 use Rattle.crack_store.specs.Inside.{lists_of}
 use Rattle.crack_store.proofs.SiftLemmas.{IsSifted, IsCarried, whole, carried}
 use Rattle.crack_store.proofs.sifting.carry_rows.Goals as goal

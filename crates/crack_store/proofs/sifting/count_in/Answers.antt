@@ -2,7 +2,7 @@ use Rattle.std.proofs.Common.{◌∷◌, [], length, get_or, take, refl, sym, ap
 use Rattle.std.proofs.lemmas.List.{length-map, length-take-le}
 use Rattle.crack_arena.specs.Arena.{no_handle}
 use Rattle.crack_arena.specs.Rows.{key_at}
-use Rattle.crack_bulk.specs.Carried.{inside_of}
+use Rattle.crack_state.specs.Carried.{inside_of}
 use Rattle.crack_store.proofs.TakeLemmas.{found, found_none, first-none, inside-few}
 use Rattle.crack_store.proofs.sifting.count_in.Goals as goal
 

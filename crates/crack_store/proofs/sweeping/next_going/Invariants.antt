@@ -1,6 +1,6 @@
 use Rattle.std.proofs.Common.{◌≡◌, ◌<◌, ◌≤◌, ◌-◌, ℕ, false, get_or}
 use Rattle.crack_arena.specs.Arena.{no_handle}
-use Rattle.crack_bulk.specs.Sweeps.{goes_on}
+use Rattle.crack_state.specs.Sweeps.{goes_on}
 use Rattle.crack_store.specs.Sweepings.{ends_in, up_to}
 use Rattle.crack_store.proofs.sweeping.next_going.Given as goal
 

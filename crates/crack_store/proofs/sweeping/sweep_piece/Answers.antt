@@ -4,7 +4,7 @@ use Rattle.std.specs.List.{between}
 use Rattle.std.proofs.lemmas.Bool.{lt-ltb, le-ltb}
 use Rattle.crack_arena.specs.Arena.{no_handle}
 use Rattle.crack_arena.specs.Rows.{key_at}
-use Rattle.crack_bulk.specs.Sweeps.{goes_on, is_lower}
+use Rattle.crack_state.specs.Sweeps.{goes_on, is_lower}
 use Rattle.crack_column.specs.Column.{Column, swapped}
 use Rattle.crack_store.specs.Sweepings.{ends_in, up_to}
 use Rattle.crack_store.proofs.SweepLemmas.{IsOn-start, IsOn-by, IsOn-turn, IsOn-round, counted-end, next-of, turned-goes, four, length-swapped}

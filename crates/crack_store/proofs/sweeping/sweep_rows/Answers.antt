@@ -3,9 +3,9 @@ use Rattle.crack_column.specs.Column.{Column}
 use Rattle.crack_column.specs.Drains.{doomed_handle}
 use Rattle.crack_pending.specs.Pending.{Pending}
 use Rattle.crack_state.specs.State.{State, IsIntact}
-use Rattle.crack_bulk.specs.Carried.{inside_of}
-use Rattle.crack_bulk.specs.Pulled.{buried_all}
-use Rattle.crack_bulk.proofs.AllLaws.{IsKept-in_bulk}
+use Rattle.crack_state.specs.Carried.{inside_of}
+use Rattle.crack_state.specs.Pulled.{buried_all}
+use Rattle.crack_state.proofs.AllCarriedLaws.{IsKept-in_bulk}
 use Rattle.crack_store.specs.Inside.{lists_of}
 use Rattle.crack_store.specs.declared.inside.Inside.{Inside}
 use Rattle.crack_store.proofs.DrainLemmas.{buried-length, Remembers-buried}

@@ -2,7 +2,7 @@ use Rattle.std.proofs.Common.{◌≡◌, ℤ, arith, ap, sym, subst}
 use Rattle.crack_row.specs.declared.command.Command.TheVariants.{Delete}
 use Rattle.crack_plain.specs.Plain.{after}
 use Rattle.crack_part.specs.KnownSums.{Known, Knows, sum_before}
-use Rattle.crack_sums.specs.Sums.{Changes}
+use Rattle.crack_index.specs.Sums.{Changes}
 use Rattle.crack_part.proofs.KnownLemmas.{AreRight-same, Knows-left, Knows-unremoved, lost, removed-early, removed-late}
 use Rattle.crack_part.proofs.known.KnownSums.remove.Goals as goal
 

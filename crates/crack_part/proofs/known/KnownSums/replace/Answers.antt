@@ -1,7 +1,7 @@
 use Rattle.std.proofs.Common.{◌≡◌, ℤ, arith, ap, sym, subst}
 use Rattle.crack_row.specs.declared.command.Command.TheVariants.{Update}
 use Rattle.crack_plain.specs.Plain.{after}
-use Rattle.crack_sums.specs.Sums.{Changes}
+use Rattle.crack_index.specs.Sums.{Changes}
 use Rattle.crack_part.specs.KnownSums.{Known, Knows, sum_before}
 use Rattle.crack_part.proofs.KnownLemmas.{AreRight-same, Knows-left, Knows-unchanged, Changes-without, without, gained, lost, replaced-early, replaced-late}
 use Rattle.crack_part.proofs.known.KnownSums.replace.Goals as goal

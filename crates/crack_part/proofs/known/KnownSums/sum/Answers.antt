@@ -2,7 +2,7 @@ use Rattle.std.proofs.Common.{◌≡◌, ◌<◌, ℕ, arith, ap, sym, subst, �
 use Rattle.std.specs.List.{All}
 use Rattle.std.proofs.lemmas.Option.{IfSome_then}
 use Rattle.crack_row.specs.declared.Row.{Row}
-use Rattle.crack_sums.specs.Sums.{IsAdditive}
+use Rattle.crack_index.specs.Sums.{IsAdditive}
 use Rattle.crack_part.specs.KnownSums.{Known, Knows, sum_before}
 use Rattle.crack_part.proofs.SumLaws.{sum-parts, sum-nothing, sum-all}
 use Rattle.crack_part.proofs.known.KnownSums.sum.Goals as goal

@@ -1,7 +1,7 @@
 use Rattle.std.proofs.Common.{◌≡◌, [], List, map, min, length, take, ap, refl, ◌∙◌, arith}
 use Rattle.std.proofs.lemmas.List.{take-map}
 use Rattle.crack_arena.specs.Arena.{Handle}
-use Rattle.crack_bulk.specs.Carried.{inside_of}
+use Rattle.crack_state.specs.Carried.{inside_of}
 use Rattle.crack_state.specs.State.{State}
 use Rattle.crack_state.proofs.LayoutLaws.{cells-intact, pending_out-few}
 use Rattle.crack_store.specs.Drainings.{doomed_of}

@@ -1,6 +1,6 @@
 use Rattle.std.proofs.Common.{◌≡◌, [], ap, ◌∙◌, arith}
-use Rattle.crack_bulk.specs.Pulled.{pulled_from, pulled_in_bulk}
-use Rattle.crack_bulk.proofs.AllPulledLaws.{IsDrained-in_bulk}
+use Rattle.crack_state.specs.Pulled.{pulled_from, pulled_in_bulk}
+use Rattle.crack_state.proofs.AllPulledLaws.{IsDrained-in_bulk}
 use Rattle.crack_state.specs.State.{State, live_rows}
 use Rattle.crack_state.proofs.LayoutLaws.{cells-intact, pending_out-few}
 use Rattle.crack_store.specs.Inside.{lists_of}

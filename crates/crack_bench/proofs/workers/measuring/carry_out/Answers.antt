@@ -1,0 +1,10 @@
+use denote.Param.Send.{sendable}
+use Rattle.std.proofs.Crossing.{crosses}
+use Rattle.crack_bench.proofs.workers.measuring.carry_out.Goals as goal
+
+pub measure-told-requires-send-A : goal.measure-told-requires-send-A
+measure-told-requires-send-A g c κs within =
+    let runtime = c.type_bounds.sync-R in
+    let table = c.type_bounds.sync-T in
+    let worker = c.type_bounds.send-W in
+    search (sendable, crosses) depth 40

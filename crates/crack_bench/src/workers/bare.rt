@@ -1,0 +1,57 @@
+//! Partitions that are asked directly: no lock, and no receipt.
+
+use crate::report::{Host, Told};
+use crate::seats::Asks;
+use crate::workers::measuring::POLICY;
+use crate::workers::mix::{Mix, PART_WIDTH, PARTS_EACH, Parts, count_all};
+use crack_part::Partition;
+use crack_row::{BoundNumber, Command, GREATEST_LIMIT, KeyRange, Refusal, Reply};
+use std::alloc::Global;
+
+impl Asks for Vec<Partition> {
+    fn ask(&mut self, part: u32, command: Command) -> Result<Reply, Refusal> {
+        match self.get_mut(part as usize) {
+            Some(partition) => Ok(partition.apply(0, command, POLICY)?.0),
+            None => Err(Refusal::NoSuchPartition),
+        }
+    }
+}
+
+/// Asks the steps of one worker.
+pub fn run<R: Host>(rt: &R, rows: u32, steps: u32) -> Told {
+    let mut partitions = opened(rt.alloc())?;
+    let parts = Parts {
+        first: 0,
+        count: PARTS_EACH,
+    };
+    let mut mix = Mix::new(rt.alloc(), parts, 0);
+    let told = ask(&mut mix, &mut partitions, rows, steps);
+    drop(mix);
+    drop(partitions);
+    let (everything, told) = told?;
+    println!(rt; "rows {everything} sums {told}")?;
+    Ok(())
+}
+
+fn opened(alloc: Global) -> Result<Vec<Partition>, Refusal> {
+    let mut partitions = Vec::new(alloc);
+    'parts: for part in 0..PARTS_EACH {
+        let low = BoundNumber::from(part.wrapping_mul(PART_WIDTH));
+        let keys = KeyRange::new(low, low + BoundNumber::from(PART_WIDTH))?;
+        partitions.push(Partition::open(alloc, keys, GREATEST_LIMIT)?)?;
+    }
+    Ok(partitions)
+}
+
+/// Inserts the rows, counts them, and makes the steps. Returns the count, and the sum of all sums.
+fn ask(
+    mix: &mut Mix,
+    partitions: &mut Vec<Partition>,
+    rows: u32,
+    steps: u32,
+) -> Result<(u64, u64), Refusal> {
+    mix.load(partitions, rows.saturating_mul(PARTS_EACH))?;
+    let everything = count_all(partitions, PARTS_EACH)?;
+    let told = mix.steps(partitions, u64::from(steps))?;
+    Ok((everything, told))
+}

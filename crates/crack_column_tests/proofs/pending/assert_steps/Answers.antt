@@ -1,4 +1,0 @@
-use Rattle.crack_column_tests.proofs.pending.assert_steps.Goals as goal
-
-pub make_all-requires : goal.make_all-requires
-make_all-requires g c = c.requires c.put_all.new.arena.cells

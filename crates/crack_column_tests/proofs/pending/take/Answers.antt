@@ -1,4 +1,0 @@
-use Rattle.crack_column_tests.proofs.pending.take.Goals as goal
-
-pub returns : goal.returns
-returns g c = c.take-handle.ensures.remembered c.args.arena.now.cells c.requires

@@ -1,6 +1,0 @@
-mod Carrying
-mod EdgeLaws
-mod Filling
-mod Merging
-mod Putting
-mod Rippling

@@ -1,0 +1,116 @@
+//! Desks for the workers of a table, at which they serve sessions: what all kinds of server have in common.
+use crack_row::Refusal;
+use crack_service::{Host, Terms, serve_desks};
+use crack_session::Desk;
+use crack_table::{Gate, Table, Worker};
+use crack_witness::{Asker, Naming};
+use crack_witness_table::{AuditedAsker, WitnessedTable};
+use crack_worker_desk::{AuditedDesk, WitnessedDesk, WorkerDesk};
+use std::alloc::Global;
+use std::io::Read;
+use std::net::TcpListener;
+use std::sync::Wait;
+use std::thread::Threads;
+
+/// How a worker takes a desk at its table, and leaves it.
+pub(crate) trait Seats {
+    type Worker: Drop;
+
+    type Seat: Desk + Send + Drop;
+    /// A worker that has served.
+    type Served: Drop;
+
+    /// The desk at which this worker asks its table. Takes no lock and no memory.
+    fn seat(&self, alloc: Global, worker: Self::Worker) -> Self::Seat;
+
+    /// The worker at a desk. Takes no lock and no memory.
+    fn leave(seat: Self::Seat) -> Self::Served;
+}
+
+/// Desks at a table of this type, behind a gate.
+#[derive(Drop)]
+pub(crate) struct AtTable<'a, Rt: Wait, G: Gate, T> {
+    pub(crate) rt: &'a Rt,
+    pub(crate) table: &'a T,
+    pub(crate) gate: &'a G,
+}
+
+/// The same, for workers that keep receipts.
+#[derive(Drop)]
+pub(crate) struct Audited<'a, Rt: Wait, G: Gate, J: Naming>(
+    pub(crate) AtTable<'a, Rt, G, WitnessedTable<J>>,
+);
+
+impl<'a, Rt: Wait + Sync, G: Gate + Sync> Seats for AtTable<'a, Rt, G, Table> {
+    type Worker = Worker;
+
+    type Seat = WorkerDesk<'a, Rt, G>;
+
+    type Served = Worker;
+
+    fn seat(&self, _alloc: Global, worker: Worker) -> WorkerDesk<'a, Rt, G> {
+        WorkerDesk::new(self.rt, self.table, self.gate, worker)
+    }
+
+    fn leave(seat: WorkerDesk<'a, Rt, G>) -> Worker {
+        seat.into_worker()
+    }
+}
+
+impl<'a, Rt: Wait + Sync, G: Gate + Sync, J: Naming + Send + Sync> Seats
+    for AtTable<'a, Rt, G, WitnessedTable<J>> {
+    type Worker = Asker<J>;
+
+    type Seat = WitnessedDesk<'a, Rt, G, J>;
+
+    type Served = Asker<J>;
+
+    fn seat(&self, _alloc: Global, worker: Asker<J>) -> WitnessedDesk<'a, Rt, G, J> {
+        WitnessedDesk::new(self.rt, self.table, self.gate, worker)
+    }
+
+    fn leave(seat: WitnessedDesk<'a, Rt, G, J>) -> Asker<J> {
+        seat.into_asker()
+    }
+}
+
+impl<'a, Rt: Wait + Sync, G: Gate + Sync, J: Naming + Send + Sync> Seats for Audited<'a, Rt, G, J> {
+    type Worker = Asker<J>;
+
+    type Seat = AuditedDesk<'a, Rt, G, J>;
+
+    type Served = AuditedAsker<J>;
+
+    fn seat(&self, alloc: Global, worker: Asker<J>) -> AuditedDesk<'a, Rt, G, J> {
+        let worker = AuditedAsker::new(alloc, worker);
+        AuditedDesk::new(self.0.rt, self.0.table, self.0.gate, worker)
+    }
+
+    fn leave(seat: AuditedDesk<'a, Rt, G, J>) -> AuditedAsker<J> {
+        seat.into_worker()
+    }
+}
+
+/// Has each worker serve sessions, at a desk of its own, and returns the workers. Refused as `serve_desks` is, or with
+/// 8 if no memory is found for the list of desks.
+pub(crate) fn serve_workers<Rt: Threads + Wait + Sync, S: Seats, H: Host + Sync, I: Read>(
+    rt: &Rt,
+    alloc: Global,
+    listener: &TcpListener,
+    seats: &S,
+    workers: Vec<S::Worker>,
+    terms: Terms,
+    host: &H,
+    input: &mut I,
+) -> Result<Vec<S::Served>, Refusal> {
+    let mut back = Vec::with_capacity(alloc, workers.len())?;
+    let mut desks = Vec::with_capacity(alloc, workers.len())?;
+    'workers: for worker in workers {
+        desks.push(seats.seat(alloc, worker))?;
+    }
+    let served = serve_desks(rt, alloc, listener, desks, terms, host, input)?;
+    'desks: for desk in served {
+        back.push(S::leave(desk))?;
+    }
+    Ok(back)
+}

@@ -1,0 +1,76 @@
+//! Random rows are put into a store of random rows, and taken out of it, all at once or one after the other: the result
+//! is the same.
+use crate::bulk::merged;
+use crate::carried::carried_by;
+use crate::filled::pulled_by;
+use crate::script::assert_at;
+use std::alloc::Global;
+use std::process::Abort;
+
+/// How rows are put into a store, or taken out of it.
+#[derive(Clone, Copy)]
+enum Way {
+    Merge,
+    /// Doomed rows are in the way.
+    Carry,
+    /// The end of the rows' range is the ceiling.
+    CarryUnder,
+    /// Fillers take the places of doomed rows.
+    Pull,
+}
+
+/// The counts and the contents of the store of a seed, after all rows went at once or each after the other.
+fn noted_by(rt: &impl Abort, alloc: Global, way: Way, seed: u64, at_once: bool) -> Vec<u64> {
+    match way {
+        Way::Merge => merged(rt, alloc, seed, at_once),
+        Way::Carry => carried_by(rt, alloc, seed, at_once, false),
+        Way::CarryUnder => carried_by(rt, alloc, seed, at_once, true),
+        Way::Pull => pulled_by(rt, alloc, seed, at_once),
+    }
+}
+
+/// Where counts have the numbers of rows that were taken out and evicted.
+const TAKEN_OUT: usize = 1;
+
+const EVICTED: usize = 2;
+
+/// Asserts for each seed that going at once has the result of going one after the other; returns the sum of the numbers
+/// at this place of the counts.
+fn assert_alike(rt: &impl Abort, alloc: Global, way: Way, seeds: u64, place: usize) -> u64 {
+    let mut sum = 0u64;
+    for seed in 0..seeds {
+        let at_once = noted_by(rt, alloc, way, seed, true);
+        let each = noted_by(rt, alloc, way, seed, false);
+        assert_at(
+            rt,
+            at_once.as_slice() == each.as_slice(),
+            "seeds",
+            seed as usize,
+        );
+        sum = sum.saturating_add(at_once.get(place).copied().unwrap_or(0));
+    }
+    sum
+}
+
+#[test]
+fn carries_in_bulk_leave_what_one_after_the_other_leaves(rt: HostRuntime) {
+    assert_alike(&rt, rt.alloc(), Way::Merge, 2000, EVICTED);
+}
+
+#[test]
+fn carries_past_doomed_rows_leave_what_one_after_the_other_leaves(rt: HostRuntime) {
+    let evicted = assert_alike(&rt, rt.alloc(), Way::Carry, 2000, EVICTED);
+    assert!(rt; evicted == 0);
+}
+
+#[test]
+fn carries_under_a_ceiling_leave_what_one_after_the_other_leaves(rt: HostRuntime) {
+    let evicted = assert_alike(&rt, rt.alloc(), Way::CarryUnder, 2000, EVICTED);
+    assert!(rt; evicted > 100);
+}
+
+#[test]
+fn pulls_by_fillers_in_bulk_leave_what_one_after_the_other_leaves(rt: HostRuntime) {
+    let taken = assert_alike(&rt, rt.alloc(), Way::Pull, 3000, TAKEN_OUT);
+    assert!(rt; taken > 1000);
+}

@@ -1,6 +1,0 @@
-mod Pieces
-mod Changed
-mod Entries
-mod Totals
-mod Walking
-mod Cutting

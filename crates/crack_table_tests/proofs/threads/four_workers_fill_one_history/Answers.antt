@@ -1,9 +1,0 @@
-use denote.Param.Send.{sendable}
-use Rattle.std.proofs.Crossing.{crosses}
-use Rattle.crack_table.proofs.Crosses.{table-sync}
-use Rattle.crack_table_tests.proofs.threads.four_workers_fill_one_history.Goals as goal
-
-pub map_vec-done-requires-sync-F : goal.map_vec-done-requires-sync-F
-map_vec-done-requires-sync-F g c κs within =
-    let table = table-sync in
-    search (sendable, crosses) depth 40

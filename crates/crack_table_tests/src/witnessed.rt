@@ -1,0 +1,279 @@
+//! Workers of tables that witness their replies.
+ghost use Rattle.std.specs.Prelude.{◌≡◌, ℕ, Some, slice_get};
+ghost use Rattle.crack_witness.specs.Histories.{AreEmpty};
+ghost use Rattle.crack_witness.specs.Witnesses.{AskerState, AreNames};
+
+use crate::values::{TWO, bounds, insert};
+use crack_core::{Book, Receipt};
+use crack_row::{Command, Limits, Policy, Refusal, Reply, Serial};
+use crack_table::OpenGate;
+use crack_witness::{Asker, Naming};
+use crack_witness_table::{
+    AuditedAsker, GatherRefused, UnnamedTable, WitnessedTable, audit, gather,
+};
+use std::alloc::Global;
+use std::marker::Brand;
+use std::process::Abort;
+use std::sync::Wait;
+use std::thread;
+use std::thread::Threads;
+
+/// What happens at a table.
+#[derive(Clone, Copy)]
+enum Way {
+    /// A worker is missing when the others are gathered.
+    Missing,
+    /// A second worker of one number asks.
+    Twin,
+    /// Two workers ask on threads of their own.
+    Threads,
+    /// A worker with a book is audited.
+    Audited,
+}
+
+/// What happens at a table whose histories may have so many entries, and which has so many workers.
+const WAYS: &[(Way, u64, u64)] = &[
+    (Way::Missing, 10, 2),
+    (Way::Twin, 10, 1),
+    (Way::Threads, 100000, 2),
+    (Way::Audited, 10, 1),
+];
+
+#[test]
+fn witnessed_workers_are_gathered_or_refused(rt: HostRuntime) {
+    let alloc: Global = rt.alloc();
+    'ways: for place in 0..WAYS.len() {
+        let (way, history, workers) = WAYS[place];
+        let splits = bounds(&rt, alloc, TWO);
+        let opened = UnnamedTable::open(alloc, &splits, Limits::of_history(history), workers);
+        assert_way::<Brand, _>(&rt, alloc, opened.expect(&rt, "a table"), way);
+    }
+}
+
+fn assert_way<J: Naming + Send + Sync, R: Threads + Wait + Abort + Sync>(
+    rt: &R,
+    alloc: Global,
+    table: UnnamedTable,
+    way: Way,
+)
+    requires { AreNames J.book J.owner table.opened }
+{
+    let (table, mut workers) = table.named::<J>(alloc).expect(rt, "names");
+    match way {
+        Way::Missing => refuse_missing(rt, alloc, table, workers),
+        Way::Twin => {
+            ask_with_twin(rt, alloc, &table, &mut workers);
+            assert_totals(rt, alloc, table, workers, Err(strange_at(1)));
+        }
+        Way::Threads => work_on_threads(rt, alloc, table, workers),
+        Way::Audited => audit_one(rt, alloc, table, workers),
+    }
+}
+
+/// The answer to a worker.
+fn ask<J: Naming, R: Wait>(
+    rt: &R,
+    table: &WitnessedTable<J>,
+    worker: &mut Asker<J>,
+    part: u32,
+    command: Command,
+) -> Result<Reply, Refusal> {
+    table.ask(rt, &OpenGate, worker, part, command, Policy::Complete)
+}
+
+/// Gathers the workers, and asserts how many commands were accepted, rows inserted, deleted and held; or a refusal.
+fn assert_totals<J: Naming>(
+    rt: &impl Abort,
+    alloc: Global,
+    table: WitnessedTable<J>,
+    workers: Vec<Asker<J>>,
+    wanted: Result<[u64; 4], Refusal>,
+) {
+    let told = match gather(alloc, table, workers) {
+        Ok(gathered) => Ok([
+            gathered.accepted,
+            gathered.inserted,
+            gathered.deleted,
+            gathered.held,
+        ]),
+        Err(refused) => Err(refused.refusal),
+    };
+    assert!(rt; told == wanted);
+}
+
+/// A worker that is missing: table and workers are handed back, and are gathered then.
+fn refuse_missing<J: Naming, R: Wait + Abort>(
+    rt: &R,
+    alloc: Global,
+    table: WitnessedTable<J>,
+    mut workers: Vec<Asker<J>>,
+) {
+    let mut second = workers.pop().expect(rt, "the second");
+    assert!(rt; ask(rt, &table, &mut second, 0, insert(7)).is_ok());
+    let refused = gather(alloc, table, workers).err().expect(rt, "a refusal");
+    let GatherRefused {
+        refusal,
+        table,
+        askers: mut workers,
+    } = refused;
+    assert!(rt; workers.push(second).is_ok());
+    assert!(rt; refusal == Refusal::WorkersMissing { missing: 2 });
+    assert_totals(rt, alloc, table, workers, Ok([1, 1, 0, 1]));
+}
+
+/// The first of some workers, which have asked nothing, and a second one of its number ask a table.
+fn ask_with_twin<J: Naming, R: Wait + Abort>(
+    rt: &R,
+    alloc: Global,
+    table: &WitnessedTable<J>,
+    workers: &mut Vec<Asker<J>>,
+)
+    requires { (place : ℕ) (a : AskerState) → slice_get workers.old.items place ≡ Some a → AreEmpty a.seen }
+{
+    let first = workers.first_mut().expect(rt, "a worker");
+    let made = Asker::new(alloc, first.number(), first.front().again(), 2);
+    let mut twin = made.expect(rt, "a twin");
+    ask_both(rt, table, first, &mut twin);
+    drop(twin);
+}
+
+/// If one of two workers with one number received a reply that the other didn't, the other is refused with its own
+/// count, and nothing is applied.
+fn ask_both<J: Naming, R: Wait + Abort>(
+    rt: &R,
+    table: &WitnessedTable<J>,
+    first: &mut Asker<J>,
+    twin: &mut Asker<J>,
+) {
+    let one = ask(rt, table, first, 0, insert(7));
+    let strange = ask(rt, table, twin, 0, insert(8));
+    let two = ask(rt, table, first, 0, insert(9));
+    let three = ask(rt, table, twin, 1, insert(1000007));
+    let other = ask(rt, table, first, 1, insert(1000008));
+    assert!(rt; one.is_ok() && three.is_ok());
+    assert!(rt; matches!(two, Ok(Reply::Placed(Serial(1)))));
+    let told = [strange.err(), other.err()];
+    assert!(rt; told == [Some(strange_at(0)), Some(strange_at(1))]);
+}
+
+/// A worker without a reply from a partition isn't the one that the partition knows.
+fn strange_at(part: u32) -> Refusal {
+    Refusal::StrangeReceipt { part, position: 0 }
+}
+
+/// Inserts 1000 rows into the partitions in turn, and deletes each of them whose number is 3 more than a multiple of 4;
+/// and returns whether each command was answered in this way. A checkpoint comes in between.
+fn work<J: Naming, R: Wait>(
+    rt: &R,
+    table: &WitnessedTable<J>,
+    mut worker: Asker<J>,
+) -> (Asker<J>, bool) {
+    let mut fine = true;
+    'rows: for number in 0..1000u32 {
+        let part = number % 2;
+        let key = part * 1000000 + number;
+        let placed = ask(rt, table, &mut worker, part, insert(key));
+        let Ok(Reply::Placed(serial)) = placed else {
+            return (worker, false);
+        };
+        if number % 4 == 3 {
+            let gone = ask(rt, table, &mut worker, part, Command::Delete { serial });
+            fine = matches!(gone, Ok(Reply::Gone(_))) && fine;
+        }
+    }
+    fine = table.checkpoint(rt, 0).is_ok() && fine;
+    (worker, fine)
+}
+
+/// Two workers on threads of their own, at two partitions.
+fn work_on_threads<J: Naming + Send + Sync, R: Threads + Wait + Abort + Sync>(
+    rt: &R,
+    alloc: Global,
+    table: WitnessedTable<J>,
+    mut workers: Vec<Asker<J>>,
+) {
+    let second = workers.pop().expect(rt, "the second");
+    let first = workers.pop().expect(rt, "the first");
+    let ((first, one), (second, two)) = thread::join(
+        rt,
+        || work(rt, &table, first),
+        || work(rt, &table, second),
+    );
+    let replies = first.replies();
+    assert!(rt; workers.push(second).is_ok() && workers.push(first).is_ok());
+    assert!(rt; one && two && replies == 1250);
+    assert_totals(rt, alloc, table, workers, Ok([2500, 2000, 500, 1500]));
+}
+
+/// A worker with a book asks before and after a checkpoint, and is gathered. Its receipts cover the histories; an empty
+/// book doesn't.
+fn audit_one<J: Naming, R: Wait + Abort>(
+    rt: &R,
+    alloc: Global,
+    table: WitnessedTable<J>,
+    mut askers: Vec<Asker<J>>,
+) {
+    let asker = askers.pop().expect(rt, "an asker");
+    let mut worker = AuditedAsker::new(alloc, asker);
+    ask_with_checkpoint(rt, &table, &mut worker);
+    let (asker, book) = worker.into_parts();
+    assert!(rt; askers.push(asker).is_ok());
+    hold_against(rt, alloc, table, askers, book);
+}
+
+/// Asks two partitions for three commands, with a checkpoint before the last, and compares the receipts.
+fn ask_with_checkpoint<J: Naming, R: Wait + Abort>(
+    rt: &R,
+    table: &WitnessedTable<J>,
+    worker: &mut AuditedAsker<J>,
+) {
+    let first = ask_audited(rt, table, worker, 0, insert(7));
+    let second = ask_audited(rt, table, worker, 1, insert(1000007));
+    let folded = table.checkpoint(rt, 0);
+    let third = ask_audited(rt, table, worker, 0, insert(8));
+    let strange = ask_audited(rt, table, worker, 2, insert(9));
+    assert!(rt; first.is_ok() && second.is_ok() && folded == Ok(1) && third.is_ok());
+    assert!(rt; strange.err() == Some(Refusal::NoSuchPartition));
+    let receipts = worker.book().receipts();
+    assert!(rt; receipts.len() == 3);
+    let places = [
+        place_of(&receipts[0]),
+        place_of(&receipts[1]),
+        place_of(&receipts[2]),
+    ];
+    assert!(rt; places == [(0, 0, 0), (1, 0, 0), (0, 1, 0)]);
+}
+
+/// The answer to a worker with a book.
+fn ask_audited<J: Naming, R: Wait>(
+    rt: &R,
+    table: &WitnessedTable<J>,
+    worker: &mut AuditedAsker<J>,
+    part: u32,
+    command: Command,
+) -> Result<Reply, Refusal> {
+    worker.ask(rt, table, &OpenGate, part, command, Policy::Complete)
+}
+
+/// The partition, the position and the worker of a receipt.
+fn place_of(receipt: &Receipt) -> (u32, u64, u32) {
+    (receipt.part, receipt.position, receipt.worker)
+}
+
+/// Gathers the only worker of a table, and compares its book and an empty one with the histories.
+fn hold_against<J: Naming, R: Abort>(
+    rt: &R,
+    alloc: Global,
+    table: WitnessedTable<J>,
+    askers: Vec<Asker<J>>,
+    book: Book,
+) {
+    let gathered = gather(alloc, table, askers).ok().expect(rt, "gathered");
+    let mut books = Vec::new(alloc);
+    assert!(rt; books.push(book).is_ok());
+    let covered = audit(alloc, &gathered.parts, &books);
+    books[0] = Book::new(alloc, 0);
+    let bare = audit(alloc, &gathered.parts, &books);
+    drop(gathered);
+    assert!(rt; covered == Ok(()) && bare == Err(strange_at(0)));
+}

@@ -1,4 +1,0 @@
-use Rattle.crack_worker_tests.proofs.refusals.gather_without_twin.Goals as goal
-
-pub ask_with_twin-requires : goal.ask_with_twin-requires
-ask_with_twin-requires g c = λ place a is. let named = rw c.expect-table.ensures at c.named.ensures.askers in (named.numbered place a is).2
