@@ -89,6 +89,28 @@ pub(crate) fn crack_and_merge(
     if store.pending_in() == 0 && store.pending_out() == 0 {
         return Ok(());
     }
+    merge_cracked(store, alloc, keys, range, policy)
+}
+
+/// Merges by the policy what a range needs, by whose ends the store was cracked. Never inlined: only where something
+/// is pending is there to be room for two stores by value.
+#[inline(never)]
+fn merge_cracked(
+    store: &mut Store,
+    alloc: Global,
+    keys: KeyRange,
+    range: KeyRange,
+    policy: Policy,
+) -> Result<(), Refusal>
+    requires filled { range.low < range.high }
+    requires low { store.old.keys.low ≤ range.low }
+    requires high { range.high ≤ store.old.keys.high }
+    requires cracked { IsCracked store.old range }
+    ensures merged { OnOk result (Merges (read_by policy) store.old store.new range × LeavesNear (read_by policy)
+        store.old store.new range × Tallies (read_by policy) store.old store.new) }
+    ensures stopped { OnErr result (Stops (read_by policy) store.old store.new range) }
+    ensures err { IfErr result (λ e. e ≡ Refusal.OutOfMemory) }
+{
     let cracked = mem::replace(store, Store::new(alloc, keys));
     match merge(cracked, range, policy) {
         Ok((merged, _)) => {

@@ -14,7 +14,6 @@ use indexmap::IndexMap;
 pub(crate) type Serials = IndexMap<u64, Handle<Row>, SerialHashing>;
 
 /// The partition's keys, its cells, and the lists in which they are.
-#[derive(Drop)]
 pub(crate) struct Inside {
     pub(crate) keys: KeyRange,
     pub(crate) arena: Arena<Row>,
@@ -29,4 +28,29 @@ pub(crate) struct Inside {
     /// The handle of each live row, by its serial.
     pub(crate) serials: Serials,
     pub(crate) tally: MergeReport,
+}
+
+// (Written out, so that whoever drops a store calls this function, and proves nothing about the fields.)
+impl Drop for Inside {
+    fn drop(self) {
+        let Inside {
+            keys: _,
+            arena,
+            column,
+            index,
+            pending_in,
+            pending_out,
+            in_room: _,
+            notes,
+            serials,
+            tally: _,
+        } = self;
+        drop(arena);
+        drop(column);
+        drop(index);
+        drop(pending_in);
+        drop(pending_out);
+        drop(notes);
+        drop(serials);
+    }
 }
