@@ -3,10 +3,11 @@ ghost use Rattle.std.specs.Prelude.{◌≡◌, ℕ, Some, slice_get};
 ghost use Rattle.crack_witness.specs.Histories.{AreEmpty};
 ghost use Rattle.crack_witness.specs.Witnesses.{AskerState, AreNames};
 
+use crate::gates::{Listing, Visitors};
 use crate::values::{TWO, bounds, insert};
 use crack_core::{Book, Receipt};
 use crack_row::{Command, Limits, Policy, Refusal, Reply, Serial};
-use crack_table::OpenGate;
+use crack_table::{Gate, OpenGate};
 use crack_witness::{Asker, Naming};
 use crack_witness_table::{
     AuditedAsker, GatherRefused, UnnamedTable, WitnessedTable, audit, gather,
@@ -15,6 +16,7 @@ use std::alloc::Global;
 use std::marker::Brand;
 use std::process::Abort;
 use std::sync::Wait;
+use std::sync::atomic::Ordering;
 use std::thread;
 use std::thread::Threads;
 
@@ -78,7 +80,19 @@ fn ask<J: Naming, R: Wait>(
     part: u32,
     command: Command,
 ) -> Result<Reply, Refusal> {
-    table.ask(rt, &OpenGate, worker, part, command, Policy::Complete)
+    ask_behind(rt, table, &OpenGate, worker, part, command)
+}
+
+/// The answer to a worker behind a gate.
+fn ask_behind<J: Naming, R: Wait, G: Gate>(
+    rt: &R,
+    table: &WitnessedTable<J>,
+    gate: &G,
+    worker: &mut Asker<J>,
+    part: u32,
+    command: Command,
+) -> Result<Reply, Refusal> {
+    table.ask(rt, gate, worker, part, command, Policy::Complete)
 }
 
 /// Gathers the workers, and asserts how many commands were accepted, rows inserted, deleted and held; or a refusal.
@@ -162,22 +176,28 @@ fn strange_at(part: u32) -> Refusal {
 }
 
 /// Inserts 1000 rows into the partitions in turn, and deletes each of them whose number is 3 more than a multiple of 4;
-/// and returns whether each command was answered in this way. A checkpoint comes in between.
+/// and returns whether each command was answered in this way. A checkpoint comes in between. The gate lists the worker.
 fn work<J: Naming, R: Wait>(
     rt: &R,
     table: &WitnessedTable<J>,
+    visitors: &Visitors,
     mut worker: Asker<J>,
 ) -> (Asker<J>, bool) {
+    let gate = Listing {
+        worker: worker.number(),
+        visitors,
+    };
     let mut fine = true;
     'rows: for number in 0..1000u32 {
         let part = number % 2;
         let key = part * 1000000 + number;
-        let placed = ask(rt, table, &mut worker, part, insert(key));
+        let placed = ask_behind(rt, table, &gate, &mut worker, part, insert(key));
         let Ok(Reply::Placed(serial)) = placed else {
             return (worker, false);
         };
         if number % 4 == 3 {
-            let gone = ask(rt, table, &mut worker, part, Command::Delete { serial });
+            let delete = Command::Delete { serial };
+            let gone = ask_behind(rt, table, &gate, &mut worker, part, delete);
             fine = matches!(gone, Ok(Reply::Gone(_))) && fine;
         }
     }
@@ -185,23 +205,25 @@ fn work<J: Naming, R: Wait>(
     (worker, fine)
 }
 
-/// Two workers on threads of their own, at two partitions.
+/// Two workers on threads of their own, at two partitions, behind gates that are asked once for each command.
 fn work_on_threads<J: Naming + Send + Sync, R: Threads + Wait + Abort + Sync>(
     rt: &R,
     alloc: Global,
     table: WitnessedTable<J>,
     mut workers: Vec<Asker<J>>,
 ) {
+    let visitors = Visitors::new(alloc, 0).expect(rt, "a list without room");
     let second = workers.pop().expect(rt, "the second");
     let first = workers.pop().expect(rt, "the first");
     let ((first, one), (second, two)) = thread::join(
         rt,
-        || work(rt, &table, first),
-        || work(rt, &table, second),
+        || work(rt, &table, &visitors, first),
+        || work(rt, &table, &visitors, second),
     );
     let replies = first.replies();
     assert!(rt; workers.push(second).is_ok() && workers.push(first).is_ok());
     assert!(rt; one && two && replies == 1250);
+    assert!(rt; visitors.entered.load(Ordering::SeqCst) == 2500);
     assert_totals(rt, alloc, table, workers, Ok([2500, 2000, 500, 1500]));
 }
 
