@@ -5,11 +5,12 @@ use crack_row::{Bound, Limits, Policy, Refusal};
 use crack_server::run_batch;
 use crack_table::{Gate, OpenGate};
 use std::alloc::Global;
+use std::io::Write;
 use std::process::Abort;
 use std::sync::Wait;
 use std::sync::atomic::{AtomicBool, Ordering};
-use std::thread;
 use std::thread::Threads;
+use std::{io, thread};
 
 /// The input of a batch, how it ends, and its output.
 #[derive(Clone, Copy)]
@@ -40,26 +41,39 @@ const CASES: &[Case] = &[
     },
 ];
 
-/// Asserts how a batch of two workers over the partitions below and from 100 ends, and its output.
+/// How a batch of two workers over the partitions below and from 100 ends.
+fn run_two<H: Threads + Wait + Sync, G: Gate + Sync, W: Write>(
+    rt: &H,
+    alloc: Global,
+    gate: &G,
+    input: &[u8],
+    writer: &mut W,
+) -> Result<(), Refusal> {
+    let mut reader = input;
+    let splits = [Bound::from_number(100)];
+    let limits = Limits::of_history(10);
+    run_batch(
+        rt,
+        alloc,
+        &splits,
+        limits,
+        Policy::Ripple,
+        2,
+        gate,
+        &mut reader,
+        writer,
+    )
+}
+
+/// Asserts how such a batch ends, and its output.
 fn assert_batch<H: Threads + Wait + Sync + Abort, G: Gate + Sync>(
     rt: &H,
     alloc: Global,
     gate: &G,
     case: Case,
 ) {
-    let mut reader = case.input;
     let mut output = Vec::new(alloc);
-    let ended = run_batch(
-        rt,
-        alloc,
-        &[Bound::from_number(100)],
-        Limits::of_history(10),
-        Policy::Ripple,
-        2,
-        gate,
-        &mut reader,
-        &mut output,
-    );
+    let ended = run_two(rt, alloc, gate, case.input, &mut output);
     assert!(rt; ended == case.ended && output.as_slice() == case.output);
 }
 
@@ -68,6 +82,53 @@ fn batches_end_and_write(rt: HostRuntime) {
     'cases: for place in 0..CASES.len() {
         assert_batch(&rt, rt.alloc(), &OpenGate, CASES[place]);
     }
+}
+
+/// A writer into memory of whose writes one fails.
+#[derive(Drop)]
+struct FailsOnce {
+    bytes: Vec<u8>,
+    /// How many writes there are before the one that fails.
+    before: u64,
+}
+
+impl Write for FailsOnce {
+    fn write(&mut self, buf: &[u8]) -> io::Result<usize> {
+        let fails = self.before == 0;
+        self.before = self.before.wrapping_sub(1);
+        if fails {
+            return Err(io::Error::from(io::ErrorKind::BrokenPipe));
+        }
+        self.bytes.write(buf)
+    }
+
+    fn flush(&mut self) -> io::Result<()> {
+        Ok(())
+    }
+}
+
+/// A batch in which the second worker's session has no output is refused whichever of its writes fails, and writes
+/// nothing after it.
+#[test]
+fn a_batch_is_refused_where_a_write_fails(rt: HostRuntime) {
+    const OUTPUT: &[u8] = b"worker 0\nrow 0.0\nworker 1\naccepted 1 inserted 1 deleted 0 held 1\n";
+    let mut whole = false;
+    'writes: for before in 0..100u64 {
+        let mut writer = FailsOnce {
+            bytes: Vec::new(rt.alloc()),
+            before,
+        };
+        let ended = run_two(&rt, rt.alloc(), &OpenGate, b"0 insert 50 5\n", &mut writer);
+        whole = ended.is_ok();
+        if whole {
+            assert!(rt; writer.bytes.as_slice() == OUTPUT);
+            break;
+        }
+        assert!(rt;
+            ended == Err(Refusal::WriteFault) && OUTPUT.starts_with(writer.bytes.as_slice())
+        );
+    }
+    assert!(rt; whole);
 }
 
 /// A gate that refuses each of two partitions until the other has been inside. It yields before each refusal, long
