@@ -52,13 +52,12 @@ def ranks(tasks):
     return found
 
 
-def run(tasks, is_over=lambda: False, most_of_others=None):
+def run(tasks, is_over=lambda: False):
     """Runs the tasks, each once those that it waits for are done, and yields each key with the result of its call.
 
     The one with the longest chain of others waiting goes first. It gets half of the processors, since a check gains
-    little from more than two; so does each other ready task as long as some are idle, or only `most_of_others` jobs if
-    that is given. Idle processors are divided among the tasks that are left. Once is_over returns true, no task is
-    started.
+    little from more than two; so does each other ready task as long as some are idle. Idle processors are divided among
+    the tasks that are left. None gets more jobs than its `most_jobs`. Once is_over returns true, no task is started.
     """
     lanes, room, rank = processors(), 0.85 * memory(), ranks(tasks)
     left, running, done = sorted(tasks, key=lambda it: -rank[it]), {}, set()
@@ -66,13 +65,11 @@ def run(tasks, is_over=lambda: False, most_of_others=None):
     with concurrent.futures.ThreadPoolExecutor(max(len(tasks), 1)) as pool:
         while True:
             ready = [] if is_over() else [it for it in left if done.issuperset(tasks[it].waits)]
-            first = max((rank[it] for it in [*ready, *(key for key, _ in running.values())]), default=0)
             for at, key in enumerate(ready):
                 task = tasks[key]
                 idle = lanes - sum(jobs for _, jobs in running.values())
                 free = room - sum(tasks[it].need_at(jobs) for it, jobs in running.values())
-                share = half if most_of_others is None or rank[key] == first else most_of_others
-                most = min(task.most_jobs, idle, max(share, idle // (len(ready) - at)))
+                most = min(task.most_jobs, idle, max(half, idle // (len(ready) - at)))
                 jobs = max([it for it in range(1, most + 1) if task.need_at(it) <= free], default=1)
                 if idle > 0 and (not running or task.need_at(jobs) <= free):
                     left.remove(key)

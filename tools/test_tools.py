@@ -395,14 +395,18 @@ class Lanes(unittest.TestCase):
         tasks = {key: lanes.Task([], 1, 1, lambda jobs: None) for key in "ab"}
         self.assertEqual(list(lanes.run(tasks, lambda: True)), [])
 
-    def test_the_longest_chain_gets_half_of_the_processors_and_others_one(self):
-        chain = {"a": [], "b": ["a"], "c": ["b"]}
-        waits = {**chain, **{it: [] for it in "uvwxyz"}}
+    def test_the_longest_chain_goes_first(self):
+        waits, begun = {**{it: [] for it in "uvw"}, "a": [], "b": ["a"], "c": ["b"]}, []
+        tasks = {key: lanes.Task(it, 1, 1, lambda jobs, key=key: begun.append(key)) for key, it in waits.items()}
+        with unittest.mock.patch.object(lanes, "processors", return_value=1):
+            self.assertEqual(len(list(lanes.run(tasks))), 6)
+        self.assertEqual(begun[:2], ["a", "b"])
+
+    def test_a_task_gets_the_processors_that_are_idle_but_no_more_than_it_gains_from(self):
         with unittest.mock.patch.object(lanes, "processors", return_value=4):
-            tasks = {key: lanes.Task(it, 1, 1, lambda jobs: jobs) for key, it in waits.items()}
-            jobs = dict(lanes.run(tasks, most_of_others=1))
-        self.assertEqual([jobs[it] for it in "ab"], [2, 2])
-        self.assertEqual({jobs[it] for it in "uvw"}, {1})
+            for most_jobs in 1, 3, 4:
+                tasks = {"a": lanes.Task([], 1, 1, lambda jobs: jobs, most_jobs)}
+                self.assertEqual(list(lanes.run(tasks)), [("a", most_jobs)])
 
 
 class Numbers(unittest.TestCase):
