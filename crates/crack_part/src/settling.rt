@@ -92,8 +92,8 @@ pub(crate) fn crack_and_merge(
     merge_cracked(store, alloc, keys, range, policy)
 }
 
-/// Merges by the policy what a range needs, by whose ends the store was cracked. Never inlined: only where something
-/// is pending is there to be room for two stores by value.
+/// Merges by the policy what a range needs, by whose ends the store was cracked. It is never inlined: it needs room for
+/// two stores by value, and a range for which nothing is pending doesn't.
 #[inline(never)]
 fn merge_cracked(
     store: &mut Store,
