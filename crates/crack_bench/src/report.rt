@@ -25,7 +25,8 @@ pub enum Failure {
     Unwritten(io::Error),
 }
 
-pub type Told = Result<(), Failure>;
+/// How a measurement ended.
+pub type Outcome = Result<(), Failure>;
 
 impl From<Refusal> for Failure {
     fn from(refusal: Refusal) -> Failure {
@@ -47,8 +48,8 @@ pub fn report<R: Output>(rt: &R, name: &str, since: Instant) -> io::Result<Insta
 }
 
 /// How a measurement ended, as the program ends; none if the words name no measurement.
-pub fn explained(told: Option<Told>) -> anyhow::Result<()> {
-    match told {
+pub fn explained(outcome: Option<Outcome>) -> anyhow::Result<()> {
+    match outcome {
         Some(Ok(())) => Ok(()),
         Some(Err(Failure::Refused(refusal))) => Err(refusal.into()),
         Some(Err(Failure::Unwritten(error))) => Err(error.into()),

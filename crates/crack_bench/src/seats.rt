@@ -25,7 +25,7 @@ pub fn number_of(reply: &Reply) -> u64 {
 /// A worker at its table.
 pub trait Works: Asks {
     /// Makes a checkpoint of a partition. Returns how many entries its history had.
-    fn fold(&mut self, part: u32) -> Result<u64, Refusal>;
+    fn checkpoint(&mut self, part: u32) -> Result<u64, Refusal>;
 }
 
 /// What a worker asks.
@@ -48,7 +48,7 @@ pub trait AskedBy<W> {
     ) -> Result<Reply, Refusal>;
 
     /// Has a worker make a checkpoint of a partition.
-    fn fold<R: Wait>(&self, rt: &R, worker: &mut W, part: u32) -> Result<u64, Refusal>;
+    fn checkpoint_by<R: Wait>(&self, rt: &R, worker: &mut W, part: u32) -> Result<u64, Refusal>;
 }
 
 impl AskedBy<Worker> for Table {
@@ -64,7 +64,12 @@ impl AskedBy<Worker> for Table {
         worker.ask(rt, self, gate, part, command, policy)
     }
 
-    fn fold<R: Wait>(&self, rt: &R, worker: &mut Worker, part: u32) -> Result<u64, Refusal> {
+    fn checkpoint_by<R: Wait>(
+        &self,
+        rt: &R,
+        worker: &mut Worker,
+        part: u32,
+    ) -> Result<u64, Refusal> {
         worker.checkpoint(rt, self, part)
     }
 }
@@ -88,8 +93,8 @@ impl<'a, R: Wait, G: Gate, T: AskedBy<W>, W> Asks for Seated<'a, R, G, T, W> {
 }
 
 impl<'a, R: Wait, G: Gate, T: AskedBy<W>, W> Works for Seated<'a, R, G, T, W> {
-    fn fold(&mut self, part: u32) -> Result<u64, Refusal> {
-        self.table.fold(self.rt, &mut self.worker, part)
+    fn checkpoint(&mut self, part: u32) -> Result<u64, Refusal> {
+        self.table.checkpoint_by(self.rt, &mut self.worker, part)
     }
 }
 

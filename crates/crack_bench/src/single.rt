@@ -13,7 +13,7 @@ mod partition;
 mod steps;
 
 use crate::arguments::numbers_of;
-use crate::report::{Output, Told, explained};
+use crate::report::{Outcome, Output, explained};
 use crate::single::partition::Sizes;
 use crate::single::steps::kind_of;
 use crack_row::Policy;
@@ -26,7 +26,7 @@ fn measured_partition<R: Output>(
     policy: Policy,
     rows: u32,
     numbers: &[u32],
-) -> Option<Told> {
+) -> Option<Outcome> {
     let kind = kind_of(name)?;
     if kind.numbers != numbers.len() {
         return None;
@@ -45,7 +45,7 @@ fn measured<R: Output>(
     name: &str,
     policy: Option<Policy>,
     numbers: &[u32],
-) -> Option<Told> {
+) -> Option<Outcome> {
     match (name, policy, numbers) {
         (_, Some(policy), [rows, rest @ ..]) => measured_partition(rt, name, policy, *rows, rest),
         ("arena", None, [steps, rows]) => Some(arena::measure(rt, u64::from(*steps), *rows)),
@@ -62,7 +62,7 @@ pub fn run<R: Output>(
     words: &[&str],
 ) -> anyhow::Result<()> {
     let numbers = numbers_of(rt.alloc(), words)?;
-    let told = measured(rt, name, policy, numbers.as_slice());
+    let outcome = measured(rt, name, policy, numbers.as_slice());
     drop(numbers);
-    explained(told)
+    explained(outcome)
 }

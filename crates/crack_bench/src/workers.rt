@@ -11,7 +11,7 @@ mod mix;
 mod witnessed;
 
 use crate::arguments::numbers_of;
-use crate::report::{Host, Told, explained};
+use crate::report::{Host, Outcome, explained};
 use crate::workers::measuring::{End, Run, Sharing, Work};
 
 /// The kinds of tables.
@@ -43,7 +43,7 @@ fn run_of(name: &str, numbers: &[u32]) -> Option<Run> {
             Sharing::Shared,
             Work::Nothing,
         ),
-        ("folded", [workers, rows]) => (*workers, *rows, Sharing::Shared, Work::Fold),
+        ("folded", [workers, rows]) => (*workers, *rows, Sharing::Shared, Work::Checkpoint),
         _ => return None,
     };
     let end = match name {
@@ -60,7 +60,7 @@ fn run_of(name: &str, numbers: &[u32]) -> Option<Run> {
 }
 
 /// Carries out the measurement with this name and these numbers; none if there is no such measurement.
-fn measured<R: Host>(rt: &R, kind: Kind, name: &str, numbers: &[u32]) -> Option<Told> {
+fn measured<R: Host>(rt: &R, kind: Kind, name: &str, numbers: &[u32]) -> Option<Outcome> {
     match (kind, name, numbers) {
         (Kind::Booked, "bare", [rows, steps]) => Some(bare::run(rt, *rows, *steps)),
         (Kind::Booked, _, _) => Some(booked::run(rt, run_of(name, numbers)?)),
@@ -71,7 +71,7 @@ fn measured<R: Host>(rt: &R, kind: Kind, name: &str, numbers: &[u32]) -> Option<
 /// Carries out the measurement with this name and the numbers that the words are, over a table of this kind.
 pub fn run<R: Host>(rt: &R, kind: Kind, name: &str, words: &[&str]) -> anyhow::Result<()> {
     let numbers = numbers_of(rt.alloc(), words)?;
-    let told = measured(rt, kind, name, numbers.as_slice());
+    let outcome = measured(rt, kind, name, numbers.as_slice());
     drop(numbers);
-    explained(told)
+    explained(outcome)
 }

@@ -60,8 +60,8 @@ impl Questions for Recorder<'_> {
             let recorded = match asked {
                 Asked::Command(command) => self.ask(worker, part, command),
                 Asked::Checkpoint => {
-                    let told = worker.fold(part);
-                    write_checkpoint(part, &told, &mut Watched::new(&mut self.text))
+                    let outcome = worker.checkpoint(part);
+                    write_checkpoint(part, &outcome, &mut Watched::new(&mut self.text))
                 }
             };
             self.cut = recorded.is_err() || self.cut;

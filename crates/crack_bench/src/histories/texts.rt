@@ -81,11 +81,11 @@ pub fn write_answer<W: Write>(
 /// Writes a checkpoint of a partition, and its result.
 pub fn write_checkpoint<W: Write>(
     part: u32,
-    told: &Result<u64, Refusal>,
+    outcome: &Result<u64, Refusal>,
     writer: &mut Watched<W>,
 ) -> Result<(), Refusal> {
     written(writeln!(writer, "{part} checkpoint {part}"))?;
-    match told {
+    match outcome {
         Ok(folded) => write_folded(*folded, writer),
         Err(refusal) => write_refusal(refusal, writer),
     }

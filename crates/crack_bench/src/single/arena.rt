@@ -1,19 +1,19 @@
 //! Puts, gets and frees on the arena.
 
-use crate::report::{Output, Told, report};
+use crate::report::{Outcome, Output, report};
 use crate::single::numbers::{Numbers, mixed};
 use crack_arena::{Arena, Handle};
 use crack_row::{Key, KeyNumber, Payload, Refusal, Row, Serial};
 use std::time::Instant;
 
 /// Steps at random handles.
-pub fn measure<R: Output>(rt: &R, steps: u64, rows: u32) -> Told {
+pub fn measure<R: Output>(rt: &R, steps: u64, rows: u32) -> Outcome {
     let mut arena = Arena::new(rt.alloc());
     let mut handles = Vec::new(rt.alloc());
-    let told = measure_steps(rt, &mut arena, &mut handles, steps, rows);
+    let outcome = measure_steps(rt, &mut arena, &mut handles, steps, rows);
     drop(handles);
     drop(arena);
-    told
+    outcome
 }
 
 fn measure_steps<R: Output>(
@@ -22,7 +22,7 @@ fn measure_steps<R: Output>(
     handles: &mut Vec<Handle<Row>>,
     count: u64,
     rows: u32,
-) -> Told {
+) -> Outcome {
     let mut numbers = Numbers { state: 1 };
     fill(arena, handles, rows, &mut numbers)?;
     let start = Instant::now(rt)?;

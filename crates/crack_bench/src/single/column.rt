@@ -2,7 +2,7 @@
 ghost use Rattle.std.specs.Prelude.{◌≡◌, [], length, OnOk};
 ghost use Rattle.crack_arena.specs.Memories.{Remembers};
 
-use crate::report::{Output, Told, report};
+use crate::report::{Outcome, Output, report};
 use crate::single::arena::fill;
 use crate::single::numbers::{Numbers, mixed};
 use crack_arena::{Arena, Handle};
@@ -20,15 +20,15 @@ const LATER_CRACKS: u32 = 16;
 const LATER_STEP: u32 = 134217728;
 
 /// Cracks of a column of random rows.
-pub fn measure<R: Output>(rt: &R, rows: u32) -> Told {
+pub fn measure<R: Output>(rt: &R, rows: u32) -> Outcome {
     let mut arena = Arena::new(rt.alloc());
     let mut handles = Vec::new(rt.alloc());
     let mut column = CrackerColumn::new(rt.alloc());
-    let told = fill_and_crack(rt, &mut arena, &mut handles, &mut column, rows);
+    let outcome = fill_and_crack(rt, &mut arena, &mut handles, &mut column, rows);
     drop(column);
     drop(handles);
     drop(arena);
-    told
+    outcome
 }
 
 fn fill_and_crack<R: Output>(
@@ -37,7 +37,7 @@ fn fill_and_crack<R: Output>(
     handles: &mut Vec<Handle<Row>>,
     column: &mut CrackerColumn,
     rows: u32,
-) -> Told
+) -> Outcome
     requires { (column.old.handles ≡ []) × (column.old.remembered ≡ []) }
 {
     let mut numbers = Numbers { state: 7 };
@@ -47,7 +47,7 @@ fn fill_and_crack<R: Output>(
     measure_cracks(rt, column, arena)
 }
 
-fn measure_cracks<R: Output>(rt: &R, column: &mut CrackerColumn, arena: &Arena<Row>) -> Told
+fn measure_cracks<R: Output>(rt: &R, column: &mut CrackerColumn, arena: &Arena<Row>) -> Outcome
     requires { Remembers arena.now.cells column.old.handles column.old.remembered }
 {
     let start = Instant::now(rt)?;

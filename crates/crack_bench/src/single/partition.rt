@@ -69,7 +69,7 @@ pub struct Measured {
     /// The serials of the rows that are to be deleted.
     rows: Vec<u64>,
     /// The number in the last reply; 0 if it has none.
-    pub told: u64,
+    pub last: u64,
     /// A checksum of the counts and sums in the replies.
     pub sum: u64,
 }
@@ -84,7 +84,7 @@ impl Measured {
             numbers,
             begun: numbers,
             rows: Vec::new(alloc),
-            told: 0,
+            last: 0,
             sum: 0,
         })
     }
@@ -97,9 +97,9 @@ impl Measured {
 
     /// Carries out a command, and keeps the number in the reply.
     fn apply(&mut self, command: Command) -> Result<(), Refusal> {
-        self.told = number_of(&self.partition.apply(0, command, self.policy)?.0);
+        self.last = number_of(&self.partition.apply(0, command, self.policy)?.0);
         if matches!(command, Command::Count(_) | Command::Sum(_)) {
-            self.sum = mixed(self.sum, self.told);
+            self.sum = mixed(self.sum, self.last);
         }
         Ok(())
     }
@@ -146,7 +146,7 @@ impl Measured {
         let key = self.numbers.word();
         self.apply(insertion(key, key))?;
         if let Some(row) = self.rows.get_mut(at) {
-            *row = self.told;
+            *row = self.last;
         }
         Ok(())
     }

@@ -1,6 +1,6 @@
 //! The measurements of a partition, as lists of steps.
 
-use crate::report::{Failure, Output, Told, report};
+use crate::report::{Failure, Outcome, Output, report};
 use crate::single::numbers::mixed;
 use crate::single::partition::{Ask, Keys, Measured, Sizes};
 use crack_part::Partition;
@@ -45,7 +45,7 @@ enum Step {
     /// Writes the time since the part began, or since the last time that was written.
     Time(&'static str),
     /// Writes the number in the last reply.
-    Told(&'static str),
+    Last(&'static str),
     /// Writes the checksum.
     Sum(&'static str),
     /// Counts everything. Writes the checksum of the replies before that, and the count.
@@ -86,7 +86,7 @@ const COUNTED: &[Step] = &[
     Step::Time("load"),
     Step::Ask(Ask::Count(Keys::All), Times::Once),
     Step::Time("everything"),
-    Step::Told("rows"),
+    Step::Last("rows"),
 ];
 
 /// Sums with every row pending.
@@ -176,7 +176,7 @@ const MERGE: Kind = Kind {
         Step::Begin,
         Step::Ask(Ask::Count(Keys::All), Times::Once),
         Step::Time("merge"),
-        Step::Told("merge"),
+        Step::Last("merge"),
         Step::Tally,
     ],
 };
@@ -191,7 +191,7 @@ const PULLS: Kind = Kind {
         Step::Begin,
         Step::Ask(Ask::Count(Keys::All), Times::Once),
         Step::Time("pulls"),
-        Step::Told("pulls"),
+        Step::Last("pulls"),
         Step::Tally,
     ],
 };
@@ -242,18 +242,18 @@ pub fn kind_of(name: &str) -> Option<Kind> {
 }
 
 /// Carries out a measurement.
-pub fn measure<R: Output>(rt: &R, kind: Kind, policy: Policy, sizes: Sizes) -> Told {
+pub fn measure<R: Output>(rt: &R, kind: Kind, policy: Policy, sizes: Sizes) -> Outcome {
     let mut table = Measured::open(rt.alloc(), policy, sizes)?;
-    let told = match take_all(rt, &mut table, kind.load) {
+    let outcome = match take_all(rt, &mut table, kind.load) {
         Ok(()) => take_all(rt, &mut table, kind.steps),
-        told => told,
+        outcome => outcome,
     };
     drop(table);
-    told
+    outcome
 }
 
 /// Takes the steps of a list.
-fn take_all<R: Output>(rt: &R, table: &mut Measured, steps: &[Step]) -> Told {
+fn take_all<R: Output>(rt: &R, table: &mut Measured, steps: &[Step]) -> Outcome {
     let mut start = Instant::now(rt)?;
     'steps: for step in steps {
         start = take(rt, table, *step, start)?;
@@ -282,7 +282,7 @@ fn take<R: Output>(
     }
 }
 
-fn carry_out<R: Output>(rt: &R, table: &mut Measured, step: Step) -> Told {
+fn carry_out<R: Output>(rt: &R, table: &mut Measured, step: Step) -> Outcome {
     match step {
         Step::Ask(ask, times) => Ok(table.repeat(ask, number_of(times, table.sizes))?),
         Step::Each(ask, times, name) => measure_each(rt, table, ask, times, name),
@@ -292,7 +292,7 @@ fn carry_out<R: Output>(rt: &R, table: &mut Measured, step: Step) -> Told {
             table.numbers = table.begun;
             Ok(())
         }
-        Step::Told(name) => write(rt, name, table.told),
+        Step::Last(name) => write(rt, name, table.last),
         Step::Sum(name) => write(rt, name, table.sum),
         Step::Tally => write_tally(rt, &table.partition),
         Step::Next => measure_next(rt, table),
@@ -308,7 +308,7 @@ fn measure_each<R: Output>(
     ask: Ask,
     times: Times,
     name: &str,
-) -> Told {
+) -> Outcome {
     let mut start = Instant::now(rt)?;
     'times: for _ in 0..number_of(times, table.sizes) {
         table.repeat(ask, 1)?;
@@ -331,12 +331,12 @@ fn number_of(times: Times, sizes: Sizes) -> u32 {
     }
 }
 
-fn write<R: Output>(rt: &R, name: &str, number: u64) -> Told {
+fn write<R: Output>(rt: &R, name: &str, number: u64) -> Outcome {
     println!(rt; "{name} {number}")?;
     Ok(())
 }
 
-fn write_tally<R: Output>(rt: &R, partition: &Partition) -> Told {
+fn write_tally<R: Output>(rt: &R, partition: &Partition) -> Outcome {
     let did = partition.tally();
     let (put_in, taken_out, evicted) = (did.put_in, did.taken_out, did.evicted);
     eprintln!(rt; "put_in {put_in}\ntaken_out {taken_out}\nevicted {evicted}")?;
@@ -345,15 +345,15 @@ fn write_tally<R: Output>(rt: &R, partition: &Partition) -> Told {
     Ok(())
 }
 
-fn measure_next<R: Output>(rt: &R, table: &mut Measured) -> Told {
+fn measure_next<R: Output>(rt: &R, table: &mut Measured) -> Outcome {
     let sum = table.sum;
     table.repeat(Ask::Count(Keys::All), 1)?;
-    let everything = table.told;
+    let everything = table.last;
     println!(rt; "next {sum} rows {everything}")?;
     Ok(())
 }
 
-fn measure_checkpoint<R: Output>(rt: &R, table: &mut Measured, name: &str) -> Told {
+fn measure_checkpoint<R: Output>(rt: &R, table: &mut Measured, name: &str) -> Outcome {
     let start = Instant::now(rt)?;
     let entries = table.partition.checkpoint()?;
     report(rt, name, start)?;

@@ -1,6 +1,6 @@
 //! Partitions that are asked directly: no lock, and no receipt.
 
-use crate::report::{Host, Told};
+use crate::report::{Host, Outcome};
 use crate::seats::Asks;
 use crate::workers::measuring::POLICY;
 use crate::workers::mix::{Mix, PART_WIDTH, PARTS_EACH, Parts, count_all};
@@ -18,18 +18,18 @@ impl Asks for Vec<Partition> {
 }
 
 /// Asks the steps of one worker.
-pub fn run<R: Host>(rt: &R, rows: u32, steps: u32) -> Told {
+pub fn run<R: Host>(rt: &R, rows: u32, steps: u32) -> Outcome {
     let mut partitions = opened(rt.alloc())?;
     let parts = Parts {
         first: 0,
         count: PARTS_EACH,
     };
     let mut mix = Mix::new(rt.alloc(), parts, 0);
-    let told = ask(&mut mix, &mut partitions, rows, steps);
+    let asked = ask(&mut mix, &mut partitions, rows, steps);
     drop(mix);
     drop(partitions);
-    let (everything, told) = told?;
-    println!(rt; "rows {everything} sums {told}")?;
+    let (everything, sums) = asked?;
+    println!(rt; "rows {everything} sums {sums}")?;
     Ok(())
 }
 
@@ -52,6 +52,6 @@ fn ask(
 ) -> Result<(u64, u64), Refusal> {
     mix.load(partitions, rows.saturating_mul(PARTS_EACH))?;
     let everything = count_all(partitions, PARTS_EACH)?;
-    let told = mix.steps(partitions, u64::from(steps))?;
-    Ok((everything, told))
+    let sums = mix.steps(partitions, u64::from(steps))?;
+    Ok((everything, sums))
 }

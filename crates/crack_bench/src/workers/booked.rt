@@ -1,6 +1,6 @@
 //! A table whose workers keep receipts.
 
-use crate::report::{Host, Output, Told};
+use crate::report::{Host, Outcome, Output};
 use crate::workers::measuring::{Gathers, Run, print_totals, run_over};
 use crate::workers::mix::splits;
 use crack_row::GREATEST_LIMIT;
@@ -8,7 +8,7 @@ use crack_table::{Table, Worker, gather};
 use std::time::Instant;
 
 impl Gathers<Worker> for Table {
-    fn gather<R: Output>(self, rt: &R, workers: Vec<Worker>) -> Told {
+    fn gather<R: Output>(self, rt: &R, workers: Vec<Worker>) -> Outcome {
         let start = Instant::now(rt)?;
         match gather(rt.alloc(), self, workers) {
             Ok(closed) => {
@@ -27,7 +27,7 @@ impl Gathers<Worker> for Table {
 }
 
 /// Opens a table, and carries out the run.
-pub fn run<R: Host>(rt: &R, run: Run) -> Told {
+pub fn run<R: Host>(rt: &R, run: Run) -> Outcome {
     let splits = splits(rt.alloc(), run.parts())?;
     let workers = u64::from(run.workers);
     let opened = Table::open(rt.alloc(), splits.as_slice(), GREATEST_LIMIT, workers);

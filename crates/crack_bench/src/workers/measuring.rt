@@ -1,6 +1,6 @@
 //! The measurements of a table's workers, and their times.
 
-use crate::report::{Host, Output, Told, report};
+use crate::report::{Host, Outcome, Output, report};
 use crate::seats::{AskedBy, Hand, Seated, Works, leave, work_on_threads};
 use crate::workers::mix::{Mix, PARTS_EACH, Parts, count_all};
 use crack_row::{Policy, Refusal};
@@ -32,7 +32,7 @@ pub enum Work {
     /// The same, by one worker alone.
     Alone { steps: u32 },
     /// A checkpoint of each partition.
-    Fold,
+    Checkpoint,
     Nothing,
 }
 
@@ -78,7 +78,7 @@ impl Run {
 /// A table whose workers are gathered at the end of a run.
 pub trait Gathers<W>: AskedBy<W> {
     /// Gathers the workers, and writes how long that took, and their totals.
-    fn gather<R: Output>(self, rt: &R, workers: Vec<W>) -> Told;
+    fn gather<R: Output>(self, rt: &R, workers: Vec<W>) -> Outcome;
 }
 
 /// Carries out a run over a table and its workers.
@@ -87,14 +87,14 @@ pub fn run_over<R: Host, T: Gathers<W> + Sync + Drop, W: Send + Drop>(
     table: T,
     workers: Vec<W>,
     run: Run,
-) -> Told {
+) -> Outcome {
     let mut left = Vec::new(rt.alloc());
     match carry_out(rt, &table, workers, run, &mut left) {
         Ok(()) if matches!(run.end, End::Gather) => table.gather(rt, left),
-        told => {
+        outcome => {
             drop(left);
             drop(table);
-            told
+            outcome
         }
     }
 }
@@ -106,18 +106,18 @@ fn carry_out<R: Host + Sync, T: AskedBy<W> + Sync, W: Send + Drop>(
     workers: Vec<W>,
     run: Run,
     left: &mut Vec<W>,
-) -> Told {
+) -> Outcome {
     let gate = OpenGate;
     let mut hands = Vec::new(rt.alloc());
-    let told = match seat(rt, &gate, table, workers, run, &mut hands) {
+    let outcome = match seat(rt, &gate, table, workers, run, &mut hands) {
         Ok(()) => measure(rt, &mut hands, run),
         Err(refusal) => Err(refusal.into()),
     };
-    match told {
+    match outcome {
         Ok(()) => Ok(leave(hands, left)?),
-        told => {
+        outcome => {
             drop(hands);
-            told
+            outcome
         }
     }
 }
@@ -152,14 +152,14 @@ fn measure<R: Host, A: Works + Send + Drop>(
     rt: &R,
     hands: &mut Vec<Hand<A, Mix>>,
     run: Run,
-) -> Told {
+) -> Outcome {
     let start = Instant::now(rt)?;
     load(hands, run.rows)?;
     report(rt, "load", start)?;
     match run.work {
         Work::Threads { steps } => measure_threads(rt, hands, run, steps),
         Work::Alone { steps } => measure_alone(rt, hands, steps),
-        Work::Fold => Ok(fold(hands, run.parts())?),
+        Work::Checkpoint => Ok(checkpoint_all(hands, run.parts())?),
         Work::Nothing => Ok(()),
     }
 }
@@ -179,7 +179,7 @@ fn measure_threads<R: Host, A: Works + Send + Drop>(
     hands: &mut Vec<Hand<A, Mix>>,
     run: Run,
     steps: u32,
-) -> Told {
+) -> Outcome {
     let everything = match hands.first_mut() {
         Some(hand) => count_all(&mut hand.worker, run.parts())?,
         None => 0,
@@ -188,9 +188,9 @@ fn measure_threads<R: Host, A: Works + Send + Drop>(
     let start = Instant::now(rt)?;
     work_on_threads(rt, rt.alloc(), hands, u64::from(steps))?;
     report(rt, "work", start)?;
-    let told = sum_of(hands)?;
+    let sums = sum_of(hands)?;
     if matches!(run.sharing, Sharing::Own) {
-        println!(rt; "sums {told}")?;
+        println!(rt; "sums {sums}")?;
     }
     Ok(())
 }
@@ -199,31 +199,31 @@ fn measure_threads<R: Host, A: Works + Send + Drop>(
 fn sum_of<A>(hands: &[Hand<A, Mix>]) -> Result<u64, Refusal> {
     let mut total = 0u64;
     'hands: for hand in hands {
-        total = total.wrapping_add(hand.questions.told?);
+        total = total.wrapping_add(hand.questions.sums?);
     }
     Ok(total)
 }
 
-fn measure_alone<R: Output, A: Works>(rt: &R, hands: &mut [Hand<A, Mix>], steps: u32) -> Told {
+fn measure_alone<R: Output, A: Works>(rt: &R, hands: &mut [Hand<A, Mix>], steps: u32) -> Outcome {
     let Some(hand) = hands.first_mut() else {
         return Ok(());
     };
     let everything = count_all(&mut hand.worker, PARTS_EACH)?;
     let start = Instant::now(rt)?;
-    let told = hand.questions.steps(&mut hand.worker, u64::from(steps));
+    let sums = hand.questions.steps(&mut hand.worker, u64::from(steps));
     report(rt, "work", start)?;
-    let told = told?;
-    println!(rt; "rows {everything} sums {told}")?;
+    let sums = sums?;
+    println!(rt; "rows {everything} sums {sums}")?;
     Ok(())
 }
 
 /// Makes a checkpoint of each partition, by the first worker.
-fn fold<A: Works>(hands: &mut [Hand<A, Mix>], parts: u32) -> Result<(), Refusal> {
+fn checkpoint_all<A: Works>(hands: &mut [Hand<A, Mix>], parts: u32) -> Result<(), Refusal> {
     let Some(hand) = hands.first_mut() else {
         return Ok(());
     };
     'parts: for part in 0..parts {
-        hand.worker.fold(part)?;
+        hand.worker.checkpoint(part)?;
     }
     Ok(())
 }

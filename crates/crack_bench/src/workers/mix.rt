@@ -37,12 +37,12 @@ pub struct Mix {
     rows: Vec<Placed>,
     number: u32,
     /// The sum that its last steps returned.
-    pub told: Result<u64, Refusal>,
+    pub sums: Result<u64, Refusal>,
 }
 
 impl Questions for Mix {
     fn ask_next<A: Works>(&mut self, worker: &mut A, count: u64) {
-        self.told = self.steps(worker, count);
+        self.sums = self.steps(worker, count);
     }
 }
 
@@ -53,7 +53,7 @@ impl Mix {
             parts,
             rows: Vec::new(alloc),
             number,
-            told: Ok(0),
+            sums: Ok(0),
         }
     }
 

@@ -1,7 +1,7 @@
 //! A table that witnesses its replies, whose workers keep no receipts.
 ghost use Rattle.crack_witness.specs.Witnesses.{AreNames};
 
-use crate::report::{Host, Output, Told, report};
+use crate::report::{Host, Outcome, Output, report};
 use crate::seats::AskedBy;
 use crate::workers::measuring::{Gathers, Run, print_totals, run_over};
 use crate::workers::mix::splits;
@@ -26,14 +26,19 @@ impl<J: Naming> AskedBy<Asker<J>> for WitnessedTable<J> {
         self.ask(rt, gate, worker, part, command, policy)
     }
 
-    fn fold<R: Wait>(&self, rt: &R, _worker: &mut Asker<J>, part: u32) -> Result<u64, Refusal> {
+    fn checkpoint_by<R: Wait>(
+        &self,
+        rt: &R,
+        _worker: &mut Asker<J>,
+        part: u32,
+    ) -> Result<u64, Refusal> {
         self.checkpoint(rt, part)
     }
 }
 
 impl<J: Naming> Gathers<Asker<J>> for WitnessedTable<J> {
     /// The time is also written before the partitions are dropped.
-    fn gather<R: Output>(self, rt: &R, workers: Vec<Asker<J>>) -> Told {
+    fn gather<R: Output>(self, rt: &R, workers: Vec<Asker<J>>) -> Outcome {
         let start = Instant::now(rt)?;
         match gather(rt.alloc(), self, workers) {
             Ok(gathered) => {
@@ -54,7 +59,7 @@ impl<J: Naming> Gathers<Asker<J>> for WitnessedTable<J> {
 }
 
 /// Opens a table, and carries out the run.
-pub fn run<R: Host>(rt: &R, run: Run) -> Told {
+pub fn run<R: Host>(rt: &R, run: Run) -> Outcome {
     let splits = splits(rt.alloc(), run.parts())?;
     let limits = Limits::of_history(GREATEST_LIMIT);
     let workers = u64::from(run.workers);
@@ -67,7 +72,7 @@ pub fn run<R: Host>(rt: &R, run: Run) -> Told {
 }
 
 /// The same, once the table's book has its name.
-fn run_named<J: Naming + Send + Sync, R: Host>(rt: &R, table: UnnamedTable, run: Run) -> Told
+fn run_named<J: Naming + Send + Sync, R: Host>(rt: &R, table: UnnamedTable, run: Run) -> Outcome
     requires { AreNames J.book J.owner table.opened }
 {
     match table.named::<J>(rt.alloc()) {
