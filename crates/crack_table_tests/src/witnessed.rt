@@ -31,6 +31,8 @@ enum Way {
     Threads,
     /// A worker with a book is audited.
     Audited,
+    /// Layouts and checkpoints of both partitions are requested.
+    Parts,
 }
 
 /// What happens at a table whose histories may have so many entries, and which has so many workers.
@@ -39,6 +41,7 @@ const WAYS: &[(Way, u64, u64)] = &[
     (Way::Twin, 10, 1),
     (Way::Threads, 100000, 2),
     (Way::Audited, 10, 1),
+    (Way::Parts, 10, 1),
 ];
 
 #[test]
@@ -69,6 +72,10 @@ fn assert_way<J: Naming + Send + Sync, R: Threads + Wait + Abort + Sync>(
         }
         Way::Threads => work_on_threads(rt, alloc, table, workers),
         Way::Audited => audit_one(rt, alloc, table, workers),
+        Way::Parts => {
+            assert_parts(rt, &table, &mut workers);
+            assert_totals(rt, alloc, table, workers, Ok([3, 3, 0, 3]));
+        }
     }
 }
 
@@ -280,6 +287,46 @@ fn ask_audited<J: Naming, R: Wait>(
 /// The partition, the position and the worker of a receipt.
 fn place_of(receipt: &Receipt) -> (u32, u64, u32) {
     (receipt.part, receipt.position, receipt.worker)
+}
+
+/// A layout and a checkpoint are of the partition that they name: the first has one row, and the second two.
+fn assert_parts<J: Naming, R: Wait + Abort>(
+    rt: &R,
+    table: &WitnessedTable<J>,
+    workers: &mut Vec<Asker<J>>,
+) {
+    let worker = workers.first_mut().expect(rt, "a worker");
+    let first = ask(rt, table, worker, 0, insert(7));
+    let second = ask(rt, table, worker, 1, insert(1000007));
+    let third = ask(rt, table, worker, 1, insert(1000008));
+    assert!(rt; first.is_ok() && second.is_ok() && third.is_ok());
+    let rows = [
+        rows_of(rt, table, 0),
+        rows_of(rt, table, 1),
+        rows_of(rt, table, 2),
+    ];
+    assert!(rt; rows == [Ok(1), Ok(2), Err(Refusal::NoSuchPartition)]);
+    assert_checkpoints(rt, table);
+}
+
+/// How many rows the layout of a partition has.
+fn rows_of<J: Naming, R: Wait>(
+    rt: &R,
+    table: &WitnessedTable<J>,
+    part: u32,
+) -> Result<u64, Refusal> {
+    Ok(table.layout(rt, part)?.rows)
+}
+
+/// Each partition counts its own entries.
+fn assert_checkpoints<J: Naming, R: Wait + Abort>(rt: &R, table: &WitnessedTable<J>) {
+    let folded = [
+        table.checkpoint(rt, 1),
+        table.checkpoint(rt, 1),
+        table.checkpoint(rt, 0),
+        table.checkpoint(rt, 2),
+    ];
+    assert!(rt; folded == [Ok(2), Ok(0), Ok(1), Err(Refusal::NoSuchPartition)]);
 }
 
 /// Gathers the only worker of a table, and compares its book and an empty one with the histories.
