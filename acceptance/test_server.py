@@ -7,6 +7,7 @@ cases/clients.cases and cases/ends.cases, batches at their bounds in bounds.txt.
 import contextlib
 import os
 import resource
+import signal
 import time
 
 import fixtures
@@ -122,6 +123,23 @@ class Servers(fixtures.Case):
                 other.is_at_end()
             it.close()
             it.wait((2, 2, 0, 2), *it.notes(2, SILENT.format(0), SILENT.format(1)))
+
+    def test_a_server_that_was_stopped_goes_on(self) -> None:
+        """With --idle a stop of the process interrupts the reads and writes of its sessions: they are repeated."""
+        with Server(self.program, 2, "--until-eof", "--idle", "60") as it:
+            with Client(it.port) as silent, Client(it.port, room=4096) as deaf:
+                silent.ask("insert 1 1", "row 0.0")
+                deaf.send(inserts(2_000) + f"select 0 {MOST}\n" * 300)
+                time.sleep(0.5)
+                it.process.send_signal(signal.SIGSTOP)
+                os.waitid(os.P_PID, it.process.pid, os.WSTOPPED)
+                it.process.send_signal(signal.SIGCONT)
+                silent.ask(f"count 2000 {MOST}", "count 0")
+                silent.end()
+                deaf.sends_no_more()
+                expect("lines", 2_000 + 300 * 2_002, sum(1 for _ in deaf.lines))
+            it.close()
+            it.wait((2_302, 2_001, 0, 2_001), *it.notes(2))
 
     def test_a_client_that_takes_nothing_is_let_go(self) -> None:
         """With --idle a client that reads no reply is disconnected, once no more replies fit."""

@@ -84,31 +84,43 @@ fn batches_end_and_write(rt: HostRuntime) {
     }
 }
 
-/// A writer into memory of whose writes one fails.
+/// A writer into memory of whose calls one fails.
 #[derive(Drop)]
 struct FailsOnce {
     bytes: Vec<u8>,
-    /// How many writes there are before the one that fails.
+    /// How many of these bytes were flushed.
+    flushed: usize,
+    /// How many calls there are before the one that fails.
     before: u64,
 }
 
-impl Write for FailsOnce {
-    fn write(&mut self, buf: &[u8]) -> io::Result<usize> {
+impl FailsOnce {
+    /// Counts a call, and fails if it is the one that does.
+    fn call(&mut self) -> io::Result<()> {
         let fails = self.before == 0;
         self.before = self.before.wrapping_sub(1);
         if fails {
             return Err(io::Error::from(io::ErrorKind::BrokenPipe));
         }
-        self.bytes.write(buf)
-    }
-
-    fn flush(&mut self) -> io::Result<()> {
         Ok(())
     }
 }
 
-/// A batch in which the second worker's session has no output is refused whichever of its writes fails, and writes
-/// nothing after it.
+impl Write for FailsOnce {
+    fn write(&mut self, buf: &[u8]) -> io::Result<usize> {
+        self.call()?;
+        self.bytes.write(buf)
+    }
+
+    fn flush(&mut self) -> io::Result<()> {
+        self.call()?;
+        self.flushed = self.bytes.len();
+        Ok(())
+    }
+}
+
+/// A batch in which the second worker's session has no output is refused whichever of its writes fails, or its flush,
+/// and writes nothing after it.
 #[test]
 fn a_batch_is_refused_where_a_write_fails(rt: HostRuntime) {
     const OUTPUT: &[u8] = b"worker 0\nrow 0.0\nworker 1\naccepted 1 inserted 1 deleted 0 held 1\n";
@@ -116,12 +128,13 @@ fn a_batch_is_refused_where_a_write_fails(rt: HostRuntime) {
     'writes: for before in 0..100u64 {
         let mut writer = FailsOnce {
             bytes: Vec::new(rt.alloc()),
+            flushed: 0,
             before,
         };
         let ended = run_two(&rt, rt.alloc(), &OpenGate, b"0 insert 50 5\n", &mut writer);
         whole = ended.is_ok();
         if whole {
-            assert!(rt; writer.bytes.as_slice() == OUTPUT);
+            assert!(rt; writer.bytes.as_slice() == OUTPUT && writer.flushed == OUTPUT.len());
             break;
         }
         assert!(rt;

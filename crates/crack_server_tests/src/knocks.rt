@@ -36,6 +36,23 @@ impl<'a, N: Net<Listener = TcpListener, Stream = TcpStream>> Host for Late<'a, N
     }
 }
 
+/// An input whose first read is interrupted.
+#[derive(Drop)]
+struct Interrupted<'a> {
+    bytes: &'a [u8],
+    was_read: bool,
+}
+
+impl<'a> Read for Interrupted<'a> {
+    fn read(&mut self, buf: &mut [u8]) -> io::Result<usize> {
+        if self.was_read {
+            return self.bytes.read(buf);
+        }
+        self.was_read = true;
+        Err(io::Error::from(io::ErrorKind::Interrupted))
+    }
+}
+
 /// Asserts the output of a server of this many workers, to which nobody comes until its input ends. Returns how often
 /// its host knocked and paused; the first `lost` knocks reach nobody.
 fn assert_end<
@@ -89,6 +106,10 @@ fn a_knock_that_fails_is_repeated_after_a_pause(rt: HostRuntime) {
 
 #[test]
 fn workers_that_wait_end_with_the_input(rt: HostRuntime) {
-    let mut input: &[u8] = b"what is read is ignored";
+    let mut input = Interrupted {
+        bytes: b"what is read is ignored",
+        was_read: false,
+    };
     assert_end(&rt, rt.alloc(), 0, 3, Some(60), &mut input);
+    assert!(rt; input.bytes.is_empty());
 }

@@ -1,6 +1,7 @@
 //! Sessions over TCP, at any desks, each desk's on a thread of its own.
 use crate::REPLY_BYTES;
 use crate::host::{Host, Notice};
+use crate::retried::Retried;
 use crate::tickets::{Ending, Tickets};
 use crack_row::{Policy, Refusal, Watched};
 use crack_session::{Desk, serve};
@@ -165,7 +166,7 @@ fn serve_stream<D: Desk>(
     let Ok(buffered) = BufWriter::with_capacity(alloc, REPLY_BYTES, stream) else {
         return Some(Refusal::OutOfMemory);
     };
-    let mut reader = Watched::new(stream);
+    let mut reader = Watched::new(Retried(stream));
     let mut writer = Watched::new(buffered);
     match serve(alloc, desk, terms.policy, &mut reader, &mut writer) {
         Ok(_) => None,

@@ -4,6 +4,7 @@
 pub mod connections;
 pub mod host;
 pub mod input;
+mod retried;
 pub mod tickets;
 
 pub use connections::{Terms, serve_desks};
