@@ -55,7 +55,7 @@ class Servers(fixtures.Case):
     def test_descriptors_that_run_out(self) -> None:
         """A worker whose accepts fail for lack of a descriptor goes on, and serves again once there is one. Each
         failure counts as a session; a pause follows it, so there are few."""
-        with Server(self.program, 2, "--sessions", "5000", "--quiet") as server:
+        with Server(self.program, 2, "--sessions", "1000", "--quiet") as server:
             number = server.process.pid
             least = len(os.listdir(f"/proc/{number}/fd"))
             with Client(server.port) as held:
