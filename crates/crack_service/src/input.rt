@@ -31,8 +31,8 @@ pub fn divide(alloc: Global, input: &[u8], workers: usize) -> Result<Vec<Vec<u8>
     let mut shares = empty_shares(alloc, workers)?;
     let mut rest = input;
     'lines: while !rest.is_empty() {
-        let (line, behind) = first_line(rest);
-        rest = behind;
+        let (line, after) = first_line(rest);
+        rest = after;
         if !is_blank(line) {
             deal(&mut shares, line)?;
         }
