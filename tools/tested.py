@@ -1,8 +1,8 @@
 #!/usr/bin/env python3
 """Makes the names of tests in docs/PROOFS.md links to their files: tested.py [--check]
 
-In its section 'What is only tested' each name in backquotes of a test, or of a file of acceptance/ or of the crates of
-tests, becomes a link. The status is 1 if a name is neither, or with --check if a link leads elsewhere.
+In its section 'What is only tested' each name in backquotes of a test, or of a file of acceptance/, of python/tests/ or
+of the crates of tests, becomes a link. The status is 1 if a name is neither, or with --check if a link leads elsewhere.
 """
 
 import pathlib
@@ -20,7 +20,13 @@ TESTS = re.compile(r"^\s*(?:pub(?:\([a-z]+\))? )?(?:fn|def) (\w+)", re.MULTILINE
 def homes(top=crates.TOP):
     """The file of each test, by its name, and of each file of tests, by its own."""
     found = {}
-    patterns = ["acceptance/*.py", "acceptance/*.txt", "acceptance/cases/*.cases", "crates/*_tests/src/**/*.rt"]
+    patterns = [
+        "acceptance/*.py",
+        "acceptance/*.txt",
+        "acceptance/cases/*.cases",
+        "crates/*_tests/src/**/*.rt",
+        "python/tests/*.py",
+    ]
     for path in (path for it in patterns for path in sorted(top.glob(it))):
         found.setdefault(path.name, path)
         found.setdefault(path.name.removeprefix("test_"), path)

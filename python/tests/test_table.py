@@ -1,5 +1,6 @@
 """The answers of a table, in the process and over TCP by the same cases, compared with plain lists."""
 
+import itertools
 import random
 import unittest
 
@@ -243,6 +244,33 @@ class Cases:
                 table.delete_many(rows[12:15])
                 table.insert_many([15, 16], [100, 100])
                 self.assertEqual((table.sum(10, 20), table.count(), table.sum(0, 100)), (207, 99, 297))
+
+    def test_each_query_merges_by_the_policy(self):
+        """Queries of the keys 10 to 19, first among 100 pending rows, and later with 2 more, of which one is inside."""
+        queries = {
+            "count": lambda table: table.count(10, 20),
+            "sum": lambda table: table.sum(10, 20),
+            "select": lambda table: table.select(10, 20),
+            "count_many": lambda table: table.count_many([10], [20]),
+            "sum_many": lambda table: table.sum_many([10], [20]),
+        }
+        # (rows in the column, pending insertions) after the first query, and after the later one
+        wanted = {
+            "complete": [(100, 0), (102, 0)],
+            "gradual": [(10, 90), (101, 1)],
+            "ripple": [(10, 90), (100, 2)],
+            "auto": [(100, 0), (100, 2)],
+        }
+        for policy, (name, query) in itertools.product(wanted, queries.items()):
+            with self.subTest(policy=policy, query=name), self.table(policy=policy) as table:
+                table.insert_many(range(100), [1] * 100)
+                query(table)
+                first = table.layout().parts[0]
+                table.count()
+                table.insert_many([15, 50], [1, 1])
+                query(table)
+                got = [(it.column, it.pending_in) for it in (first, table.layout().parts[0])]
+                self.assertEqual(got, wanted[policy])
 
     def test_layouts_add_up(self):
         with self.table(range(1000), partitions=3) as table:
