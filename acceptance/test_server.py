@@ -26,9 +26,10 @@ def inserts(many: int) -> str:
 
 
 def is_served(port: int) -> bool:
-    """Whether a connection is answered: it asks something that changes no total. Otherwise it is refused or closed."""
+    """Whether a connection is answered: it asks something that changes no total. Otherwise it is refused or closed, or
+    waits in the queue of a server whose other session is open."""
     try:
-        with Client(port) as it:
+        with Client(port, seconds=30) as it:
             it.send("layout 0\nquit\n")
             return it.lines.read() != ""
     except OSError:
