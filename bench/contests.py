@@ -106,6 +106,29 @@ def merge_rivalries(runs):
     for word, numbers, what in words:
         for policy, ours, _, fast, tree, _ in of_bench.by_policy(word, [sizes.PART_ROWS, *numbers], runs):
             yield rivalry(f"{policy}: {what}", word, ours, fast, tree)
+        ours, tree = of_bench.under_auto(word, [sizes.PART_ROWS, *numbers], ["tree"], runs)
+        yield report.Rivalry(f"auto: {what}", middle_of(ours, word), None, middle_of(tree, word))
+
+
+def between_updates(runs):
+    """What a sum takes with the changes before it, by `crackd` under `auto` and by others."""
+    names = ["crackd", "a BTreeMap", "a sorted array and late rows", "a sorted array, built anew"]
+    for batches, size in sizes.BATCHES:
+        numbers = [sizes.PART_ROWS, batches, size]
+        reported = of_bench.under_auto("updates", numbers, ["tree", "overlay", "rebuilt"], runs)
+        times = {name: middle_of(it, "updates") / batches for name, it in zip(names, reported)}
+        if report.sqlite3:
+            times["SQLite, a covering index"] = sqlite_between(numbers, runs) / batches
+        yield report.Between(f"a sum after {size} deletes and {size} inserts", times)
+
+
+def sqlite_between(numbers, runs):
+    """What SQLite takes for all sums with the changes before each, in seconds. Its answers must be the tree's."""
+    seconds, told = zip(*(report.sqlite_updates(*numbers) for _ in range(runs)))
+    wrote = subprocess.run([PEERS, "updates", "tree", *map(str, numbers)], capture_output=True, text=True, check=True)
+    if {f"updates {it}" for it in told} != {wrote.stdout.splitlines()[-1]}:
+        sys.exit(f"updates {numbers}: SQLite doesn't answer the same")
+    return statistics.median(seconds)
 
 
 def pass_rivalry(runs):
@@ -161,7 +184,7 @@ def moves(program, kind="{}"):
     return {
         f"{policy}: {what}": steps(program, kind.format(policy), it)
         for what, it in words.items()
-        for policy in sizes.POLICIES
+        for policy in [*sizes.POLICIES, "auto"]
     }
 
 
@@ -178,5 +201,6 @@ def write_report(folder, runs):
         contests,
         rivals(runs),
         set_contests(runs),
+        list(between_updates(runs)),
     )
     report.write(folder, BENCH, PEERS, report.Measured(sizes.PART_ROWS, sizes.RANGES, runs, *measured))

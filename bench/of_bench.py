@@ -88,6 +88,14 @@ def by_policy(word, numbers, runs, others=()):
         yield policy, ours, same, fast, tree, rest
 
 
+def under_auto(word, numbers, kinds, runs):
+    """Runs a command under `auto`, and of plain Rust's kinds of tables. Returns what each reported, ours first."""
+    words = [word, *(str(number) for number in numbers)]
+    programs = [[PEERS, word, kind, *words[1:]] for kind in kinds]
+    *theirs, ours = compare([*programs, [BENCH, word, "auto", *words[1:]]], runs)
+    return [ours, *theirs]
+
+
 def measure_cold(table, runs):
     numbers = [sizes.PART_ROWS, sizes.RANGES]
     for policy, ours, same, fast, tree, [rows] in by_policy("cold", numbers, runs, ["rows"]):
@@ -102,6 +110,9 @@ def measure_cold(table, runs):
         print(
             "    " + ", ".join(f"{name.replace('_', ' ')} {ours[0][name]}" for name in ("put_in", "evicted", "moved"))
         )
+    ours, tree = under_auto("cold", numbers, ["tree"], runs)
+    what = f"auto: {sizes.RANGES} sums, all rows pending, beside a tree"
+    table.line(what, middle_of(ours, "cold"), middle_of(tree, "cold"))
     through, fast, same, ours = passes(runs)
     alone = middle_of(ours, "pass")
     table.line(
@@ -135,6 +146,8 @@ def measure_updates(table, runs):
             table.line(f"{policy}: {what}, beside plain Rust", took, middle_of(same, "updates"), 1.5)
             table.line(f"{policy}: the same, beside {FAST}", took, middle_of(fast, "updates"), 1.5)
             table.line(f"{policy}: the same, beside a tree", took, middle_of(tree, "updates"))
+        ours, tree = under_auto("updates", [sizes.PART_ROWS, batches, size], ["tree"], runs)
+        table.line(f"auto: {what}, beside a tree", middle_of(ours, "updates"), middle_of(tree, "updates"))
     words = [str(sizes.PART_ROWS), str(sizes.PIECES), str(sizes.PENDING)]
     programs = [[BENCH, "merge", "complete"], [PEERS, "merge", "complete"], [PEERS, "merge", "anew"]]
     ours, same, anew = compare([[*program, *words] for program in programs], runs)

@@ -4,8 +4,8 @@
 //! BATCHES SIZE`, `peers merge TABLE ROWS PIECES PENDING` and `peers pulls TABLE ROWS PIECES DELETES`; `peers fold ROWS
 //! CHANGES` sorts what a checkpoint keeps. A table is `complete`, `gradual`, `ripple` or `anew`, a cracked partition
 //! that merges by this policy, represented as the measured one is; `fast-complete`, `fast-gradual` or `fast-ripple`, a
-//! cracker column that is written for speed alone; or `inline`, `pairs`, `tree`, `through`, `rows` or `sorted`, which
-//! do the same in other ways. `peers own WORKERS ROWS STEPS` and `peers shared WORKERS ROWS STEPS` have workers on
+//! cracker column that is written for speed alone; or `inline`, `pairs`, `tree`, `through`, `rows`, `sorted`, `rebuilt` or
+//! `overlay`, which do the same in other ways. `peers own WORKERS ROWS STEPS` and `peers shared WORKERS ROWS STEPS` have workers on
 //! threads, and `peers copies WORKERS ROWS` copies what they did. `peers client PORT FILE` and `peers turns PORT FILE`
 //! send a file's statements to a server on this machine, all at once or one by one, and `peers echo PORT` is such a
 //! server.
@@ -21,6 +21,7 @@ mod fold;
 mod index;
 mod inline;
 mod numbers;
+mod overlay;
 mod pairs;
 mod partition;
 mod pending;

@@ -6,6 +6,7 @@ use crate::arena::Row;
 use crate::fast::{Fast, Tally};
 use crate::inline::Inline;
 use crate::numbers::{Numbers, mixed};
+use crate::overlay::{self, Overlay};
 use crate::pairs::Pairs;
 use crate::sorted::Sorted;
 use crate::store::{GREATEST_BOUND, Policy, Store};
@@ -19,6 +20,9 @@ pub const KEYS_END: u128 = 1 << 32;
 
 /// How wide a random range is: a hundredth of these keys.
 pub const WIDTH: u128 = 42949672;
+
+/// How many late rows an array has beside it until it is built anew.
+const MOST_LATE: usize = 8192;
 
 /// How many entries a history may have.
 pub const LIMIT: usize = 1_000_000;
@@ -302,6 +306,26 @@ impl Table for Sorted {
     }
 }
 
+impl Table for Overlay {
+    type Name = overlay::Name;
+
+    fn insert(&mut self, key: u64, payload: i64) -> overlay::Name {
+        Overlay::insert(self, key, payload)
+    }
+
+    fn count(&mut self, low: u128, high: u128) -> u64 {
+        Overlay::count(self, low as u64, (high - 1) as u64)
+    }
+
+    fn sum(&mut self, low: u128, high: u128) -> i128 {
+        Overlay::sum(self, low as u64, (high - 1) as u64)
+    }
+
+    fn delete(&mut self, name: overlay::Name) {
+        Overlay::delete(self, name);
+    }
+}
+
 /// Whether a row's key is in a range that isn't empty.
 fn inside(low: u128, high: u128) -> impl Fn(&&Row) -> bool {
     let (low, last) = (low as u64, (high - 1) as u64);
@@ -511,9 +535,11 @@ pub fn run(word: &str, table: &str, numbers: &[u64]) {
         "through" => measure(word, Through::default(), numbers),
         "rows" => measure(word, Vec::<Row>::new(), numbers),
         "sorted" => measure(word, Sorted::default(), numbers),
+        "rebuilt" => measure(word, Overlay::new(0), numbers),
+        "overlay" => measure(word, Overlay::new(MOST_LATE), numbers),
         _ => panic!(
             "complete, gradual, ripple, anew, fast-complete, fast-gradual, fast-ripple, inline, pairs, tree, through, \
-             rows or sorted"
+             rows, sorted, rebuilt or overlay"
         ),
     }
 }
