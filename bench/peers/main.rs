@@ -4,11 +4,11 @@
 //! BATCHES SIZE`, `peers merge TABLE ROWS PIECES PENDING` and `peers pulls TABLE ROWS PIECES DELETES`; `peers fold ROWS
 //! CHANGES` sorts what a checkpoint keeps. A table is `complete`, `gradual`, `ripple` or `anew`, a cracked partition
 //! that merges by this policy, represented as the measured one is; `fast-complete`, `fast-gradual` or `fast-ripple`, a
-//! cracker column that is written for speed alone; or `inline`, `pairs`, `tree`, `through`, `rows`, `sorted`, `rebuilt` or
-//! `overlay`, which do the same in other ways. `peers own WORKERS ROWS STEPS` and `peers shared WORKERS ROWS STEPS` have workers on
-//! threads, and `peers copies WORKERS ROWS` copies what they did. `peers client PORT FILE` and `peers turns PORT FILE`
-//! send a file's statements to a server on this machine, all at once or one by one, and `peers echo PORT` is such a
-//! server.
+//! cracker column that is written for speed alone; or `inline`, `pairs`, `tree`, `through`, `rows`, `sorted`,
+//! `rebuilt` or `overlay`, which do the same in other ways. `peers own WORKERS ROWS STEPS` and `peers shared WORKERS
+//! ROWS STEPS` have workers on threads, and `peers copies WORKERS ROWS` copies what they did. `peers client PORT FILE`
+//! and `peers turns PORT FILE` send a file's statements to a server on this machine, all at once or one by one, and
+//! `peers echo PORT` is such a server.
 //!
 //! What a run computes goes to standard output, and must be what the measured program writes there. Times go to
 //! standard error, in nanoseconds, a line `NAME NUMBER` each, followed by what the merges did, if that is counted.
