@@ -110,25 +110,46 @@ def merge_rivalries(runs):
         yield report.Rivalry(f"auto: {what}", middle_of(ours, word), None, middle_of(tree, word))
 
 
+RIVALS = {"a BTreeMap": "tree", "a sorted array and late rows": "overlay"}
+SQLITE = "SQLite, a covering index"
+
+
 def between_updates(runs):
     """What a sum takes with the changes before it, by `crackd` under `auto` and by others."""
-    names = ["crackd", "a BTreeMap", "a sorted array and late rows", "a sorted array, built anew"]
+    rivals = {**RIVALS, "a sorted array, built anew": "rebuilt"}
     for batches, size in sizes.BATCHES:
         numbers = [sizes.PART_ROWS, batches, size]
-        reported = of_bench.under_auto("updates", numbers, ["tree", "overlay", "rebuilt"], runs)
-        times = {name: middle_of(it, "updates") / batches for name, it in zip(names, reported)}
+        reported = of_bench.under_auto("updates", numbers, rivals.values(), runs)
+        times = {name: middle_of(it, "updates") / batches for name, it in zip(["crackd", *rivals], reported)}
         if report.sqlite3:
-            times["SQLite, a covering index"] = sqlite_between(numbers, runs) / batches
+            times[SQLITE] = statistics.mean(sqlite_rounds("updates", numbers, report.RANGE))
         yield report.Between(f"a sum after {size} deletes and {size} inserts", times)
 
 
-def sqlite_between(numbers, runs):
-    """What SQLite takes for all sums with the changes before each, in seconds. Its answers must be the tree's."""
-    seconds, told = zip(*(report.sqlite_updates(*numbers) for _ in range(runs)))
-    wrote = subprocess.run([PEERS, "updates", "tree", *map(str, numbers)], capture_output=True, text=True, check=True)
-    if {f"updates {it}" for it in told} != {wrote.stdout.splitlines()[-1]}:
-        sys.exit(f"updates {numbers}: SQLite doesn't answer the same")
-    return statistics.median(seconds)
+def sqlite_rounds(word, numbers, width):
+    """What SQLite takes for each round, in seconds, measured once. Its answers must be the tree's."""
+    seconds, told = report.sqlite_rounds(*numbers, width, word == "rising")
+    words = [word, "tree", *map(str, numbers if numbers[2] else numbers[:2])]
+    wrote = subprocess.run([PEERS, *words], capture_output=True, text=True, check=True).stdout
+    if wrote.splitlines()[-1] != f"{word} {told}":
+        sys.exit(f"{words}: SQLite doesn't answer the same")
+    return seconds
+
+
+def ages(runs):
+    """What a round takes at first and in the end, and a sum in rising order and at random."""
+    ends, orders = of_bench.ageing(RIVALS.values(), runs), of_bench.orders(RIVALS.values(), runs)
+    texts = ("a round at first", "a round in the end", "a sum in rising order", "a sum at a random place")
+    times = [dict(zip(["crackd", *RIVALS], it)) for it in (*zip(*ends), *zip(*orders))]
+    if report.sqlite3:
+        tenth = sizes.AGEING[0] // 10
+        rounds = sqlite_rounds("ageing", [sizes.PART_ROWS, *sizes.AGEING], report.NARROW_RANGE)
+        numbers = [sizes.PART_ROWS, sizes.RANGES, 0]
+        rising = sqlite_rounds("rising", numbers, report.KEYS // sizes.RANGES)
+        narrow = sqlite_rounds("narrow", numbers, report.NARROW_RANGE)
+        for it, seconds in zip(times, (rounds[:tenth], rounds[-tenth:], rising, narrow)):
+            it[SQLITE] = statistics.mean(seconds)
+    return [report.Between(text, it) for text, it in zip(texts, times)]
 
 
 def pass_rivalry(runs):
@@ -202,5 +223,6 @@ def write_report(folder, runs):
         rivals(runs),
         set_contests(runs),
         list(between_updates(runs)),
+        ages(runs),
     )
     report.write(folder, BENCH, PEERS, report.Measured(sizes.PART_ROWS, sizes.RANGES, runs, *measured))

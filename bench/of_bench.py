@@ -156,6 +156,37 @@ def measure_updates(table, runs):
     table.line("the same, beside a search at each step", merge, middle_of(anew, "merge"), 0.2)
 
 
+def ageing(kinds, runs):
+    """What a round of updates with a sum takes in the first and the last tenth of many: of ours, and of plain Rust's
+    kinds."""
+    reported = under_auto("ageing", [sizes.PART_ROWS, *sizes.AGEING], kinds, runs)
+    rounds = sizes.AGEING[0] // 10
+    return [[middle_of(it, name) / rounds for name in ("first", "last")] for it in reported]
+
+
+def orders(kinds, runs):
+    """What a sum of a thousandth takes in rising order and at random: of ours, and of plain Rust's kinds."""
+    numbers, names = [sizes.PART_ROWS, sizes.RANGES], ("rising", "narrow")
+    reported = [under_auto(name, numbers, kinds, runs) for name in names]
+    return [[middle_of(it, name) / sizes.RANGES for name, it in zip(names, each)] for each in zip(*reported)]
+
+
+def measure_ageing(table, runs):
+    rounds, size = sizes.AGEING
+    (first, last), (tree_first, tree_last) = ageing(["tree"], runs)
+    what = f"auto: {size} deletes, {size} inserts and a sum"
+    table.line(f"{what}, the last tenth of {rounds} rounds, beside the first", last, first, 1.5)
+    table.line(f"{what}, the first tenth, beside a tree", first, tree_first)
+    table.line(f"{what}, the last tenth, beside a tree", last, tree_last, 2.5)
+
+
+def measure_orders(table, runs):
+    (rising, narrow), (tree, _) = orders(["tree"], runs)
+    what = f"auto: {sizes.RANGES} sums of neighbouring ranges, rising"
+    table.line(f"{what}, beside as many at random", rising, narrow, 1.5)
+    table.line(f"{what}, beside a tree", rising, tree)
+
+
 # what a step belongs to, the command that takes steps, and the name of their number
 STEPS = [("a carry", "merge", "moved"), ("a pull", "pulls", "pulled")]
 
@@ -210,6 +241,7 @@ MEASURES = {
     "partition": [measure_counts, measure_sums],
     "cold": [measure_cold],
     "updates": [measure_updates],
+    "ageing": [measure_ageing, measure_orders],
     "steps": [measure_steps],
     "folds": [measure_folds],
     "growth": [measure_growth],

@@ -25,6 +25,7 @@ UNINDEXED = "SQLite without an index"
 
 # how wide a random range is, and what random keys are below, as in the programs
 RANGE = 42949672
+NARROW_RANGE = 4294967
 KEYS = 2**32
 
 
@@ -75,7 +76,7 @@ class Rivalry:
 
 @dataclasses.dataclass
 class Between:
-    """What a sum takes with the deletes and inserts before it, in seconds, by who answers."""
+    """What a sum takes, with the deletes and inserts before it if there are any, in seconds, by who answers."""
 
     what: str
     times: dict
@@ -110,6 +111,7 @@ class Measured:
     rivals: Rivals
     sets: list
     between: list
+    ages: list
 
 
 class Series:
@@ -152,28 +154,33 @@ def sqlite_series(rows, ranges, is_indexed):
     return Series(load, made, sums, f"rows {everything}\neach {told}\n")
 
 
-def sqlite_updates(rows, batches, size):
-    """How long SQLite takes for as many sums, each after this many deletes and inserts, in memory and by an index that
-    has all that a sum reads, in seconds, and the checksum of the sums."""
+def sqlite_rounds(rows, rounds, size, width, is_rising=False):
+    """How long SQLite takes for each sum of a range of this width, at random places or in rising order, with as many
+    deletes and inserts before it, in memory and by an index that has all that a sum reads, in seconds, and the checksum
+    of the sums."""
     numbers, database, told = Numbers(11), sqlite3.connect(":memory:"), 0
     database.execute("create table rows (number integer primary key, key integer, payload integer)")
     database.executemany("insert into rows values (?, ?, ?)", [(row, numbers.word(), row) for row in range(rows)])
     database.execute("create index by_key on rows (key, payload)")
-    names, seconds = list(range(rows)), 0.0
-    for number in range(rows, rows + batches * size, size):
-        places, keys = zip(*[(numbers.below(rows), numbers.word()) for _ in range(size)])
-        inserted = [(number + at, key, key) for at, key in enumerate(keys)]
-        low = numbers.low()
+    names, seconds = list(range(rows)), []
+    for turn in range(rounds):
+        changes = [(numbers.below(rows), numbers.word()) for _ in range(size)]
+        low = turn * width if is_rising else numbers.low()
         start = time.perf_counter()
-        for place, row in zip(places, inserted):
+        for at, (place, key) in enumerate(changes, rows + turn * size):
             database.execute("delete from rows where number = ?", (names[place],))
-            database.execute("insert into rows values (?, ?, ?)", row)
-            names[place] = row[0]
-        query = "select sum(payload) from rows where key >= ? and key < ?"
-        [answer] = database.execute(query, (low, low + RANGE)).fetchone()
-        seconds += time.perf_counter() - start
-        told = mixed(told, answer or 0)
+            database.execute("insert into rows values (?, ?, ?)", (at, key, key))
+            names[place] = at
+        answer = sqlite_sum(database, low, low + width)
+        seconds.append(time.perf_counter() - start)
+        told = mixed(told, answer)
     return seconds, told
+
+
+def sqlite_sum(database, low, high):
+    """The sum of a range."""
+    query = "select sum(payload) from rows where key >= ? and key < ?"
+    return database.execute(query, (low, high)).fetchone()[0] or 0
 
 
 def sqlite_lookups(rows, keys, runs):
@@ -423,6 +430,14 @@ the sums of its prefixes. Late rows are kept beside it, and each sum passes over
 sum. SQLite is called from Python, and its index has the key and the payload.
 
 {between_table(measured.between)}
+
+## Age, and the order of queries
+
+Rounds of 10 deletes, 10 inserts and the sum of a random thousandth of the keys, 20000 of them; and sums of thousandths of a table that stays as it is, one after the other in
+rising order and at random places. `crackd` is under `auto`; under the other policies it takes longer the more bounds there are, and the longer the rest is that a
+rising query cracks again.
+
+{between_table(measured.ages)}
 
 ## Loading, with the first count of everything
 
