@@ -15,6 +15,7 @@ SERIAL = (1 << SHIFT) - 1
 ROWS_A_PART = 4096
 MOST_PARTS = 64
 POLICIES = ("complete", "gradual", "ripple", "auto")
+POLICY = "auto"
 
 
 class Rows(NamedTuple):

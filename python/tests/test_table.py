@@ -272,6 +272,21 @@ class Cases:
                 got = [(it.column, it.pending_in) for it in (first, table.layout().parts[0])]
                 self.assertEqual(got, wanted[policy])
 
+    def test_the_first_query_after_a_load_merges_all_rows(self):
+        with self.table() as table:
+            table.insert_many(range(100), [1] * 100)
+            table.count(10, 20)
+            part = table.layout().parts[0]
+            self.assertEqual((part.column, part.pending_in), (100, 0))
+
+    def test_partitions_need_keys_that_divide_them(self):
+        for options in ({"partitions": 3}, {"sample": [], "partitions": 2}, {"splits": [5], "partitions": 3}):
+            with self.subTest(options), self.assertRaisesRegex(ValueError, "splits"), self.table(**options):
+                pass
+        for options, parts in (({"partitions": 1}, 1), ({"splits": [5], "partitions": 2}, 2), ({"splits": []}, 1)):
+            with self.subTest(options), self.table(**options) as table:
+                self.assertEqual(table.partitions, parts)
+
     def test_layouts_add_up(self):
         with self.table(range(1000), partitions=3) as table:
             rows = table.insert_many(range(1000), range(1000))
