@@ -4,8 +4,8 @@
 Inserts a thousand rows without waiting for each reply, then counts, sums and selects some of them.
 """
 
+import argparse
 import socket
-import sys
 import threading
 
 
@@ -81,4 +81,6 @@ def main(port):
 
 
 if __name__ == "__main__":
-    main(int(sys.argv[1]))
+    arguments = argparse.ArgumentParser(description=__doc__)
+    arguments.add_argument("port", metavar="PORT", type=int)
+    main(arguments.parse_args().port)

@@ -5,6 +5,7 @@ Passes standard input on to `crackd script --limit LIMIT --auto-checkpoint`, whi
 when its history is full: that empties the history and keeps the rows. Prints its replies, and exits with its status.
 """
 
+import argparse
 import subprocess
 import sys
 
@@ -15,6 +16,9 @@ def main(program: str, limit: str, *splits: str) -> int:
 
 
 if __name__ == "__main__":
-    if len(sys.argv) < 3:
-        sys.exit(__doc__)
-    sys.exit(main(*sys.argv[1:]))
+    arguments = argparse.ArgumentParser(description=__doc__)
+    arguments.add_argument("program", metavar="CRACKD")
+    arguments.add_argument("limit", metavar="LIMIT")
+    arguments.add_argument("splits", metavar="SPLIT", nargs="*")
+    given = arguments.parse_args()
+    sys.exit(main(given.program, given.limit, *given.splits))

@@ -4,6 +4,7 @@
 Starts the program CRACKD as a server, which ends with this program. Each thread has its own connection.
 """
 
+import argparse
 import pathlib
 import sys
 import threading
@@ -37,4 +38,6 @@ def main(program):
 
 
 if __name__ == "__main__":
-    main(sys.argv[1])
+    arguments = argparse.ArgumentParser(description=__doc__)
+    arguments.add_argument("program", metavar="CRACKD")
+    main(arguments.parse_args().program)

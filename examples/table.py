@@ -4,6 +4,7 @@
 It needs libcrackd.so, which `make lib` builds. Row i has key i and payload 2i.
 """
 
+import argparse
 import pathlib
 import sys
 
@@ -25,4 +26,6 @@ def main(count):
 
 
 if __name__ == "__main__":
-    main(int(sys.argv[1]))
+    arguments = argparse.ArgumentParser(description=__doc__)
+    arguments.add_argument("rows", metavar="ROWS", type=int)
+    main(arguments.parse_args().rows)

@@ -3,10 +3,9 @@
 from __future__ import annotations
 
 import abc
-import operator
 from typing import Any, Iterable, NamedTuple, Optional, Sequence
 
-from .arrays import SIGN, flags, ints
+from .arrays import SIGN, flags, ints, shown, whole
 from .keys import Keys
 from .layout import Layout, PartLayout
 
@@ -16,6 +15,7 @@ SERIAL = (1 << SHIFT) - 1
 ROWS_A_PART = 4096
 MOST_PARTS = 64
 POLICIES = ("complete", "gradual", "ripple", "auto")
+POLICY = "auto"
 
 
 class Rows(NamedTuple):
@@ -38,9 +38,9 @@ def row_text(row: int) -> str:
 
 def payload_of(payload: Any) -> int:
     """A single payload as an int."""
-    number = operator.index(payload)
+    number = payload if type(payload) is int else whole(payload, "a payload")
     if not -SIGN <= number < SIGN:
-        raise OverflowError(f"the payload {payload} doesn't fit into a signed integer of 64 bits")
+        raise OverflowError(f"the payload {shown(payload)} doesn't fit into a signed integer of 64 bits")
     return number
 
 

@@ -6,7 +6,7 @@ import threading
 from typing import Any, Iterator, Optional, Sequence
 
 from .arrays import TOP, from_ints, joined_text, np, parsed, plain
-from .base import MOST_PARTS, POLICIES, SERIAL, SHIFT, AnyTable
+from .base import MOST_PARTS, POLICIES, POLICY, SERIAL, SHIFT, AnyTable
 from .channel import Channel
 from .errors import Closed, Disconnected, Refused, refused
 from .keys import Keys
@@ -210,7 +210,7 @@ def _check(said: bytes, before: int = 0, parts: Sequence[bytes] = ()) -> None:
     raise error
 
 
-def connect(host: str = "127.0.0.1", port: int = 4000, *, key_type: Any = "uint64", policy: str = "auto") -> Client:
+def connect(host: str = "127.0.0.1", port: int = 4000, *, key_type: Any = "uint64", policy: str = POLICY) -> Client:
     """Connects to the table of a `crackd serve`.
 
     `key_type` is the type of the keys: "uint64", which the server itself has, or "int64", "float64", "datetime64[s]"

@@ -14,7 +14,7 @@ import uuid
 from typing import Any, Callable, Iterator, Optional, Sequence
 
 from .arrays import TOP, np
-from .base import MOST_PARTS, POLICIES, SHIFT, AnyTable, parts_for
+from .base import MOST_PARTS, POLICIES, POLICY, SHIFT, AnyTable, parts_for
 from .errors import BadSplits, Closed, Error, Refused, refused
 from .keys import Keys, kind_of, quantiles
 from .layout import PartLayout, keys_text
@@ -87,14 +87,14 @@ class Table(AnyTable):
         self,
         client: Client,
         sample: Any = (),
-        rows: int = 0,
+        rows: Optional[int] = None,
         *,
         shards: Optional[int] = None,
         splits: Optional[Sequence[Any]] = None,
         key_type: Any = None,
         **options: Any,
     ):
-        """An empty table for about `rows` rows whose keys look like those of `sample`.
+        """An empty table for about `rows` rows, by default the length of `sample`, whose keys look like those of it.
 
         It has a shard for each worker of `client`, or `shards` of them; quantiles of the sample divide the keys, so if
         the sample has few different keys there are fewer, and without a sample there is one. `splits` divides the keys
@@ -103,7 +103,11 @@ class Table(AnyTable):
         kind = kind_of(sample) if key_type is None else Keys.named(key_type)
         numbers = np.sort(kind.many(sample)) if len(sample) else np.empty(0, np.uint64)
         cuts = None if splits is None else checked_splits(kind.many(splits))
-        self._open(client, kind, numbers, rows, shards, cuts, **options)
+        if cuts is None and not len(numbers) and shards not in (None, 1):
+            raise ValueError(f"{shards} shards need a sample of the keys, or splits")
+        if cuts is not None and shards not in (None, len(cuts) + 1):
+            raise ValueError(f"{len(cuts)} splits make {len(cuts) + 1} shards, not {shards}")
+        self._open(client, kind, numbers, len(numbers) if rows is None else rows, shards, cuts, **options)
 
     def _open(
         self,
@@ -114,7 +118,7 @@ class Table(AnyTable):
         shards: Optional[int],
         cuts: Any = None,
         *,
-        policy: str = "ripple",
+        policy: str = POLICY,
         history: int = HISTORY,
         cells: int = MOST_CELLS,
     ) -> None:

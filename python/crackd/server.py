@@ -12,7 +12,7 @@ import sys
 import tempfile
 from typing import Any, Optional, Sequence
 
-from .base import MOST_PARTS, POLICIES, parts_for
+from .base import MOST_PARTS, POLICIES, POLICY, parts_for
 from .client import Client, connect
 from .errors import Error, refused
 from .keys import Keys, kind_of, quantiles
@@ -131,23 +131,34 @@ class Server:
             process.wait()
 
 
-def splits_of(keys: Keys, sample: Any, rows: int, partitions: Optional[int]) -> list[int]:
-    """Splits, as numbers, by the quantiles of a sample, so that partitions get about equally many of these rows."""
+def splits_of(
+    keys: Keys, sample: Any, rows: Optional[int], partitions: Optional[int], splits: Optional[Sequence[Any]]
+) -> list[int]:
+    """Where a table's keys are divided, as numbers: at these splits, or else at quantiles of a sample, so that
+    partitions get about equally many of the rows."""
     if partitions is not None and not 1 <= partitions <= MOST_PARTS:
         raise ValueError(f"partitions must be 1 to {MOST_PARTS}, not {partitions}")
-    count = partitions or parts_for(rows)
-    return quantiles(keys.many(sample), count) if len(sample) and count > 1 else []
+    if splits is not None:
+        if partitions not in (None, len(splits) + 1):
+            raise ValueError(f"{len(splits)} splits make {len(splits) + 1} partitions, not {partitions}")
+        return [int(it) for it in keys.many(splits)]
+    if not len(sample):
+        if partitions not in (None, 1):
+            raise ValueError(f"{partitions} partitions need a sample of the keys, or splits")
+        return []
+    count = partitions or parts_for(len(sample) if rows is None else rows)
+    return quantiles(keys.many(sample), count) if count > 1 else []
 
 
 def serve(
     sample: Any = (),
-    rows: int = 0,
+    rows: Optional[int] = None,
     *,
     key_type: Any = None,
     partitions: Optional[int] = None,
     splits: Optional[Sequence[Any]] = None,
     workers: int = 8,
-    policy: str = "auto",
+    policy: str = POLICY,
     history: Optional[int] = None,
     cells: Optional[int] = None,
     program: Optional[str] = None,
@@ -162,7 +173,7 @@ def serve(
     if policy not in POLICIES:
         raise ValueError(f"policy must be one of {', '.join(POLICIES)}, not {policy}")
     kind = kind_of(sample) if key_type is None else Keys.named(key_type)
-    cuts = splits_of(kind, sample, rows, partitions) if splits is None else [int(it) for it in kind.many(splits)]
+    cuts = splits_of(kind, sample, rows, partitions, splits)
     limits = {"--limit": history, "--cells": cells}
     words = [word for name, value in limits.items() if value is not None for word in (name, str(value))]
     command = [find_program(program), "--workers", str(workers), "--until-eof", "--quiet", *words, *map(str, cuts)]

@@ -8,7 +8,7 @@ from ctypes import byref, c_int64, c_uint32, c_uint64
 from typing import Any, Iterator, Optional, Sequence
 
 from .arrays import TOP, address, empty, from_ints, np, plain
-from .base import POLICIES, SERIAL, SHIFT, AnyTable
+from .base import POLICIES, POLICY, SERIAL, SHIFT, AnyTable
 from .errors import Closed, Refused, refused
 from .keys import Keys, kind_of
 from .layout import PartLayout, Piece
@@ -34,32 +34,29 @@ class Table(AnyTable):
     def __init__(
         self,
         sample: Any = (),
-        rows: int = 0,
+        rows: Optional[int] = None,
         *,
         key_type: Any = None,
         partitions: Optional[int] = None,
         splits: Optional[Sequence[Any]] = None,
-        policy: str = "ripple",
+        policy: str = POLICY,
         history: int = HISTORY,
         cells: int = MOST_CELLS,
     ):
         """An empty table for about `rows` rows whose keys look like those of `sample`, and have its type.
 
-        `key_type` gives the type if there is no sample: "int64" by default, "uint64", "float64", "datetime64[s]" ..
-        There are `partitions` of them, 1 to 64, by default one for each 4,096 rows; quantiles of the sample divide the
-        keys, or `splits` does. `policy` says how rows are merged, `history` after how many commands a partition's
-        history is emptied, and `cells` how many rows a partition may have.
+        `rows` is by default the length of the sample. `key_type` gives the type if there is no sample: "int64" by
+        default, "uint64", "float64", "datetime64[s]" .. There are `partitions` of them, 1 to 64, by default one for
+        each 4,096 rows; quantiles of the sample divide the keys, or `splits` does. Without either there is one.
+        `policy` says how rows are merged, `history` after how many commands a partition's history is emptied, and
+        `cells` how many rows a partition may have.
         """
         if policy not in POLICIES:
             raise ValueError(f"policy must be one of {', '.join(POLICIES)}, not {policy}")
         self._handle = Handle()
         self._library, self._ref, self._lock = library(), byref(self._handle), threading.RLock()
         self._keys, self._policy = kind_of(sample) if key_type is None else Keys.named(key_type), POLICIES.index(policy)
-        cuts = (
-            splits_of(self._keys, sample, rows, partitions)
-            if splits is None
-            else [int(it) for it in self._keys.many(splits)]
-        )
+        cuts = splits_of(self._keys, sample, rows, partitions, splits)
         limits = [it if 0 <= it < TOP else 0 for it in (history, cells, MOST_LIFE)]
         self._check(self._run(self._library.open, from_ints("Q", cuts, "splits"), *limits))
         self.partitions, self._cuts = len(cuts) + 1, cuts

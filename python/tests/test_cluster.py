@@ -38,7 +38,7 @@ class OnWorkers:
     """Tables on the workers of the module's cluster."""
 
     @contextlib.contextmanager
-    def table(self, sample=(), rows=0, partitions=None, **options):
+    def table(self, sample=(), rows=None, partitions=None, **options):
         with cluster.Table(MODULE["client"], sample, rows, shards=partitions, **options) as table:
             yield table
 
@@ -64,6 +64,11 @@ class OnACluster(OnWorkers, Cases, unittest.TestCase):
         for options, kind in wrong:
             with self.subTest(options), self.assertRaises(kind), self.table(**options):
                 pass
+
+    def test_rows_are_by_default_as_many_as_the_sample(self):
+        for rows, parts in [(None, 3 * 4), (3 * 8192, 3 * 2)]:
+            with self.table(range(3 * 4 * 4096), rows) as table:
+                self.assertEqual((table.shards, table.partitions), (WORKERS, parts))
 
     def test_layouts_add_up(self):
         with self.table(range(1000), partitions=3) as table:

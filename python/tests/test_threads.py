@@ -134,7 +134,7 @@ class SharingInProcess(Sharing, InProcess, unittest.TestCase):
             self.assertEqual(sum(it.pending_in for it in table.layout().parts), 0)
 
     def test_partitions_by_the_number_of_rows(self):
-        for rows, parts in [(0, 1), (4096, 1), (8192, 2), (10**6, 64)]:
+        for rows, parts in [(0, 1), (4096, 1), (8192, 2), (10**6, 64), (None, 24)]:
             with crackd.Table(range(100_000), rows) as table:
                 self.assertEqual(table.partitions, parts)
         with crackd.Table([7] * 100, partitions=8) as table:

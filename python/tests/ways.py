@@ -45,7 +45,7 @@ class InProcess:
     """Tables of this process."""
 
     @contextlib.contextmanager
-    def table(self, sample=(), rows=0, **options):
+    def table(self, sample=(), rows=None, **options):
         with crackd.Table(sample, rows, **options) as table:
             yield table
 
@@ -54,6 +54,6 @@ class OverTcp:
     """Tables on a server that is started for each."""
 
     @contextlib.contextmanager
-    def table(self, sample=(), rows=0, **options):
+    def table(self, sample=(), rows=None, **options):
         with crackd.serve(sample, rows, workers=1, **options) as server, server.connect() as table:
             yield table
