@@ -7,6 +7,7 @@ caller that changes its own meanwhile does no harm.
 from __future__ import annotations
 
 import array
+import operator
 from typing import Any, Iterable, Sequence
 
 try:
@@ -17,6 +18,9 @@ except ImportError:
 SIGN = 1 << 63
 TOP = 1 << 64
 _SOMEWHERE = array.array("Q", [0])
+# (numpy's spans of time count as integers in Python)
+NO_NUMBERS = (bool,) if np is None else (bool, np.bool_, np.timedelta64)
+MOST_SHOWN = 40
 # type codes of the module `array`, with their names in numpy
 DTYPES = {"Q": "uint64", "q": "int64", "I": "uint32", "B": "uint8", "d": "float64"}
 
@@ -26,16 +30,70 @@ def is_array(it: Any) -> bool:
     return np is not None and (isinstance(it, (np.ndarray, np.generic)) or hasattr(it, "__array__"))
 
 
+def type_of_numpy(dtype: Any) -> Any:
+    """A type of items as numpy has it: for integers of pandas that may be missing that of the others, for dates with a
+    time zone that of dates."""
+    return getattr(dtype, "numpy_dtype", getattr(dtype, "base", dtype))
+
+
 def as_flat(it: Any) -> Any:
-    """The same as a numpy array of one dimension. Masked items are an error."""
+    """The same as a numpy array of one dimension. Masked and missing items are an error."""
+    dtype = getattr(it, "dtype", None)
+    if dtype is not None and not isinstance(dtype, np.dtype) and isinstance(type_of_numpy(dtype), np.dtype):
+        return _of_pandas(it, type_of_numpy(dtype))
     found = np.asanyarray(it)
     if found.ndim != 1:
         raise ValueError(f"an array must have one dimension, not {found.ndim}")
     if isinstance(found, np.ma.MaskedArray):
         if np.ma.is_masked(found):
-            raise ValueError("an item of the array is masked")
+            raise ValueError(f"item {np.flatnonzero(np.ma.getmaskarray(found))[0]} of the array is masked")
         found = found.data
     return np.asarray(found)
+
+
+def _of_pandas(it: Any, dtype: Any) -> Any:
+    """A column of pandas whose items may be missing, or have a time zone; they are then in UTC."""
+    if dtype.kind == "M":
+        return np.asarray(it, dtype=dtype)
+    is_missing = np.asarray(it.isna())
+    if is_missing.any():
+        raise ValueError(f"item {np.flatnonzero(is_missing)[0]} of the column is missing")
+    return it.to_numpy(dtype=dtype)
+
+
+def items_of(it: Any, what: str) -> Any:
+    """Items as an array of numpy or as a list. Bytes and text aren't items, and an array of objects is like a list."""
+    if isinstance(it, (str, bytes, bytearray)) or isinstance(it, memoryview) and it.itemsize == 1:
+        raise TypeError(f"{what} must be in a list or an array, not in {type(it).__name__}")
+    if not is_array(it):
+        return it if isinstance(it, (list, tuple, range, array.array)) else list(it)
+    found = as_flat(it)
+    return found.tolist() if found.dtype == object else found
+
+
+def types_of(items: Any) -> set:
+    """The types of the items of a list."""
+    return {int} if isinstance(items, range) else set(map(type, items))
+
+
+def whole(number: Any, what: str) -> int:
+    """An integer of Python or numpy as one of Python. Anything else is an error, also a bool."""
+    try:
+        if not isinstance(number, NO_NUMBERS):
+            return operator.index(number)
+    except TypeError:
+        pass
+    raise TypeError(f"{what} must be an integer, not of type {type(number).__name__}")
+
+
+def shown(it: Any) -> str:
+    """A value in an error, cut after some characters."""
+    try:
+        text = str(it)
+    except ValueError:
+        # (Python itself refuses to write integers of more than some thousand digits)
+        return f"a number of {it.bit_length()} bits"
+    return text if len(text) <= MOST_SHOWN else text[:MOST_SHOWN] + ".."
 
 
 def empty(code: str, size: int) -> Any:
@@ -59,10 +117,13 @@ def from_ints(code: str, numbers: Iterable[int], what: str) -> Any:
 
 
 def ints(code: str, numbers: Any, what: str) -> Any:
-    """A new array of these integers, unsigned for the code "Q" and signed for "q". One that doesn't fit is an error."""
-    if not is_array(numbers):
-        return from_ints(code, numbers, what)
-    given = as_flat(numbers)
+    """A new array of these integers, unsigned for the code "Q" and signed for "q". One that doesn't fit is an error,
+    and so is a bool."""
+    given = items_of(numbers, what)
+    if not is_array(given):
+        if not types_of(given).isdisjoint(NO_NUMBERS):
+            raise TypeError(f"{what} must be integers, not {' or '.join(it.__name__ for it in NO_NUMBERS)}")
+        return from_ints(code, given, what)
     if given.dtype.kind not in "ui":
         if given.size:
             raise TypeError(f"{what} must be integers, not {given.dtype}")

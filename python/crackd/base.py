@@ -3,10 +3,9 @@
 from __future__ import annotations
 
 import abc
-import operator
 from typing import Any, Iterable, NamedTuple, Optional, Sequence
 
-from .arrays import SIGN, TOP, flags, ints
+from .arrays import SIGN, TOP, flags, ints, shown, whole
 from .errors import OutOfMemory
 from .forks import NoLock, leave_in_children
 from .keys import Keys
@@ -41,17 +40,17 @@ def row_text(row: int) -> str:
 
 def payload_of(payload: Any) -> int:
     """A single payload as an int."""
-    number = operator.index(payload)
+    number = payload if type(payload) is int else whole(payload, "a payload")
     if not -SIGN <= number < SIGN:
-        raise OverflowError(f"the payload {payload} doesn't fit into a signed integer of 64 bits")
+        raise OverflowError(f"the payload {shown(payload)} doesn't fit into a signed integer of 64 bits")
     return number
 
 
 def row_of(row: Any) -> int:
     """A single row number as an int."""
-    number = operator.index(row)
+    number = row if type(row) is int else whole(row, "a row number")
     if not 0 <= number < TOP:
-        raise OverflowError(f"the row number {row} doesn't fit into an unsigned integer of 64 bits")
+        raise OverflowError(f"the row number {shown(row)} doesn't fit into an unsigned integer of 64 bits")
     return number
 
 

@@ -2,17 +2,35 @@
 
 from __future__ import annotations
 
+import fractions
 import math
 import numbers
 import struct
+import sys
 from typing import Any, Optional, Sequence
 
-from .arrays import SIGN, TOP, as_flat, empty, from_ints, ints, is_array, np
+from .arrays import (
+    NO_NUMBERS,
+    SIGN,
+    TOP,
+    empty,
+    from_ints,
+    ints,
+    is_array,
+    items_of,
+    np,
+    shown,
+    type_of_numpy,
+    types_of,
+    whole,
+)
+from .dates import Unit, array_of, is_date, moment_of, moment_of_text, of_numpy, rescaled, unit_of
 
 NAMES = {"u": "unsigned integers", "i": "integers", "f": "floats", "M": "dates"}
 BY_NAME = {"uint64": "u", "int64": "i", "float64": "f"}
 # above this not every whole number is a float
 GREATEST_EXACT = 1 << 53
+FLOATS = {float} if np is None else {float, np.float64}
 
 
 def _bits_of(number: float) -> int:
@@ -25,20 +43,20 @@ def _float_of(bits: int) -> float:
 
 def kind_of(keys: Any) -> "Keys":
     """The kind of these keys: by the type of an array, else by the types of the items."""
-    if is_array(keys):
-        return Keys.of_dtype(as_flat(keys).dtype)
-    types = set(map(type, keys))
-    if types and all(issubclass(it, numbers.Integral) and it is not bool for it in types):
-        return Keys("u") if max(keys) >= SIGN else Keys("i")
-    if types and all(issubclass(it, numbers.Real) and it is not bool for it in types):
-        return Keys("f")
-    if np is not None and types:
-        found = np.asarray(list(keys))
-        if found.dtype.kind == "M":
-            return Keys.of_dtype(found.dtype)
-    if types:
-        raise TypeError(f"keys of {', '.join(sorted(it.__name__ for it in types))} are not supported")
-    return Keys("i")
+    given = items_of(keys, "keys")
+    if is_array(given):
+        return Keys.of_dtype(given.dtype)
+    types = types_of(given)
+    if not types:
+        return Keys("i")
+    if types.isdisjoint(NO_NUMBERS):
+        if all(issubclass(it, numbers.Integral) for it in types):
+            return Keys("u") if max(given) >= SIGN else Keys("i")
+        if all(issubclass(it, numbers.Real) for it in types):
+            return Keys("f")
+    if np is not None and all(map(is_date, types)):
+        return Keys.of_dtype(np.result_type(*{of_numpy(it, "a key").dtype for it in given}))
+    raise TypeError(f"keys of {', '.join(sorted(it.__name__ for it in types))} are not supported")
 
 
 class Keys:
@@ -50,13 +68,13 @@ class Keys:
 
     @staticmethod
     def of_dtype(dtype: Any) -> "Keys":
-        if dtype.kind not in "uifM" or dtype.itemsize > 8:
+        found = type_of_numpy(dtype)
+        if found.kind not in "uifM" or found.itemsize > 8:
             raise TypeError(f"keys of {dtype} are not supported")
-        if dtype.kind != "M":
-            return Keys(dtype.kind)
-        if np.datetime_data(dtype)[0] == "generic":
-            raise TypeError("dates need a unit, as in datetime64[s]")
-        return Keys("M", dtype.newbyteorder("="))
+        if found.kind != "M":
+            return Keys(found.kind)
+        unit_of(found)
+        return Keys("M", found.newbyteorder("="))
 
     @staticmethod
     def named(name: Any) -> "Keys":
@@ -66,7 +84,8 @@ class Keys:
             return name
         if name is int or name is float:
             return Keys("i" if name is int else "f")
-        if np is not None:
+        # (None is a name of float64 in numpy)
+        if np is not None and name is not None:
             return Keys.of_dtype(np.dtype(name))
         if name in BY_NAME:
             return Keys(BY_NAME[name])
@@ -88,17 +107,25 @@ class Keys:
             str(self.dtype) if self.kind == "M" else next(name for name, kind in BY_NAME.items() if kind == self.kind)
         )
 
+    @property
+    def unit(self) -> Unit:
+        """The unit of dates."""
+        return unit_of(self.dtype)
+
     def one(self, key: Any) -> int:
         """The number of a key."""
-        if type(key) is int and self.kind in "ui":
-            number = key if self.kind == "u" else key + SIGN
-            if not 0 <= number < TOP:
-                raise OverflowError(
-                    f"the key {key} doesn't fit into {'an unsigned' if self.kind == 'u' else 'a signed'} integer "
-                    "of 64 bits"
-                )
-            return number
-        return int(self.many([key])[0])
+        if self.kind == "f":
+            return self._of_float(exact_float(key))
+        if self.kind == "M":
+            return self._of_date(key)
+        whole_key = key if type(key) is int else whole(key, "a key")
+        number = whole_key if self.kind == "u" else whole_key + SIGN
+        if not 0 <= number < TOP:
+            raise OverflowError(
+                f"the key {shown(key)} doesn't fit into {'an unsigned' if self.kind == 'u' else 'a signed'} integer "
+                "of 64 bits"
+            )
+        return number
 
     def many(self, keys: Any) -> Any:
         """The numbers of these keys, in a new array."""
@@ -106,45 +133,23 @@ class Keys:
             return ints("Q", keys, "keys")
         if self.kind == "i":
             return self._of_signed(ints("q", keys, "keys"))
-        return self._of_floats(keys) if self.kind == "f" else self._of_dates(keys)
+        given = items_of(keys, "keys")
+        return self._of_floats(given) if self.kind == "f" else self._of_dates(given)
 
     def _of_signed(self, keys: Any) -> Any:
         if np is None:
             return from_ints("Q", (key + SIGN for key in keys), "keys")
         return keys.view(np.uint64) ^ np.uint64(SIGN)
 
-    def _of_floats(self, keys: Any) -> Any:
-        if is_array(keys):
-            given = as_flat(keys)
-            if given.size and (given.dtype.kind not in "uif" or given.dtype.itemsize > 8):
-                raise TypeError(f"keys must be floats, not {given.dtype}")
-            if (
-                given.size
-                and given.dtype.kind in "ui"
-                and (given.max() > GREATEST_EXACT or given.min() < -GREATEST_EXACT)
-            ):
-                raise OverflowError("a key isn't exact as a float")
-            # (0.0 is added so that -0.0 and 0.0 are one key)
-            floats = given.astype(np.float64) + 0.0
-        else:
-            floats = [self._float(key) for key in keys]
-            if np is not None:
-                floats = np.array(floats, dtype=np.float64)
+    def _of_floats(self, given: Any) -> Any:
+        floats = floats_of_array(given) if is_array(given) else floats_of_list(given)
         if np is None:
             return from_ints("Q", map(self._of_float, floats), "keys")
         if np.isnan(floats).any():
             raise ValueError("NaN can't be a key")
-        bits = floats.view(np.uint64)
+        # (0.0 is added so that -0.0 and 0.0 are one key)
+        bits = (floats + 0.0).view(np.uint64)
         return np.where(bits >> np.uint64(63), ~bits, bits | np.uint64(SIGN))
-
-    @staticmethod
-    def _float(key: Any) -> float:
-        if isinstance(key, bool) or not isinstance(key, numbers.Real):
-            raise TypeError(f"keys must be floats, not {type(key).__name__}")
-        found = float(key)
-        if isinstance(key, numbers.Integral) and found != key:
-            raise OverflowError(f"the key {key} isn't exact as a float")
-        return found + 0.0
 
     @staticmethod
     def _of_float(key: float) -> int:
@@ -153,18 +158,28 @@ class Keys:
         bits = _bits_of(key + 0.0)
         return TOP - 1 - bits if bits >= SIGN else bits + SIGN
 
-    def _of_dates(self, keys: Any) -> Any:
-        given = as_flat(keys if is_array(keys) else np.array(list(keys)) if len(keys) else np.array([], self.dtype))
-        if given.dtype.kind != "M":
-            if given.size:
-                raise TypeError(f"keys must be dates, not {given.dtype}")
-            given = given.astype(self.dtype)
-        if np.isnat(given).any():
-            raise ValueError("NaT can't be a key")
-        dates = given.astype(self.dtype)
-        if (dates.astype(given.dtype) != given).any():
-            raise ValueError(f"a key of {given.dtype} isn't exact as {self.dtype}")
-        return dates.view(np.int64).view(np.uint64) ^ np.uint64(SIGN)
+    def _of_dates(self, given: Any) -> Any:
+        if not len(given):
+            return np.empty(0, np.uint64)
+        dates = given if is_array(given) else array_of(given, "a key")
+        if is_array(dates):
+            if dates.dtype.kind != "M":
+                raise TypeError(f"keys must be dates, not {dates.dtype}")
+            if np.isnat(dates).any():
+                raise ValueError("NaT can't be a key")
+            found = rescaled(dates, self.unit)
+            if found is not None:
+                return self._of_signed(found)
+        return from_ints("Q", map(self._of_date, dates), "keys")
+
+    def _of_date(self, key: Any) -> int:
+        moment = moment_of(key, "a key")
+        number = self.unit.least_from(moment)
+        if not -SIGN < number < SIGN:
+            raise OverflowError(f"the key {shown(key)} doesn't fit into {self.dtype}")
+        if self.unit.moment(number) != moment:
+            raise ValueError(f"the key {shown(key)} isn't exact as {self.dtype}")
+        return number + SIGN
 
     def back(self, found: Any) -> Any:
         """The keys of these numbers."""
@@ -190,105 +205,128 @@ class Keys:
 
     def bound(self, end: Any) -> int:
         """The number of the least key that isn't below this end of a range, or 2**64 if there is none."""
-        if type(end) is int and self.kind in "ui":
-            number = end if self.kind == "u" else end + SIGN
-            return number if 0 <= number <= TOP else 0 if number < 0 else TOP
-        if self.kind == "M":
-            return self._date_bound(end)
-        # (numpy compares and rounds its whole numbers as floats)
-        end = _item(end)
-        if isinstance(end, bool) or not isinstance(end, numbers.Real):
-            raise TypeError(f"the end of a range of {NAMES[self.kind]} can't be of type {type(end).__name__}")
-        if end != end:
-            raise ValueError("NaN can't be the end of a range")
-        return self._float_bound(end) if self.kind == "f" else self._whole_bound(end)
+        if type(end) is not int or self.kind not in "ui":
+            end = self._exact(end)
+            if self.kind == "f":
+                return self._float_bound(end)
+            if self.kind == "M":
+                end = self.unit.least_from(end)
+            elif end in (math.inf, -math.inf):
+                return TOP if end > 0 else 0
+            else:
+                end = math.ceil(end)
+        number = end if self.kind == "u" else end + SIGN
+        return number if 0 <= number <= TOP else 0 if number < 0 else TOP
 
-    def _whole_bound(self, end: Any) -> int:
-        if end in (math.inf, -math.inf):
-            return TOP if end > 0 else 0
-        return self.bound(math.ceil(end))
+    def _exact(self, end: Any) -> Any:
+        """An end as a number of Python, with which others compare exactly; for a date its moment."""
+        if self.kind == "M":
+            return moment_of_text(end) if isinstance(end, str) else moment_of(end, "the end of a range")
+        # (numpy compares and rounds its whole numbers as floats)
+        found = _item(end)
+        if isinstance(found, NO_NUMBERS) or not isinstance(found, numbers.Real):
+            raise TypeError(f"the end of a range of {NAMES[self.kind]} can't be of type {type(end).__name__}")
+        if found != found:
+            raise ValueError("NaN can't be the end of a range")
+        return found
 
     def _float_bound(self, end: Any) -> int:
         try:
             number = float(end)
         except OverflowError:
-            return TOP if end > 0 else 0
+            number = math.inf if end > 0 else -sys.float_info.max
         return self._of_float(math.nextafter(number, math.inf) if number < end else number)
 
-    def _date_bound(self, end: Any) -> int:
-        given = np.datetime64(end)
-        if np.isnat(given):
-            raise ValueError("NaT can't be the end of a range")
-        date = given.astype(self.dtype)
-        if date.astype(given.dtype) == given:
-            return int(date.view(np.int64)) + SIGN
-        # (a finer unit is cut off, so the least key that isn't below it is the next one; a far date that wraps is an
-        # error)
-        if abs(date.astype(given.dtype) - given) > np.timedelta64(1, np.datetime_data(self.dtype)[0]):
-            raise OverflowError(f"{given} doesn't fit into {self.dtype}")
-        return int(date.view(np.int64)) + SIGN + (1 if date < given else 0)
+    def ends(self, low: Any, high: Any, place: Optional[int] = None) -> tuple[int, int]:
+        """The numbers of a range of keys, from the first up to but not including the second. None stands for no end.
 
-    def ends(self, low: Any, high: Any) -> tuple[int, int]:
-        """The numbers of a range of keys, from the first up to but not including the second. None stands for no end."""
-        return 0 if low is None else self.bound(low), TOP if high is None else self.bound(high)
+        A low end above the high end is an error, which also says the range's place among many.
+        """
+        first, end = 0 if low is None else self.bound(low), TOP if high is None else self.bound(high)
+        if first >= end and low is not None and high is not None and self._exact(low) > self._exact(high):
+            which = "the low end" if place is None else f"range {place}: the low end"
+            raise ValueError(f"{which} {shown(low)} is above the high end {shown(high)}")
+        return first, end
 
     def ends_many(self, lows: Any, highs: Any) -> tuple[Any, Any]:
         """The first and the last number of each range, in new arrays; if a range is empty the first is above the
         last."""
         if lows is None and highs is None:
             raise TypeError("low ends or high ends must be given, or both")
+        lows, highs = (it if it is None else items_of(it, "the ends of ranges") for it in (lows, highs))
         count = len(highs if lows is None else lows)
         if lows is not None and highs is not None and len(highs) != count:
             raise ValueError(f"{count} low ends and {len(highs)} high ends")
-        starts, ends = self._numbers_of_ends(lows, 0, count), self._numbers_of_ends(highs, TOP - 1, count)
+        starts, ends = self._ends_that_are_keys(lows, 0, count), self._ends_that_are_keys(highs, TOP - 1, count)
         if starts is None or ends is None:
             return self._ends_one_by_one(lows, highs, count)
         if highs is None:
             return starts, ends
-        is_empty = starts >= ends
+        if (starts > ends).any():
+            place = int(np.argmax(starts > ends))
+            self.ends(lows[place], highs[place], place)
+        is_empty = starts == ends
         return np.where(is_empty, np.uint64(1), starts), np.where(is_empty, np.uint64(0), ends - np.uint64(1))
 
-    def _numbers_of_ends(self, ends: Any, unbounded: int, count: int) -> Any:
-        """The numbers of ends that can be mapped as a whole array, else None."""
+    def _ends_that_are_keys(self, ends: Any, unbounded: int, count: int) -> Any:
+        """The numbers of ends, if all are keys; else None."""
         if np is None:
             return None
         if ends is None:
             return np.full(count, unbounded, np.uint64)
-        given = self._ends_of_list(ends) if not is_array(ends) else as_flat(ends)
-        if given is None:
-            return None
-        if self.kind == "u" and given.dtype.kind in "ui":
-            return np.maximum(given, 0).astype(np.uint64)
-        # (a whole number that is above all signed ones is an end, though no key)
-        if self.kind == "i" and (
-            given.dtype.kind == "i" or given.dtype.kind == "u" and not (given.size and given.max() >= SIGN)
-        ):
-            return given.astype(np.int64).view(np.uint64) ^ np.uint64(SIGN)
-        is_same = (
-            given.dtype.kind == "f" and given.dtype.itemsize <= 8 if self.kind == "f" else given.dtype == self.dtype
-        )
-        return self.many(given) if self.kind in "fM" and is_same else None
-
-    def _ends_of_list(self, ends: Any) -> Any:
-        """Ends in a list as an array, if all are integer keys; else None."""
-        if self.kind not in "ui":
-            return None
         try:
-            return from_ints("Q" if self.kind == "u" else "q", ends, "ends")
-        except (TypeError, OverflowError):
+            return self.many(ends)
+        except (TypeError, ValueError, OverflowError):
             return None
 
     def _ends_one_by_one(self, lows: Any, highs: Any, count: int) -> tuple[Any, Any]:
-        firsts = [0] * count if lows is None else [0 if it is None else self.bound(it) for it in lows]
-        ends = [TOP] * count if highs is None else [TOP if it is None else self.bound(it) for it in highs]
+        ranges = zip(*([None] * count if it is None else listed(it) for it in (lows, highs)))
+        ends = [self.ends(low, high, place) for place, (low, high) in enumerate(ranges)]
         # (an empty range is written as the keys from 1 to 0)
-        pairs = [(first, end - 1) if first < end else (1, 0) for first, end in zip(firsts, ends)]
+        pairs = [(first, end - 1) if first < end else (1, 0) for first, end in ends]
         return from_ints("Q", [it[0] for it in pairs], "keys"), from_ints("Q", [it[1] for it in pairs], "keys")
 
 
+def listed(ends: Any) -> Any:
+    """Ends as a list, numbers as those of Python."""
+    return ends.tolist() if is_array(ends) and ends.dtype.kind in "uif" else list(ends)
+
+
+def floats_of_array(given: Any) -> Any:
+    """An array of keys as floats, if they are exact as such."""
+    if given.size and (given.dtype.kind not in "uif" or given.dtype.itemsize > 8):
+        raise TypeError(f"keys must be floats, not {given.dtype}")
+    if given.size and given.dtype.kind in "ui" and (given.max() > GREATEST_EXACT or given.min() < -GREATEST_EXACT):
+        raise OverflowError("a key isn't exact as a float")
+    return given.astype(np.float64)
+
+
+def floats_of_list(given: Any) -> Any:
+    """Keys as floats, if they are exact as such."""
+    found = given if types_of(given) <= FLOATS else [exact_float(it) for it in given]
+    return found if np is None else np.array(found, dtype=np.float64)
+
+
+def exact_float(key: Any) -> float:
+    """A key as a float, if it is exact as such; NaN is."""
+    if isinstance(key, NO_NUMBERS) or not isinstance(key, numbers.Real):
+        raise TypeError(f"keys must be floats, not {type(key).__name__}")
+    exact = _item(key)
+    try:
+        found = float(exact)
+        if found == exact or exact != exact:
+            return found
+    except OverflowError:
+        pass
+    raise OverflowError(f"the key {shown(key)} isn't exact as a float")
+
+
 def _item(it: Any) -> Any:
-    """A number of numpy as one of Python; a date stays as it is."""
-    return it.item() if np is not None and isinstance(it, np.generic) and it.dtype.kind != "M" else it
+    """A number of numpy as one of Python, with all of its digits. Anything else stays as it is."""
+    if np is None or not isinstance(it, np.generic) or it.dtype.kind not in "uif":
+        return it
+    is_long = it.dtype.itemsize > 8 and np.isfinite(it)
+    return fractions.Fraction(*it.as_integer_ratio()) if is_long else it.item()
 
 
 def quantiles(found: Sequence[int], parts: int, most: int = 10_000) -> list[int]:

@@ -2,11 +2,13 @@
 
 from __future__ import annotations
 
+import functools
 import os
 import pathlib
 import shutil
 import socket
 import subprocess
+import sys
 import tempfile
 from typing import Any, Optional, Sequence
 
@@ -17,8 +19,10 @@ from .keys import Keys, kind_of, quantiles
 
 TRIES = 5
 SECONDS_OF_AN_END = 10
-# where the program is in a checkout of the repository whose python/ this package is
+# where `make run` and `make program-unproved` build the program, in a checkout of the repository whose python/ this
+# package is
 BUILT = pathlib.Path(__file__).resolve().parent.parent.parent / "crates" / "crackd" / "out" / "crackd"
+UNPROVED = BUILT.with_name("crackd-unproved")
 
 
 class NoServer(Error):
@@ -26,16 +30,26 @@ class NoServer(Error):
 
 
 def find_program(path: Optional[str] = None) -> str:
-    """The path of the program: the given one, that of the variable CRACKD, the one built in this checkout, or the one
-    on PATH."""
+    """The path of the program: the given one, that of the variable CRACKD, the one built in this checkout, the one on
+    PATH, or else the unproved one of this checkout, which a line on standard error reports."""
     found = path or os.environ.get("CRACKD") or (str(BUILT) if BUILT.exists() else shutil.which("crackd"))
+    if found is None and UNPROVED.exists():
+        _report_unproved()
+        return str(UNPROVED)
     if found is None:
         is_checkout = BUILT.parent.parent.exists()
         raise NoServer(
             (f"{BUILT} isn't built, and " if is_checkout else "")
-            + "PATH has no crackd; `make run` in the repository builds it"
+            + "PATH has no crackd; `make run` in the repository builds it, or in a minute, without a proof, "
+            + "`make program-unproved`"
         )
     return str(found)
+
+
+@functools.cache
+def _report_unproved() -> None:
+    """Says once that the program that is used isn't proved."""
+    print(f"crackd: using {UNPROVED}, which isn't proved", file=sys.stderr)
 
 
 def free_port() -> int:

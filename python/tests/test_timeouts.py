@@ -88,6 +88,7 @@ class Servers(unittest.TestCase):
             table = server.connect(timeout=SOON)
             table.insert(1, 5)
             os.kill(server._process.pid, signal.SIGSTOP)
+            os.waitpid(server._process.pid, os.WUNTRACED)
             self.assertRaises(crackd.TimedOut, table.count)
             os.kill(server._process.pid, signal.SIGCONT)
             self.assertRaises(crackd.Closed, table.count)

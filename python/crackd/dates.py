@@ -1,0 +1,140 @@
+"""Dates and times as integers, exactly: numpy's own arithmetic wraps where a date is far from 1970."""
+
+from __future__ import annotations
+
+import datetime
+import functools
+import re
+from typing import Any, NamedTuple
+
+from .arrays import SIGN, np, shown
+
+# a moment is a number of attoseconds since 1970, an integer of any size
+SECOND = 10**18
+DAY = 86_400 * SECOND
+SIZES = {
+    "W": 7 * DAY,
+    "D": DAY,
+    "h": 3600 * SECOND,
+    "m": 60 * SECOND,
+    "s": SECOND,
+    "ms": 10**15,
+    "us": 10**12,
+    "ns": 10**9,
+    "ps": 10**6,
+    "fs": 10**3,
+    "as": 1,
+}
+MONTHS = {"Y": 12, "M": 1}
+MICROSECOND = datetime.timedelta(microseconds=1)
+EPOCH = datetime.datetime(1970, 1, 1)
+# the calendar repeats after 400 years
+CYCLE, DAYS_OF_A_CYCLE = 400 * 12, 146_097
+FIRST_MONTH, FIRST_DAY = -1969 * 12, 1 - EPOCH.toordinal()
+
+# a date as text: up to its seconds, and their decimals
+TEXT = re.compile(
+    r"([+-]?[0-9]{4,6}(?:-[0-9]{2}){0,2}(?:[T ][0-9]{2}(?::[0-9]{2}){0,2})?)(?:(?<=:[0-9]{2}:[0-9]{2})\.([0-9]{1,18}))?"
+)
+
+
+def day_of_month(month: int) -> int:
+    """The first day of a month; both are counted from January 1970."""
+    cycles, rest = divmod(month - FIRST_MONTH, CYCLE)
+    return datetime.date(rest // 12 + 1, rest % 12 + 1, 1).toordinal() - 1 + FIRST_DAY + cycles * DAYS_OF_A_CYCLE
+
+
+def month_of_day(day: int) -> int:
+    """The month that a day is in."""
+    cycles, rest = divmod(day - FIRST_DAY, DAYS_OF_A_CYCLE)
+    date = datetime.date.fromordinal(rest + 1)
+    return (date.year - 1) * 12 + date.month - 1 + FIRST_MONTH + cycles * CYCLE
+
+
+class Unit(NamedTuple):
+    """The unit of dates of numpy: so many attoseconds, or so many months."""
+
+    size: int
+    is_months: bool
+
+    def moment(self, number: int) -> int:
+        """The moment of a date, which is a number of units since 1970."""
+        return day_of_month(number * self.size) * DAY if self.is_months else number * self.size
+
+    def least_from(self, moment: int) -> int:
+        """The least date that isn't before a moment."""
+        if not self.is_months:
+            return -(-moment // self.size)
+        day = -(-moment // DAY)
+        month = month_of_day(day)
+        return -(-(month + (day_of_month(month) < day)) // self.size)
+
+
+@functools.lru_cache(maxsize=None)
+def unit_of(dtype: Any) -> Unit:
+    """The unit of a type of numpy's dates."""
+    name, count = np.datetime_data(dtype)
+    if name == "generic":
+        raise TypeError("dates need a unit, as in datetime64[s]")
+    return Unit(count * MONTHS[name], True) if name in MONTHS else Unit(count * SIZES[name], False)
+
+
+def is_date(kind: type) -> bool:
+    """Whether this is a type of dates of Python, numpy or pandas."""
+    return issubclass(kind, (datetime.date, np.datetime64)) or hasattr(kind, "to_datetime64")
+
+
+def of_numpy(date: Any, what: str) -> Any:
+    """A date of Python or pandas, which `what` names in errors, as one of numpy with all of its digits; in UTC if it
+    has a time zone."""
+    if hasattr(date, "to_datetime64"):
+        return date.to_datetime64()
+    if isinstance(date, datetime.datetime):
+        since = date.replace(tzinfo=None) - EPOCH - (date.utcoffset() or datetime.timedelta())
+        return np.datetime64(since // MICROSECOND, "us")
+    if isinstance(date, datetime.date):
+        return np.datetime64(date.toordinal() - EPOCH.toordinal(), "D")
+    if not isinstance(date, np.datetime64):
+        raise TypeError(f"{what} must be a date, not of type {type(date).__name__}")
+    return date
+
+
+def moment_of(date: Any, what: str) -> int:
+    """The moment of a date."""
+    found = of_numpy(date, what)
+    number = int(found.astype(np.int64))
+    if number == -SIGN:
+        raise ValueError(f"NaT can't be {what}")
+    return unit_of(found.dtype).moment(number)
+
+
+def moment_of_text(text: str) -> int:
+    """The moment of a date as text, such as 2020-01-31 or 2020-01-31T12:30:00.5."""
+    found = TEXT.fullmatch(text)
+    if found is None:
+        raise ValueError(f"{shown(text)!r} isn't a date such as 2020-01-31 or 2020-01-31T12:30:00.5")
+    # (numpy wraps where decimals don't fit)
+    return moment_of(np.datetime64(found[1]), "a date") + int((found[2] or "").ljust(18, "0"))
+
+
+def array_of(dates: Any, what: str) -> Any:
+    """An array of these dates, or a list of dates of numpy if they have several units."""
+    found = [of_numpy(it, what) for it in dates]
+    return np.array(found) if len({it.dtype for it in found}) == 1 else found
+
+
+def rescaled(dates: Any, unit: Unit) -> Any:
+    """An array of dates in another unit, as integers of 64 bits; None if this needs more than a multiplication or a
+    division of them all, or if one isn't exact or doesn't fit."""
+    own = unit_of(dates.dtype)
+    numbers = dates.astype(np.int64)
+    if own.is_months != unit.is_months:
+        return None
+    if own.size % unit.size == 0 and own.size // unit.size < SIGN:
+        factor = own.size // unit.size
+        fits = -SIGN < int(numbers.min()) * factor and int(numbers.max()) * factor < SIGN
+        return numbers * factor if fits else None
+    if unit.size % own.size or unit.size // own.size >= SIGN:
+        return None
+    found, rest = np.divmod(numbers, unit.size // own.size)
+    return None if rest.any() else found
