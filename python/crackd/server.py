@@ -14,7 +14,7 @@ from typing import Any, Optional, Sequence
 
 from .base import MOST_PARTS, POLICIES, POLICY, parts_for
 from .client import Client, connect
-from .errors import Error, refused
+from .errors import Error, Forked, refused
 from .keys import Keys, kind_of, quantiles
 
 TRIES = 5
@@ -62,7 +62,7 @@ class Server:
     """A server that `serve` started on 127.0.0.1, at port `port`."""
 
     def __init__(self, command: Sequence[str], keys: Keys, policy: str):
-        self._keys, self._policy = keys, policy
+        self._keys, self._policy, self._parent = keys, policy, os.getpid()
         for _ in range(TRIES):
             self.port = free_port()
             self._start(command)
@@ -108,6 +108,8 @@ class Server:
 
     def close(self) -> None:
         """Ends the server and its table. A second call does nothing."""
+        if os.getpid() != self._parent:
+            raise Forked("the server is that of the parent process, which alone ends it")
         if self._errors.closed:
             return
         self._process.terminate()
@@ -126,7 +128,7 @@ class Server:
 
     def __del__(self) -> None:
         process = getattr(self, "_process", None)
-        if process is not None and process.poll() is None:
+        if process is not None and os.getpid() == self._parent and process.poll() is None:
             process.kill()
             process.wait()
 
@@ -167,8 +169,8 @@ def serve(
     those of `sample`.
 
     In a `with` the server ends with the block. `workers`, 1 to 64, is how many connections it serves at a time.
-    `history` and `cells` are the limits of each partition, and `program` is the path of crackd. The other options are
-    those of `Table`.
+    `history` and `cells` are the limits of each partition, which empties its history when that is full. `program` is
+    the path of crackd. The other options are those of `Table`.
     """
     if policy not in POLICIES:
         raise ValueError(f"policy must be one of {', '.join(POLICIES)}, not {policy}")
@@ -176,5 +178,5 @@ def serve(
     cuts = splits_of(kind, sample, rows, partitions, splits)
     limits = {"--limit": history, "--cells": cells}
     words = [word for name, value in limits.items() if value is not None for word in (name, str(value))]
-    command = [find_program(program), "--workers", str(workers), "--until-eof", "--quiet", *words, *map(str, cuts)]
-    return Server(command, kind, policy)
+    words += ["--workers", str(workers), "--until-eof", "--auto-checkpoint", "--quiet", *map(str, cuts)]
+    return Server([find_program(program), *words], kind, policy)
