@@ -160,6 +160,9 @@ class Table(AnyTable):
         answers = [empty(code, len(firsts)) for code in codes]
         call = self._library.count_many if len(codes) == 1 else self._library.sum_many
         code = self._run(call, self._policy, firsts, lasts, *answers, byref(done))
+        if whole is not None and done.value < len(whole):
+            # (the empty ranges before the refused one are done as well)
+            done.value = int(whole[done.value])
         self._check(code, done.value)
         return answers if whole is None else [_spread(code, it, whole, size) for code, it in zip(codes, answers)]
 
