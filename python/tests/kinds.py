@@ -43,6 +43,16 @@ class Kind:
         """Keys as a table gets them."""
         return list(keys) if self.dtype is None else np.array(keys, self.dtype)
 
+    def has(self, it):
+        """Whether an item of another type is exactly a key of this kind."""
+        exact = value(it)
+        if self.key_type == "float64":
+            return isinstance(exact, float) or abs(exact) <= LARGEST_FLOAT and float(exact) == exact
+        if self.key_type in ("int64", "uint64"):
+            least, greatest = (LEAST, GREATEST) if self.key_type == "int64" else (0, UNSIGNED)
+            return least <= exact <= greatest
+        return exact in map(value, at_most(exact, self.key_type))
+
     @property
     def payloads(self):
         """A payload for each key: the least, the greatest, and others that differ, also in the sums of neighbours."""
@@ -68,6 +78,8 @@ def moment(date):
 
 def value(it):
     """The exact value of a key or of an end, with which others compare."""
+    if isinstance(it, str):
+        return TEXTS[it]
     if isinstance(it, datetime.datetime):
         since = it.replace(tzinfo=it.tzinfo or datetime.timezone.utc) - datetime.datetime(
             1970, 1, 1, tzinfo=datetime.timezone.utc
@@ -163,6 +175,12 @@ def wrong_of_numpy(dtype):
 
 # Dates
 
+# ends as text, with their seconds since 1970
+TEXTS = {"1969-12-31": -86_400, "1970-01-01T00:00:00.25": fractions.Fraction(1, 4), "1970-01-01T00:00": 0}
+TEXTS |= {"1970-02": 31 * 86_400, "1972-03-01 00:00:01": (2 * 365 + 31 + 29) * 86_400 + 1, "1969": -365 * 86_400}
+TEXTS |= {"1969-12-31T23:59:59.999999999999999999": fractions.Fraction(-1, 10**18)}
+ZONES = [datetime.timezone(datetime.timedelta(hours=it)) for it in (-5, 0, 5.5)]
+
 
 def dates_of(dtype):
     """The least date of a type, the one beside it, those about 1970, and the greatest."""
@@ -193,6 +211,7 @@ def of_dates():
         ends = list({(str(it.dtype), int(it.view(np.int64))): it for it in found}.values())
         ends += [datetime.date(1, 1, 1), datetime.date(1969, 12, 31), datetime.date(9999, 12, 31)]
         ends += [datetime.datetime(1969, 12, 31, 23, 59, 59, 999_999), datetime.datetime(1970, 1, 1, 0, 0, 0, 1)]
+        ends += [*TEXTS, *(datetime.datetime(1970, 1, 1, 0, 0, 0, 1, it) for it in ZONES)]
         no_dates = [(it, TypeError) for it in (5, 1.5, True, b"12345678", np.int64(5), np.timedelta64(1, "s"))]
         no_dates += [(np.datetime64("NaT"), ValueError), (np.datetime64("NaT", "s"), ValueError)]
         wrong = no_dates + [(None, TypeError)] + wrong_dates(dtype)
@@ -204,7 +223,8 @@ def wrong_dates(dtype):
     """Dates of other units that a type doesn't have: between two, and beyond its limits."""
     keys = dates_of(dtype)
     moments = {value(it) for it in keys}
-    wrong = []
+    # (2**63 seconds before 1970 would be NaT)
+    wrong = [(np.int64(-(2**62)).view("datetime64[2s]"), OverflowError)] if dtype == "datetime64[s]" else []
     for other in DATE_TYPES:
         for it in at_most(value(keys[3]), other)[2:]:
             wrong += [(it, ValueError)] if value(it) not in moments and value(it) < value(keys[4]) else []

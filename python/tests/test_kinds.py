@@ -150,6 +150,20 @@ class OfKinds:
         self.assertEqual(table.checkpoint(), 0)
         self.expect(table, model, kind)
 
+    def test_keys_of_other_types(self):
+        for kind in self.kinds:
+            with self.filled(kind) as (table, model):
+                for array in kind.arrays:
+                    if array.dtype.kind in "iuM" or kind.key_type == "float64":
+                        keys = array[[kind.has(it) for it in array]]
+                        payloads = [(-7) ** it for it in range(len(keys))]
+                        for given in (keys, list(keys), keys[::-1][::-1]):
+                            model.put(table.insert_many(given, payloads), keys, payloads)
+                        for key in keys:
+                            model.put([table.insert(key, 3)], [key], [3])
+                        self.assertEqual(table.sum_many(keys, None), [model.sum(it, None) for it in keys])
+                self.expect(table, model, kind)
+
     def test_keys_divide_a_table(self):
         for kind in self.kinds:
             at = len(kind.keys) // 2
@@ -172,6 +186,35 @@ class OfKinds:
             self.assertEqual((caught.exception.code, caught.exception.done), (4, 1))
             self.assertRaises(crackd.WrongPartition, table.update, row, key, 8)
 
+    def turned(self, kind):
+        """Ranges whose low end is above the high end, by much and by little, also where both are no keys."""
+        ends = sorted(kind.ends, key=value)
+        near = [(high, low) for low, high in zip(ends, ends[1:]) if value(low) < value(high)]
+        return [*near, (ends[-1], ends[0]), (kind.keys[-1], kind.keys[0])]
+
+    def test_low_ends_above_high_ends(self):
+        for kind in self.kinds:
+            with self.filled(kind) as (table, model):
+                some = [(None, None), (kind.keys[0], kind.keys[0]), (kind.keys[0], kind.keys[-1])]
+                for at, (low, high) in enumerate(self.turned(kind)):
+                    for call in (table.count, table.sum, table.select):
+                        self.assertRaises(ValueError, call, low, high)
+                    pairs = [*some[: at % 4], (low, high), *some[at % 4 :], (low, high)]
+                    for call in (table.count_many, table.sum_many):
+                        with self.assertRaises(ValueError) as caught:
+                            call(*zip(*pairs))
+                        self.assertIn(f"range {min(at % 4, len(some))}:", str(caught.exception))
+                self.turned_arrays(table, kind)
+                self.expect(table, model, kind)
+
+    def turned_arrays(self, table, kind):
+        """Arrays of ends, of which the second range is turned around."""
+        keys = kind.given(kind.keys)
+        for call in (table.count_many, table.sum_many):
+            with self.assertRaises(ValueError) as caught:
+                call(keys[[0, 2, 2]] if kind.dtype else [keys[it] for it in (0, 2, 2)], keys[:3])
+            self.assertIn("range 1:", str(caught.exception))
+
     def test_what_is_no_key(self):
         for kind in self.kinds:
             with self.filled(kind) as (table, model):
@@ -183,6 +226,29 @@ class OfKinds:
                         self.assertRaises(error, table.insert_many, [first, key], [1, 1])
                         self.assertRaises(error, table.update, row, key, 1)
                         self.assertRaises(error, table.update_many, [row, row], [key, first], [1, 1])
+                        if np is not None and not isinstance(key, list):
+                            self.assertRaises(error, table.insert_many, np.array([key, key]), [1, 1])
+                            self.assertRaises(error, table.update_many, [row], np.array([key]), [1])
+                self.expect(table, model, kind)
+
+    def test_what_is_no_list(self):
+        wrong = [bytes(8), bytearray(8), memoryview(bytes(8)), "12345678", b"", "", 5, None]
+        for kind in self.kinds:
+            with self.filled(kind) as (table, model):
+                keys, row = kind.keys, min(model.rows)
+                for it in wrong:
+                    with self.subTest(kind.name, given=it):
+                        keys, payloads = list(kind.keys[:1]) * 8, [1] * 8
+                        size = len(it) if hasattr(it, "__len__") else 8
+                        self.assertRaises(TypeError, table.insert_many, it, payloads[:size])
+                        self.assertRaises(TypeError, table.insert_many, keys[:size], it)
+                        self.assertRaises(TypeError, table.delete_many, it)
+                        self.assertRaises(TypeError, table.update_many, it, keys[:size], payloads[:size])
+                        self.assertRaises(TypeError, table.update_many, [row] * size, it, payloads[:size])
+                        self.assertRaises(TypeError, table.update_many, [row] * size, keys[:size], it)
+                        if it is not None:
+                            self.assertRaises(TypeError, table.count_many, it, None)
+                            self.assertRaises(TypeError, table.sum_many, keys[:size], it)
                 self.expect(table, model, kind)
 
     def test_what_is_no_end(self):
