@@ -1,13 +1,16 @@
-.PHONY: help run try lib lib-unproved test edits trust
+.PHONY: help run try program-unproved lib lib-unproved test edits trust
 
 # lists the targets
 help:
 	@echo 'make run     proves what changed, builds, and answers the statements of standard input:'
 	@echo '             36 minutes from nothing on 4 processors, beside other work'
-	@echo 'make try     the same without a proof, in two minutes; it reads all of its input before it answers'
+	@echo 'make program-unproved  compiles the program without a proof, in two minutes:'
+	@echo '             crates/crackd/out/crackd-unproved; shell and package use it where the proved one is missing'
+	@echo 'make try     the same as make run with that program'
 	@echo 'make lib     proves the library for C and Python as make run does, and builds lib/libcrackd.so and'
 	@echo '             lib/crackd.h; the package finds it'
-	@echo 'make lib-unproved  the same without a proof, in a minute: lib/libcrackd-unproved.so'
+	@echo 'make lib-unproved  the same without a proof, in a minute: lib/libcrackd-unproved.so, and lib/libcrackd.so is a'
+	@echo '             link to it, until make lib replaces that'
 	@echo 'make test    proves everything from nothing, runs the tests, the programs and the acceptance cases:'
 	@echo '             36 minutes on 4'
 	@echo 'make edits   tests that the prover refuses the wrong bodies, with OF="NAME .." only those of these crates:'
@@ -18,8 +21,11 @@ help:
 run:
 	@python3 tools/prove.py crackd -- script
 
-try:
-	@cd crates/crackd && rt try -- script
+try: program-unproved
+	@crates/crackd/out/crackd-unproved script
+
+program-unproved:
+	@python3 tools/unproved.py
 
 lib:
 	@python3 tools/library.py

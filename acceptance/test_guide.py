@@ -1,7 +1,8 @@
 """Runs the commands of README, the guide, docs/C.md and the pages of this folder, one check per section, and compares
 their output with what the page says.
 
-These fenced blocks of a page are run, those of a section in one shell, in a folder that has `events.csv` and `lib`:
+These fenced blocks of a page are run, those of a section in one shell, in a folder that has `events.csv`, `examples`,
+`python` and `lib`:
 
     console   a line after `$ ` is a command for the shell; the lines up to the next `$ ` are its output
     pycon     a session of Python, as doctest reads it
@@ -87,10 +88,11 @@ def environment_for(program: str, folder: str) -> dict[str, str]:
         links |= {"libcrackd.so": made, made.name: made}
     for name, target in links.items():
         (pathlib.Path(folder) / name).symlink_to(target)
-    # (README's `make try` and `make run` answer statements, as the program does once it is built)
-    for name, what in {"python3": f'{package.interpreter()} "$@"', "make": "crackd script"}.items():
+    # (README's `make run` answers statements, as the program does once it is built; other targets have built it)
+    scripts = {"python3": f'exec {package.interpreter()} "$@"', "make": 'test "$1" != run || exec crackd script'}
+    for name, script in scripts.items():
         path = pathlib.Path(folder) / name
-        path.write_text(f"#!/bin/sh\nexec {what}\n", encoding="ascii")
+        path.write_text(f"#!/bin/sh\n{script}\n", encoding="ascii")
         path.chmod(0o755)
     found = {it: folder for it in ("CPATH", "LIBRARY_PATH", "LD_LIBRARY_PATH")} | {"TOP": str(TOP)}
     found |= {"PATH": os.pathsep.join([folder, os.environ.get("PATH", "")]), "CRACKD": str(program)}
@@ -126,7 +128,8 @@ def run(blocks: list[Block], program: str) -> tuple[int, list[str], list[str]]:
         asked += [] if missing else [(it.place, *(text.replace(PORT, port) for text in both)) for both in it.commands]
     with tempfile.TemporaryDirectory() as folder, tempfile.TemporaryDirectory() as bin:
         shutil.copy(TOP / "examples" / "events.csv", folder)
-        (pathlib.Path(folder) / "examples").symlink_to(TOP / "examples")
+        for name in ("examples", "python"):
+            (pathlib.Path(folder) / name).symlink_to(TOP / name)
         (pathlib.Path(folder) / "lib").symlink_to(bin)
         wrote = wrote_in_shell([command for _, command, _ in asked], folder, environment_for(program, bin))
     faults = [

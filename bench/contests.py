@@ -106,6 +106,50 @@ def merge_rivalries(runs):
     for word, numbers, what in words:
         for policy, ours, _, fast, tree, _ in of_bench.by_policy(word, [sizes.PART_ROWS, *numbers], runs):
             yield rivalry(f"{policy}: {what}", word, ours, fast, tree)
+        ours, tree = of_bench.under_auto(word, [sizes.PART_ROWS, *numbers], ["tree"], runs)
+        yield report.Rivalry(f"auto: {what}", middle_of(ours, word), None, middle_of(tree, word))
+
+
+RIVALS = {"a BTreeMap": "tree", "a sorted array and late rows": "overlay"}
+SQLITE = "SQLite, a covering index"
+
+
+def between_updates(runs):
+    """What a sum takes with the changes before it, by `crackd` under `auto` and by others."""
+    rivals = {**RIVALS, "a sorted array, built anew": "rebuilt"}
+    for batches, size in sizes.BATCHES:
+        numbers = [sizes.PART_ROWS, batches, size]
+        reported = of_bench.under_auto("updates", numbers, rivals.values(), runs)
+        times = {name: middle_of(it, "updates") / batches for name, it in zip(["crackd", *rivals], reported)}
+        if report.sqlite3:
+            times[SQLITE] = statistics.mean(sqlite_rounds("updates", numbers, report.RANGE))
+        yield report.Between(f"a sum after {size} deletes and {size} inserts", times)
+
+
+def sqlite_rounds(word, numbers, width):
+    """What SQLite takes for each round, in seconds, measured once. Its answers must be the tree's."""
+    seconds, told = report.sqlite_rounds(*numbers, width, word == "rising")
+    words = [word, "tree", *map(str, numbers if numbers[2] else numbers[:2])]
+    wrote = subprocess.run([PEERS, *words], capture_output=True, text=True, check=True).stdout
+    if wrote.splitlines()[-1] != f"{word} {told}":
+        sys.exit(f"{words}: SQLite doesn't answer the same")
+    return seconds
+
+
+def ages(runs):
+    """What a round takes at first and in the end, and a sum in rising order and at random."""
+    ends, orders = of_bench.ageing(RIVALS.values(), runs), of_bench.orders(RIVALS.values(), runs)
+    texts = ("a round at first", "a round in the end", "a sum in rising order", "a sum at a random place")
+    times = [dict(zip(["crackd", *RIVALS], it)) for it in (*zip(*ends), *zip(*orders))]
+    if report.sqlite3:
+        tenth = sizes.AGEING[0] // 10
+        rounds = sqlite_rounds("ageing", [sizes.PART_ROWS, *sizes.AGEING], report.NARROW_RANGE)
+        numbers = [sizes.PART_ROWS, sizes.RANGES, 0]
+        rising = sqlite_rounds("rising", numbers, report.KEYS // sizes.RANGES)
+        narrow = sqlite_rounds("narrow", numbers, report.NARROW_RANGE)
+        for it, seconds in zip(times, (rounds[:tenth], rounds[-tenth:], rising, narrow)):
+            it[SQLITE] = statistics.mean(seconds)
+    return [report.Between(text, it) for text, it in zip(texts, times)]
 
 
 def pass_rivalry(runs):
@@ -161,7 +205,7 @@ def moves(program, kind="{}"):
     return {
         f"{policy}: {what}": steps(program, kind.format(policy), it)
         for what, it in words.items()
-        for policy in sizes.POLICIES
+        for policy in [*sizes.POLICIES, "auto"]
     }
 
 
@@ -178,5 +222,7 @@ def write_report(folder, runs):
         contests,
         rivals(runs),
         set_contests(runs),
+        list(between_updates(runs)),
+        ages(runs),
     )
     report.write(folder, BENCH, PEERS, report.Measured(sizes.PART_ROWS, sizes.RANGES, runs, *measured))

@@ -88,6 +88,14 @@ def by_policy(word, numbers, runs, others=()):
         yield policy, ours, same, fast, tree, rest
 
 
+def under_auto(word, numbers, kinds, runs):
+    """Runs a command under `auto`, and of plain Rust's kinds of tables. Returns what each reported, ours first."""
+    words = [word, *(str(number) for number in numbers)]
+    programs = [[PEERS, word, kind, *words[1:]] for kind in kinds]
+    *theirs, ours = compare([*programs, [BENCH, word, "auto", *words[1:]]], runs)
+    return [ours, *theirs]
+
+
 def measure_cold(table, runs):
     numbers = [sizes.PART_ROWS, sizes.RANGES]
     for policy, ours, same, fast, tree, [rows] in by_policy("cold", numbers, runs, ["rows"]):
@@ -102,6 +110,9 @@ def measure_cold(table, runs):
         print(
             "    " + ", ".join(f"{name.replace('_', ' ')} {ours[0][name]}" for name in ("put_in", "evicted", "moved"))
         )
+    ours, tree = under_auto("cold", numbers, ["tree"], runs)
+    what = f"auto: {sizes.RANGES} sums, all rows pending, beside a tree"
+    table.line(what, middle_of(ours, "cold"), middle_of(tree, "cold"))
     through, fast, same, ours = passes(runs)
     alone = middle_of(ours, "pass")
     table.line(
@@ -135,12 +146,45 @@ def measure_updates(table, runs):
             table.line(f"{policy}: {what}, beside plain Rust", took, middle_of(same, "updates"), 1.5)
             table.line(f"{policy}: the same, beside {FAST}", took, middle_of(fast, "updates"), 1.5)
             table.line(f"{policy}: the same, beside a tree", took, middle_of(tree, "updates"))
+        ours, tree = under_auto("updates", [sizes.PART_ROWS, batches, size], ["tree"], runs)
+        table.line(f"auto: {what}, beside a tree", middle_of(ours, "updates"), middle_of(tree, "updates"))
     words = [str(sizes.PART_ROWS), str(sizes.PIECES), str(sizes.PENDING)]
     programs = [[BENCH, "merge", "complete"], [PEERS, "merge", "complete"], [PEERS, "merge", "anew"]]
     ours, same, anew = compare([[*program, *words] for program in programs], runs)
     merge = middle_of(ours, "merge")
     table.line(f"{sizes.PENDING} rows into {sizes.PIECES} pieces, beside plain Rust", merge, middle_of(same, "merge"))
     table.line("the same, beside a search at each step", merge, middle_of(anew, "merge"), 0.2)
+
+
+def ageing(kinds, runs):
+    """What a round of updates with a sum takes in the first and the last tenth of many: of ours, and of plain Rust's
+    kinds."""
+    reported = under_auto("ageing", [sizes.PART_ROWS, *sizes.AGEING], kinds, runs)
+    rounds = sizes.AGEING[0] // 10
+    return [[middle_of(it, name) / rounds for name in ("first", "last")] for it in reported]
+
+
+def orders(kinds, runs):
+    """What a sum of a thousandth takes in rising order and at random: of ours, and of plain Rust's kinds."""
+    numbers, names = [sizes.PART_ROWS, sizes.RANGES], ("rising", "narrow")
+    reported = [under_auto(name, numbers, kinds, runs) for name in names]
+    return [[middle_of(it, name) / sizes.RANGES for name, it in zip(names, each)] for each in zip(*reported)]
+
+
+def measure_ageing(table, runs):
+    rounds, size = sizes.AGEING
+    (first, last), (tree_first, tree_last) = ageing(["tree"], runs)
+    what = f"auto: {size} deletes, {size} inserts and a sum"
+    table.line(f"{what}, the last tenth of {rounds} rounds, beside the first", last, first, 1.5)
+    table.line(f"{what}, the first tenth, beside a tree", first, tree_first)
+    table.line(f"{what}, the last tenth, beside a tree", last, tree_last, 2.5)
+
+
+def measure_orders(table, runs):
+    (rising, narrow), (tree, _) = orders(["tree"], runs)
+    what = f"auto: {sizes.RANGES} sums of neighbouring ranges, rising"
+    table.line(f"{what}, beside as many at random", rising, narrow, 1.5)
+    table.line(f"{what}, beside a tree", rising, tree)
 
 
 # what a step belongs to, the command that takes steps, and the name of their number
@@ -197,6 +241,7 @@ MEASURES = {
     "partition": [measure_counts, measure_sums],
     "cold": [measure_cold],
     "updates": [measure_updates],
+    "ageing": [measure_ageing, measure_orders],
     "steps": [measure_steps],
     "folds": [measure_folds],
     "growth": [measure_growth],

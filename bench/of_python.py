@@ -14,7 +14,7 @@ import package  # finds an interpreter that has numpy
 LIBRARY = TOP / "python" / "crackd" / "libcrackd.so"
 PAGE = TOP / "docs" / "PYTHON.md"
 BEGIN, END = "<!-- times: bench/run.py python -->\n", "<!-- end of times -->\n"
-SORTED, MASKS, SQLITE = "numpy, sorted", "numpy, masks", "SQLite, an index"
+SORTED, MASKS, SQLITE = "numpy, sorted", "numpy, masks", "SQLite, a covering index"
 # what is reported of each step, by its name
 STEPS = {
     "load": "load, in order where there is one",
@@ -25,7 +25,7 @@ STEPS = {
     "step": "10 deletes, 10 inserts and a sum",
 }
 # (what is bounded, compared with what, and by which part of it)
-RATIOS = [("load", SQLITE, 0.35), ("step", SORTED, 0.05), ("counts", MASKS, 0.03)]
+RATIOS = [("load", SQLITE, 0.35), ("step", SORTED, 0.12), ("counts", MASKS, 0.03)]
 # the most nanoseconds
 MOST = [
     ("warm count", "a count of a range that was asked before, nanoseconds", 6000),

@@ -1,8 +1,9 @@
 """Run by of_python.py, by an interpreter that has numpy: python_rows.py ROWS RANGES RUNS
 
-It has the same rows in a `crackd.Table`, in numpy arrays that are kept sorted, in numpy arrays that are queried by
-masks, and in an SQLite table in memory with an index, all in this process and in turn. It prints, as JSON, the median
-seconds of each step by its name, in that order; all must give the same answers.
+It has the same rows in a `crackd.Table`; in numpy arrays that are kept sorted, with sums of their prefixes; in such
+arrays that stay as they are, with late rows beside them; in numpy arrays that are queried by masks; and in an SQLite
+table in memory with an index that covers the queries. All are in this process and take turns. It prints, as JSON, the
+median seconds of each step by its name, in that order; all must give the same answers.
 """
 
 import json
@@ -50,7 +51,8 @@ class Ours:
 
 
 class Sorted:
-    """Arrays that are kept in the order of their keys; a deleted row is found by its key and its number."""
+    """Arrays that are kept in the order of their keys, with the sums of their prefixes; a deleted row is found by its
+    key and its number."""
 
     name = "numpy, sorted"
 
@@ -58,19 +60,20 @@ class Sorted:
         self.arrived = list(keys)
         order = np.argsort(keys, kind="stable")
         self.keys, self.payloads, self.numbers = keys[order], payloads[order], order
+        self.sum_prefixes()
 
-    def ends(self, low, high):
-        return np.searchsorted(self.keys, (low, high))
+    def sum_prefixes(self):
+        self.prefixes = np.concatenate(([0], np.cumsum(self.payloads)))
 
     def counts(self, lows, highs):
         return (np.searchsorted(self.keys, highs) - np.searchsorted(self.keys, lows)).tolist()
 
     def sums(self, lows, highs):
-        ends = zip(np.searchsorted(self.keys, lows), np.searchsorted(self.keys, highs))
-        return [int(self.payloads[first:end].sum()) for first, end in ends]
+        first, end = np.searchsorted(self.keys, lows), np.searchsorted(self.keys, highs)
+        return (self.prefixes[end] - self.prefixes[first]).tolist()
 
     def select(self, low, high):
-        first, end = self.ends(low, high)
+        first, end = np.searchsorted(self.keys, (low, high))
         return int(self.payloads[first:end].copy().sum())
 
     def step(self, keys, payloads, gone, low, high):
@@ -85,7 +88,8 @@ class Sorted:
         self.keys = np.insert(self.keys, at, keys[order])
         self.payloads = np.insert(self.payloads, at, payloads[order])
         self.numbers = np.insert(self.numbers, at, numbers[order])
-        first, end = self.ends(low, high)
+        # (one sum needs no sums of prefixes, so they aren't made anew)
+        first, end = np.searchsorted(self.keys, (low, high))
         return int(self.payloads[first:end].sum())
 
     def place(self, number):
@@ -96,6 +100,29 @@ class Sorted:
 
     def close(self):
         pass
+
+
+class Overlay(Sorted):
+    """Such arrays that stay as they are, and beside them what was inserted and deleted since: each late row has its key
+    and what it adds to a sum, which for a deleted row is the opposite of its payload."""
+
+    name = "numpy, an overlay"
+
+    def __init__(self, keys, payloads):
+        super().__init__(keys, payloads)
+        self.payload_of = list(payloads)
+        self.late_keys, self.late_payloads = keys[:0], payloads[:0]
+
+    def step(self, keys, payloads, gone, low, high):
+        gone_keys = np.array([self.arrived[it] for it in gone])
+        gone_payloads = np.array([self.payload_of[it] for it in gone])
+        self.arrived.extend(keys)
+        self.payload_of.extend(payloads)
+        self.late_keys = np.concatenate((self.late_keys, gone_keys, keys))
+        self.late_payloads = np.concatenate((self.late_payloads, -gone_payloads, payloads))
+        first, end = np.searchsorted(self.keys, (low, high))
+        late = self.late_payloads[(self.late_keys >= low) & (self.late_keys < high)]
+        return int(self.prefixes[end] - self.prefixes[first] + late.sum())
 
 
 class Masks:
@@ -129,14 +156,14 @@ class Masks:
 
 
 class Sqlite:
-    """A table of SQLite in memory, with an index."""
+    """A table of SQLite in memory, with an index that has all that counts and sums read."""
 
-    name = "SQLite, an index"
+    name = "SQLite, a covering index"
 
     def __init__(self, keys, payloads):
         self.base = sqlite3.connect(":memory:")
         self.base.execute("create table rows (number integer primary key, key integer, payload integer)")
-        self.base.execute("create index by_key on rows (key)")
+        self.base.execute("create index by_key on rows (key, payload)")
         self.count = 0
         self.insert(keys, payloads)
 
@@ -174,7 +201,7 @@ class Sqlite:
         self.base.close()
 
 
-KINDS = [Ours, Sorted, Masks, Sqlite]
+KINDS = [Ours, Sorted, Overlay, Masks, Sqlite]
 
 
 def timed(call, *words):

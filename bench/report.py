@@ -25,6 +25,7 @@ UNINDEXED = "SQLite without an index"
 
 # how wide a random range is, and what random keys are below, as in the programs
 RANGE = 42949672
+NARROW_RANGE = 4294967
 KEYS = 2**32
 
 
@@ -37,6 +38,9 @@ class Numbers:
     def word(self):
         self.state = (self.state * 6364136223846793005 + 1442695040888963407) % 2**64
         return self.state >> 32
+
+    def below(self, bound):
+        return (self.word() >> 1) % bound
 
     def low(self):
         return self.word() % (KEYS - RANGE)
@@ -58,16 +62,24 @@ class Contest:
 
 @dataclasses.dataclass
 class Rivalry:
-    """What `crackd`, a cracker column built for speed alone, and a tree take for the same, in seconds; a tree takes no
-    steps."""
+    """What `crackd`, a cracker column built for speed alone, and a tree take for the same, in seconds. A tree takes no
+    steps, and the column has no policy `auto`."""
 
     what: str
     ours: float
-    fast: float
-    tree: float
+    fast: float | None
+    tree: float | None
 
     def ratio(self):
         return self.ours / self.fast
+
+
+@dataclasses.dataclass
+class Between:
+    """What a sum takes, with the deletes and inserts before it if there are any, in seconds, by who answers."""
+
+    what: str
+    times: dict
 
 
 @dataclasses.dataclass
@@ -98,6 +110,8 @@ class Measured:
     contests: list
     rivals: Rivals
     sets: list
+    between: list
+    ages: list
 
 
 class Series:
@@ -138,6 +152,35 @@ def sqlite_series(rows, ranges, is_indexed):
         sums.append(time.perf_counter_ns() - start)
         told = mixed(told, answer or 0)
     return Series(load, made, sums, f"rows {everything}\neach {told}\n")
+
+
+def sqlite_rounds(rows, rounds, size, width, is_rising=False):
+    """How long SQLite takes for each sum of a range of this width, at random places or in rising order, with as many
+    deletes and inserts before it, in memory and by an index that has all that a sum reads, in seconds, and the checksum
+    of the sums."""
+    numbers, database, told = Numbers(11), sqlite3.connect(":memory:"), 0
+    database.execute("create table rows (number integer primary key, key integer, payload integer)")
+    database.executemany("insert into rows values (?, ?, ?)", [(row, numbers.word(), row) for row in range(rows)])
+    database.execute("create index by_key on rows (key, payload)")
+    names, seconds = list(range(rows)), []
+    for turn in range(rounds):
+        changes = [(numbers.below(rows), numbers.word()) for _ in range(size)]
+        low = turn * width if is_rising else numbers.low()
+        start = time.perf_counter()
+        for at, (place, key) in enumerate(changes, rows + turn * size):
+            database.execute("delete from rows where number = ?", (names[place],))
+            database.execute("insert into rows values (?, ?, ?)", (at, key, key))
+            names[place] = at
+        answer = sqlite_sum(database, low, low + width)
+        seconds.append(time.perf_counter() - start)
+        told = mixed(told, answer)
+    return seconds, told
+
+
+def sqlite_sum(database, low, high):
+    """The sum of a range."""
+    query = "select sum(payload) from rows where key >= ? and key < ?"
+    return database.execute(query, (low, high)).fetchone()[0] or 0
 
 
 def sqlite_lookups(rows, keys, runs):
@@ -236,14 +279,22 @@ def rival_table(rivals):
     """A line for each rivalry: what each takes, and how many times as long as the others `crackd` takes."""
     lines = [f"| What | crackd | {FAST} | times as long | a BTreeMap | times as long |", "|---|---|---|---|---|---|"]
     for it in [*rivals.queries.values(), *rivals.merges, *rivals.steps]:
-        tree = "| | |" if it.tree is None else f"| {shown(it.tree)} | {it.ours / it.tree:,.2f} |"
-        lines.append(f"| {it.what} | {shown(it.ours)} | {shown(it.fast)} | {it.ratio():,.2f} {tree}")
+        others = (f"{shown(other)} | {it.ours / other:,.2f}" if other else "| " for other in (it.fast, it.tree))
+        lines.append(f"| {it.what} | {shown(it.ours)} | {' | '.join(others)} |")
+    return "\n".join(lines)
+
+
+def between_table(between):
+    """A line for each number of changes before a sum."""
+    names = [*between[0].times]
+    lines = [f"| What | {' | '.join(names)} |", "|---" * (len(names) + 1) + "|"]
+    lines += [f"| {it.what} | {' | '.join(shown(it.times[name]) for name in names)} |" for it in between]
     return "\n".join(lines)
 
 
 def spread(rivalries):
     """The range of how many times as long `crackd` takes."""
-    ratios = [it.ratio() for it in rivalries]
+    ratios = [it.ratio() for it in rivalries if it.fast]
     return f"{min(ratios):.1f} to {max(ratios):.1f}"
 
 
@@ -359,7 +410,8 @@ def write(folder, bench, peers, measured):
 
 def page(series, measured):
     over_tcp = [dataclasses.replace(it, what=f"over TCP: {it.what}") for it in measured.sets if it.theirs]
-    contests = [*query_contests(series), *measured.contests, *over_tcp]
+    by_tree = [Contest(it.what, it.ours, "a BTreeMap", it.tree) for it in measured.rivals.merges if it.tree]
+    contests = [*query_contests(series), *measured.contests, *by_tree, *over_tcp]
     return f"""# Benchmarks
 
 Written by `python3 bench/run.py --report` on {time.strftime('%-d %B %Y')}, on {os.cpu_count()} processors: {measured.rows} rows of random keys below 2^32, a count of everything,
@@ -370,6 +422,22 @@ and then {measured.ranges} sums, each of a hundredth of these keys at a random p
 ![time of each query](queries.svg)
 
 {table_of(series)}
+
+## Queries between updates
+
+What a sum of a hundredth of the keys takes with the deletes and inserts before it, which are of random rows; `crackd` is under `auto`. The sorted array has
+the sums of its prefixes. Late rows are kept beside it, and each sum passes over them, until there are 8192 and it is built anew; or it is built anew before each
+sum. SQLite is called from Python, and its index has the key and the payload.
+
+{between_table(measured.between)}
+
+## Age, and the order of queries
+
+Rounds of 10 deletes, 10 inserts and the sum of a random thousandth of the keys, 20000 of them; and sums of thousandths of a table that stays as it is, one after the other in
+rising order and at random places. `crackd` is under `auto`; under the other policies it takes longer the more bounds there are, and the longer the rest is that a
+rising query cracks again.
+
+{between_table(measured.ages)}
 
 ## Loading, with the first count of everything
 
@@ -384,8 +452,8 @@ the pending rows, and the insert with its reply in the history; a checkpoint rep
 
 ## What each policy moves
 
-How often a row is put in, taken out, put back, or moved from one piece to the next, in millions of steps. The numbers are the same in each run, and for the
-column in plain Rust:
+How often a row is put in, taken out, put back, or moved from one piece to the next, in millions of steps. The numbers are the same in each run, and but for
+`auto` for the column in plain Rust:
 
 ![steps of rows under each policy](moves.svg)
 
@@ -410,7 +478,7 @@ Each row says how many times as fast `crackd` is.
 The cracker column for speed alone is plain Rust that takes the same steps. It keeps no history, and identifies a row by its slot, which a
 later row may get; pending rows are in plain vectors, and a bit beside the column says whether a row is doomed. The BTreeMap has payloads by key
 and number, and sums ranges; no policy changes it. All get the same inserts, deletes and queries and give the same answers, and `crackd` and the
-column put in, put back, move, pull and take out the same number of rows.
+column put in, put back, move, pull and take out the same number of rows. The column has no policy `auto`.
 
 {rival_table(measured.rivals)}
 

@@ -10,6 +10,9 @@ REPEATS, SET_REPEATS = 100, 10
 POLICIES = ["complete", "gradual", "ripple"]
 # how many sums, and how many deletes and inserts before each
 BATCHES = [(1000, 10), (100, 1000)]
+# how many rounds of updates with a sum, a tenth of which is compared with another tenth, and how many deletes and
+# inserts each has
+AGEING = (20_000, 10)
 # how many deletes and inserts there are between two checkpoints; and, as crack_bench counts them, commands of one kind
 # before one and after it
 CHANGES, NEXT = 100_000, 1000
@@ -54,6 +57,7 @@ def shrink():
         "PART_ROWS": 4000,
         "RANGES": 100,
         "BATCHES": [(50, 10), (10, 100)],
+        "AGEING": (100, 10),
         "CHANGES": 800,
         "PIECES": 40,
         "PENDING": 100,

@@ -3,21 +3,20 @@
 
 The crate crackd_c and those below it are proved as `make run` does, and what is proved is linked into lib/libcrackd.so.
 With --unproved nothing is proved: the same code is compiled, with checks of each index, sum and cast at run time, into
-lib/libcrackd-unproved.so, whose version says so. crackd.h is put beside it, and the library itself also into the Python
-package.
+lib/libcrackd-unproved.so, whose version says so; lib/libcrackd.so is then a link to it, unless the proved one is there.
+crackd.h is put beside it, and the library itself also into the Python package.
 """
 
 import pathlib
 import re
 import shutil
-import subprocess
 import sys
 import tempfile
 
 import crates
 import prove
-import rooms
-import step
+import unproved
+from unproved import compiled, run
 
 CRATE = "crackd_c"
 HEADER = crates.TOP / "include" / "crackd.h"
@@ -81,63 +80,29 @@ def caller_of(functions):
 
 
 def exported(text, functions):
-    """The text of a module that exports only these functions, without the checks of each access to memory."""
+    """The text of a module that exports only these functions."""
     for name in functions:
         text = text.replace(f'define internal noundef i32 @"{CRATE}::{name}"(', f"define noundef i32 @{name}(").replace(
             f'@"{CRATE}::{name}"(', f"@{name}("
         )
-    return text.replace(" sanitize_address", "").replace("define i32 @main(", "define internal i32 @main(")
-
-
-def compiler(rt):
-    """The toolchain's own compiler."""
-    return f"{rt.rtlib.KIT}/toolchain/bin/clang"
-
-
-def run(*words, **how):
-    """Runs a command, and exits if it fails."""
-    ran = subprocess.run(
-        [str(it) for it in words], stdout=subprocess.PIPE, stderr=subprocess.STDOUT, text=True, check=False, **how
-    )
-    if ran.returncode:
-        sys.exit(f"{ran.stdout[-4000:]}\n{words[0]} failed")
-
-
-def compiled(rt, made, *source):
-    """Compiles a source, named by words for the compiler, into an object for a shared library."""
-    run(compiler(rt), "--target=x86_64-unknown-linux-gnu", "-O2", "-fPIC", "-c", *source, "-o", made)
-    return made
+    return text.replace("define i32 @main(", "define internal i32 @main(")
 
 
 def unproved_object(rt, room):
     """The compiled code of the crate and of all that it uses, none of it proved."""
-    folder = room / "crates" / CRATE
+    folder = unproved.copy_sources(room, CRATE)
     source = folder / "src" / "lib.rt"
     functions = exports(source.read_text(encoding="utf-8"))
     for file, more in ((source, caller_of(functions)), (folder / "src" / "handle.rt", EMPTY)):
         file.write_text(file.read_text(encoding="utf-8") + more, encoding="utf-8")
-    made, text = room / "module.bc", room / "module.ll"
-    step.module(rt, str(folder), str(made))
-    run(compiler(rt), "-x", "ir", made, "-S", "-emit-llvm", "-o", text)
-    text.write_text(exported(text.read_text(encoding="utf-8"), functions), encoding="utf-8")
-    return compiled(rt, room / "module.o", "-x", "ir", text)
-
-
-def copy_sources(room):
-    """Copies the crates that make up the library."""
-    crate = crates.listed()[CRATE]
-    for it in [*crates.below(CRATE), crate]:
-        shutil.copytree(it.folder / "src", room / "crates" / it.name / "src")
-    (room / "crates.txt").write_text(
-        "\n".join(it.line for it in [*crates.below(CRATE), crate]) + "\n", encoding="utf-8"
-    )
-    shutil.copyfile(crates.TOP / "HANDLES", room / "HANDLES")
+    text = unproved.module(rt, room, folder, "--test", "src/lib.rt")
+    return unproved.compiled_text(rt, room, exported(text, functions))
 
 
 def link(rt, room, code, is_proved):
     """Links the code with the C library's heap, and puts the library and its header in their places."""
     name = NAMES[is_proved]
-    said = f"crackd {version()}" + ("" if is_proved else " (unproved)")
+    said = f"crackd {version()}" + ("" if is_proved else unproved.MARK)
     (room / "version.c").write_text(f'const char *crackd_version(void) {{ return "{said}"; }}\n', encoding="utf-8")
     (room / "crackd.map").write_text("{ global: crackd_*; local: *; };\n", encoding="utf-8")
     version_code = compiled(rt, room / "version.o", room / "version.c")
@@ -165,6 +130,11 @@ def link(rt, room, code, is_proved):
     for target in (LIB / name, PACKAGE / name):
         target.unlink(missing_ok=True)
         shutil.copyfile(room / name, target)
+    plain = LIB / NAMES[True]
+    if not plain.exists():
+        # (so that `cc -lcrackd` finds this one)
+        plain.unlink(missing_ok=True)
+        plain.symlink_to(name)
     print(f"{(LIB / name).relative_to(crates.TOP)}: version {said}", file=sys.stderr)
 
 
@@ -172,8 +142,7 @@ def main(words):
     if words not in ([], ["--unproved"]):
         sys.exit(__doc__)
     is_proved = not words
-    rt = step.script_of_toolchain()
-    rt.rtlib.stop = rt.stop
+    rt = unproved.toolchain()
     with tempfile.TemporaryDirectory(prefix="crackd-library-") as name:
         room = pathlib.Path(name)
         if is_proved:
@@ -181,7 +150,6 @@ def main(words):
                 return 1
             code = prove.made_of(crates.listed()[CRATE])
         else:
-            copy_sources(room)
             code = unproved_object(rt, room)
         link(rt, room, code, is_proved)
     return 0

@@ -179,7 +179,7 @@ BARS = ("pending", "in the column", "pending, after a checkpoint", "in the colum
 BAR = re.compile(r">([^<>]+)</text>\n<rect[^>]*>\n<text[^>]*>([\d.]+) bytes<")
 # how many minutes commands take: what is found twice must be the same
 MINUTES = {
-    "README.md": r"# proved: (?P<run>\d+) minutes the first time",
+    "README.md": r"and answers: (?P<run>\d+) minutes the first time.*runs all tests: (?P<test>\d+) minutes",
     "CONTRIBUTING.md": r"`make run` took (?P<run>\d+) minutes beside other work .*, and `make test` (?P<test>\d+), .*"
     r"; after it `make edits` took (?P<edits>\d+)",
     "Makefile": r"'\s*(?P<run>\d+) minutes from nothing on 4 processors, beside other work'.*"

@@ -1,14 +1,14 @@
 //! Plain Rust beside what the benchmark measures: `peers session`, `peers arena STEPS ROWS`, `peers column ROWS`, and,
 //! by a table of which `TABLE` says the kind, `peers counts TABLE ROWS RANGES`, `peers sums TABLE ROWS RANGES`, `peers
-//! each TABLE ROWS RANGES`, `peers cold TABLE ROWS RANGES`, `peers pass TABLE ROWS RANGES`, `peers updates TABLE ROWS
-//! BATCHES SIZE`, `peers merge TABLE ROWS PIECES PENDING` and `peers pulls TABLE ROWS PIECES DELETES`; `peers fold ROWS
-//! CHANGES` sorts what a checkpoint keeps. A table is `complete`, `gradual`, `ripple` or `anew`, a cracked partition
-//! that merges by this policy, represented as the measured one is; `fast-complete`, `fast-gradual` or `fast-ripple`, a
-//! cracker column that is written for speed alone; or `inline`, `pairs`, `tree`, `through`, `rows` or `sorted`, which
-//! do the same in other ways. `peers own WORKERS ROWS STEPS` and `peers shared WORKERS ROWS STEPS` have workers on
-//! threads, and `peers copies WORKERS ROWS` copies what they did. `peers client PORT FILE` and `peers turns PORT FILE`
-//! send a file's statements to a server on this machine, all at once or one by one, and `peers echo PORT` is such a
-//! server.
+//! each|rising|narrow TABLE ROWS RANGES`, `peers cold TABLE ROWS RANGES`, `peers pass TABLE ROWS RANGES`, `peers
+//! updates|ageing TABLE ROWS BATCHES SIZE`, `peers merge TABLE ROWS PIECES PENDING` and `peers pulls TABLE ROWS
+//! PIECES DELETES`; `peers fold ROWS CHANGES` sorts what a checkpoint keeps. A table is `complete`, `gradual`, `ripple`
+//! or `anew`, a cracked partition that merges by this policy, represented as the measured one is; `fast-complete`,
+//! `fast-gradual` or `fast-ripple`, a cracker column that is written for speed alone; or `inline`, `pairs`, `tree`,
+//! `through`, `rows`, `sorted`, `rebuilt` or `overlay`, which do the same in other ways. `peers own WORKERS ROWS STEPS`
+//! and `peers shared WORKERS ROWS STEPS` have workers on threads, and `peers copies WORKERS ROWS` copies what they did.
+//! `peers client PORT FILE` and `peers turns PORT FILE` send a file's statements to a server on this machine, all at
+//! once or one by one, and `peers echo PORT` is such a server.
 //!
 //! What a run computes goes to standard output, and must be what the measured program writes there. Times go to
 //! standard error, in nanoseconds, a line `NAME NUMBER` each, followed by what the merges did, if that is counted.
@@ -21,6 +21,7 @@ mod fold;
 mod index;
 mod inline;
 mod numbers;
+mod overlay;
 mod pairs;
 mod partition;
 mod pending;
@@ -55,7 +56,10 @@ fn main() {
             arena::run(steps, number(words.next()));
         }
         Some("column") => column::run(number(words.next())),
-        Some(word @ ("counts" | "sums" | "each" | "cold" | "pass" | "updates" | "merge" | "pulls")) => {
+        Some(
+            word @ ("counts" | "sums" | "each" | "rising" | "narrow" | "cold" | "pass" | "updates" | "ageing" | "merge"
+            | "pulls"),
+        ) => {
             let table = words.next().expect("a table");
             let numbers: Vec<u64> = words.map(|it| number(Some(it))).collect();
             partition::run(word, &table, &numbers);
@@ -79,8 +83,8 @@ fn main() {
         }
         Some("echo") => client::echo(port(words.next())).expect("a client that reads"),
         _ => panic!(
-            "session, arena, column, counts, sums, each, cold, pass, updates, merge, pulls, fold, own, shared, copies, \
-             client, turns or echo"
+            "session, arena, column, counts, sums, each, rising, narrow, cold, pass, updates, ageing, merge, pulls, \
+             fold, own, shared, copies, client, turns or echo"
         ),
     }
 }

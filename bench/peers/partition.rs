@@ -6,6 +6,7 @@ use crate::arena::Row;
 use crate::fast::{Fast, Tally};
 use crate::inline::Inline;
 use crate::numbers::{Numbers, mixed};
+use crate::overlay::{self, Overlay};
 use crate::pairs::Pairs;
 use crate::sorted::Sorted;
 use crate::store::{GREATEST_BOUND, Policy, Store};
@@ -19,6 +20,12 @@ pub const KEYS_END: u128 = 1 << 32;
 
 /// How wide a random range is: a hundredth of these keys.
 pub const WIDTH: u128 = 42949672;
+
+/// How wide a narrow range is: a thousandth.
+const NARROW_WIDTH: u128 = 4294967;
+
+/// How many late rows an array has beside it until it is built anew.
+const MOST_LATE: usize = 8192;
 
 /// How many entries a history may have.
 pub const LIMIT: usize = 1_000_000;
@@ -302,6 +309,26 @@ impl Table for Sorted {
     }
 }
 
+impl Table for Overlay {
+    type Name = overlay::Name;
+
+    fn insert(&mut self, key: u64, payload: i64) -> overlay::Name {
+        Overlay::insert(self, key, payload)
+    }
+
+    fn count(&mut self, low: u128, high: u128) -> u64 {
+        Overlay::count(self, low as u64, (high - 1) as u64)
+    }
+
+    fn sum(&mut self, low: u128, high: u128) -> i128 {
+        Overlay::sum(self, low as u64, (high - 1) as u64)
+    }
+
+    fn delete(&mut self, name: overlay::Name) {
+        Overlay::delete(self, name);
+    }
+}
+
 /// Whether a row's key is in a range that isn't empty.
 fn inside(low: u128, high: u128) -> impl Fn(&&Row) -> bool {
     let (low, last) = (low as u64, (high - 1) as u64);
@@ -426,22 +453,75 @@ fn pass(mut table: impl Table, rows: u64, ranges: u64) {
     println!("pass {told}");
 }
 
+/// This many deletes of random rows, each followed by an insert.
+fn update<T: Table>(table: &mut T, names: &mut [T::Name], size: u64, numbers: &mut Numbers) {
+    for _ in 0..size {
+        let at = numbers.below(names.len() as u64) as usize;
+        table.delete(names[at]);
+        let key = numbers.word();
+        names[at] = table.insert(u64::from(key), i64::from(key));
+    }
+}
+
 /// Batches of this many deletes and inserts, each followed by the sum of a random range.
 fn updates(mut table: impl Table, rows: u64, batches: u64, size: u64) {
     let mut numbers = Numbers(11);
     let mut names = load_named(&mut table, rows, &mut numbers);
     let start = Instant::now();
     let told = (0..batches).fold(0, |sum, _| {
-        for _ in 0..size {
-            let at = numbers.below(names.len() as u64) as usize;
-            table.delete(names[at]);
-            let key = numbers.word();
-            names[at] = table.insert(u64::from(key), i64::from(key));
-        }
+        update(&mut table, &mut names, size, &mut numbers);
         random_sums(&mut table, sum, 1, &mut numbers)
     });
     crate::report("updates", start);
     println!("updates {told}");
+    report_tally(&table);
+}
+
+/// The sums of as many neighbouring ranges of one width, from the lowest up.
+fn rising(mut table: impl Table, rows: u64, ranges: u64) {
+    let mut numbers = Numbers(11);
+    load(&mut table, rows, &mut numbers, |_| {});
+    let width = KEYS_END / u128::from(ranges.max(1));
+    let start = Instant::now();
+    let told = (0..ranges).fold(0, |sum, at| {
+        let low = u128::from(at) * width;
+        mixed(sum, number_of(table.sum(low, low + width)))
+    });
+    crate::report("rising", start);
+    println!("rising {told}");
+}
+
+/// The sum of a random range of a thousandth of the keys, over a checksum of earlier ones.
+fn narrow_sum(table: &mut impl Table, told: u64, numbers: &mut Numbers) -> u64 {
+    let low = random_low(numbers);
+    mixed(told, number_of(table.sum(low, low + NARROW_WIDTH)))
+}
+
+/// The sums of this many random ranges of a thousandth of the keys.
+fn narrow(mut table: impl Table, rows: u64, ranges: u64) {
+    let mut numbers = Numbers(11);
+    load(&mut table, rows, &mut numbers, |_| {});
+    let start = Instant::now();
+    let told = (0..ranges).fold(0, |sum, _| narrow_sum(&mut table, sum, &mut numbers));
+    crate::report("narrow", start);
+    println!("narrow {told}");
+}
+
+/// Batches of this many deletes and inserts, each followed by the sum of a thousandth of the keys: the times of the
+/// first tenth of them, of those between, and of the last tenth.
+fn ageing(mut table: impl Table, rows: u64, batches: u64, size: u64) {
+    let mut numbers = Numbers(11);
+    let mut names = load_named(&mut table, rows, &mut numbers);
+    let (tenth, mut told) = (batches / 10, 0);
+    for (name, many) in [("first", tenth), ("middle", batches - 2 * tenth), ("last", tenth)] {
+        let start = Instant::now();
+        for _ in 0..many {
+            update(&mut table, &mut names, size, &mut numbers);
+            told = narrow_sum(&mut table, told, &mut numbers);
+        }
+        crate::report(name, start);
+    }
+    println!("ageing {told}");
     report_tally(&table);
 }
 
@@ -490,6 +570,9 @@ fn measure(word: &str, table: impl Table, numbers: &[u64]) {
         ("cold", [rows, ranges]) => cold(table, *rows, *ranges),
         ("pass", [rows, ranges]) => pass(table, *rows, *ranges),
         ("updates", [rows, batches, size]) => updates(table, *rows, *batches, *size),
+        ("ageing", [rows, batches, size]) => ageing(table, *rows, *batches, *size),
+        ("rising", [rows, ranges]) => rising(table, *rows, *ranges),
+        ("narrow", [rows, ranges]) => narrow(table, *rows, *ranges),
         ("merge", [rows, pieces, pending]) => merge(table, *rows, *pieces, *pending),
         ("pulls", [rows, pieces, deletes]) => pulls(table, *rows, *pieces, *deletes),
         _ => panic!("as many numbers as are wanted"),
@@ -511,9 +594,11 @@ pub fn run(word: &str, table: &str, numbers: &[u64]) {
         "through" => measure(word, Through::default(), numbers),
         "rows" => measure(word, Vec::<Row>::new(), numbers),
         "sorted" => measure(word, Sorted::default(), numbers),
+        "rebuilt" => measure(word, Overlay::new(0), numbers),
+        "overlay" => measure(word, Overlay::new(MOST_LATE), numbers),
         _ => panic!(
             "complete, gradual, ripple, anew, fast-complete, fast-gradual, fast-ripple, inline, pairs, tree, through, \
-             rows or sorted"
+             rows, sorted, rebuilt or overlay"
         ),
     }
 }

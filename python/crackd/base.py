@@ -5,7 +5,9 @@ from __future__ import annotations
 import abc
 from typing import Any, Iterable, NamedTuple, Optional, Sequence
 
-from .arrays import SIGN, flags, ints, shown, whole
+from .arrays import SIGN, TOP, flags, ints, shown, whole
+from .errors import OutOfMemory
+from .forks import NoLock, leave_in_children
 from .keys import Keys
 from .layout import Layout, PartLayout
 
@@ -44,6 +46,14 @@ def payload_of(payload: Any) -> int:
     return number
 
 
+def row_of(row: Any) -> int:
+    """A single row number as an int."""
+    number = row if type(row) is int else whole(row, "a row number")
+    if not 0 <= number < TOP:
+        raise OverflowError(f"the row number {shown(row)} doesn't fit into an unsigned integer of 64 bits")
+    return number
+
+
 class AnyTable(abc.ABC):
     """A table of rows, each with a key and a payload: in this process, on a server, or on a cluster.
 
@@ -53,6 +63,12 @@ class AnyTable(abc.ABC):
     """
 
     _keys: Keys
+    _lock: Any
+
+    def __new__(cls, *_: Any, **__: Any) -> Any:
+        table = super().__new__(cls)
+        leave_in_children(table)
+        return table
 
     def insert(self, key: Any, payload: int) -> int:
         """Inserts a row. Returns its number."""
@@ -62,7 +78,8 @@ class AnyTable(abc.ABC):
         """Inserts a row for each key and payload. Returns their numbers, as an array.
 
         If one is refused, the rows before it are inserted: `done` of the error says how many, and `answers` has their
-        numbers.
+        numbers. Any other error that ends the call, such as a KeyboardInterrupt, also has in `answers` the numbers of
+        the rows that are known to be inserted.
         """
         if len(keys) != len(payloads):
             raise ValueError(f"{len(keys)} keys and {len(payloads)} payloads")
@@ -70,7 +87,7 @@ class AnyTable(abc.ABC):
 
     def delete(self, row: int) -> bool:
         """Deletes a row. Returns whether it existed."""
-        return bool(self.delete_many([row])[0])
+        return self._delete(row_of(row))
 
     def delete_many(self, rows: Any) -> Any:
         """Deletes rows. Returns for each whether it existed, as an array."""
@@ -81,7 +98,7 @@ class AnyTable(abc.ABC):
 
         A key of another partition is refused (`WrongPartition`): delete the row and insert it again.
         """
-        return bool(self.update_many([row], [key], [payload])[0])
+        return self._update(row_of(row), self._keys.one(key), payload_of(payload))
 
     def update_many(self, rows: Any, keys: Any, payloads: Any) -> Any:
         """Updates rows in order. Returns for each whether it exists, as an array.
@@ -148,7 +165,10 @@ class AnyTable(abc.ABC):
         raise TypeError("a table can't be copied or pickled")
 
     def __len__(self) -> int:
-        return self.count()
+        try:
+            return self.count()
+        except OutOfMemory:
+            return self._rows()
 
     def __bool__(self) -> bool:
         return True
@@ -160,6 +180,21 @@ class AnyTable(abc.ABC):
         self.close()
 
     # What each kind of table does, over keys that are numbers of 64 bits; ranges have a first and a last one
+
+    def _leave(self) -> None:
+        """Lets go of the table in a forked child: each call that takes its lock raises `Forked`."""
+        self._lock = NoLock()
+
+    def _delete(self, row: int) -> bool:
+        return bool(self._delete_many(ints("Q", [row], "row numbers"))[0])
+
+    def _update(self, row: int, key: int, payload: int) -> bool:
+        words = ints("Q", [row], "row numbers"), ints("Q", [key], "keys"), ints("q", [payload], "payloads")
+        return bool(self._update_many(*words)[0])
+
+    def _rows(self) -> int:
+        """How many rows there are. Merges nothing, so that it needs little memory."""
+        return self.layout().rows
 
     @abc.abstractmethod
     def _check_open(self) -> None: ...

@@ -10,6 +10,7 @@ import dataclasses
 import json
 import os
 import pathlib
+import threading
 import uuid
 from typing import Any, Callable, Iterator, Optional, Sequence
 
@@ -22,6 +23,7 @@ from .shard import (
     SECONDS_OF_A_LOOK,
     TIMEOUTS,
     BadSave,
+    Block,
     LoadFailed,
     Place,
     Shard,
@@ -125,7 +127,7 @@ class Table(AnyTable):
         """Starts the shards, on the workers in turn. If `cuts` isn't given, quantiles of these numbers are used."""
         if policy not in POLICIES:
             raise ValueError(f"policy must be one of {', '.join(POLICIES)}, not {policy}")
-        self._client, self._keys = client, kind
+        self._client, self._keys, self._lock = client, kind, threading.Lock()
         self._lost: dict[int, ShardLost] = {}
         workers = sorted(client.nthreads())
         if not workers:
@@ -170,8 +172,9 @@ class Table(AnyTable):
     # Asking shards
 
     def _check_open(self) -> None:
-        if not self._futures:
-            raise Closed("the table is closed")
+        with self._lock:
+            if not self._futures:
+                raise Closed("the table is closed")
 
     def _lose(self, shard: int, why: str) -> ShardLost:
         """Treats a shard as lost from now on."""
@@ -182,9 +185,15 @@ class Table(AnyTable):
 
     def _ask(self, words: dict[int, tuple], name: str) -> tuple[dict[int, Any], dict[int, Error]]:
         """Asks shards, all at once. Returns the answers, and the errors of those that have none."""
-        self._check_open()
         answers: dict[int, Any] = {}
-        errors: dict[int, Error] = {it: self._lost[it] for it in words if it in self._lost}
+        errors: dict[int, Error] = {}
+        self._gather(words, name, answers, errors)
+        return answers, errors
+
+    def _gather(self, words: dict[int, tuple], name: str, answers: dict[int, Any], errors: dict[int, Error]) -> None:
+        """Asks shards, all at once. Adds what comes to the answers and errors, until all of it has come."""
+        self._check_open()
+        errors.update((it, self._lost[it]) for it in words if it in self._lost)
         waiting = {it: self._start(it, name, these, errors) for it, these in words.items() if it not in errors}
         for shard, future in waiting.items():
             if future is None:
@@ -197,7 +206,6 @@ class Table(AnyTable):
                     errors[shard] = self._lose(shard, "its worker was restarted")
             except Error as error:
                 errors[shard] = error
-        return answers, errors
 
     def _start(self, shard: int, name: str, words: tuple, errors: dict[int, Error]) -> Any:
         try:
@@ -249,15 +257,17 @@ class Table(AnyTable):
     def _insert_many(self, keys: Any, payloads: Any) -> Any:
         shards = shard_of(self._cuts, keys)
         blocks = list(blocks_of(shards))
-        words = {shard: (keys[places], payloads[places]) for shard, places in blocks}
-        answers, errors = self._ask(words, "_insert_many")
-        rows, is_done = np.zeros(len(keys), np.uint64), np.zeros(len(keys), bool)
-        for shard, places in blocks:
-            error = errors.get(shard)
-            placed = answers.get(shard, error.answers if isinstance(error, Refused) else None)
-            if placed is not None:
-                some = places[: len(placed)]
-                rows[some], is_done[some] = placed | np.uint64(shard << SHARD_SHIFT), True
+        words: dict[int, tuple] = {shard: (keys[places], payloads[places]) for shard, places in blocks}
+        answers: dict[int, Any] = {}
+        errors: dict[int, Error] = {}
+        try:
+            self._gather(words, "_insert_many", answers, errors)
+        except BaseException as error:
+            # (the handler of a signal may raise anything)
+            rows, is_done = placed_rows(blocks, answers, errors, len(keys))
+            error.answers = rows[is_done]
+            raise
+        rows, is_done = placed_rows(blocks, answers, errors, len(keys))
         if errors:
             raise error_of(errors, shards, is_done, rows[is_done])
         return rows
@@ -546,6 +556,21 @@ def ends_text(keys: Keys, low: int, high: int) -> str:
     if high == TOP:
         return f"keys from {keys.back_one(low)}"
     return f"keys {keys_text(keys, low, high)}"
+
+
+def placed_rows(
+    blocks: Sequence[Block], answers: dict[int, Any], errors: dict[int, Error], count: int
+) -> tuple[Any, Any]:
+    """The numbers of the rows that shards placed, by the places of these among all that were given, and which of the
+    places have one."""
+    rows, is_done = np.zeros(count, np.uint64), np.zeros(count, bool)
+    for shard, places in blocks:
+        error = errors.get(shard)
+        placed = answers.get(shard, error.answers if isinstance(error, Refused) else None)
+        if placed is not None:
+            some = places[: len(placed)]
+            rows[some], is_done[some] = placed | np.uint64(shard << SHARD_SHIFT), True
+    return rows, is_done
 
 
 def error_of(errors: dict[int, Error], shards: Any, is_done: Any, answers: Any = None) -> Error:

@@ -34,7 +34,19 @@ class Closed(Error, ValueError):
 
 
 class Disconnected(Error, ConnectionError):
-    """The server closed the connection, or can't be reached."""
+    """The connection with the server is closed, or there is none. `connect` makes a new one."""
+
+
+class TimedOut(Disconnected, TimeoutError):
+    """The server was silent for as long as `timeout` says, so the connection is closed."""
+
+
+class Busy(Error, RuntimeError):
+    """A handler of a signal asks the table of a connection whose call it interrupts."""
+
+
+class Forked(Error, RuntimeError):
+    """A forked child asks a table of its parent."""
 
 
 class Refused(Error):

@@ -34,6 +34,8 @@ FORMS = {
     "open": [_HANDLE, *_LIST, _U64, _U64, _U64],
     "close": [_HANDLE],
     "insert": [_HANDLE, _U64, _I64, _AT, _AT],
+    "delete": [_HANDLE, _U32, _U64, _AT, _AT, _AT],
+    "update": [_HANDLE, _U32, _U64, _U64, _I64, _AT],
     "count": [_HANDLE, _U32, _U64, _U64, _AT],
     "sum": [_HANDLE, _U32, _U64, _U64, _AT, _AT],
     "select": [_HANDLE, _U32, _U64, _U64, *_LIST * 4, _AT],

@@ -2,24 +2,28 @@
 
 from __future__ import annotations
 
+import functools
 import os
 import pathlib
 import shutil
 import socket
 import subprocess
+import sys
 import tempfile
 from typing import Any, Optional, Sequence
 
 from .arrays import whole
 from .base import MOST_PARTS, POLICIES, POLICY, parts_for
 from .client import Client, connect
-from .errors import Error, refused
+from .errors import Error, Forked, refused
 from .keys import Keys, kind_of, quantiles
 
 TRIES = 5
 SECONDS_OF_AN_END = 10
-# where the program is in a checkout of the repository whose python/ this package is
+# where `make run` and `make program-unproved` build the program, in a checkout of the repository whose python/ this
+# package is
 BUILT = pathlib.Path(__file__).resolve().parent.parent.parent / "crates" / "crackd" / "out" / "crackd"
+UNPROVED = BUILT.with_name("crackd-unproved")
 
 
 class NoServer(Error):
@@ -27,16 +31,26 @@ class NoServer(Error):
 
 
 def find_program(path: Optional[str] = None) -> str:
-    """The path of the program: the given one, that of the variable CRACKD, the one built in this checkout, or the one
-    on PATH."""
+    """The path of the program: the given one, that of the variable CRACKD, the one built in this checkout, the one on
+    PATH, or else the unproved one of this checkout, which a line on standard error reports."""
     found = path or os.environ.get("CRACKD") or (str(BUILT) if BUILT.exists() else shutil.which("crackd"))
+    if found is None and UNPROVED.exists():
+        _report_unproved()
+        return str(UNPROVED)
     if found is None:
         is_checkout = BUILT.parent.parent.exists()
         raise NoServer(
             (f"{BUILT} isn't built, and " if is_checkout else "")
-            + "PATH has no crackd; `make run` in the repository builds it"
+            + "PATH has no crackd; `make run` in the repository builds it, or in a minute, without a proof, "
+            + "`make program-unproved`"
         )
     return str(found)
+
+
+@functools.cache
+def _report_unproved() -> None:
+    """Says once that the program that is used isn't proved."""
+    print(f"crackd: using {UNPROVED}, which isn't proved", file=sys.stderr)
 
 
 def free_port() -> int:
@@ -49,7 +63,7 @@ class Server:
     """A server that `serve` started on 127.0.0.1, at port `port`."""
 
     def __init__(self, command: Sequence[str], keys: Keys, policy: str):
-        self._keys, self._policy = keys, policy
+        self._keys, self._policy, self._parent = keys, policy, os.getpid()
         for _ in range(TRIES):
             self.port = free_port()
             self._start(command)
@@ -95,6 +109,8 @@ class Server:
 
     def close(self) -> None:
         """Ends the server and its table. A second call does nothing."""
+        if os.getpid() != self._parent:
+            raise Forked("the server is that of the parent process, which alone ends it")
         if self._errors.closed:
             return
         self._process.terminate()
@@ -113,7 +129,7 @@ class Server:
 
     def __del__(self) -> None:
         process = getattr(self, "_process", None)
-        if process is not None and process.poll() is None:
+        if process is not None and os.getpid() == self._parent and process.poll() is None:
             process.kill()
             process.wait()
 
@@ -154,8 +170,8 @@ def serve(
     those of `sample`.
 
     In a `with` the server ends with the block. `workers`, 1 to 64, is how many connections it serves at a time.
-    `history` and `cells` are the limits of each partition, and `program` is the path of crackd. The other options are
-    those of `Table`.
+    `history` and `cells` are the limits of each partition, which empties its history when that is full. `program` is
+    the path of crackd. The other options are those of `Table`.
     """
     if policy not in POLICIES:
         raise ValueError(f"policy must be one of {', '.join(POLICIES)}, not {policy}")
@@ -163,5 +179,5 @@ def serve(
     cuts = splits_of(kind, sample, rows, partitions, splits)
     limits = (("--workers", "workers", workers), ("--limit", "history", history), ("--cells", "cells", cells))
     words = [word for option, name, it in limits if it is not None for word in (option, str(whole(it, name)))]
-    command = [find_program(program), "--until-eof", "--quiet", *words, *map(str, cuts)]
+    command = [find_program(program), "--until-eof", "--auto-checkpoint", "--quiet", *words, *map(str, cuts)]
     return Server(command, kind, policy)

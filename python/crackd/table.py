@@ -4,12 +4,12 @@ from __future__ import annotations
 
 import array
 import threading
-from ctypes import byref, c_int64, c_uint32, c_uint64
+from ctypes import byref, c_int64, c_uint8, c_uint32, c_uint64
 from typing import Any, Iterator, Optional, Sequence
 
 from .arrays import TOP, address, empty, from_ints, np, plain, whole
 from .base import POLICIES, POLICY, SERIAL, SHIFT, AnyTable
-from .errors import Closed, Refused, refused
+from .errors import Closed, refused
 from .keys import Keys, kind_of
 from .layout import PartLayout, Piece
 from .library import Handle, Totals, library
@@ -63,6 +63,8 @@ class Table(AnyTable):
         # (about how many rows were inserted and not deleted, and how many rows selects listed since the last
         # checkpoints)
         self._held = self._listed = 0
+        # (where the library writes the rows that single deletes remove)
+        self._removed = byref(c_uint64()), byref(c_int64())
 
     @classmethod
     def from_arrays(cls, keys: Any, payloads: Any = None, **options: Any) -> "Table":
@@ -95,8 +97,15 @@ class Table(AnyTable):
             raise Closed("the table is closed") if code == CLOSED else refused(code, done)
 
     def _check_open(self) -> None:
-        if not self._handle.is_open:
-            raise Closed("the table is closed")
+        with self._lock:
+            if not self._handle.is_open:
+                raise Closed("the table is closed")
+
+    def _leave(self) -> None:
+        super()._leave()
+        # (the parent's memory isn't freed here, since another of its threads may have been changing it)
+        self._handle = Handle()
+        self._ref = byref(self._handle)
 
     def _insert(self, key: int, payload: int) -> int:
         part, serial = c_uint32(), c_uint64()
@@ -105,17 +114,31 @@ class Table(AnyTable):
             self._held += 1
         return part.value << SHIFT | serial.value
 
+    def _delete(self, row: int) -> bool:
+        gone = c_uint8()
+        with self._lock:
+            self._check(self._library.delete(self._ref, row >> SHIFT, row & SERIAL, byref(gone), *self._removed))
+            self._held -= gone.value
+        return gone.value == 1
+
+    def _update(self, row: int, key: int, payload: int) -> bool:
+        found = c_uint8()
+        with self._lock:
+            self._check(self._library.update(self._ref, row >> SHIFT, row & SERIAL, key, payload, byref(found)))
+        return found.value == 1
+
     def _insert_many(self, keys: Any, payloads: Any) -> Any:
         parts, serials, done = empty("I", len(keys)), empty("Q", len(keys)), c_uint64()
-        with self._lock:
-            code = self._run(self._library.insert_many, keys, payloads, parts, serials, byref(done))
-            self._held += done.value
         try:
+            with self._lock:
+                code = self._run(self._library.insert_many, keys, payloads, parts, serials, byref(done))
+                self._held += done.value
             self._check(code, done.value)
-        except Refused as error:
+            return _joined(parts, serials)
+        except BaseException as error:
+            # (a signal is noticed once the library has returned, and its handler may raise anything)
             error.answers = _joined(parts[: done.value], serials[: done.value])
             raise
-        return _joined(parts, serials)
 
     def _delete_many(self, rows: Any) -> Any:
         (parts, serials), found, done = _parted(rows), empty("B", len(rows)), c_uint64()
@@ -160,6 +183,9 @@ class Table(AnyTable):
         answers = [empty(code, len(firsts)) for code in codes]
         call = self._library.count_many if len(codes) == 1 else self._library.sum_many
         code = self._run(call, self._policy, firsts, lasts, *answers, byref(done))
+        if whole is not None and done.value < len(whole):
+            # (the empty ranges before the refused one are done as well)
+            done.value = int(whole[done.value])
         self._check(code, done.value)
         return answers if whole is None else [_spread(code, it, whole, size) for code, it in zip(codes, answers)]
 
@@ -194,6 +220,14 @@ class Table(AnyTable):
             self._check(self._library.checkpoint(self._ref, part, byref(each)))
             folded += each.value
         return folded
+
+    def _rows(self) -> int:
+        totals, rows = Totals(), 0
+        with self._lock:
+            for part in range(self.partitions):
+                self._check(self._run(self._library.layout, part, byref(totals), empty("Q", 0), empty("Q", 0)))
+                rows += totals.rows
+        return rows
 
     def _layouts(self) -> Iterator[PartLayout]:
         with self._lock:

@@ -104,6 +104,17 @@ class Pair:
             done = error.done
         self.rows.update(list(zip(rows, zip(keys, payloads)))[:done])
 
+    def delete_one(self):
+        for row in self.some_rows()[:1]:
+            expect("gone", True, self.table.delete(row))
+            del self.rows[row]
+
+    def update_one(self):
+        for row in self.some_rows()[:1]:
+            changed = self.rows[row][0], self.rng.randrange(-100, 100)
+            expect("found", True, self.table.update(row, *changed))
+            self.rows[row] = changed
+
     def count(self):
         low, high = self.range()
         expect("count", len(self.inside(low, high)), self.table.count(low, high))
@@ -135,7 +146,7 @@ class Pair:
     def step(self):
         """A random call. A refused one has changed nothing but what it reports."""
         calls = [self.insert, self.insert_one] if len(self.rows) < MOST_ROWS else []
-        calls += [self.delete, self.update] if self.rows else []
+        calls += [self.delete, self.update, self.delete_one, self.update_one] if self.rows else []
         calls += [self.count, self.sum, self.many, self.select] + [self.others] * (self.rng.random() < 0.1)
         try:
             self.rng.choice(calls)()

@@ -304,6 +304,21 @@ class Refusals(OnWorkers, unittest.TestCase):
             self.assertEqual((len(error.answers), table.count(), table.sum()), (4, 4, 23))
             self.assertEqual(list(table.delete_many(error.answers)), [True] * 4)
 
+    def test_an_interrupted_insert_of_many_gives_back_the_rows_of_its_answers(self):
+        with self.table(splits=[100, 200]) as table:
+            result, asked = table._result, []
+
+            def interrupted(shard, future):
+                asked.append(shard)
+                if shard == 2:
+                    raise KeyboardInterrupt
+                return result(shard, future)
+
+            with mock.patch.object(table, "_result", interrupted), self.assertRaises(KeyboardInterrupt) as caught:
+                table.insert_many([250, 1, 150, 2], [1, 2, 4, 8])
+            rows = caught.exception.answers
+            self.assertEqual((asked, list(table.delete_many(rows)), table.sum(None, 200)), ([0, 1, 2], [True] * 3, 0))
+
     def test_the_first_refused_row_says_why(self):
         with self.table(splits=[100], cells=2) as table:
             rows = table.insert_many([1, 150], [1, 2])

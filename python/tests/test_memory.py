@@ -10,6 +10,24 @@ import unittest
 from ways import refusing, wants_gcc, wants_library
 
 HERE = pathlib.Path(__file__).resolve().parent
+# fills a table until memory is refused, and prints how many rows that are and what `len` says then
+FILL = """
+import resource
+from ways import crackd
+table, placed, keys = crackd.Table(), 0, range(20_000)
+with open("/proc/self/statm", encoding="ascii") as file:
+    room = int(file.read().split()[0]) * resource.getpagesize() + 60 * 2**20
+resource.setrlimit(resource.RLIMIT_AS, (room, resource.RLIM_INFINITY))
+try:
+    while True:
+        placed += len(table.insert_many(keys, keys))
+except crackd.OutOfMemory as error:
+    placed += error.done
+try:
+    table.count()
+except crackd.OutOfMemory:
+    print(placed, len(table))
+"""
 STEPS, ONE_IN, STEPS_IN_TURN, SECONDS = 100_000, 25, 40, 600
 
 
@@ -37,6 +55,19 @@ class Refusals(unittest.TestCase):
 
     def test_each_allocation_refused_in_turn(self):
         self.assertGreater(self.run_refused(str(STEPS_IN_TURN), "turn"), 50)
+
+
+@wants_library
+class Lengths(unittest.TestCase):
+    """What `len` returns where a query finds no memory."""
+
+    def test_the_length_after_memory_ran_out(self):
+        how = {"cwd": HERE, "capture_output": True, "text": True, "timeout": SECONDS}
+        ran = subprocess.run([sys.executable, "-c", FILL], check=False, **how)
+        self.assertEqual((ran.returncode, ran.stderr), (0, ""))
+        placed, length = map(int, ran.stdout.split())
+        self.assertGreater(placed, 100_000)
+        self.assertEqual(length, placed)
 
 
 if __name__ == "__main__":

@@ -1,36 +1,30 @@
 """Servers that are children of this process, and connections."""
 
+import concurrent.futures
 import contextlib
 import os
 import pickle
-import socket
 import subprocess
 import sys
-import threading
 import unittest
+from unittest import mock
 
-from ways import crackd, wants_program
+from test_table import Cases
+from ways import crackd, standing_in, wants_program
 
-from crackd import server
+from crackd import client, server
+
+CLIENTS, CALLS, HISTORY = 4, 300, 100
 
 
-@contextlib.contextmanager
 def answered(replies):
     """The port of a server that answers these bytes, whatever it is sent, and then closes the connection."""
-    with socket.socket() as listening:
-        listening.bind(("127.0.0.1", 0))
-        listening.listen()
 
-        def answer():
-            with listening.accept()[0] as connection:
-                connection.recv(4096)
-                connection.sendall(b"policy auto\n" + replies)
-                connection.recv(4096)
+    def play(connection):
+        connection.sendall(replies)
+        connection.recv(4096)
 
-        thread = threading.Thread(target=answer)
-        thread.start()
-        yield listening.getsockname()[1]
-        thread.join()
+    return standing_in(play)
 
 
 class Connections(unittest.TestCase):
@@ -53,6 +47,44 @@ class Connections(unittest.TestCase):
         with answered(b"row 0.0\nrow 0") as port:
             table = crackd.connect(port=port)
             self.assertRaises(crackd.Disconnected, table.insert_many, [1, 2], [1, 2])
+
+    def test_a_select_that_is_interrupted_ends_the_connection(self):
+        with answered(b"rows 2\n0.0 1 5\n0.1 1 7\n") as port:
+            table, block, lines = crackd.connect(port=port), client.Channel.block, []
+
+            def interrupted(channel, count):
+                lines.append(count)
+                if len(lines) == 2:
+                    raise KeyboardInterrupt
+                return block(channel, count)
+
+            with mock.patch.object(client.Channel, "block", interrupted):
+                self.assertRaises(KeyboardInterrupt, table.select)
+            self.assertEqual(lines, [1, 2])
+            self.assertRaises(crackd.Closed, table.count)
+
+    def test_a_checkpoint_that_is_refused(self):
+        refused = b"refused 8\n" + b"refused 5\n" * 63
+        with answered(b"row 0.0\nrefused 6 2\nrow 1.0\n" + refused) as port:
+            table = crackd.connect(port=port)
+            with self.assertRaises(crackd.OutOfMemory) as caught:
+                table.insert_many([1, 2, 3], [1, 2, 4])
+            error = caught.exception
+            self.assertEqual((error.code, error.done, error.later, list(error.answers)), (8, 1, 1, [0, 1 << 48]))
+        for replies, call in ((b"refused 6 2\n" + refused, "select"), (refused, "checkpoint")):
+            with answered(replies) as port:
+                self.assertRaises(crackd.OutOfMemory, getattr(crackd.connect(port=port), call))
+
+    def test_the_length_without_memory_for_a_query(self):
+        totals = b"layout %d rows %d column 0 out 0 in 3 cells 3 free 0 pieces 1\npiece 0 9 0\n"
+
+        def play(connection):
+            connection.sendall(b"refused 8\n" + totals % (0, 3) + totals % (1, 4) + b"refused 5\nbye\n")
+            while connection.recv(4096):
+                pass
+
+        with standing_in(play) as port, crackd.connect(port=port) as table:
+            self.assertEqual(len(table), 7)
 
     def test_no_program(self):
         with self.assertRaises(crackd.NoServer) as caught:
@@ -99,6 +131,17 @@ class Servers(unittest.TestCase):
             with crackd.serve(range(20_480), rows) as served, served.connect() as table:
                 self.assertEqual(table.partitions, parts)
 
+    def test_clients_are_never_refused_for_a_full_history(self):
+        def work(number):
+            with served.connect() as table:
+                for _ in range(CALLS):
+                    table.insert_many([number] * 50, [1] * 50)
+                return table.count(number, number + 1)
+
+        with crackd.serve(workers=CLIENTS, history=HISTORY) as served:
+            with concurrent.futures.ThreadPoolExecutor(CLIENTS) as pool:
+                self.assertEqual(list(pool.map(work, range(CLIENTS))), [50 * CALLS] * CLIENTS)
+
     def test_it_ends_with_the_block(self):
         with crackd.serve() as served:
             table = served.connect()
@@ -135,6 +178,21 @@ class Servers(unittest.TestCase):
             self.assertEqual(sorted(int(it) for it in got.payloads)[:2], [count // 4 - 5, count // 4 - 4])
             self.assertEqual(len(got.rows), count - count // 4)
             self.assertTrue(all(table.delete_many(rows)))
+
+
+@wants_program
+class WithoutCheckpoints(unittest.TestCase):
+    """Servers that make no checkpoint by themselves: the client asks for one."""
+
+    @contextlib.contextmanager
+    def table(self, sample, partitions, history):
+        splits = [str(2**63 + sample[1])] if partitions == 2 else []
+        words = ["--workers", "1", "--until-eof", "--quiet", "--limit", str(history), *splits]
+        keys = crackd.keys.Keys("i")
+        with server.Server([server.find_program(), *words], keys, "auto") as served, served.connect() as table:
+            yield table
+
+    test_histories_are_emptied = Cases.test_histories_are_folded_by_themselves
 
 
 if __name__ == "__main__":

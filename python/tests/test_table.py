@@ -107,6 +107,41 @@ class Cases:
             )
             self.assertEqual((table.count(), table.delete(12345), table.update(12345, 1, 1)), (1, False, False))
 
+    def test_single_deletes_and_updates(self):
+        with self.table(splits=[100]) as table:
+            rows = [table.insert(key, payload) for key, payload in ((1, 10), (150, 20), (2, 40))]
+            self.assertEqual((table.update(rows[0], 5, -7), table.sum(5, 6), table.count(1, 2)), (True, -7, 0))
+            self.assertEqual((table.update(rows[1], 200, GREATEST), table.sum(200)), (True, GREATEST))
+            self.assertEqual((table.delete(rows[0]), table.delete(rows[0]), table.count()), (True, False, 2))
+            self.assertIs(table.update(rows[0], 5, 1), False)
+            for call, kind, code in (
+                (lambda: table.update(rows[2], 100, 1), crackd.WrongPartition, 4),
+                (lambda: table.update(9 << 48, 1, 1), crackd.NoSuchPartition, 5),
+                (lambda: table.delete(9 << 48), crackd.NoSuchPartition, 5),
+            ):
+                with self.assertRaises(kind) as caught:
+                    call()
+                self.assertEqual((caught.exception.code, caught.exception.done), (code, 0))
+            self.assertEqual((table.count(), table.sum(None, 3)), (2, 40))
+
+    def test_wrong_rows_of_single_deletes_and_updates(self):
+        with self.table() as table:
+            row = table.insert(1, 10)
+            for wrong, kind in (
+                (-1, OverflowError),
+                (UNSIGNED + 1, OverflowError),
+                (0.0, TypeError),
+                ("0", TypeError),
+                (False, TypeError),
+            ):
+                with self.subTest(wrong):
+                    self.assertRaises(kind, table.delete, wrong)
+                    self.assertRaises(kind, table.update, wrong, 1, 1)
+            self.assertRaises(OverflowError, table.update, row, 2**63, 1)
+            self.assertRaises(OverflowError, table.update, row, 1, 2**63)
+            self.assertRaises(TypeError, table.update, row, 1, 1.5)
+            self.assertEqual((table.count(), table.sum(1, 2)), (1, 10))
+
     def test_sums_beyond_64_bits_are_exact(self):
         for payload in (GREATEST, -(2**63)):
             with self.table() as table:

@@ -105,6 +105,25 @@ class SharingInProcess(Sharing, InProcess, unittest.TestCase):
                 thread.join()
         self.assertGreater(meanwhile, 1000)
 
+    def test_single_updates_and_deletes_take_about_as_long_as_inserts(self):
+        def seconds(call, words):
+            begun = time.perf_counter()
+            for each in words:
+                call(*each)
+            return time.perf_counter() - begun
+
+        def times():
+            with crackd.Table() as table:
+                rows = [(table.insert(key, 1),) for key in keys]
+                inserts = seconds(table.insert, [(key, 1) for key in keys])
+                updates = seconds(table.update, [(row, key, 2) for key, (row,) in zip(keys, rows)])
+                return updates / inserts, seconds(table.delete, rows) / inserts
+
+        keys = range(5000)
+        # (on a quiet machine each takes 0.7 to 1.1 times as long)
+        least = [min(it) for it in zip(*[times() for _ in range(7)])]
+        self.assertLess(max(least), 2)
+
     def test_memory_is_given_back(self):
         def resident():
             with open("/proc/self/statm", encoding="ascii") as file:

@@ -4,8 +4,10 @@ import contextlib
 import os
 import pathlib
 import shutil
+import socket
 import subprocess
 import sys
+import threading
 import unittest
 
 sys.path.insert(0, str(pathlib.Path(__file__).resolve().parent.parent))
@@ -39,6 +41,26 @@ def refusing(room, **environment):
     subprocess.run(["gcc", "-shared", "-fPIC", "-O2", "-o", made, source, "-ldl"], check=True)
     pathlib.Path(told).write_bytes(bytes(16))
     return {"LD_PRELOAD": made, "REFUSE_TELLS": told, "REFUSE_SWITCHED": "1", **environment}
+
+
+@contextlib.contextmanager
+def standing_in(play):
+    """The port of a stand-in for a server. It takes one connection, answers its first statement as a server does, and
+    then calls a function with it."""
+    with socket.socket() as listening:
+        listening.bind(("127.0.0.1", 0))
+        listening.listen()
+
+        def answer():
+            with listening.accept()[0] as connection:
+                connection.recv(4096)
+                connection.sendall(b"policy auto\n")
+                play(connection)
+
+        thread = threading.Thread(target=answer)
+        thread.start()
+        yield listening.getsockname()[1]
+        thread.join()
 
 
 class InProcess:

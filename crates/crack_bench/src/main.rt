@@ -1,6 +1,7 @@
 //! Measures the table, layer by layer, and prints histories of its workers:
 //!
-//! - `crack_bench arena|column|counts|sums|each|cold|pass|updates|merge|pulls|fold ..`: one layer on one thread;
+//! - `crack_bench arena|column ..`: one layer on one thread;
+//! - `crack_bench counts|sums|each|rising|narrow|cold|pass|updates|ageing|merge|pulls|fold ..`: a partition;
 //! - `crack_bench workers ..`: workers on threads;
 //! - `crack_bench histories ..`: what workers on threads asked and were answered;
 //! - `crack_bench all`: small runs of these.
@@ -29,6 +30,9 @@ const ALL: &[&[&str]] = &[
     &["sums", "gradual", "100", "20"],
     &["each", "gradual", "100", "20"],
     &["fold", "gradual", "100", "20"],
+    &["rising", "auto", "100", "20"],
+    &["narrow", "auto", "100", "20"],
+    &["ageing", "auto", "100", "30", "2"],
     &["workers", "own", "2", "50", "20"],
     &["workers", "shared", "2", "50", "20"],
     &["workers", "gathered", "2", "50"],

@@ -54,8 +54,8 @@ pub fn explained(outcome: Option<Outcome>) -> anyhow::Result<()> {
         Some(Err(Failure::Refused(refusal))) => Err(refusal.into()),
         Some(Err(Failure::Unwritten(error))) => Err(error.into()),
         None => Err(anyhow::anyhow!(
-            "arena, column, counts, sums, each, cold, pass, updates, merge, pulls, fold, workers, histories or all, \
-            with their words"
+            "arena, column, counts, sums, each, rising, narrow, cold, pass, updates, ageing, merge, pulls, fold, \
+            workers, histories or all, with their words"
         )),
     }
 }

@@ -1,10 +1,10 @@
 //! Measurements on one thread, of the arena, the cracker column and a partition that merges by a policy:
 //! `crack_bench arena STEPS ROWS`, `crack_bench column ROWS`,
-//! `crack_bench counts|sums|each|cold|pass POLICY ROWS RANGES`,
-//! `crack_bench updates POLICY ROWS BATCHES SIZE`, `crack_bench merge POLICY ROWS PIECES PENDING`,
+//! `crack_bench counts|sums|each|rising|narrow|cold|pass POLICY ROWS RANGES`,
+//! `crack_bench updates|ageing POLICY ROWS BATCHES SIZE`, `crack_bench merge POLICY ROWS PIECES PENDING`,
 //! `crack_bench pulls POLICY ROWS PIECES DELETES`, or `crack_bench fold POLICY ROWS CHANGES`.
 //!
-//! `cold`, `updates`, `merge` and `pulls` also write the counts of the merges to standard error.
+//! `cold`, `updates`, `ageing`, `merge` and `pulls` also write the counts of the merges to standard error.
 
 mod arena;
 mod column;

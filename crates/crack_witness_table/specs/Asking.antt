@@ -11,8 +11,8 @@ use Rattle.crack_witness.specs.Histories.{calls_at, AreHistories}
 use Rattle.crack_witness.specs.Witnesses.{AskerState, IsGiven}
 use Rattle.crack_table.specs.Tables.{TableState, AnswersAt, MayRefuse}
 
--- why a partition that exists may refuse a worker: as `MayRefuse` says; 16 with the partition and the number of its replies there, or 5 if the worker
--- knows of no such partition, both only for workers of other tables
+-- why a partition that exists may refuse a worker: as `MayRefuse` says; 16 with the partition and the number of its replies there; or 5 if the worker
+-- knows of no such partition
 abbrev pub MayRefuseAsker : TableState → (ℕ → Type 0) → ℕ → Command → AskerState → Refusal → Type 0
 MayRefuseAsker table may_refuse part command asker e =
     MayRefuse table may_refuse command e

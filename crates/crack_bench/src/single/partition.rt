@@ -16,6 +16,9 @@ const KEYS_END: BoundNumber = 4294967296;
 /// The width of a random range: a hundredth of these keys.
 const WIDTH: BoundNumber = 42949672;
 
+/// The width of a narrow range: a thousandth.
+const NARROW_WIDTH: BoundNumber = 4294967;
+
 /// What a partition is asked.
 #[derive(Clone, Copy)]
 pub enum Ask {
@@ -39,6 +42,10 @@ pub enum Keys {
     All,
     /// A random range.
     Random,
+    /// A narrow range at a random place.
+    Narrow,
+    /// The next one of as many neighbouring ranges of one width, from the lowest up.
+    Rising,
     /// One range in the upper half.
     Upper,
     /// A random range of half the width in the upper half.
@@ -109,6 +116,11 @@ impl Measured {
         let (low, width) = match keys {
             Keys::All => (0, GREATEST_BOUND),
             Keys::Random => (self.place(), WIDTH),
+            Keys::Narrow => (self.place(), NARROW_WIDTH),
+            Keys::Rising => {
+                let width = KEYS_END / BoundNumber::from(self.sizes.first.max(1));
+                (width * BoundNumber::from(at), width)
+            }
             Keys::Upper => (KEYS_END / 2, WIDTH),
             Keys::RandomUpper => (KEYS_END / 2 + self.place() / 2, WIDTH / 2),
             Keys::Below => {
@@ -178,11 +190,11 @@ impl Measured {
         Ok(())
     }
 
-    /// Batches of updates, each with the sum of a random range after it.
-    pub fn update_in_batches(&mut self) -> Result<(), Refusal> {
-        'batches: for at in 0..self.sizes.first {
+    /// As many batches of updates, each with the sum of such a range after it.
+    pub fn update_in_batches(&mut self, batches: u32, keys: Keys) -> Result<(), Refusal> {
+        'batches: for at in 0..batches {
             self.repeat(Ask::Update, self.sizes.second)?;
-            self.ask(Ask::Sum(Keys::Random), at)?;
+            self.ask(Ask::Sum(keys), at)?;
         }
         Ok(())
     }

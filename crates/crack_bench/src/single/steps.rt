@@ -26,6 +26,10 @@ enum Times {
     Bounds,
     First,
     Second,
+    /// For a tenth of the first number.
+    Tenth,
+    /// For the first number less two tenths.
+    EightTenths,
 }
 
 /// A step of a measurement of a partition.
@@ -34,8 +38,8 @@ enum Step {
     Ask(Ask, Times),
     /// Asks as often. Writes the time of each under this name.
     Each(Ask, Times, &'static str),
-    /// Updates in batches, with a sum after each.
-    Batches,
+    /// As many batches of updates, with a sum of such a range after each.
+    Batches(Times, Keys),
     /// Lists the rows from which updates and deletions choose.
     List,
     /// Begins a part: its time, its checksum and its numbers.
@@ -159,10 +163,52 @@ const UPDATES: Kind = Kind {
     steps: &[
         Step::List,
         Step::Begin,
-        Step::Batches,
+        Step::Batches(Times::First, Keys::Random),
         Step::Time("updates"),
         Step::Sum("updates"),
         Step::Tally,
+    ],
+};
+
+/// Batches of updates, each with the sum of a thousandth: the first tenth, and the last one.
+const AGEING: Kind = Kind {
+    numbers: 2,
+    load: COUNTED,
+    steps: &[
+        Step::List,
+        Step::Begin,
+        Step::Batches(Times::Tenth, Keys::Narrow),
+        Step::Time("first"),
+        Step::Batches(Times::EightTenths, Keys::Narrow),
+        Step::Time("middle"),
+        Step::Batches(Times::Tenth, Keys::Narrow),
+        Step::Time("last"),
+        Step::Sum("ageing"),
+        Step::Tally,
+    ],
+};
+
+/// Sums of neighbouring ranges, from the lowest up.
+const RISING: Kind = Kind {
+    numbers: 1,
+    load: COUNTED,
+    steps: &[
+        Step::Begin,
+        Step::Ask(Ask::Sum(Keys::Rising), Times::First),
+        Step::Time("rising"),
+        Step::Sum("rising"),
+    ],
+};
+
+/// Sums of random ranges of a thousandth.
+const NARROW: Kind = Kind {
+    numbers: 1,
+    load: COUNTED,
+    steps: &[
+        Step::Begin,
+        Step::Ask(Ask::Sum(Keys::Narrow), Times::First),
+        Step::Time("narrow"),
+        Step::Sum("narrow"),
     ],
 };
 
@@ -234,6 +280,9 @@ pub fn kind_of(name: &str) -> Option<Kind> {
         "sums" => Some(SUMS),
         "each" => Some(EACH),
         "updates" => Some(UPDATES),
+        "ageing" => Some(AGEING),
+        "rising" => Some(RISING),
+        "narrow" => Some(NARROW),
         "merge" => Some(MERGE),
         "pulls" => Some(PULLS),
         "fold" => Some(FOLD),
@@ -286,7 +335,9 @@ fn carry_out<R: Output>(rt: &R, table: &mut Measured, step: Step) -> Outcome {
     match step {
         Step::Ask(ask, times) => Ok(table.repeat(ask, number_of(times, table.sizes))?),
         Step::Each(ask, times, name) => measure_each(rt, table, ask, times, name),
-        Step::Batches => Ok(table.update_in_batches()?),
+        Step::Batches(times, keys) => {
+            Ok(table.update_in_batches(number_of(times, table.sizes), keys)?)
+        }
         Step::List => Ok(table.list_rows(rt.alloc())?),
         Step::Again => {
             table.numbers = table.begun;
@@ -328,6 +379,8 @@ fn number_of(times: Times, sizes: Sizes) -> u32 {
         Times::Bounds => sizes.first.saturating_sub(1),
         Times::First => sizes.first,
         Times::Second => sizes.second,
+        Times::Tenth => sizes.first / 10,
+        Times::EightTenths => sizes.first - sizes.first / 10 * 2,
     }
 }
 
