@@ -49,7 +49,7 @@ NUMBERS = [
     ("docs/C.md", "a partition makes a checkpoint (1 to {}), how", "crack_row", "GREATEST_LIMIT"),
     ("docs/C.md", "how many cells its rows may take (1 to {}), how", "crack_row", "GREATEST_CELLS"),
     ("docs/C.md", "there are more than {} splits", "crack_core", "MOST_SPLITS"),
-    ("docs/PYTHON.md", "a partition has all of its cells, at most {}", "crack_row", "GREATEST_CELLS"),
+    ("docs/PYTHON.md", "a partition has as many rows as cells, at most {}", "crack_row", "GREATEST_CELLS"),
     ("docs/PROOFS.md", "is answered until {} were accepted", "crack_plain", "MOST_ACCEPTED"),
     ("docs/PROOFS.md", "or after {} reads", "crack_session", "MOST_READS"),
     ("docs/PROOFS.md", "n is at most {}. On a fault", "crack_csv", "MOST_RECORDS"),
