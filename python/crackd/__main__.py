@@ -45,10 +45,11 @@ def splits(words: list[str]) -> int:
     options = parser.parse_args(words)
     if not 1 <= options.parts <= MOST_PARTS:
         parser.error(f"N must be 1 to {MOST_PARTS}")
-    if len(options.delimiter) != 1:
-        parser.error("a delimiter must be one character")
     key = int(options.key) if options.key.isdecimal() else options.key
-    file = CsvFile(options.file, options.delimiter, None, "utf-8-sig")
+    try:
+        file = CsvFile(options.file, options.delimiter, None, "utf-8-sig")
+    except ValueError as error:
+        parser.error(str(error))
     keys = [row[0] for row in file.rows([(key, Column(least=0, most=TOP - 1))])]
     print(*quantiles(keys, options.parts, max(1, len(keys))))
     return 0

@@ -14,7 +14,7 @@ import threading
 import uuid
 from typing import Any, Callable, Iterator, Optional, Sequence
 
-from .arrays import TOP, np
+from .arrays import TOP, np, whole
 from .base import MOST_PARTS, POLICIES, POLICY, SHIFT, AnyTable, parts_for
 from .errors import BadSplits, Closed, Error, Refused, refused
 from .keys import Keys, kind_of, quantiles
@@ -132,13 +132,13 @@ class Table(AnyTable):
         workers = sorted(client.nthreads())
         if not workers:
             raise ValueError("the cluster has no worker")
-        count = len(workers) if shards is None else shards
+        count = len(workers) if shards is None else whole(shards, "shards")
         if not 1 <= count <= MOST_SHARDS:
             raise ValueError(f"shards must be 1 to {MOST_SHARDS}, not {count}")
         self._cuts = np.array(quantiles(numbers, count, max(1, len(numbers))) if cuts is None else cuts, np.uint64)
         self.shards = len(self._cuts) + 1
         inner = [self._inner_cuts(numbers, it, parts_for(rows // self.shards)) for it in range(self.shards)]
-        options = {"policy": policy, "history": history, "cells": cells}
+        options = {"policy": policy, "history": whole(history, "history"), "cells": whole(cells, "cells")}
         self._futures = [self._begun(workers[at % len(workers)], it, options) for at, it in enumerate(inner)]
         try:
             self._actors = [self._actor(at, workers[at % len(workers)]) for at in range(self.shards)]
@@ -503,7 +503,9 @@ class Table(AnyTable):
 
         `key` and `payload` are columns, by name or number. Without a column of payloads these are 0, 1, 2 ..
         """
-        is_frame = hasattr(frame, "columns")
+        is_frame = hasattr(type(frame), "columns")
+        if not (hasattr(type(frame), "to_delayed") and (is_frame or hasattr(type(frame), "dtype"))):
+            raise TypeError(f"from_dask takes a Dask dataframe or array, not one of type {type(frame).__name__}")
         kind = Keys.of_dtype(frame[key].dtype if is_frame else frame.dtype)
         if is_frame:
             frame = frame[list(dict.fromkeys(it for it in (key, payload) if it is not None))]

@@ -6,12 +6,14 @@ import array
 import csv
 import datetime
 import decimal
+import itertools
+import math
 import os
 import re
 from dataclasses import dataclass
-from typing import Any, Callable, Iterator, Optional, Union
+from typing import Any, Callable, Iterator, Optional, Sequence, Union
 
-from .arrays import SIGN, TOP, np
+from .arrays import MOST_SHOWN, SIGN, TOP, np, shown, whole
 from .base import AnyTable
 from .errors import Error
 from .table import Table
@@ -19,9 +21,16 @@ from .table import Table
 HEADER = ["key", "payload"]
 WHOLE = re.compile(r"[+-]?[0-9]+")
 DECIMAL = re.compile(r"[+-]?(?:[0-9]+\.?[0-9]*|\.[0-9]+)")
+FLOAT = re.compile(rf"{DECIMAL.pattern}(?:e[+-]?[0-9]+)?|[+-]?inf(?:inity)?|[+-]?nan", re.ASCII | re.IGNORECASE)
+# the formats of dates that numpy reads as `strptime` does, if each field has all of its digits
+ISO = re.compile(r"%Y-%m-%d(?:[T ]%H(?::%M(?::%S(?:\.%f)?)?)?)?Z?")
+DIGITS = {"%Y": "0000", "%m": "00", "%d": "00", "%H": "00", "%M": "00", "%S": "00"}
+MOST_DECIMALS = 40
+# (few, so that they stay in the processor's caches)
+RECORDS_AT_ONCE = 1000
 EPOCH = datetime.datetime(1970, 1, 1)
 MICROSECOND = datetime.timedelta(microseconds=1)
-SHOWN = 40
+LEAST_DATE = None if np is None else np.datetime64(datetime.datetime.min)
 
 Place = Union[str, int]
 
@@ -52,75 +61,140 @@ class Column:
             return self._float
         return self._decimal if self.decimals else self._whole
 
+    def read_all(self, fields: list[str]) -> Sequence:
+        """The numbers of many fields. If this can't read them all it raises ValueError, and `reader` may still be able
+        to."""
+        if self.format is not None:
+            return dates_of_numpy(fields, self.format)
+        if self.is_float or self.decimals:
+            return list(map(self.reader(), fields))
+        text = "".join(fields)
+        if not (text.isascii() and text.replace("-", "").replace("+", "").isdigit()):
+            raise ValueError("more than digits and signs")
+        found = list(map(int, fields))
+        if not self.least <= min(found) <= max(found) <= self.most:
+            raise ValueError("out of bounds")
+        return found
+
+    @property
+    def code(self) -> str:
+        """The type of the numbers, as the module `array` names it."""
+        return "d" if self.is_float else "q" if self.format is not None or self.least < 0 else "Q"
+
     def _date(self, field: str) -> int:
         try:
             date = datetime.datetime.strptime(field.strip(), self.format)
         except ValueError:
-            raise ValueError(f"{shown(field)} isn't a date of the form {self.format!r}") from None
+            raise ValueError(f"{quoted(field)} isn't a date of the form {self.format!r}") from None
         if date.tzinfo is not None:
             date = date.astimezone(datetime.timezone.utc).replace(tzinfo=None)
         return (date - EPOCH) // MICROSECOND
 
     def _float(self, field: str) -> float:
-        try:
-            number = float(field)
-        except ValueError:
-            raise ValueError(f"{shown(field)} isn't a number") from None
+        text = field.strip()
+        if FLOAT.fullmatch(text) is None:
+            raise ValueError(f"{quoted(field)} isn't a number")
+        number = float(text)
         if number != number:
             raise ValueError("NaN can't be a key")
+        if math.isinf(number) and "n" not in text.lower():
+            raise ValueError(f"{quoted(field)} is beyond all floats")
         return number
 
     def _whole(self, field: str) -> int:
         text = field.strip()
         if WHOLE.fullmatch(text) is None:
-            raise ValueError(f"{shown(field)} isn't an integer")
-        return self._bounded(int(text) if len(text) <= SHOWN else TOP, field)
+            raise ValueError(f"{quoted(field)} isn't an integer")
+        return self._bounded(int(text) if len(text) <= MOST_SHOWN else TOP, field)
 
     def _decimal(self, field: str) -> int:
         text = field.strip()
-        if DECIMAL.fullmatch(text) is None or len(text) > SHOWN:
-            raise ValueError(f"{shown(field)} isn't a decimal number")
+        if DECIMAL.fullmatch(text) is None or len(text) > MOST_SHOWN:
+            raise ValueError(f"{quoted(field)} isn't a decimal number")
         scaled = decimal.Decimal(text).scaleb(self.decimals, decimal.Context(prec=100))
         if scaled != scaled.to_integral_value():
-            raise ValueError(f"{shown(field)} has more than {self.decimals} decimal places")
+            raise ValueError(f"{quoted(field)} has more than {self.decimals} decimal places")
         return self._bounded(int(scaled), field)
 
     def _bounded(self, number: int, field: str) -> int:
         if not self.least <= number <= self.most:
             times = f", times 10 to the power of {self.decimals}," if self.decimals else ""
-            raise ValueError(f"{shown(field)}{times} isn't {self.least} to {self.most}")
+            raise ValueError(f"{quoted(field)}{times} isn't {self.least} to {self.most}")
         return number
 
 
-def shown(field: str) -> str:
-    return repr(field if len(field) <= SHOWN else field[:SHOWN] + "..")
+def dates_of_numpy(fields: list[str], form: str) -> Sequence:
+    """The microseconds since 1970 of dates of an ISO format, whose fields all have their digits; else ValueError."""
+    if np is None or ISO.fullmatch(form) is None:
+        raise ValueError("numpy doesn't read this format")
+    texts = np.array(fields)
+    width = texts.dtype.itemsize // 4
+    form = form.replace("%f", "0" * max(1, width - len("YYYY-mm-dd HH:MM:SS.") - form.endswith("Z")))
+    for directive, digits in DIGITS.items():
+        form = form.replace(directive, digits)
+    if len(form) != width or len(form.rstrip("Z")) > len("YYYY-mm-dd HH:MM:SS.ffffff"):
+        raise ValueError("fields of another width")
+    wanted = np.array([form]).view(np.uint32)
+    letters = texts.view(np.uint32).reshape(len(fields), width)
+    if not np.where(wanted == ord("0"), letters - ord("0") < 10, letters == wanted).all():
+        raise ValueError("a field of another form")
+    # (numpy has no time zones)
+    dates = np.array([it[:-1] for it in fields] if form.endswith("Z") else fields, "datetime64[us]")
+    if dates.min() < LEAST_DATE:
+        raise ValueError("numpy reads the year 0")
+    return array.array("q", dates.tobytes())
+
+
+def quoted(field: str) -> str:
+    return repr(shown(field))
 
 
 class CsvFile:
     """A file of records with columns."""
 
     def __init__(self, path: Any, delimiter: str, header: Optional[bool], encoding: str):
+        if not isinstance(delimiter, str) or len(delimiter) != 1 or delimiter in '"\r\n':
+            raise ValueError(f"a delimiter must be one character, and no quote or line end, not {delimiter!r}")
         self.path, self.delimiter, self.header, self.encoding = os.fspath(path), delimiter, header, encoding
 
     def rows(self, columns: list[tuple[Place, Column]]) -> Iterator[tuple]:
         """The numbers of these columns, record by record."""
+        for block in self.blocks(columns):
+            yield from zip(*block)
+
+    def blocks(self, columns: list[tuple[Place, Column]]) -> Iterator[list[Sequence]]:
+        """The numbers of these columns, column by column for some records at a time."""
         with open(self.path, encoding=self.encoding, newline="") as file:
             records = csv.reader(file, delimiter=self.delimiter)
-            first = next(filter(None, records), None)
+            lines: list[int] = []
+            errors: list[csv.Error] = []
+            rest = not_blank(records, lines, errors)
+            first = next(rest, None)
+            self._check_form(records, errors)
             is_header = self._is_header(first, columns)
             names = first if is_header and first else []
             places = [self._place(place, names) for place, _ in columns]
-            fields = [
-                (at, column.reader(), names[at] if at < len(names) else "") for at, (_, column) in zip(places, columns)
-            ]
-            if first and not is_header:
-                yield self._row(first, fields, records.line_num)
-            try:
-                for record in records:
-                    if record:
-                        yield self._row(record, fields, records.line_num)
-            except csv.Error as error:
-                raise CsvError(self.path, records.line_num, 1, "", str(error)) from error
+            fields = [(at, column, names[at] if at < len(names) else "") for at, (_, column) in zip(places, columns)]
+            if is_header:
+                lines.clear()
+            elif first:
+                rest = itertools.chain([first], rest)
+            while block := list(itertools.islice(rest, RECORDS_AT_ONCE)):
+                yield self._block(block, lines, fields)
+                lines.clear()
+            self._check_form(records, errors)
+
+    def _check_form(self, records: Any, errors: list[csv.Error]) -> None:
+        for error in errors:
+            raise CsvError(self.path, records.line_num, 1, "", str(error)) from error
+
+    def _block(self, block: list[list], lines: list[int], fields: list) -> list[Sequence]:
+        """The numbers of some records, which end at these lines, column by column."""
+        try:
+            return [column.read_all([record[at] for record in block]) for at, column, _ in fields]
+        except (IndexError, ValueError):
+            readers = [(at, column.reader(), name) for at, column, name in fields]
+            return list(zip(*(self._row(record, readers, line) for record, line in zip(block, lines))))
 
     def _is_header(self, first: Optional[list], columns: list[tuple[Place, Column]]) -> bool:
         is_named = any(isinstance(place, str) for place, _ in columns)
@@ -137,7 +211,7 @@ class CsvFile:
                     self.path, 1, 1, "", f"there is no column {place!r}; the header has {', '.join(names) or 'none'}"
                 )
             return names.index(place)
-        if place < 0:
+        if whole(place, "a column") < 0:
             raise ValueError(f"columns are numbered from 0, not {place}")
         return place
 
@@ -155,19 +229,28 @@ class CsvFile:
         return tuple(numbers)
 
 
+def not_blank(records: Any, lines: list[int], errors: list[csv.Error]) -> Iterator[list]:
+    """The records that aren't blank. Their last lines are added to one list. An error of the format ends them and is
+    added to the other, since a field before it may be wrong too."""
+    try:
+        for record in records:
+            if record:
+                lines.append(records.line_num)
+                yield record
+    except csv.Error as error:
+        errors.append(error)
+
+
 def read_columns(
     file: CsvFile, key: Place, key_column: Column, payload: Optional[Place], payload_column: Column
 ) -> tuple[Any, Any]:
     """The keys and payloads of a file; without a column of payloads these are 0, 1, 2 .."""
-    keys = array.array("d" if key_column.is_float else "Q" if key_column.least == 0 else "q")
-    if payload is None:
-        keys.extend(row[0] for row in file.rows([(key, key_column)]))
-        return keys, range(len(keys))
-    payloads = array.array("q")
-    for one, other in file.rows([(key, key_column), (payload, payload_column)]):
-        keys.append(one)
-        payloads.append(other)
-    return keys, payloads
+    columns = [(key, key_column)] + ([] if payload is None else [(payload, payload_column)])
+    found = [array.array(column.code) for _, column in columns]
+    for block in file.blocks(columns):
+        for numbers, more in zip(found, block):
+            numbers.extend(more)
+    return found[0], range(len(found[0])) if payload is None else found[1]
 
 
 def load_csv(
@@ -199,6 +282,11 @@ def load_csv(
     if key_type not in ("int64", "uint64", "float64", int, float):
         raise ValueError(f"key_type must be int64, uint64 or float64, not {key_type}")
     is_float = key_type in ("float64", float)
+    for name, decimals in (("key_decimals", key_decimals), ("payload_decimals", payload_decimals)):
+        if not 0 <= whole(decimals, name) <= MOST_DECIMALS:
+            raise ValueError(f"{name} must be 0 to {MOST_DECIMALS}, not {decimals}")
+    if is_float and (key_decimals or key_format is not None):
+        raise ValueError("key_decimals and key_format are for integers and dates, not for floats")
     ends = {"least": 0, "most": TOP - 1} if key_type == "uint64" else {}
     key_column = Column(key_decimals, key_format, is_float, **ends)
     payload_column = Column(payload_decimals, payload_format)

@@ -296,8 +296,8 @@ def floats_of_array(given: Any) -> Any:
     """An array of keys as floats, if they are exact as such."""
     if given.size and (given.dtype.kind not in "uif" or given.dtype.itemsize > 8):
         raise TypeError(f"keys must be floats, not {given.dtype}")
-    if given.size and given.dtype.kind in "ui" and (given.max() > GREATEST_EXACT or given.min() < -GREATEST_EXACT):
-        raise OverflowError("a key isn't exact as a float")
+    if given.dtype.kind in "ui":
+        floats_of_list(given[(given > GREATEST_EXACT) | (given < -GREATEST_EXACT)].tolist())
     return given.astype(np.float64)
 
 

@@ -12,6 +12,7 @@ import sys
 import tempfile
 from typing import Any, Optional, Sequence
 
+from .arrays import whole
 from .base import MOST_PARTS, POLICIES, POLICY, parts_for
 from .client import Client, connect
 from .errors import Error, Forked, refused
@@ -138,7 +139,7 @@ def splits_of(
 ) -> list[int]:
     """Where a table's keys are divided, as numbers: at these splits, or else at quantiles of a sample, so that
     partitions get about equally many of the rows."""
-    if partitions is not None and not 1 <= partitions <= MOST_PARTS:
+    if partitions is not None and not 1 <= whole(partitions, "partitions") <= MOST_PARTS:
         raise ValueError(f"partitions must be 1 to {MOST_PARTS}, not {partitions}")
     if splits is not None:
         if partitions not in (None, len(splits) + 1):
@@ -176,7 +177,7 @@ def serve(
         raise ValueError(f"policy must be one of {', '.join(POLICIES)}, not {policy}")
     kind = kind_of(sample) if key_type is None else Keys.named(key_type)
     cuts = splits_of(kind, sample, rows, partitions, splits)
-    limits = {"--limit": history, "--cells": cells}
-    words = [word for name, value in limits.items() if value is not None for word in (name, str(value))]
-    words += ["--workers", str(workers), "--until-eof", "--auto-checkpoint", "--quiet", *map(str, cuts)]
-    return Server([find_program(program), *words], kind, policy)
+    limits = (("--workers", "workers", workers), ("--limit", "history", history), ("--cells", "cells", cells))
+    words = [word for option, name, it in limits if it is not None for word in (option, str(whole(it, name)))]
+    command = [find_program(program), "--until-eof", "--auto-checkpoint", "--quiet", *words, *map(str, cuts)]
+    return Server(command, kind, policy)

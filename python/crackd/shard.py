@@ -235,8 +235,8 @@ def load_file(
 def column_of(block: Any, column: Any) -> Any:
     """A column of a block of a dataframe or of an array."""
     if hasattr(block, "columns"):
-        return block[column].to_numpy()
-    return np.asarray(block)[:, column] if np.ndim(block) == 2 else np.asarray(block)
+        return block[column]
+    return np.asarray(block)[:, column] if np.ndim(block) == 2 else block
 
 
 def sample_of_block(block: Any, key: Any, kind: Keys) -> tuple[int, Any]:

@@ -7,7 +7,7 @@ import threading
 from ctypes import byref, c_int64, c_uint8, c_uint32, c_uint64
 from typing import Any, Iterator, Optional, Sequence
 
-from .arrays import TOP, address, empty, from_ints, np, plain
+from .arrays import TOP, address, empty, from_ints, np, plain, whole
 from .base import POLICIES, POLICY, SERIAL, SHIFT, AnyTable
 from .errors import Closed, refused
 from .keys import Keys, kind_of
@@ -57,7 +57,7 @@ class Table(AnyTable):
         self._library, self._ref, self._lock = library(), byref(self._handle), threading.RLock()
         self._keys, self._policy = kind_of(sample) if key_type is None else Keys.named(key_type), POLICIES.index(policy)
         cuts = splits_of(self._keys, sample, rows, partitions, splits)
-        limits = [it if 0 <= it < TOP else 0 for it in (history, cells, MOST_LIFE)]
+        limits = [it if 0 <= it < TOP else 0 for it in (whole(history, "history"), whole(cells, "cells"), MOST_LIFE)]
         self._check(self._run(self._library.open, from_ints("Q", cuts, "splits"), *limits))
         self.partitions, self._cuts = len(cuts) + 1, cuts
         # (about how many rows were inserted and not deleted, and how many rows selects listed since the last
@@ -183,6 +183,9 @@ class Table(AnyTable):
         answers = [empty(code, len(firsts)) for code in codes]
         call = self._library.count_many if len(codes) == 1 else self._library.sum_many
         code = self._run(call, self._policy, firsts, lasts, *answers, byref(done))
+        if whole is not None and done.value < len(whole):
+            # (the empty ranges before the refused one are done as well)
+            done.value = int(whole[done.value])
         self._check(code, done.value)
         return answers if whole is None else [_spread(code, it, whole, size) for code, it in zip(codes, answers)]
 

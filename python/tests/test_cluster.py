@@ -124,7 +124,7 @@ class RandomSteps:
 
     def range(self):
         low = self.rng.randrange(-20, 1020)
-        return low, low + self.rng.randrange(-5, 600)
+        return low, low + max(0, self.rng.randrange(-5, 600))
 
     def rows(self, most):
         """Some of the rows, in no order."""

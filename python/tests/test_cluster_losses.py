@@ -69,7 +69,7 @@ class Losses(unittest.TestCase):
     def others_go_on(self, table):
         self.assertEqual((table.count(0, 100), table.sum(200, 300)), (35, 33))
         self.assertEqual(table.count_many([0, 200], [100, 300]).tolist(), [35, 33])
-        self.assertEqual((len(table.select(150, 150).rows), table.count(300, 100)), (0, 0))
+        self.assertEqual((len(table.select(150, 150).rows), table.count(300, 300)), (0, 0))
 
     def each_call_that_meets_it_fails(self, table, rows):
         gone = rows[40:41]

@@ -1,16 +1,26 @@
 """Rows of CSV files."""
 
+import csv
+import datetime
 import io
+import math
 import os
 import pathlib
 import subprocess
 import sys
 import tempfile
 import unittest
+from unittest import mock
 
 from ways import InProcess, OverTcp, crackd, np, wants_library, wants_numpy, wants_program
 
+from crackd import csvfile
 from crackd.csvfile import Column, CsvFile, read_columns
+
+ISO_FORMATS = ["%Y-%m-%d", "%Y-%m-%d %H", "%Y-%m-%dT%H:%M", "%Y-%m-%d %H:%M:%S", "%Y-%m-%dT%H:%M:%S.%f"]
+ISO_FORMATS += ["%Y-%m-%dT%H:%M:%SZ", "%Y-%m-%d %H:%M:%S.%fZ"]
+# the microseconds from 1970 to 2020-01-02 03:04:05
+TIME = 1_577_934_245_000_000
 
 
 class Files(unittest.TestCase):
@@ -85,6 +95,88 @@ class Files(unittest.TestCase):
         self.wrong("line 1, column 1: '" + "9" * 40 + "..' isn't " + f"{-(2**63)} to {2**63 - 1}", "9" * 5000 + ",1\n")
         # (a field of several lines, and the line at which a record ends)
         self.wrong("line 3, column 1: 'x\\ny' isn't an integer", '1,1\n"x\ny",1\n')
+
+    def test_floats_are_written_in_plain_digits(self):
+        number = Column(is_float=True)
+        fields = ["1.5", "-.5", "+3.", "1e3", "2E-3", "inf", "-Infinity", " 7 ", "0", "1e-400"]
+        wanted = [1.5, -0.5, 3, 1000, 0.002, math.inf, -math.inf, 7, 0, 0]
+        self.assertEqual(self.read("".join(f"{it},1\n" for it in fields), key_column=number)[0], wanted)
+        wrong = ["1_000", "1_0.5", "٣", "1.٣", "１", "0x10", "", " ", "1e", "e5", "1.5.2", "--1", "ınf", "1 2"]
+        for field in wrong:
+            self.wrong(f"line 2, column 1: {field!r} isn't a number", f"1,1\n{field},1\n", key_column=number)
+        for field in ("1e400", "-1e999", "1" * 35 + "e300"):
+            self.wrong(f"line 1, column 1: {field!r} is beyond all floats", f"{field},1\n", key_column=number)
+        self.wrong("line 1, column 1: NaN can't be a key", "-NaN,1\n", key_column=number)
+
+    def test_integers_are_written_in_plain_digits(self):
+        self.assertEqual(self.read("1,+2\n-3,0004\n 5 ,\t6\n-0,+0\n"), ([1, -3, 5, 0], [2, 4, 6, 0]))
+        for field in ("1_0", "٣", "１", "0x10", "", " ", "--1", "+-1", "1-", "-", "1 2", "1e3", "1.0", "\u00b2"):
+            self.wrong(f"line 2, column 2: {field!r} isn't an integer", f"1,1\n2,{field}\n3,1\n")
+        for number in (2**63, -(2**63) - 1):
+            self.wrong(f"line 2, column 2: '{number}' isn't {-(2**63)} to {2**63 - 1}", f"1,1\n2,{number}\n")
+        self.assertEqual(self.read(f"{2**63 - 1},{-(2**63)}\n"), ([2**63 - 1], [-(2**63)]))
+
+    def test_times_of_iso_formats_are_read_as_by_strptime(self):
+        begin = datetime.datetime(1970, 1, 1)
+        times = [begin + datetime.timedelta(seconds=it, microseconds=it) for it in range(-(10**10), 10**11, 10**9 + 7)]
+        times += [datetime.datetime.min, datetime.datetime.max, datetime.datetime(2000, 2, 29, 23, 59, 59)]
+        for form in ISO_FORMATS:
+            fields = [it.strftime(form.replace("%Y", f"{it.year:04}")) for it in times]
+            read = [datetime.datetime.strptime(it, form) for it in fields]
+            wanted = [(it - begin) // datetime.timedelta(microseconds=1) for it in read]
+            with self.subTest(form), mock.patch.object(csvfile, "RECORDS_AT_ONCE", 7):
+                text = "".join(f"{it},{it}\n" for it in fields)
+                column = Column(format=form)
+                self.assertEqual(self.read(text, key_column=column, payload_column=column), (wanted, wanted))
+                if np is not None:
+                    self.assertEqual(list(column.read_all(fields)), wanted)
+
+    def test_times_that_only_strptime_reads_or_none(self):
+        form = "%Y-%m-%d %H:%M:%S"
+        whole, parts = Column(format=form), Column(format=f"{form}.%f")
+        fields = ["2020-01-02 03:04:05", "2020-1-2 3:4:5", " 2020-01-02 03:04:05 ", "2020-01-02 03:04:5"]
+        self.assertEqual(self.read("".join(f"{it},1\n" for it in fields), key_column=whole)[0], 4 * [TIME])
+        fields = ["2020-01-02 03:04:05.0", "2020-01-02 03:04:05.000000", "2020-01-02 03:04:05.000"]
+        self.assertEqual(self.read("".join(f"{it},1\n" for it in fields), key_column=parts)[0], 3 * [TIME])
+        wrong = ["2021-02-29 00:00:00", "2020-13-01 00:00:00", "2020-00-01 00:00:00", "2020-01-00 00:00:00"]
+        wrong += ["2020-01-02 24:00:00", "2020-01-02 03:60:05", "2020-01-02 03:04:60", "0000-01-02 03:04:05"]
+        wrong += ["2020-01-02T03:04:05", "2020-01-02 03:04", "2020-01-02", "2020-01-02 03:04:05.5", "NaT", ""]
+        wrong += ["2020/01/02 03:04:05", "-020-01-02 03:04:05", "2020-01-02 03:04:05Z", "+2020-01-02 03:04:05"]
+        for field in wrong:
+            text, said = f"2020-01-02 03:04:05,1\n{field},1\n", f"{field!r} isn't a date of the form {form!r}"
+            self.wrong(f"line 2, column 1: {said}", text, key_column=whole)
+        field = "2020-01-02 03:04:05."
+        said = f"line 1, column 1: {field!r} isn't a date of the form '{form}.%f'"
+        self.wrong(said, f"{field},1\n", key_column=parts)
+
+    def test_the_first_wrong_field_is_named_in_each_block(self):
+        lines = [f"{it},{it}" for it in range(20)]
+        with mock.patch.object(csvfile, "RECORDS_AT_ONCE", 4):
+            self.assertEqual(self.read("\n".join(lines)), (list(range(20)), list(range(20))))
+            for at in (0, 3, 4, 11, 19):
+                broken = [*lines[:at], "", f"x,{at}", *lines[at + 1 :], "1,y"]
+                self.wrong(f"line {at + 2}, column 1: 'x' isn't an integer", "\n".join(broken))
+                short = [*lines[:at], "7", "x,1", *lines[at:]]
+                self.wrong(f"line {at + 1}, column 2: the line has only 1 field", "\n".join(short))
+                far = "a" * (csv.field_size_limit() + 1)
+                late, early = [*lines[:at], "1,x", f"1,{far}"], [*lines[:at], f"1,{far}", "1,x"]
+                self.wrong(f"line {at + 1}, column 2: 'x' isn't an integer", "\n".join(late))
+                said = f"field larger than field limit ({csv.field_size_limit()})"
+                self.wrong(f"line {at + 1}, column 1: {said}", "\n".join(early))
+
+    def test_wrong_options(self):
+        for delimiter in (";;", "", None, 5, "\n", "\r", '"', b","):
+            with self.assertRaisesRegex(ValueError, "a delimiter must be one character"):
+                self.read("1,2\n", delimiter=delimiter)
+        for name in ("key_decimals", "payload_decimals"):
+            for value in (-1, 41):
+                self.assertRaisesRegex(ValueError, f"{name} must be 0 to", crackd.load_csv, "missing", **{name: value})
+            for value in (1.5, "2", True, None):
+                self.assertRaisesRegex(TypeError, f"{name} must be an", crackd.load_csv, "missing", **{name: value})
+        for options in ({"key_decimals": 2}, {"key_format": "%Y"}):
+            self.assertRaisesRegex(ValueError, "not for floats", crackd.load_csv, "missing", key_type=float, **options)
+        for place in (1.5, True, None):
+            self.assertRaisesRegex(TypeError, "a column must be an integer", self.read, "1,2\n", place)
 
     def test_wrong_arguments(self):
         self.assertRaises(ValueError, self.read, "1,2\n", -1)
@@ -181,7 +273,8 @@ class Splits(unittest.TestCase):
         self.assertEqual(
             self.splits("", "missing.csv", "3")[::2], (1, "crackd: missing.csv: No such file or directory\n")
         )
-        for words in (["rows.csv", "0"], ["rows.csv", "65"], ["rows.csv", "x"], ["rows.csv"], []):
+        wrong = [["rows.csv", "3", "--delimiter", it] for it in (";;", "", '"', "\n")]
+        for words in (["rows.csv", "0"], ["rows.csv", "65"], ["rows.csv", "x"], ["rows.csv"], [], *wrong):
             with self.subTest(words):
                 self.assertEqual(self.splits("1,1\n", *words)[:2], (2, ""))
 

@@ -10,7 +10,7 @@ import pickle
 import unittest
 
 from clusters import wants_cluster, wants_pandas
-from test_cluster import OnWorkers, setUpModule, tearDownModule  # noqa: F401 (unittest runs the functions)
+from test_cluster import MODULE, OnWorkers, setUpModule, tearDownModule  # noqa: F401 (unittest runs the functions)
 from ways import InProcess, OverTcp, crackd, np, wants_library, wants_numpy, wants_program
 
 from crackd.keys import Keys, kind_of
@@ -293,6 +293,70 @@ class Kinds(unittest.TestCase):
         kinds = [([np.int8(1)], "i"), ([np.uint64(2**63)], "u"), ([np.float32(1)], "f"), ([np.int8(1), 2.0], "f")]
         for keys, kind in kinds:
             self.assertEqual(kind_of(keys), Keys(kind))
+
+
+class Options(unittest.TestCase):
+    """Options that are no integers."""
+
+    @wants_library
+    def test_limits_of_a_table(self):
+        for value in (1.5, "5", True, None, b"5"):
+            self.assertRaisesRegex(TypeError, "history must be an integer", crackd.Table, history=value)
+            self.assertRaisesRegex(TypeError, "cells must be an integer", crackd.Table, cells=value)
+        for value in (1.5, True, "5"):
+            self.assertRaisesRegex(TypeError, "partitions must be an integer", crackd.Table, [1, 2], partitions=value)
+        crackd.Table(history=100, cells=100).close()
+
+    @wants_program
+    def test_limits_of_a_server(self):
+        for value in (1.5, "5", True):
+            self.assertRaisesRegex(TypeError, "history must be an integer", crackd.serve, history=value)
+            self.assertRaisesRegex(TypeError, "cells must be an integer", crackd.serve, cells=value)
+            self.assertRaisesRegex(TypeError, "workers must be an integer", crackd.serve, workers=value)
+
+
+@wants_library
+@wants_cluster
+class OptionsOfACluster(unittest.TestCase):
+    """What opens a table on a cluster."""
+
+    def test_limits_of_a_cluster(self):
+        from crackd import cluster
+
+        for value in (1.5, "5", True):
+            for name in ("history", "cells", "shards"):
+                with self.assertRaisesRegex(TypeError, f"{name} must be an integer"):
+                    cluster.Table(MODULE["client"], [1, 2], **{name: value})
+
+    @wants_pandas
+    def test_what_is_no_collection_of_dask(self):
+        import pandas
+        from crackd import cluster
+        from dask import bag, delayed
+
+        frame = pandas.DataFrame({"key": [1, 2]})
+        for given in (frame, frame["key"], np.arange(5), [1, 2], None, "key", bag.from_sequence([1, 2]), delayed([1])):
+            with self.assertRaisesRegex(TypeError, "Dask dataframe or array"):
+                cluster.Table.from_dask(MODULE["client"], given, "key")
+
+    @wants_pandas
+    def test_columns_of_dask_as_those_of_pandas(self):
+        import pandas
+        from crackd import cluster
+        from dask import dataframe
+
+        times = pandas.Series(pandas.to_datetime(["2020-01-01", "2020-01-02", "2020-01-03"]))
+        times = times.dt.tz_localize("Asia/Tokyo")
+        rows = pandas.DataFrame({"key": pandas.Series([3, 1, 2], dtype="Int64"), "time": times})
+        rows["gap"] = pandas.Series([1, None, 2], dtype="Int64")
+        frame = dataframe.from_pandas(rows, npartitions=2)
+        with cluster.Table.from_dask(MODULE["client"], frame, "key", "key") as table:
+            self.assertEqual((table.sum(2), table.count()), (5, 3))
+        with cluster.Table.from_dask(MODULE["client"], frame, "time", "key") as table:
+            self.assertEqual(table.sum(datetime.datetime(2020, 1, 1, 15)), 3)
+            self.assertEqual(table.sum(None, times[2]), 4)
+        with self.assertRaisesRegex(ValueError, "missing"):
+            cluster.Table.from_dask(MODULE["client"], frame, "gap")
 
 
 @wants_library

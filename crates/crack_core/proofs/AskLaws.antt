@@ -1,10 +1,10 @@
--- What follows from asking a partition whose full history is checkpointed first.
-use Rattle.std.specs.Prelude.{◌≡◌, ◌⊎◌, ℕ, ◌+◌, ◌<◌, ◌≤◌, ◌≤ℤ◌, ◌^◌, neg_ℤ, pos, All, sum_by, Bool, true, false, cond, ◌&&◌, not, List, [], ◌∷◌, ◌++◌, length, take, drop, Option, None, Some, Result, Ok, Err, IsOk, nat_le, slice_get, if◌then◌else◌}
+-- What follows from asking a partition, whatever checkpoints were made.
+use Rattle.std.specs.Prelude.{◌≡◌, ◌⊎◌, ℕ, ◌+◌, ◌<◌, ◌≤◌, ◌≤ℤ◌, ◌^◌, neg_ℤ, pos, All, sum_by, Bool, true, false, cond, not, List, [], ◌∷◌, ◌++◌, length, take, drop, Option, None, Some, Result, Ok, Err, IsOk, nat_le, slice_get, if◌then◌else◌}
 use Rattle.std.specs.Option.{option_map, option_or}
 use Rattle.std.proofs.Common.{zero, suc, get_or, set, arith, ap, refl, sym, subst, ◌∙◌, inl, inr}
-use Rattle.std.proofs.lemmas.List.{map-set, set-get_or, take-append-drop, take_more, drop_more}
+use Rattle.std.proofs.lemmas.List.{map-set, take-append-drop, take_more, drop_more}
 use Rattle.std.proofs.lemmas.Option.{slice_get-map}
-use Rattle.std.proofs.lemmas.Bool.{true≢false, leb-true}
+use Rattle.std.proofs.lemmas.Bool.{true≢false, and_parts}
 use Rattle.crack_row.specs.Commands.{key_of}
 use Rattle.crack_row.specs.Ranges.{Range}
 use Rattle.crack_row.specs.declared.Bound.{Bound}
@@ -23,10 +23,9 @@ use Rattle.crack_core.specs.Cores.{CoreState}
 use Rattle.crack_part.specs.Refusals.{is_key_in}
 use Rattle.crack_part.specs.Upkeep.{is_automatic, is_due, is_full as shuts}
 use Rattle.crack_part.proofs.UpkeepLaws.{upkept_table}
-use Rattle.crack_core.specs.Steps.{bounds_of, unless, MayLackCell, IsOutcome, IsOutcomeAt, IsFoldOutcome, fresh_table, table_after, changed_at, tables_after, expected, tables_of}
-use Rattle.crack_core.specs.Inside.{is_full}
+use Rattle.crack_core.specs.Steps.{bounds_of, unless, MayLackCell, IsOutcome, IsOutcomeAt, fresh_table, table_after, changed_at, tables_after, tables_of}
 use Rattle.crack_core.proofs.TurnLaws.{one_replies, one_refuses}
-use Rattle.crack_core.specs.Asking.{lasting_bounds, lasting, Asks, AsksInTurn, Reads, asking, counted, summed}
+use Rattle.crack_core.specs.Asking.{lasting_bounds, lasting, RefusesFull, Asks, AsksInTurn, Reads, asking, counted, summed}
 
 -- a table right after a checkpoint
 abbrev folded_table : PlainState → ℕ → PlainView
@@ -65,18 +64,6 @@ after-lasting limits tables part command (Ok reply) =
     map-set checkpointed tables part (table_after (upkept_table limits (get_or tables part fresh_table)) command)
     ∙ ap (set (lasting tables) part) (once-upkept limits (get_or tables part fresh_table) command ∙ ap (λ (t : PlainView). checkpointed (table_after t command)) (sym (get_or-lasting tables part)))
 
--- the partitions after a checkpoint, as checkpoints leave them
-lasting-folded : (tables : List PlainView) (part : ℕ) → lasting (set tables part (checkpointed (get_or tables part fresh_table))) ≡ lasting tables
-lasting-folded tables part =
-    map-set checkpointed tables part (checkpointed (get_or tables part fresh_table))
-    ∙ ap (set (lasting tables) part) (checkpointed-twice (get_or tables part fresh_table) ∙ sym (get_or-lasting tables part))
-    ∙ set-get_or (lasting tables) part fresh_table
-
-get-folded : (tables : List PlainView) (part : ℕ) → slice_get (set tables part (checkpointed (get_or tables part fresh_table))) part ≡ option_map checkpointed (slice_get tables part)
-get-folded [] part = refl
-get-folded (t ∷ tables) zero = refl
-get-folded (t ∷ tables) (suc part) = get-folded tables part
-
 -- a refusal
 abbrev refused_with : Refusal → Result Reply Refusal
 refused_with e = Err e
@@ -92,97 +79,45 @@ Comes wanted Lacks r = (r ≡ wanted) ⊎ (IsOk wanted × ((r ≡ Err OutOfMemor
 no-ok : {X : Type 0} (e : Refusal) → IsOk (refused_with e) → X
 no-ok e is = absurd (true≢false (sym is))
 
--- if it isn't the history that refuses, the history doesn't matter
-without-history : (is_own full over : Bool) (limit : ℕ) (said : Reply) (Lacks : Type 0) (r : Result Reply Refusal) → (r ≡ Err (HistoryFull limit) → ⊥) → Comes (by_tests is_own full over limit said) Lacks r → Comes (by_tests is_own false over limit said) Lacks r
-without-history false full over limit said Lacks r other comes = comes
-without-history true false over limit said Lacks r other comes = comes
-without-history true true over limit said Lacks r other comes = elim comes [
-  | inl is ↦ absurd (other is)
-  | inr both ↦ no-ok (HistoryFull limit) both.0
-]
-
 -- the outcome of a partition, by its test
 last-same : (limits : Limits) (keys : Range) (t : PlainView) (command : Command) (r : Result Reply Refusal) → Comes (by_tests (is_key_in keys (key_of command)) false (nat_le limits.life (accepted_of t)) limits.history (reply_to t.state command)) (MayLackCell (bounds_of limits) (Some t) command) r → IsOutcome (lasting_bounds limits) keys (Some (checkpointed t)) command r
 last-same limits keys t command r comes = rw (accepted-same t) comes
 
-outcome-lasting : (limits : Limits) (keys : Range) (table : Option PlainView) (command : Command) (r : Result Reply Refusal) → (r ≡ Err (HistoryFull limits.history) → ⊥) → IsOutcome (bounds_of limits) keys table command r → IsOutcome (lasting_bounds limits) keys (option_map checkpointed table) command r
-outcome-lasting limits keys None command r other comes = comes
-outcome-lasting limits keys (Some t) command r other comes = last-same limits keys t command r (without-history (is_key_in keys (key_of command)) (shuts limits t.since) (nat_le limits.life (accepted_of t)) limits.history (reply_to t.state command) (MayLackCell (bounds_of limits) (Some t) command) r other comes)
+-- if the history is full it refuses, and else it doesn't matter
+by-history : (full over : Bool) (limit : ℕ) (said : Reply) (Lacks : Type 0) (r : Result Reply Refusal) → Comes (by_tests true full over limit said) Lacks r → Comes (by_tests true false over limit said) Lacks r ⊎ ((full ≡ true) × (r ≡ Err (HistoryFull limit)))
+by-history false over limit said Lacks r comes = inl comes
+by-history true over limit said Lacks r comes = elim comes [
+  | inl is ↦ inr (refl, is)
+  | inr both ↦ no-ok (HistoryFull limit) both.0
+]
 
--- a history that is empty isn't full
-not-full : (limits : Limits) → 1 ≤ limits.history → shuts limits 0 ≡ false
-not-full limits some = ap (λ (b : Bool). b && not (is_automatic limits.upkeep)) (by_test (nat_le limits.history 0) refl)
+-- a history that refuses makes no checkpoint by itself
+on-request : (limits : Limits) (entries : ℕ) → shuts limits entries ≡ true → is_automatic limits.upkeep ≡ false
+on-request limits entries is = by_test (is_automatic limits.upkeep) ((and_parts (nat_le limits.history entries) (not (is_automatic limits.upkeep)) is).1)
   where
-    by_test : (b : Bool) → nat_le limits.history 0 ≡ b → b ≡ false
+    by_test : (b : Bool) → not b ≡ true → b ≡ false
     by_test false is = refl
-    by_test true is = absurd (omega (arith, some, leb-true limits.history 0 is))
+    by_test true is = cc is
 
-outcome-folded : (limits : Limits) (keys : Range) (table : Option PlainView) (command : Command) (r : Result Reply Refusal) → 1 ≤ limits.history → IsOutcome (bounds_of limits) keys (option_map checkpointed table) command r → IsOutcome (lasting_bounds limits) keys (option_map checkpointed table) command r
-outcome-folded limits keys None command r some comes = comes
-outcome-folded limits keys (Some t) command r some comes = subst (λ (b : Bool). Comes (by_tests (is_key_in keys (key_of command)) b (nat_le limits.life (accepted_of (checkpointed t))) limits.history (reply_to t.state command)) (MayLackCell (bounds_of limits) (Some (checkpointed t)) command) r) (not-full limits some) comes
+outcome-own : (limits : Limits) (keys : Range) (t : PlainView) (command : Command) (r : Result Reply Refusal) (is_own : Bool) → is_key_in keys (key_of command) ≡ is_own → Comes (by_tests is_own (shuts limits t.since) (nat_le limits.life (accepted_of t)) limits.history (reply_to t.state command)) (MayLackCell (bounds_of limits) (Some t) command) r → Comes (by_tests is_own false (nat_le limits.life (accepted_of t)) limits.history (reply_to t.state command)) (MayLackCell (bounds_of limits) (Some t) command) r ⊎ RefusesFull limits r
+outcome-own limits keys t command r false own comes = inl comes
+outcome-own limits keys t command r true own comes = elim (by-history (shuts limits t.since) (nat_le limits.life (accepted_of t)) limits.history (reply_to t.state command) (MayLackCell (bounds_of limits) (Some t) command) r comes) [
+  | inl same ↦ inl same
+  | inr full ↦ inr (on-request limits t.since full.0, full.1)
+]
 
--- a partition that isn't checkpointed is asked
-pub asked-plain : (limits : Limits) (splits : List Bound) (tables new : List PlainView) (part : ℕ) (command : Command) (r : Result Reply Refusal) → (r ≡ Err (HistoryFull limits.history) → ⊥) → IsOutcomeAt (bounds_of limits) splits tables part command r → new ≡ tables_after (bounds_of limits) tables part command r → Asks limits splits part command r (lasting tables) (lasting new)
-asked-plain limits splits tables new part command r other outcome left = record {
-  comes_out = inl (subst (λ (o : Option PlainView). IsOutcome (lasting_bounds limits) (keys_of_part splits part) o command r) (sym (slice_get-map checkpointed tables part)) (outcome-lasting limits (keys_of_part splits part) (slice_get tables part) command r other outcome));
+outcome-lasting : (limits : Limits) (keys : Range) (table : Option PlainView) (command : Command) (r : Result Reply Refusal) → IsOutcome (bounds_of limits) keys table command r → IsOutcome (lasting_bounds limits) keys (option_map checkpointed table) command r ⊎ RefusesFull limits r
+outcome-lasting limits keys None command r comes = inl comes
+outcome-lasting limits keys (Some t) command r comes = elim (outcome-own limits keys t command r (is_key_in keys (key_of command)) refl comes) [
+  | inl same ↦ inl (last-same limits keys t command r same)
+  | inr full ↦ inr full
+]
+
+-- a partition is asked
+pub asked : (limits : Limits) (splits : List Bound) (tables new : List PlainView) (part : ℕ) (command : Command) (r : Result Reply Refusal) → IsOutcomeAt (bounds_of limits) splits tables part command r → new ≡ tables_after (bounds_of limits) tables part command r → Asks limits splits part command r (lasting tables) (lasting new)
+asked limits splits tables new part command r outcome left = record {
+  comes_out = subst (λ (o : Option PlainView). IsOutcome (lasting_bounds limits) (keys_of_part splits part) o command r ⊎ RefusesFull limits r) (sym (slice_get-map checkpointed tables part)) (outcome-lasting limits (keys_of_part splits part) (slice_get tables part) command r outcome);
   leaves = ap lasting left ∙ after-lasting limits tables part command r;
-}
-
--- a partition that was checkpointed is asked
-pub asked-folded : (limits : Limits) (splits : List Bound) (tables between new : List PlainView) (part count : ℕ) (command : Command) (r : Result Reply Refusal) → 1 ≤ limits.history → between ≡ changed_at {X = ℕ} checkpointed tables part (Ok count) → IsOutcomeAt (bounds_of limits) splits between part command r → new ≡ tables_after (bounds_of limits) between part command r → Asks limits splits part command r (lasting tables) (lasting new)
-asked-folded limits splits tables between new part count command r some fold outcome left =
-    let there : slice_get between part ≡ option_map checkpointed (slice_get tables part) = ap (λ (ts : List PlainView). slice_get ts part) fold ∙ get-folded tables part in
-    let keys = keys_of_part splits part in
-    let same : lasting between ≡ lasting tables = ap lasting fold ∙ lasting-folded tables part in record {
-      comes_out = inl (subst (λ (o : Option PlainView). IsOutcome (lasting_bounds limits) keys o command r) (sym (slice_get-map checkpointed tables part)) (outcome-folded limits keys (slice_get tables part) command r some (subst (λ (o : Option PlainView). IsOutcome (bounds_of limits) keys o command r) there outcome)));
-      leaves = ap lasting left ∙ after-lasting limits between part command r ∙ ap (λ (ts : List PlainView). changed_at (λ (t : PlainView). checkpointed (table_after t command)) ts part r) same;
-    }
-
--- a command that no full history refused, and one that a full history refused
-pub not-full-is : (r : Result Reply Refusal) (limit : ℕ) → is_full r ≡ false → r ≡ Err (HistoryFull limit) → ⊥
-not-full-is r limit not is = true≢false (sym (ap is_full is) ∙ not)
-
-pub full-leaves : (limits : Limits) (tables : List PlainView) (part : ℕ) (command : Command) (r : Result Reply Refusal) → is_full r ≡ true → tables_after (bounds_of limits) tables part command r ≡ tables
-full-leaves limits tables part command (Ok reply) full = absurd (true≢false (sym full))
-full-leaves limits tables part command (Err e) full = refl
-
--- the checkpoint of a full history found no memory
-short : (is_own full_now over : Bool) (limit : ℕ) (said : Reply) (Lacks Lacks' : Type 0) (r : Result Reply Refusal) → is_full r ≡ true → Comes (by_tests is_own full_now over limit said) Lacks r → Comes (by_tests is_own false over limit said) Lacks' (refused_with OutOfMemory) ⊎ ((refused_with OutOfMemory ≡ Err OutOfMemory) × (by_tests is_own false over limit said ≡ Err LifeOver))
-short false full_now over limit said Lacks Lacks' r full comes = elim comes [
-  | inl is ↦ absurd (true≢false (sym full ∙ ap is_full is))
-  | inr both ↦ no-ok KeyOutside both.0
-]
-short true full_now false limit said Lacks Lacks' r full comes = inl (inr (refl, inl refl))
-short true full_now true limit said Lacks Lacks' r full comes = inr (refl, refl)
-
--- the outcome then
-abbrev Shortly : Limits → Range → Option PlainView → Command → Result Reply Refusal → Type 0
-Shortly limits keys table command r = IsOutcome (lasting_bounds limits) keys table command r ⊎ ((r ≡ Err OutOfMemory) × (expected (lasting_bounds limits) keys table command ≡ Err LifeOver))
-
-short-some : (limits : Limits) (keys : Range) (t : PlainView) (command : Command) (r : Result Reply Refusal) → is_full r ≡ true → IsOutcome (bounds_of limits) keys (Some t) command r → Shortly limits keys (Some (checkpointed t)) command (Err OutOfMemory)
-short-some limits keys t command r full outcome = rw (accepted-same t) (short (is_key_in keys (key_of command)) (shuts limits t.since) (nat_le limits.life (accepted_of t)) limits.history (reply_to t.state command) (MayLackCell (bounds_of limits) (Some t) command) (MayLackCell (bounds_of limits) (Some t) command) r full outcome)
-
-outcome-short : (limits : Limits) (keys : Range) (table : Option PlainView) (command : Command) (r : Result Reply Refusal) (e : Refusal) → is_full r ≡ true → IsOutcome (bounds_of limits) keys table command r → IsFoldOutcome table (Err e) → Shortly limits keys (option_map checkpointed table) command (Err e)
-outcome-short limits keys None command r e full outcome fold = elim outcome [
-  | inl is ↦ absurd (true≢false (sym full ∙ ap is_full is))
-  | inr both ↦ no-ok NoSuchPartition both.0
-]
-outcome-short limits keys (Some t) command r e full outcome fold = elim fold [
-  | inl is ↦ cc is
-  | inr is ↦ subst (λ (x : Refusal). Shortly limits keys (Some (checkpointed t)) command (Err x)) (sym (same is)) (short-some limits keys t command r full outcome)
-]
-  where
-    gone : Result ℕ Refusal → Refusal
-    gone (Ok n) = OutOfMemory
-    gone (Err x) = x
-
-    same : {u v : Result ℕ Refusal} → u ≡ v → gone u ≡ gone v
-    same is = ap gone is
-
-pub asked-short : (limits : Limits) (splits : List Bound) (tables new : List PlainView) (part : ℕ) (command : Command) (r : Result Reply Refusal) (e : Refusal) → is_full r ≡ true → IsOutcomeAt (bounds_of limits) splits tables part command r → IsFoldOutcome (slice_get tables part) (Err e) → new ≡ tables → Asks limits splits part command (Err e) (lasting tables) (lasting new)
-asked-short limits splits tables new part command r e full outcome fold same = record {
-  comes_out = subst (λ (o : Option PlainView). Shortly limits (keys_of_part splits part) o command (Err e)) (sym (slice_get-map checkpointed tables part)) (outcome-short limits (keys_of_part splits part) (slice_get tables part) command r e full outcome fold);
-  leaves = ap lasting same;
 }
 
 -- what is replied is the reply of plain rows
@@ -213,7 +148,7 @@ said-by limits keys (Some t) command reply outcome = (t.state, by_test (is_key_i
 pub asks-said : (limits : Limits) (splits : List Bound) (part : ℕ) (command : Command) (reply : Reply) (old new : List PlainView) → Asks limits splits part command (Ok reply) old new → (s : PlainState) × (reply ≡ reply_to s command)
 asks-said limits splits part command reply old new asks = elim asks.comes_out [
   | inl outcome ↦ said-by limits (keys_of_part splits part) (slice_get old part) command reply outcome
-  | inr both ↦ cc both.0
+  | inr full ↦ cc full.1
 ]
 
 -- a partition is asked for its part of a range

@@ -1,4 +1,4 @@
--- The answers if a full history is checkpointed first: to one command, and to questions about a range over all partitions.
+-- The answers to one command, and to questions about a range over all partitions, whatever checkpoints were made.
 use Rattle.std.specs.Prelude.{◌≡◌, ◌⊎◌, ℕ, ℤ, pos, Bool, false, List, [], ◌∷◌, map, length, Option, None, Some, Result, Ok, Err, IfOk, IfErr, nat_le, slice_get, sum_by, if◌then◌else◌}
 use Rattle.std.specs.Option.{option_map_or}
 use Rattle.crack_row.specs.Ranges.{Range}
@@ -14,14 +14,15 @@ use Rattle.crack_row.specs.declared.command.Command.TheVariants.{Insert, Delete,
 use Rattle.crack_row.specs.declared.command.Reply.{Reply}
 use Rattle.crack_row.specs.declared.command.Reply.TheVariants.{Placed, Gone, Changed, NoRow, Counted, Summed, Rows}
 use Rattle.crack_row.specs.declared.refusal.Refusal.{Refusal}
-use Rattle.crack_row.specs.declared.refusal.Refusal.TheVariants.{OutOfMemory, LifeOver}
+use Rattle.crack_row.specs.declared.refusal.Refusal.TheVariants.{OutOfMemory, HistoryFull, LifeOver}
+use Rattle.crack_part.specs.Upkeep.{is_automatic}
 use Rattle.crack_plain.specs.Plain.{PlainView, accepted_of, checkpointed}
 use Rattle.crack_core.specs.Routes.{keys_of_part, route, parts_of}
-use Rattle.crack_core.specs.Steps.{Bounds, taken_where_full, mapped, expected, IsOutcome, table_after, changed_at}
+use Rattle.crack_core.specs.Steps.{Bounds, taken_where_full, mapped, IsOutcome, table_after, changed_at}
 use Rattle.crack_core.specs.declared.asking.Query.{Query}
 use Rattle.crack_core.specs.declared.asking.Query.TheVariants.{CountRows, SumPayloads, SelectRows}
 
--- the bounds of partitions whose full histories are checkpointed: no bound on a history, but those of their lives and of their cells
+-- the bounds of partitions but for those of their histories: of their lives and of their cells
 abbrev pub lasting_bounds : Limits → Bounds
 lasting_bounds limits = record { stop = λ table. if nat_le limits.life (accepted_of table) then Some LifeOver else None; cells = limits.cells; taken = taken_where_full limits; due = λ table. false }
 
@@ -29,11 +30,14 @@ lasting_bounds limits = record { stop = λ table. if nat_le limits.life (accepte
 abbrev pub lasting : List PlainView → List PlainView
 lasting tables = map checkpointed tables
 
--- one partition is asked, whose full history is checkpointed first: the outcome is what its plain rows require; if that is 10, it may be 8, for
--- a checkpoint that found no memory
+-- a full history refuses, which makes no checkpoint by itself
+abbrev pub RefusesFull : Limits → Result Reply Refusal → Type 0
+RefusesFull limits outcome = (is_automatic limits.upkeep ≡ false) × (outcome ≡ Err (HistoryFull limits.history))
+
+-- one partition is asked: the outcome is what its plain rows require; or its history is full, if upkeep is on request
 pub record Asks (limits : Limits) (splits : List Bound) (part : ℕ) (command : Command) (outcome : Result Reply Refusal) (old new : List PlainView) : Type 0 where
   pub comes_out : IsOutcome (lasting_bounds limits) (keys_of_part splits part) (slice_get old part) command outcome
-      ⊎ ((outcome ≡ Err OutOfMemory) × (expected (lasting_bounds limits) (keys_of_part splits part) (slice_get old part) command ≡ Err LifeOver))
+      ⊎ RefusesFull limits outcome
   pub leaves : new ≡ changed_at (λ table. checkpointed (table_after table command)) old part outcome
 
 -- a row is placed in the partition of its key, and this is its number

@@ -1,4 +1,4 @@
-//! Commands before which a full history is emptied, and ranges over all partitions.
+//! Commands of worker 0 whatever checkpoints were made, and ranges over all partitions.
 ghost use Rattle.std.specs.Prelude.{◌≡◌, ◌⊎◌, ℕ, ℤ, ◌<◌, ◌≤◌, ◌≤ℤ◌, ◌^◌, neg_ℤ, pos, [], All, length, vec_capacity};
 ghost use Rattle.std.specs.Prelude.{sum_by, Ok, Err, IfOk, IfErr, if◌then◌else◌};
 ghost use Rattle.std.specs.Option.{option_map_or};
@@ -11,7 +11,6 @@ ghost use Rattle.crack_plain.specs.Plain.{PlainState, IsSmall, reply_to};
 ghost use Rattle.crack_core.specs.Steps.{tables_of};
 ghost use Rattle.crack_core.specs.Asking.{Asks, lasting, Inserts, Deletes, Updates, Counts, Sums, asking};
 ghost use Rattle.crack_core.specs.Asking.{AsksInTurn, counted, summed};
-ghost use Rattle.crack_core.specs.Inside.{is_full};
 
 use crate::{Core, Step};
 use crack_row::{Command, Key, KeyRange, Payload, Policy, Refusal, Reply, Row, RowNo, Serial};
@@ -42,28 +41,18 @@ impl Query {
 }
 
 impl Core {
-    /// Asks one partition as `step` does, but if its history is full, `checkpoint` is called first.
-    /// So it is never refused with 6. Refused, in this order: with 5, 4, 10, 9 and 8 as `step` is; with 8, before 10,
-    /// if a checkpoint finds no memory. Takes what these two take.
+    /// Asks one partition as `step` does, and is refused as that is: with 6 only if upkeep is on request. What is known
+    /// afterwards doesn't depend on the checkpoints that were made.
     pub fn ask(&mut self, step: &Step) -> Result<Reply, Refusal>
         ensures asks { Asks self.old.limits self.old.splits step.now.part step.now.command result
             (lasting (tables_of self.old.parts)) (lasting (tables_of self.new.parts)) }
         ensures small { IfOk result IsSmall }
         ensures opened { (self.new.splits ≡ self.old.splits) × (self.new.limits ≡ self.old.limits) }
     {
-        self.facts();
-        let part = step.part;
-        let answered = self.step(*step);
-        if !is_full(&answered) {
-            return answered;
-        }
-        match self.checkpoint(part) {
-            Ok(_) => self.step(*step),
-            Err(refusal) => Err(refusal),
-        }
+        self.step(*step)
     }
 
-    /// Places a row in the partition of its key. Refused as `ask` is, with 10, 9 and 8.
+    /// Places a row in the partition of its key. Refused as `ask` is, with 6, 10, 9 and 8.
     pub fn insert(&mut self, key: Key, payload: Payload) -> Result<RowNo, Refusal>
         ensures inserts { Inserts self.old.limits self.old.splits key payload result
             (lasting (tables_of self.old.parts)) (lasting (tables_of self.new.parts)) }
@@ -86,7 +75,7 @@ impl Core {
         }
     }
 
-    /// Removes a row, and returns it as it was; `None` if it doesn't exist. Refused as `ask` is, with 5, 10 and 8.
+    /// Removes a row, and returns it as it was; `None` if it doesn't exist. Refused as `ask` is, with 5, 6, 10 and 8.
     pub fn delete(&mut self, row: RowNo) -> Result<Option<Row>, Refusal>
         ensures deletes { Deletes self.old.limits self.old.splits row result (lasting (tables_of self.old.parts))
             (lasting (tables_of self.new.parts)) }
@@ -129,7 +118,7 @@ impl Core {
         }
     }
 
-    /// Counts the rows of a range, over all partitions: each that holds a part of it is asked. Refused with 10 and 8
+    /// Counts the rows of a range, over all partitions: each that holds a part of it is asked. Refused with 6, 10 and 8
     /// as `ask` is; the partitions before the refusing one have then answered. Takes memory for one reply of each
     /// partition that it meets.
     pub fn count(&mut self, range: KeyRange, policy: Policy) -> Result<u64, Refusal>
@@ -238,13 +227,6 @@ impl Core {
         }
         Ok(())
     }
-}
-
-/// Whether it is a refusal by a full history.
-fn is_full(answered: &Result<Reply, Refusal>) -> bool
-    ensures { result ≡ is_full answered.now }
-{
-    matches!(answered, Err(Refusal::HistoryFull { length: _ }))
 }
 
 /// The serial that a reply to an insertion gives.

@@ -14,10 +14,12 @@ use Rattle.crack_row.specs.declared.refusal.Refusal.{Refusal}
 use Rattle.crack_row.specs.declared.refusal.Refusal.TheVariants.{OutOfMemory}
 use Rattle.crack_plain.specs.Past.{no_past}
 use Rattle.crack_plain.specs.Plain.{PlainView, checkpointed}
+use Rattle.crack_store.specs.Inside.{IsLayoutOf}
 use Rattle.crack_part.specs.Parts.{Part}
 use Rattle.crack_core.specs.Asking.{lasting}
 use Rattle.crack_core.specs.Bulk.{NumberedCall, Went}
 use Rattle.crack_core.specs.Cores.{CoreState}
+use Rattle.crack_core.specs.Jobs.{IsFoldedAt}
 use Rattle.crack_core.specs.Opening.{opening_fault, MayFault}
 use Rattle.crack_core.specs.Routes.{keys_of_part}
 use Rattle.crack_core.specs.Steps.{tables_of, changed_at, IsLayoutOutcome, IsFoldOutcome}
@@ -82,13 +84,18 @@ ComesOut {X} Asks Writes old new status unwritten = StaysOpen old new × ((outco
 abbrev pub GoesOn : (Limits → List Bound → NumberedCall) → ℕ → ℕ → Handle → Handle → ℕ → Type 0 → Type 0
 GoesOn call count done old new status unwritten = StaysOpen old new × ((progress : Progress) × (status ≡ status_of progress.refusal) × (done ≡ progress.done) × Went (call old.core.limits old.core.splits) count (rows_of old.core) progress (rows_of new.core))
 
+-- a layout is that of the store of the partition with this number
+abbrev pub IsLayoutAt : List Part → ℕ → Layout → Type 0
+IsLayoutAt parts part layout = (p : Part) → slice_get parts part ≡ Some p → IsLayoutOf p.store layout
+
 -- a partition's layout is written, or why there is none, and the table is as it was
 abbrev pub Shows : ℕ → Totals → List ℕ → List ℕ → Handle → Handle → ℕ → Type 0 → Type 0
-Shows part totals lows sizes old new status unwritten = (new.is_open ≡ true) × (new.core ≡ old.core) × ((outcome : Result Layout Refusal) × IsLayoutOutcome (keys_of_part old.core.splits part) (slice_get (tables_of old.core.parts) part) outcome × MatchResult outcome (λ layout. (status ≡ 0) × (totals ≡ totals_in layout) × PiecesIn layout.pieces lows sizes) (λ e. (status ≡ code_of e) × unwritten))
+Shows part totals lows sizes old new status unwritten = (new.is_open ≡ true) × (new.core ≡ old.core) × ((outcome : Result Layout Refusal) × IsLayoutOutcome (keys_of_part old.core.splits part) (slice_get (tables_of old.core.parts) part) outcome × MatchResult outcome (λ layout. IsLayoutAt old.core.parts part layout × (status ≡ 0) × (totals ≡ totals_in layout) × PiecesIn layout.pieces lows sizes) (λ e. (status ≡ code_of e) × unwritten))
 
--- a checkpoint of a partition is made, and how many entries its history had is written
+-- a checkpoint of a partition is made, which leaves its store and all other partitions as they were, and how many entries its history had is written;
+-- or the table is as it was
 abbrev pub FoldsOne : ℕ → ℕ → Handle → Handle → ℕ → Type 0 → Type 0
-FoldsOne part folded old new status unwritten = StaysOpen old new × ((outcome : Result ℕ Refusal) × IsFoldOutcome (slice_get (tables_of old.core.parts) part) outcome × (tables_of new.core.parts ≡ changed_at checkpointed (tables_of old.core.parts) part outcome) × MatchResult outcome (λ count. (status ≡ 0) × (folded ≡ count)) (λ e. (status ≡ code_of e) × unwritten))
+FoldsOne part folded old new status unwritten = StaysOpen old new × ((outcome : Result ℕ Refusal) × IsFoldOutcome (slice_get (tables_of old.core.parts) part) outcome × (tables_of new.core.parts ≡ changed_at checkpointed (tables_of old.core.parts) part outcome) × MatchResult outcome (λ count. IsFoldedAt part old.core.parts new.core.parts × (status ≡ 0) × (folded ≡ count)) (λ e. (new.core ≡ old.core) × (status ≡ code_of e) × unwritten))
 
 -- a handle holds a table that was just opened
 abbrev pub IsFresh : Handle → List ℕ → Limits → Type 0

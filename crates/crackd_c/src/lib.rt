@@ -23,7 +23,8 @@ use status::{
 };
 use std::alloc::Global;
 
-/// Opens a table in a handle that holds none.
+/// Opens a table in a handle that holds none. Its partitions make the checkpoints that are due, and free the cells of
+/// deleted rows once none is free.
 #[unsafe(no_mangle)]
 pub extern "C" fn crackd_open(
     alloc: Global,
@@ -35,7 +36,7 @@ pub extern "C" fn crackd_open(
 ) -> u32
     ensures open { handle.old.is_open ≡ true → (result ≡ ALREADY_OPEN) × (handle.new ≡ handle.old) }
     ensures opens { handle.old.is_open ≡ false → OpensHandle handle.old handle.new splits.now
-        (record { history = history; cells = cells; life = life; upkeep = Upkeep.OnRequest }) result }
+        (record { history = history; cells = cells; life = life; upkeep = Upkeep.Automatic }) result }
 {
     if handle.is_open() {
         return ALREADY_OPEN;
@@ -44,7 +45,7 @@ pub extern "C" fn crackd_open(
         history,
         cells,
         life,
-        upkeep: Upkeep::OnRequest,
+        upkeep: Upkeep::Automatic,
     };
     match opening::open(alloc, splits, limits) {
         Ok(core) => {

@@ -1,0 +1,210 @@
+"""A shard and what a cluster's table makes of the answers of several, without a cluster."""
+
+import os
+import pathlib
+import tempfile
+import unittest
+from unittest import mock
+
+from clusters import cluster, wants_cluster
+from kinds import KINDS, value
+from ways import crackd, np, wants_library
+
+LOST = "its worker is gone"
+
+
+def numbers(it):
+    return [int(each) for each in it]
+
+
+class Steps:
+    """Writes down what is made sure of on a disk, by file names, and what gets its name there."""
+
+    def __init__(self):
+        self.steps, self.sync, self.replace = [], os.fsync, os.replace
+
+    def synced(self, descriptor):
+        self.steps.append(("sync", pathlib.Path(os.readlink(f"/proc/self/fd/{descriptor}")).name))
+        self.sync(descriptor)
+
+    def replaced(self, old, new):
+        self.steps.append(("replace", pathlib.Path(new).name))
+        self.replace(old, new)
+
+    def written(self):
+        return mock.patch.multiple(os, fsync=self.synced, replace=self.replaced)
+
+
+@wants_library
+@wants_cluster
+class Saves(unittest.TestCase):
+    """What a shard writes."""
+
+    def setUp(self):
+        room = tempfile.TemporaryDirectory()
+        self.addCleanup(room.cleanup)
+        self.folder = pathlib.Path(room.name)
+
+    def shard(self, kind, keys, payloads, cuts=()):
+        shard = crackd.shard.Shard(kind, list(cuts), {})
+        shard.table._insert_many(kind.many(keys), np.array(payloads, np.int64))
+        return shard
+
+    def test_a_file_is_on_the_disk_before_it_has_its_name(self):
+        shard, steps = self.shard(crackd.keys.Keys("i"), [1, 2], [3, 4]), Steps()
+        with steps.written():
+            self.assertEqual(shard.ask("save", (f"{self.folder}/rows.npy",)), (shard.token, (2, 7)))
+        self.assertEqual(steps.steps, [("sync", "rows.npy.part"), ("replace", "rows.npy")])
+        self.assertEqual(os.listdir(self.folder), ["rows.npy"])
+
+    def test_a_file_that_cannot_be_written_is_not_left(self):
+        shard = self.shard(crackd.keys.Keys("i"), [1, 2], [3, 4])
+        for name in ("fsync", "replace"):
+            with self.subTest(name), mock.patch.object(os, name, side_effect=OSError(28, "No space left")):
+                with self.assertRaises(crackd.shard.ShardFailed) as caught:
+                    shard.ask("save", (f"{self.folder}/rows.npy",))
+                self.assertIn("No space left", str(caught.exception))
+                self.assertEqual(os.listdir(self.folder), [])
+
+    def test_rows_of_each_kind(self):
+        for kind in KINDS:
+            keys = crackd.keys.Keys.named(kind.key_type)
+            cuts = numbers(keys.many(kind.given(kind.keys[1:3])))
+            shard = self.shard(keys, kind.given(kind.keys), kind.payloads, cuts)
+            with self.subTest(kind.name):
+                path = str(self.folder / "rows.npy")
+                self.assertEqual(shard.save(path), (len(kind.keys), sum(kind.payloads)))
+                rows = np.load(path)
+                self.assertEqual((rows.dtype["key"], rows.dtype["payload"]), (np.dtype(kind.key_type), np.int64))
+                found = list(zip(map(value, rows["key"]), rows["payload"].tolist()))
+                self.assertEqual(sorted(found), sorted(zip(map(value, kind.keys), kind.payloads)))
+
+    def test_a_manifest_is_on_the_disk_before_it_has_its_name(self):
+        steps, path = Steps(), self.folder / "manifest"
+        with steps.written():
+            cluster.write_synced(path, "text\n")
+            cluster.sync_folder(self.folder)
+        self.assertEqual(steps.steps, [("sync", "manifest"), ("sync", self.folder.name)])
+        self.assertEqual(path.read_text(), "text\n")
+
+    def test_a_block_is_loaded_once_and_by_its_own_shard(self):
+        shard = self.shard(crackd.keys.Keys("u"), [], [])
+        words = np.array([5, 6], np.uint64), np.array([7, 8])
+        for number, token, wanted in [(0, shard.token, 2), (0, shard.token, 2), (1, shard.token, 4), (2, "other", 4)]:
+            if token == shard.token:
+                self.assertEqual(shard.ask("load", (token, number, *words)), (token, None))
+            else:
+                self.assertRaises(crackd.shard.ShardFailed, shard.ask, "load", (token, number, *words))
+            self.assertEqual(shard.ask("count", ()), (shard.token, wanted))
+
+    def test_what_a_shard_refuses(self):
+        shard = crackd.shard.Shard(crackd.keys.Keys("u"), [100], {"cells": 2})
+        with self.assertRaises(crackd.Full) as caught:
+            shard.ask("_insert_many", (np.array([1, 2, 3], np.uint64), np.array([1, 2, 3])))
+        self.assertEqual((caught.exception.code, caught.exception.done), (9, 2))
+        with self.assertRaises(crackd.shard.ShardFailed) as caught:
+            shard.ask("_count", ("x", 1))
+        self.assertIn("ArgumentError", str(caught.exception))
+        self.assertEqual(shard.ask("begin", ()), (shard.token, 2))
+        shard.ask("close", ())
+        self.assertRaises(crackd.Closed, shard.ask, "_count", (1, 2))
+
+
+@wants_cluster
+class FirstErrors(unittest.TestCase):
+    """Which of the errors of several shards a call raises."""
+
+    def lost(self, shard):
+        return cluster.ShardLost(shard, None, 5, "keys below 5", LOST)
+
+    def first(self, errors):
+        with self.assertRaises(crackd.Error) as caught:
+            cluster.raise_first(errors)
+        return caught.exception
+
+    def test_a_lost_shard_is_first(self):
+        full, other = crackd.Full(9, 0), crackd.OutOfMemory(8, 2)
+        for errors in ({0: full, 1: self.lost(1)}, {0: self.lost(0), 1: full}, {0: full, 1: self.lost(1), 2: other}):
+            found = self.first(errors)
+            self.assertIsInstance(found, cluster.ShardLost)
+            self.assertEqual((found.low, found.high, found.why), (None, 5, LOST))
+            # (each call raises its own)
+            self.assertNotIn(found, list(errors.values()))
+        found = self.first({3: self.lost(3), 1: self.lost(1), 2: self.lost(2), 0: full})
+        self.assertEqual(found.shard, 1)
+
+    def test_else_the_error_of_the_first_item(self):
+        errors = {0: crackd.Full(9, 7), 1: crackd.OutOfMemory(8, 3), 2: crackd.LifeOver(10, 3)}
+        self.assertIs(self.first(errors), errors[1])
+        errors[2] = crackd.LifeOver(10, 0)
+        self.assertIs(self.first(errors), errors[2])
+        cluster.raise_first({})
+
+    def test_a_call_for_many(self):
+        shards, is_done = np.array([0, 1, 0, 2, 1, 0]), np.array([True, True, False, True, False, True])
+        errors = {0: crackd.Full(9, 1), 1: crackd.OutOfMemory(8, 1)}
+        found = cluster.error_of(errors, shards, is_done, "rows")
+        self.assertIsInstance(found, crackd.Full)
+        self.assertEqual((found.code, found.done, found.later, found.answers), (9, 2, 2, "rows"))
+        found = cluster.error_of({**errors, 2: self.lost(2), 1: self.lost(1)}, shards, is_done, "rows")
+        self.assertEqual((type(found), found.shard, found.answers), (cluster.ShardLost, 1, "rows"))
+        failed = crackd.shard.ShardFailed("a full disk")
+        found = cluster.error_of({0: failed}, shards, is_done, "rows")
+        self.assertEqual((found is failed, found.answers), (True, "rows"))
+
+
+@wants_cluster
+class Parts(unittest.TestCase):
+    """How rows and keys are divided."""
+
+    def test_the_shard_of_each_key(self):
+        cuts = np.array([1, 5, 2**63, 2**64 - 1], np.uint64)
+        keys = np.array([0, 1, 4, 5, 6, 2**63 - 1, 2**63, 2**64 - 2, 2**64 - 1], np.uint64)
+        self.assertEqual(crackd.shard.shard_of(cuts, keys).tolist(), [0, 1, 1, 2, 2, 2, 3, 3, 4])
+        self.assertEqual(crackd.shard.shard_of(cuts[:0], keys).tolist(), [0] * 9)
+
+    def test_blocks_keep_the_order_of_rows(self):
+        for shards in ([], [3], [0, 0, 0], [5, 0, 5, 1, 0, 5], [1023, 0, 1023]):
+            found = {it.shard: it.places.tolist() for it in crackd.shard.blocks_of(np.array(shards, np.int64))}
+            wanted = {it: [at for at, shard in enumerate(shards) if shard == it] for it in sorted(set(shards))}
+            self.assertEqual((found, list(found)), (wanted, list(wanted)))
+
+    def test_splits(self):
+        for cuts in ([], [1], [1, 2, 3], range(1, 1024)):
+            self.assertEqual(cluster.checked_splits(np.array(cuts, np.uint64)).tolist(), list(cuts))
+        for cuts in ([0], [0, 1], [2, 2], [1, 3, 2]):
+            self.assertRaises(crackd.BadSplits, cluster.checked_splits, np.array(cuts, np.uint64))
+        self.assertRaises(ValueError, cluster.checked_splits, np.arange(1, 1025, dtype=np.uint64))
+
+    def test_sums_are_exact(self):
+        for payloads in ([], [2**63 - 1] * 9, [-(2**63)] * 9, [-1] * 5, [-(2**63), 2**63 - 1, 2**32, -(2**32), 2**31]):
+            self.assertEqual(crackd.shard.exact_sum(np.array(payloads, np.int64)), sum(payloads))
+
+    def test_what_is_no_manifest(self):
+        with tempfile.TemporaryDirectory() as room:
+            path = pathlib.Path(room) / "manifest.json"
+            whole = '{"form": 2, "keys": "int64", "splits": [5], "files": ["a", "b"], "counts": [1, 2], "sums": [3, 4]}'
+            path.write_text(whole)
+            self.assertEqual(cluster.read_manifest(path)["counts"], [1, 2])
+            for old, new in [
+                ('"form": 2', '"form": 3'),
+                ('"form": 2, ', ""),
+                ("[5]", "[]"),
+                ("[5]", "[5, 6]"),
+                ('["a", "b"]', '["a"]'),
+                ("[1, 2]", "[1, 2, 3]"),
+                ("[3, 4]", "[3]"),
+                ("[3, 4]", "3"),
+                ("int64", "text"),
+                ("int64", "datetime64"),
+                ("{", ""),
+                (whole, "[]"),
+                (whole, ""),
+            ]:
+                path.write_text(whole.replace(old, new, 1))
+                with self.subTest(old=old, new=new):
+                    self.assertRaises(cluster.BadSave, cluster.read_manifest, path)
+
+
+if __name__ == "__main__":
+    unittest.main()
