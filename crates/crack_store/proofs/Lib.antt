@@ -2,6 +2,7 @@ mod NextLemmas
 mod EdgeLemmas
 mod AdmitLemmas
 mod CrackLemmas
+mod FurtherLemmas
 mod HandLemmas
 mod LiveLemmas
 mod RememberLemmas

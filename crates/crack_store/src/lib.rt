@@ -12,6 +12,7 @@ mod cracking;
 pub mod draining;
 pub mod evicting;
 pub mod filling;
+mod further;
 mod inside;
 pub mod live;
 mod notes;
