@@ -8,6 +8,7 @@
 pub mod appending;
 mod ascent;
 pub mod carrying;
+pub mod coarsening;
 mod cracking;
 pub mod draining;
 pub mod evicting;
