@@ -6,7 +6,6 @@ import fractions
 import math
 import numbers
 import struct
-import sys
 from typing import Any, Optional, Sequence
 
 from .arrays import (
@@ -234,7 +233,7 @@ class Keys:
         try:
             number = float(end)
         except OverflowError:
-            number = math.inf if end > 0 else -sys.float_info.max
+            number = math.inf if end > 0 else -math.inf
         return self._of_float(math.nextafter(number, math.inf) if number < end else number)
 
     def ends(self, low: Any, high: Any, place: Optional[int] = None) -> tuple[int, int]:

@@ -7,7 +7,7 @@ import math
 import unittest
 
 from clusters import wants_cluster, wants_pandas
-from test_cluster import OnWorkers, setUpModule, tearDownModule  # noqa: F401 (unittest runs the functions)
+from test_cluster import OnWorkers, begin, end
 from ways import InProcess, OverTcp, crackd, np, wants_library, wants_numpy, wants_program
 
 LEAST, GREATEST, UNSIGNED = -(2**63), 2**63 - 1, 2**64 - 1
@@ -312,8 +312,10 @@ class OverTcpDates(EndsOfDates, OverTcp, unittest.TestCase):
     """Over TCP."""
 
 
-class Few:
-    """Fewer cases, since each call of a cluster takes milliseconds."""
+class Few(OnWorkers):
+    """On a cluster of its own, fewer cases, since each call takes milliseconds."""
+
+    setUpClass, tearDownClass = staticmethod(begin), staticmethod(end)
 
     @staticmethod
     def some(count):
@@ -330,13 +332,7 @@ class Few:
 
 @wants_library
 @wants_cluster
-class OnAClusterNumbers(OnWorkers, EndsOfNumbers, unittest.TestCase):
-    """On a cluster."""
-
-
-@wants_library
-@wants_cluster
-class OnAClusterDates(Few, OnWorkers, EndsOfDates, unittest.TestCase):
+class OnAClusterCases(Few, EndsOfNumbers, EndsOfDates, unittest.TestCase):
     """On a cluster."""
 
 

@@ -10,7 +10,7 @@ import pickle
 import unittest
 
 from clusters import wants_cluster, wants_pandas
-from test_cluster import MODULE, OnWorkers, setUpModule, tearDownModule  # noqa: F401 (unittest runs the functions)
+from test_cluster import MODULE, OnWorkers, begin, end
 from ways import InProcess, OverTcp, crackd, np, wants_library, wants_numpy, wants_program
 
 from crackd.keys import Keys, kind_of
@@ -207,6 +207,10 @@ class Arguments:
                         found, rest = divmod(number * sizes[other], sizes[own])
                         kind = OverflowError if abs(found) > GREATEST else ValueError if rest else None
                         self.one_date(table, np.datetime64(number, other), kind or np.datetime64(found, own))
+        with self.table(key_type="datetime64[s]") as table:
+            # (the least integer of 64 bits is NaT)
+            self.one_date(table, np.datetime64(-(2**62), "2s"), OverflowError)
+            self.one_date(table, np.datetime64(-(2**62) + 1, "2s"), np.datetime64(-(2**63) + 2, "s"))
         with self.table(key_type="datetime64[as]") as table:
             for year in (1969, 1971, 2020):
                 self.assertRaises(OverflowError, table.insert, np.datetime64(year - 1970, "Y"), 1)
@@ -316,9 +320,21 @@ class Options(unittest.TestCase):
 
 
 @wants_library
+class InProcessArguments(Arguments, InProcess, unittest.TestCase):
+    """In the process."""
+
+
+@wants_program
+class OverTcpArguments(Arguments, OverTcp, unittest.TestCase):
+    """Over TCP."""
+
+
+@wants_library
 @wants_cluster
-class OptionsOfACluster(unittest.TestCase):
-    """What opens a table on a cluster."""
+class OnACluster(OnWorkers, Arguments, unittest.TestCase):
+    """On a cluster of its own, and what opens a table there."""
+
+    setUpClass, tearDownClass = staticmethod(begin), staticmethod(end)
 
     def test_limits_of_a_cluster(self):
         from crackd import cluster
@@ -357,22 +373,6 @@ class OptionsOfACluster(unittest.TestCase):
             self.assertEqual(table.sum(None, times[2]), 4)
         with self.assertRaisesRegex(ValueError, "missing"):
             cluster.Table.from_dask(MODULE["client"], frame, "gap")
-
-
-@wants_library
-class InProcessArguments(Arguments, InProcess, unittest.TestCase):
-    """In the process."""
-
-
-@wants_program
-class OverTcpArguments(Arguments, OverTcp, unittest.TestCase):
-    """Over TCP."""
-
-
-@wants_library
-@wants_cluster
-class OnAClusterArguments(OnWorkers, Arguments, unittest.TestCase):
-    """On a cluster."""
 
 
 if __name__ == "__main__":
