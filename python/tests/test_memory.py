@@ -21,8 +21,9 @@ resource.setrlimit(resource.RLIMIT_AS, (room, resource.RLIM_INFINITY))
 try:
     while True:
         placed += len(table.insert_many(keys, keys))
-except crackd.OutOfMemory as error:
-    placed += error.done
+except MemoryError as error:
+    # (one of numpy's own comes before anything is placed)
+    placed += getattr(error, "done", 0)
 try:
     table.count()
 except crackd.OutOfMemory:

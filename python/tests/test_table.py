@@ -241,6 +241,23 @@ class Cases:
             self.assertEqual((table.count(), table.sum()), (3, 7))
             self.assertEqual(list(table.delete_many(caught.exception.answers)), [True] * 3)
 
+    def test_a_partition_is_full_only_with_as_many_rows_as_cells(self):
+        with self.table(cells=1000) as table:
+            rows = table.insert_many(range(600), [1] * 600)
+            for payload in (2, 3, 4):
+                table.settle()
+                self.assertTrue(all(table.update_many(rows, range(600), [payload] * 600)))
+            self.assertEqual((table.count(), table.sum()), (600, 2400))
+            table.settle()
+            self.assertTrue(all(table.delete_many(rows)))
+            rows = table.insert_many(range(1000), range(1000))
+            table.settle()
+            self.assertRaises(crackd.Full, table.insert, 5, 5)
+            self.assertTrue(all([table.delete(row) for row in rows[:20]]))
+            more = [table.insert(key, 1) for key in range(20)]
+            self.assertEqual((len(set(more)), table.count(), table.sum(0, 20)), (20, 1000, 20))
+            self.assertRaises(crackd.Full, table.insert_many, [5], [5])
+
     def test_bad_openings(self):
         for options, kind in [
             ({"history": 0}, crackd.BadLimit),
