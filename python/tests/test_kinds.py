@@ -1,6 +1,8 @@
 """Each method with each kind of keys at its limits: in the process, over TCP and on a cluster, by exact numbers."""
 
 import contextlib
+import fractions
+import math
 import unittest
 
 from clusters import cluster, local, wants_cluster
@@ -149,6 +151,22 @@ class OfKinds:
         self.assertGreater(table.checkpoint(), 0)
         self.assertEqual(table.checkpoint(), 0)
         self.expect(table, model, kind)
+
+    def test_both_zeros_are_a_key(self):
+        zeros = [0.0, -0.0, 0, fractions.Fraction(0)]
+        arrays = [] if np is None else [np.array([0.0, -0.0], it) for it in ("f2", "f4", "f8")]
+        with self.table(key_type="float64") as table:
+            for it in zeros:
+                table.insert(it, 1)
+            for it in (zeros, *arrays):
+                table.insert_many(it, [1] * len(it))
+            rows = table.count()
+            for it in zeros:
+                self.assertEqual((table.count(it), table.count(None, it), table.sum(it, 5e-324)), (rows, 0, rows))
+            for it in (zeros, *arrays):
+                self.assertEqual(numbers(table.count_many(it, None)), [rows] * len(it))
+                self.assertEqual(numbers(table.count_many(it, it)), [0] * len(it))
+            self.assertEqual({math.copysign(1, it) for it in table.select().keys}, {1.0})
 
     def test_keys_of_other_types(self):
         for kind in self.kinds:
