@@ -186,6 +186,19 @@ class Reported(InProcess, unittest.TestCase):
                             call(lows, [5, 5, 5])
                         self.assertEqual(caught.exception.done, wanted)
 
+    def test_the_length_of_a_table_that_is_refused_memory(self):
+        with self.table(splits=[10, 20, 30]) as table:
+            rows = table.insert_many(range(40), range(40))
+            table.settle()
+            table.insert_many([1, 11, 35], [1, 1, 1])
+            table.delete_many(rows[5:25])
+            for code, wanted in [(8, 23), (10, crackd.LifeOver), (101, crackd.Closed)]:
+                with self.subTest(code), standing_in(count=lambda real, *words, code=code: code):
+                    if isinstance(wanted, int):
+                        self.assertEqual(len(table), wanted)
+                    else:
+                        self.assertRaises(wanted, len, table)
+
     def test_a_table_of_arrays_that_fails_is_closed(self):
         for name, code in [("insert_many", 9), ("insert_many", 8), ("count", 8)]:
             watch = Watch()

@@ -3,10 +3,14 @@
 import contextlib
 import fractions
 import math
+import pathlib
+import tempfile
 import unittest
+from unittest import mock
 
 from clusters import cluster, local, wants_cluster
 from kinds import KINDS, value
+from test_shards import Steps
 from ways import InProcess, OverTcp, crackd, np, wants_library, wants_numpy, wants_program
 
 WORKERS = 2
@@ -326,6 +330,37 @@ class ClusterKinds(OfKinds, unittest.TestCase):
     def table(self, sample=(), rows=0, **options):
         with cluster.Table(self.client, sample, rows, **options) as table:
             yield table
+
+    def test_saves(self):
+        for kind in self.kinds:
+            with tempfile.TemporaryDirectory() as room, self.subTest(kind.name):
+                folder, steps = pathlib.Path(room) / "saved", Steps()
+                splits, wanted = kind.given(kind.keys[1:4:2]), sorted(zip(map(value, kind.keys), kind.payloads))
+                with self.table(splits=splits, key_type=kind.key_type) as table:
+                    table.insert_many(kind.given(kind.keys), kind.payloads)
+                    with steps.written():
+                        manifest = table.save(folder)
+                self.assertEqual((manifest["counts"], sum(manifest["sums"])), ([1, 2, len(wanted) - 3], sum(kind.payloads)))
+                part, named, last = steps.steps
+                self.assertEqual((part[0], named, last), ("sync", ("replace", "manifest.json"), ("sync", "saved")))
+                self.assertTrue(part[1].startswith("manifest.json."))
+                with mock.patch.object(cluster, "ROWS_A_TASK", 2):
+                    for shards in (1, 2):
+                        with cluster.Table.restore(self.client, folder, shards=shards) as table:
+                            found = selected(table.select())
+                            self.assertEqual((table.shards, sorted(found.values())), (shards, wanted))
+                            self.assertEqual(str(table.select().keys.dtype), kind.key_type)
+
+    def test_partitions_that_a_shard_does_not_have(self):
+        with self.table(splits=[100], key_type="int64") as table:
+            rows = numbers(table.insert_many([1, 2, 200, 201], [1, 2, 4, 8]))
+            for wrong in (rows[0] + (1 << 48), rows[2] + (1 << 48), 2 << 54, 1023 << 54, rows[0] + (63 << 48)):
+                for call, *columns in [(table.delete_many,), (table.update_many, [1, 1, 200, 2], [9] * 4)]:
+                    given = [rows[0] + 99, wrong, rows[2], rows[1]]
+                    with self.assertRaises(crackd.NoSuchPartition) as caught:
+                        call(given, *columns)
+                    self.assertEqual((caught.exception.done, caught.exception.later), (1, 0))
+            self.assertEqual((table.count(), table.sum()), (4, 15))
 
 
 if __name__ == "__main__":

@@ -6,9 +6,12 @@ import math
 import pathlib
 import tempfile
 import unittest
+from unittest import mock
 
 from kinds import GREATEST, LEAST, UNSIGNED
 from ways import InProcess, OverTcp, crackd, np, wants_library, wants_numpy, wants_program
+
+from crackd import csvfile
 
 HEADER = "key,payload"
 LINES = ["1,10", "-2,20", "3,-30"]
@@ -110,6 +113,24 @@ class Lines(WithFiles, unittest.TestCase):
         with crackd.load_csv(path, "äkey", "payload", encoding="latin-1") as table:
             self.assertEqual((table.sum(5, 6), table.count()), (6, 1))
         self.assertEqual(self.rows("\ufeffkey,payload\n1,10\n"), [(10, 1)])
+
+
+@wants_library
+class Blocks(Lines):
+    """The same, with few records read at once."""
+
+    AT_ONCE = 1
+
+    def setUp(self):
+        patch = mock.patch.object(csvfile, "RECORDS_AT_ONCE", self.AT_ONCE)
+        patch.start()
+        self.addCleanup(patch.stop)
+
+
+class BlocksOfTwo(Blocks):
+    """Of which a block has the header and one row."""
+
+    AT_ONCE = 2
 
 
 @wants_library
