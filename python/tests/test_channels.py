@@ -52,7 +52,8 @@ class Lines(unittest.TestCase):
 
     def test_lines_in_pieces(self):
         lines = self.TEXT.splitlines(keepends=True)
-        for sizes, counts in itertools.product([(1000,), (7, 1), (4, 9), (3,)], [(6,), (1, 5), (2, 2, 2), (1,) * 6, (4, 0, 2)]):
+        in_calls = [(6,), (1, 5), (2, 2, 2), (1,) * 6, (4, 0, 2)]
+        for sizes, counts in itertools.product([(1000,), (7, 1), (4, 9), (3,)], in_calls):
             with self.subTest(sizes=sizes, counts=counts), served(self.sending(sizes)) as channel:
                 at = 0
                 for count in counts:

@@ -340,7 +340,8 @@ class ClusterKinds(OfKinds, unittest.TestCase):
                     table.insert_many(kind.given(kind.keys), kind.payloads)
                     with steps.written():
                         manifest = table.save(folder)
-                self.assertEqual((manifest["counts"], sum(manifest["sums"])), ([1, 2, len(wanted) - 3], sum(kind.payloads)))
+                found = manifest["counts"], sum(manifest["sums"])
+                self.assertEqual(found, ([1, 2, len(wanted) - 3], sum(kind.payloads)))
                 part, named, last = steps.steps
                 self.assertEqual((part[0], named, last), ("sync", ("replace", "manifest.json"), ("sync", "saved")))
                 self.assertTrue(part[1].startswith("manifest.json."))
