@@ -12,6 +12,8 @@ from ways import OverTcp, crackd, wants_program
 from crackd import client, server
 
 AT_ONCE = 3
+# how long either side waits for the other at most
+SECONDS = 30
 
 
 def numbers(it):
@@ -27,6 +29,7 @@ def answering(reply):
 
         def answer():
             with listening.accept()[0] as connection, connection.makefile("rb") as lines:
+                connection.settimeout(SECONDS)
                 for line in lines:
                     said = reply(line)
                     if said is None:
@@ -146,7 +149,7 @@ class FullHistories(Blocks, unittest.TestCase):
     def table(self, limit, policy="auto"):
         words = [server.find_program(), "--workers", "1", "--limit", str(limit), "--until-eof", "--quiet"]
         with server.Server([*words, str(2**63 + 50)], crackd.keys.Keys("i"), policy) as served:
-            with served.connect() as table:
+            with served.connect(timeout=SECONDS) as table:
                 yield table
 
     def test_each_call(self):
@@ -185,7 +188,7 @@ class Scripted(unittest.TestCase):
             said = replies[line.split()[0].decode()]
             return said.pop(0) if isinstance(said, list) else said
 
-        with answering(reply) as port, crackd.connect(port=port) as table:
+        with answering(reply) as port, crackd.connect(port=port, timeout=SECONDS) as table:
             yield table
 
     def test_a_checkpoint_that_is_refused(self):

@@ -12,6 +12,8 @@ from ways import crackd
 from crackd.channel import Channel
 
 LARGE = 3_000_000
+# how long either side waits for the other at most
+SECONDS = 30
 
 
 @contextlib.contextmanager
@@ -22,12 +24,13 @@ def served(serve):
         listening.listen()
 
         def answer():
-            with listening.accept()[0] as connection:
+            with listening.accept()[0] as connection, contextlib.suppress(TimeoutError):
+                connection.settimeout(SECONDS)
                 serve(connection)
 
         thread = threading.Thread(target=answer)
         thread.start()
-        with contextlib.closing(Channel("127.0.0.1", listening.getsockname()[1])) as channel:
+        with contextlib.closing(Channel("127.0.0.1", listening.getsockname()[1], timeout=SECONDS)) as channel:
             yield channel
         thread.join()
 
