@@ -172,6 +172,15 @@ class OfKinds:
                 self.assertEqual(numbers(table.count_many(it, it)), [0] * len(it))
             self.assertEqual({math.copysign(1, it) for it in table.select().keys}, {1.0})
 
+    def test_checkpoints_of_all_partitions(self):
+        with self.table(splits=[10, 20, 30], key_type="int64") as table:
+            for keys in (range(40), range(40), [35], [5, 15, 25]):
+                rows = numbers(table.insert_many(keys, keys))
+                self.assertEqual((table.checkpoint(), table.checkpoint()), (len(keys), 0))
+            self.assertEqual(list(table.delete_many(rows)), [True] * 3)
+            self.assertEqual((table.checkpoint(), table.checkpoint()), (3, 0))
+            self.assertEqual((table.count(), table.sum()), (81, 2 * sum(range(40)) + 35))
+
     def test_keys_of_other_types(self):
         for kind in self.kinds:
             with self.filled(kind) as (table, model):
