@@ -1,10 +1,16 @@
 """Each method with each kind of keys at its limits: in the process, over TCP and on a cluster, by exact numbers."""
 
 import contextlib
+import fractions
+import math
+import pathlib
+import tempfile
 import unittest
+from unittest import mock
 
 from clusters import cluster, local, wants_cluster
 from kinds import KINDS, value
+from test_shards import Steps
 from ways import InProcess, OverTcp, crackd, np, wants_library, wants_numpy, wants_program
 
 WORKERS = 2
@@ -149,6 +155,31 @@ class OfKinds:
         self.assertGreater(table.checkpoint(), 0)
         self.assertEqual(table.checkpoint(), 0)
         self.expect(table, model, kind)
+
+    def test_both_zeros_are_a_key(self):
+        zeros = [0.0, -0.0, 0, fractions.Fraction(0)]
+        arrays = [] if np is None else [np.array([0.0, -0.0], it) for it in ("f2", "f4", "f8")]
+        with self.table(key_type="float64") as table:
+            for it in zeros:
+                table.insert(it, 1)
+            for it in (zeros, *arrays):
+                table.insert_many(it, [1] * len(it))
+            rows = table.count()
+            for it in zeros:
+                self.assertEqual((table.count(it), table.count(None, it), table.sum(it, 5e-324)), (rows, 0, rows))
+            for it in (zeros, *arrays):
+                self.assertEqual(numbers(table.count_many(it, None)), [rows] * len(it))
+                self.assertEqual(numbers(table.count_many(it, it)), [0] * len(it))
+            self.assertEqual({math.copysign(1, it) for it in table.select().keys}, {1.0})
+
+    def test_checkpoints_of_all_partitions(self):
+        with self.table(splits=[10, 20, 30], key_type="int64") as table:
+            for keys in (range(40), range(40), [35], [5, 15, 25]):
+                rows = numbers(table.insert_many(keys, keys))
+                self.assertEqual((table.checkpoint(), table.checkpoint()), (len(keys), 0))
+            self.assertEqual(list(table.delete_many(rows)), [True] * 3)
+            self.assertEqual((table.checkpoint(), table.checkpoint()), (3, 0))
+            self.assertEqual((table.count(), table.sum()), (81, 2 * sum(range(40)) + 35))
 
     def test_keys_of_other_types(self):
         for kind in self.kinds:
@@ -308,6 +339,38 @@ class ClusterKinds(OfKinds, unittest.TestCase):
     def table(self, sample=(), rows=0, **options):
         with cluster.Table(self.client, sample, rows, **options) as table:
             yield table
+
+    def test_saves(self):
+        for kind in self.kinds:
+            with tempfile.TemporaryDirectory() as room, self.subTest(kind.name):
+                folder, steps = pathlib.Path(room) / "saved", Steps()
+                splits, wanted = kind.given(kind.keys[1:4:2]), sorted(zip(map(value, kind.keys), kind.payloads))
+                with self.table(splits=splits, key_type=kind.key_type) as table:
+                    table.insert_many(kind.given(kind.keys), kind.payloads)
+                    with steps.written():
+                        manifest = table.save(folder)
+                found = manifest["counts"], sum(manifest["sums"])
+                self.assertEqual(found, ([1, 2, len(wanted) - 3], sum(kind.payloads)))
+                part, named, last = steps.steps
+                self.assertEqual((part[0], named, last), ("sync", ("replace", "manifest.json"), ("sync", "saved")))
+                self.assertTrue(part[1].startswith("manifest.json."))
+                with mock.patch.object(cluster, "ROWS_A_TASK", 2):
+                    for shards in (1, 2):
+                        with cluster.Table.restore(self.client, folder, shards=shards) as table:
+                            found = selected(table.select())
+                            self.assertEqual((table.shards, sorted(found.values())), (shards, wanted))
+                            self.assertEqual(str(table.select().keys.dtype), kind.key_type)
+
+    def test_partitions_that_a_shard_does_not_have(self):
+        with self.table(splits=[100], key_type="int64") as table:
+            rows = numbers(table.insert_many([1, 2, 200, 201], [1, 2, 4, 8]))
+            for wrong in (rows[0] + (1 << 48), rows[2] + (1 << 48), 2 << 54, 1023 << 54, rows[0] + (63 << 48)):
+                for call, *columns in [(table.delete_many,), (table.update_many, [1, 1, 200, 2], [9] * 4)]:
+                    given = [rows[0] + 99, wrong, rows[2], rows[1]]
+                    with self.assertRaises(crackd.NoSuchPartition) as caught:
+                        call(given, *columns)
+                    self.assertEqual((caught.exception.done, caught.exception.later), (1, 0))
+            self.assertEqual((table.count(), table.sum()), (4, 15))
 
 
 if __name__ == "__main__":
