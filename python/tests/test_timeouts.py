@@ -71,6 +71,8 @@ class Silence(unittest.TestCase):
 
         with standing_in(play) as port:
             table = crackd.connect(port=port, timeout=SOON)
+            # (nobody waits for it meanwhile)
+            time.sleep(SOON + PAUSE)
             self.assertEqual(table.count(), 7)
             table.close()
 
