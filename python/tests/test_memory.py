@@ -63,12 +63,16 @@ class Lengths(unittest.TestCase):
     """What `len` returns where a query finds no memory."""
 
     def test_the_length_after_memory_ran_out(self):
-        how = {"cwd": HERE, "capture_output": True, "text": True, "timeout": SECONDS}
-        ran = subprocess.run([sys.executable, "-c", FILL], check=False, **how)
-        self.assertEqual((ran.returncode, ran.stderr), (0, ""))
-        placed, length = map(int, ran.stdout.split())
-        self.assertGreater(placed, 100_000)
-        self.assertEqual(length, placed)
+        for trim in ("131072", "65536"):
+            # (the second is what Dask sets; there the row numbers are joined without memory to spare)
+            environment = {**os.environ, "MALLOC_TRIM_THRESHOLD_": trim}
+            how = {"cwd": HERE, "env": environment, "capture_output": True, "text": True, "timeout": SECONDS}
+            with self.subTest(trim):
+                ran = subprocess.run([sys.executable, "-c", FILL], check=False, **how)
+                self.assertEqual((ran.returncode, ran.stderr), (0, ""))
+                placed, length = map(int, ran.stdout.split())
+                self.assertGreater(placed, 100_000)
+                self.assertEqual(length, placed)
 
 
 if __name__ == "__main__":
