@@ -2,6 +2,7 @@
 
 import contextlib
 import fractions
+import itertools
 import math
 import pathlib
 import tempfile
@@ -9,7 +10,7 @@ import unittest
 from unittest import mock
 
 from clusters import cluster, local, wants_cluster
-from kinds import KINDS, value
+from kinds import GREATEST, KINDS, LEAST, value
 from test_shards import Steps
 from ways import InProcess, OverTcp, crackd, np, wants_library, wants_numpy, wants_program
 
@@ -261,6 +262,55 @@ class OfKinds:
                             self.assertRaises(error, table.insert_many, np.array([key, key]), [1, 1])
                             self.assertRaises(error, table.update_many, [row], np.array([key]), [1])
                 self.expect(table, model, kind)
+
+    def test_what_is_no_row_number(self):
+        wrong = [(it, OverflowError) for it in (-1, -(2**63), 2**64, 2**64 + 1, 10**400)]
+        wrong += [(it, TypeError) for it in (None, "0", b"0", 0.0, True, False, [0])]
+        if np is not None:
+            wrong += [(np.int64(-1), OverflowError), (np.bool_(0), TypeError), (np.float64(0), TypeError)]
+        with self.table(key_type="int64") as table:
+            row = int(table.insert_many([7], [70])[0])
+            for it, error in wrong:
+                with self.subTest(row=it):
+                    self.assertRaises(error, table.delete, it)
+                    self.assertRaises(error, table.update, it, 7, 1)
+                    self.assertRaises(error, table.delete_many, [row, it])
+                    self.assertRaises(error, table.update_many, [row, it], [7, 7], [1, 1])
+            for it in (2**64 - 1, 2**63, 9 << 48):
+                self.assertRaises(crackd.NoSuchPartition, table.delete, it)
+                self.assertRaises(crackd.NoSuchPartition, table.update_many, [it], [7], [1])
+            for it in (row + 1, 2**48 - 1):
+                self.assertEqual((table.delete(it), list(table.update_many([it], [7], [1]))), (False, [False]))
+            self.assertEqual((table.count(), table.sum()), (1, 70))
+
+    def test_what_is_no_payload(self):
+        wrong = [(it, OverflowError) for it in (LEAST - 1, GREATEST + 1, 10**400, -(10**400))]
+        wrong += [(it, TypeError) for it in (None, "0", b"0", 0.0, math.nan, True, False, [0])]
+        with self.table(key_type="int64") as table:
+            row = int(table.insert_many([7], [70])[0])
+            for it, error in wrong:
+                with self.subTest(payload=it):
+                    self.assertRaises(error, table.insert, 7, it)
+                    self.assertRaises(error, table.insert_many, [7, 7], [1, it])
+                    self.assertRaises(error, table.update, row, 7, it)
+                    self.assertRaises(error, table.update_many, [row, row], [7, 7], [1, it])
+            self.assertEqual((table.count(), table.sum()), (1, 70))
+            for it in (LEAST, LEAST + 1, GREATEST - 1, GREATEST):
+                self.assertEqual((table.update(row, 7, it), table.sum()), (True, it))
+                self.assertEqual((list(table.update_many([row], [7], [it])), table.sum()), ([True], it))
+
+    def test_lists_of_different_lengths(self):
+        with self.table(key_type="int64") as table:
+            row = int(table.insert_many([7], [70])[0])
+            sizes = [it for it in itertools.product(range(3), repeat=3) if len(set(it)) > 1]
+            for rows, keys, payloads in sizes:
+                with self.subTest(rows=rows, keys=keys, payloads=payloads):
+                    if keys != payloads:
+                        self.assertRaises(ValueError, table.insert_many, [7] * keys, [1] * payloads)
+                        self.assertRaises(ValueError, table.count_many, [7] * keys, [7] * payloads)
+                        self.assertRaises(ValueError, table.sum_many, [7] * keys, [7] * payloads)
+                    self.assertRaises(ValueError, table.update_many, [row] * rows, [7] * keys, [1] * payloads)
+            self.assertEqual((table.count(), table.sum()), (1, 70))
 
     def test_what_is_no_list(self):
         wrong = [bytes(8), bytearray(8), memoryview(bytes(8)), "12345678", b"", "", 5, None]
