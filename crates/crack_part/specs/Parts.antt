@@ -18,7 +18,7 @@ use Rattle.crack_plain.specs.Totals.{inserted, deleted, updated}
 use Rattle.crack_state.specs.State.{State, IsIntact, live_rows, freed_of}
 use Rattle.crack_state.specs.Steps.{admitted, SameButRoom}
 use Rattle.crack_state.specs.Points.{pending_by, Removes, Rewrites}
-use Rattle.crack_state.specs.Merge.{Refines, Merges, Tallies}
+use Rattle.crack_state.specs.Merge.{Coarsens, Refines, Merges, Tallies}
 use Rattle.crack_store.specs.Further.{CracksFurther}
 use Rattle.crack_merge.specs.Merges.{Stops}
 use Rattle.crack_merge.specs.Near.{MergesNear}
@@ -100,9 +100,20 @@ pub record ReadiesAnd (due : Bool) (Does : State → State → Type 0) (s t : St
   pub readies : ((due ≡ false) × (ready ≡ s)) ⊎ ((due ≡ true) × CracksAndMerges Complete s ready s.keys)
   pub does : Does ready t
 
--- a range is read, after all pending rows were merged if that is due
+-- under auto bounds may be forgotten; the other policies forget none
+abbrev pub MayCoarsen : Policy → State → State → Type 0
+MayCoarsen Auto s t = Coarsens s t
+MayCoarsen policy s t = t ≡ s
+
+-- bounds may be forgotten, and then this step is made
+pub record CoarsensAnd (policy : Policy) (Does : State → State → Type 0) (s t : State) : Type 0 where
+  pub coarse : State
+  pub coarsens : MayCoarsen policy s coarse
+  pub does : Does coarse t
+
+-- a range is read, after all pending rows were merged if that is due, and bounds were forgotten
 abbrev pub Settles : Policy → State → State → Range → Type 0
-Settles policy s t r = ReadiesAnd (is_merged_first policy s) (λ (ready settled : State). CracksAndMerges policy ready settled r) s t
+Settles policy s t r = ReadiesAnd (is_merged_first policy s) (CoarsensAnd policy (λ (coarse settled : State). CracksAndMerges policy coarse settled r)) s t
 
 -- what a read of a range does to a store: nothing if the range is empty
 pub record ReadsRange (policy : Policy) (s t : State) (r : Range) : Type 0 where
@@ -120,7 +131,7 @@ ReadiesOr due Stops s t = ((due ≡ true) × StopsAt Complete s t s.keys) ⊎ Re
 
 -- what a read of a range that found no memory did to a store: it stopped where all pending rows are merged first, or at the range
 abbrev pub StopsRead : Policy → State → State → Range → Type 0
-StopsRead policy s t r = ReadiesOr (is_merged_first policy s) (λ (ready stopped : State). StopsAt policy ready stopped r) s t
+StopsRead policy s t r = ReadiesOr (is_merged_first policy s) (CoarsensAnd policy (λ (coarse stopped : State). StopsAt policy coarse stopped r)) s t
 
 -- what is done to a store before the reply to a command: the range that it reads, if any, is read as far as it is within the keys
 abbrev pub Prepares : Policy → Range → Option Range → State → State → Type 0
