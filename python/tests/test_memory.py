@@ -10,26 +10,36 @@ import unittest
 from ways import refusing, wants_gcc, wants_library
 
 HERE = pathlib.Path(__file__).resolve().parent
-# fills a table until memory is refused, and prints how many rows that are and what `len` says then
+# fills memory with a table and then with blocks, and prints what `len` says where a count is refused, and how many rows
+# the count finds once there is memory again
 FILL = """
 import resource
 from ways import crackd
-table, placed, keys = crackd.Table(), 0, range(20_000)
+table, keys, blocks = crackd.Table(), range(20_000), []
 with open("/proc/self/statm", encoding="ascii") as file:
     room = int(file.read().split()[0]) * resource.getpagesize() + 60 * 2**20
 resource.setrlimit(resource.RLIMIT_AS, (room, resource.RLIM_INFINITY))
 try:
     while True:
-        placed += len(table.insert_many(keys, keys))
-except MemoryError as error:
-    # (one of numpy's own comes before anything is placed)
-    placed += getattr(error, "done", 0)
+        table.insert_many(keys, keys)
+except MemoryError:
+    pass
+try:
+    while True:
+        blocks.append(bytearray(2**18))
+except MemoryError:
+    # (Python itself needs some)
+    del blocks[-4:]
 try:
     table.count()
 except crackd.OutOfMemory:
-    print(placed, len(table))
+    length = len(table)
+resource.setrlimit(resource.RLIMIT_AS, (resource.RLIM_INFINITY, resource.RLIM_INFINITY))
+print(length, table.count())
 """
 STEPS, ONE_IN, STEPS_IN_TURN, SECONDS = 100_000, 25, 40, 600
+# (a child looks for no program, and reports none that isn't proved)
+ENVIRONMENT = {**os.environ, "CRACKD": os.devnull}
 
 
 @wants_library
@@ -42,7 +52,7 @@ class Refusals(unittest.TestCase):
         with tempfile.TemporaryDirectory() as room:
             also = refusing(room, **environment)
             command = [sys.executable, str(HERE / "refusals.py"), *words]
-            how = {"env": {**os.environ, **also}, "capture_output": True, "text": True, "timeout": SECONDS}
+            how = {"env": {**ENVIRONMENT, **also}, "capture_output": True, "text": True, "timeout": SECONDS}
             ran = subprocess.run(command, check=False, **how)
         self.assertEqual((ran.returncode, ran.stderr), (0, ""))
         return int(ran.stdout)
@@ -63,12 +73,12 @@ class Lengths(unittest.TestCase):
     """What `len` returns where a query finds no memory."""
 
     def test_the_length_after_memory_ran_out(self):
-        how = {"cwd": HERE, "capture_output": True, "text": True, "timeout": SECONDS}
+        how = {"cwd": HERE, "env": ENVIRONMENT, "capture_output": True, "text": True, "timeout": SECONDS}
         ran = subprocess.run([sys.executable, "-c", FILL], check=False, **how)
         self.assertEqual((ran.returncode, ran.stderr), (0, ""))
-        placed, length = map(int, ran.stdout.split())
-        self.assertGreater(placed, 100_000)
-        self.assertEqual(length, placed)
+        length, rows = map(int, ran.stdout.split())
+        self.assertGreater(rows, 100_000)
+        self.assertEqual(length, rows)
 
 
 if __name__ == "__main__":
