@@ -209,6 +209,10 @@ class OfKinds:
                 self.far_updates(table, kind, rows, at)
                 model.put(rows[at : at + 1], kind.keys[at : at + 1], [7])
                 self.expect(table, model, kind)
+                for row, key in zip(numbers(rows), kind.keys):
+                    found = table.update(row, key, 5), table.delete(row), table.delete(row), table.update(row, key, 5)
+                    self.assertEqual(found, (True, True, False, False))
+                self.assertEqual((table.count(), table.sum()), (0, 0))
 
     def far_updates(self, table, kind, rows, at):
         """Updates to a key of another partition, of rows beside a split."""

@@ -164,7 +164,7 @@ class Fields(WithFiles, unittest.TestCase):
             self.assertEqual(found, (2, 1, 11))
         for it in ("nan", "-nan", "NaN"):
             self.assertIn("NaN can't be a key", self.wrong(2, 1, f"1,1\n{it},1\n", key_type=float))
-        for it in ("", "x", "1,5", "1_000", "٣", "0x1p3", "1.5.", "--1"):
+        for it in ("", "x", "1,5", "1_000", "٣", "0x1p3", "1.5.", "--1", "1e999", "-1e400"):
             self.wrong(2, 1, f'1,1\n"{it}",1\n', key_type=float)
 
     def test_decimals(self):
