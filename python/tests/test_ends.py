@@ -123,7 +123,7 @@ class EndsOfNumbers:
     def test_a_low_end_above_its_high_end_is_named(self):
         for kind, pairs in {
             "int64": [(3, 1), (0.7, 0.5), (10**5000, 2**69), (-(2**69), -(2**70)), (math.inf, 5), (GREATEST, LEAST)],
-            "uint64": [(3, 1), (-1, -2), (2**70, 2**69), (UNSIGNED, 0)],
+            "uint64": [(3, 1), (-1, -2), (2**70, 2**69), (UNSIGNED, 0), (math.inf, 10**400)],
             "float64": [(0.0, -5e-324), (2**53 + 1, 2**53), (10**400, 10**399), (math.inf, -math.inf)],
         }.items():
             with self.subTest(kind), self.table(key_type=kind) as table:
