@@ -122,8 +122,8 @@ class EndsOfNumbers:
 
     def test_a_low_end_above_its_high_end_is_named(self):
         for kind, pairs in {
-            "int64": [(3, 1), (0.7, 0.5), (2**70, 2**69), (-(2**69), -(2**70)), (math.inf, 10**400), (GREATEST, LEAST)],
-            "uint64": [(3, 1), (-1, -2), (2**70, 2**69), (UNSIGNED, 0)],
+            "int64": [(3, 1), (0.7, 0.5), (10**5000, 2**69), (-(2**69), -(2**70)), (math.inf, 5), (GREATEST, LEAST)],
+            "uint64": [(3, 1), (-1, -2), (2**70, 2**69), (UNSIGNED, 0), (math.inf, 10**400)],
             "float64": [(0.0, -5e-324), (2**53 + 1, 2**53), (10**400, 10**399), (math.inf, -math.inf)],
         }.items():
             with self.subTest(kind), self.table(key_type=kind) as table:
@@ -166,6 +166,7 @@ class EndsOfNumbers:
                     for ends in ([end], [end, 1]):
                         self.assertRaises((TypeError, ValueError), table.count_many, ends, None)
                         self.assertRaises((TypeError, ValueError), table.sum_many, None, ends)
+                self.assertRaisesRegex(ValueError, "NaN can't be the end of a range", table.count, math.nan)
                 for ends in (b"\1\2", bytearray(8), memoryview(b"12"), "12", b"", ""):
                     self.assertRaises(TypeError, table.count_many, ends, None)
                     self.assertRaises(TypeError, table.sum_many, None, ends)

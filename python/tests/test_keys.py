@@ -238,6 +238,14 @@ class Arguments:
         table.delete_many(rows)
 
     @wants_numpy
+    def test_dates_of_another_byte_order(self):
+        keys = np.array(["1969-12-31T23", "2020-01-01T00"], ">M8[h]")
+        with self.table(keys) as table:
+            table.insert_many(keys, [1, 2])
+            self.assertEqual((table.sum(keys[1]), table.sum_many(keys, None)), (2, [3, 2]))
+            self.assertEqual(table.select().keys.tolist(), keys.tolist())
+
+    @wants_numpy
     def test_keys_in_months_and_years(self):
         with self.table(key_type="datetime64[D]") as table:
             table.insert_many(np.array(["1969-03", "1970-01", "2000-03"], "M8[M]"), [1, 2, 4])
