@@ -1,4 +1,4 @@
-"""Tables in the process that are refused memory."""
+"""Tables in the process that are refused memory, and what frees that of their histories."""
 
 import os
 import pathlib
@@ -6,8 +6,9 @@ import subprocess
 import sys
 import tempfile
 import unittest
+from unittest import mock
 
-from ways import refusing, wants_gcc, wants_library
+from ways import crackd, refusing, wants_gcc, wants_library
 
 HERE = pathlib.Path(__file__).resolve().parent
 # fills memory with a table and then with blocks, and prints what `len` says where a count is refused, and how many rows
@@ -72,6 +73,15 @@ class Refusals(unittest.TestCase):
 class Lengths(unittest.TestCase):
     """What `len` returns where a query finds no memory."""
 
+    def test_the_length_of_several_partitions(self):
+        with crackd.Table(splits=[10, 20]) as table:
+            rows = table.insert_many([1, 2, 3, 11, 12, 25], range(6))
+            table.settle()
+            table.delete(rows[1])
+            with mock.patch.object(table._library, "count", lambda *_: 8):
+                self.assertRaises(crackd.OutOfMemory, table.count)
+                self.assertEqual(len(table), 5)
+
     def test_the_length_after_memory_ran_out(self):
         how = {"cwd": HERE, "env": ENVIRONMENT, "capture_output": True, "text": True, "timeout": SECONDS}
         ran = subprocess.run([sys.executable, "-c", FILL], check=False, **how)
@@ -79,6 +89,31 @@ class Lengths(unittest.TestCase):
         length, rows = map(int, ran.stdout.split())
         self.assertGreater(rows, 100_000)
         self.assertEqual(length, rows)
+
+
+@wants_library
+class Listed(unittest.TestCase):
+    """When selects empty the histories, which keep the rows that they listed."""
+
+    def test_selects_make_checkpoints_once_they_listed_more_than_the_rows_and_some(self):
+        with mock.patch.object(crackd.table, "LISTED", 10), crackd.Table() as table:
+            rows = table.insert_many(range(20), range(20))
+            with mock.patch.object(table._library, "checkpoint", wraps=table._library.checkpoint) as checkpoint:
+
+                def expect(lists, made):
+                    """The last of these selects makes a checkpoint, and none before it."""
+                    for ends in lists:
+                        self.assertEqual(checkpoint.call_count, made - 1)
+                        table.select(*ends)
+                    self.assertEqual(checkpoint.call_count, made)
+
+                expect([(0, 15), (0, 15), (0, 1)], 1)
+                self.assertTrue(all([table.delete(row) for row in rows[:6]]))
+                self.assertTrue(all(table.delete_many(rows[6:10])))
+                self.assertFalse(table.delete(rows[0]))
+                expect([(0, 20), (10, 20), (10, 11)], 2)
+                table.insert(10, 1)
+                expect([(0, 20), (11, 20), (19, 20), (10, 11)], 3)
 
 
 if __name__ == "__main__":
