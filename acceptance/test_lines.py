@@ -10,6 +10,7 @@ import re
 import sys
 
 import fixtures
+import ordered_script
 import random_script
 import run
 from plain_session import FIELDS, LAST, POLICIES, Limits, Session, read_line, replies, statements
@@ -180,4 +181,9 @@ class RandomScripts(fixtures.Case):
 
 
 fixtures.add_seeds(Lines, range(1, 21), check)
+class OrderedScripts(fixtures.Case):
+    """A script for each seed of ordered_script.py."""
+
+
+fixtures.add_seeds(OrderedScripts, ordered_script.SEEDS, ordered_script.check)
 fixtures.add_seeds(RandomScripts, random_script.SEEDS, random_script.check)

@@ -66,7 +66,6 @@ NUMBERS = [
     ("docs/ARCHITECTURE.md", "where at most {} rows are doomed", "crack_store", "FEW"),
     ("docs/DECISIONS.md", "An emptied history keeps room for {} entries", "crack_part", "KEPT_ENTRIES"),
     ("docs/DECISIONS.md", "the buffer of a line stays at {} bytes", "crack_commands", "TEXT_BYTES"),
-    ("docs/DECISIONS.md", "the first {} bytes are enough", "crack_session", "KEPT_BYTES"),
     ("docs/DECISIONS.md", "A plain table accepts {} commands", "crack_plain", "MOST_ACCEPTED"),
     ("docs/DECISIONS.md", "Histories in the process hold {} entries", "python/crackd/table.py", "HISTORY"),
     ("docs/PYTHON.md", "a partition ({} by default)", "python/crackd/table.py", "HISTORY"),

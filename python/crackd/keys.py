@@ -113,12 +113,13 @@ class Keys:
 
     def one(self, key: Any) -> int:
         """The number of a key."""
-        if self.kind == "f":
-            return self._of_float(exact_float(key))
-        if self.kind == "M":
-            return self._of_date(key)
-        whole_key = key if type(key) is int else whole(key, "a key")
-        number = whole_key if self.kind == "u" else whole_key + SIGN
+        if type(key) is not int or self.kind not in "ui":
+            if self.kind == "f":
+                return self._of_float(exact_float(key))
+            if self.kind == "M":
+                return self._of_date(key)
+            key = whole(key, "a key")
+        number = key if self.kind == "u" else key + SIGN
         if not 0 <= number < TOP:
             raise OverflowError(
                 f"the key {shown(key)} doesn't fit into {'an unsigned' if self.kind == 'u' else 'a signed'} integer "

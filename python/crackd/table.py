@@ -272,7 +272,12 @@ def _parted(rows: Any) -> tuple[Any, Any]:
 def _joined(parts: Any, serials: Any, rows: Any = None) -> Any:
     """The row numbers of partitions and serials, in an array of numpy that may be given."""
     if np is not None:
-        return np.bitwise_or(np.left_shift(parts, np.uint64(SHIFT), out=rows, dtype=np.uint64), serials, out=rows)
+        found = np.empty(len(parts), np.uint64) if rows is None else rows
+        # (in place, which takes no memory)
+        found[:] = parts
+        found <<= np.uint64(SHIFT)
+        found |= serials
+        return found
     return from_ints("Q", [part << SHIFT | serial for part, serial in zip(parts, serials)], "row numbers")
 
 

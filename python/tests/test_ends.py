@@ -215,6 +215,24 @@ class EndsOfDates:
                 self.assertEqual([table.sum(None, end) for end in ends], [len(these) - it for it in wanted[unit]])
                 self.assertEqual(numbers(table.count_many(ends, None)), wanted[unit])
 
+    def test_text_is_an_end_of_dates(self):
+        times = ["2020-01-01", "2020-01-01T12", "2020-01-01T12:30", "2020-01-01T12:30:00.25", "2020-01-01T12:30:00.5"]
+        with self.table(key_type="datetime64[us]") as table:
+            table.insert_many(np.array(times, "M8[us]"), [1] * 5)
+            for at, text in enumerate(times):
+                for each in (text, text.replace("T", " ")):
+                    self.assertEqual((table.count(each), table.count(None, each)), (5 - at, at))
+            self.assertEqual((table.count("2020"), table.count("2020-01"), table.count("+2020-01-01 12:30")), (5, 5, 3))
+            self.assertEqual(numbers(table.count_many(times, None)), [5, 4, 3, 2, 1])
+            self.assertEqual(numbers(table.count_many(np.array(times), None)), [5, 4, 3, 2, 1])
+            near = "2020-01-01T12:30:00.250000000000000001"
+            self.assertEqual((table.count(near), table.count(None, near[:-1] + "0")), (1, 3))
+            wrong = ["", "now", "NaT", "2020-1-1", "20-01-01", "2020-13", "2020-01-01T12.5", "2020-01-01 12:30.5", "٢٠"]
+            wrong += [f"2020-01-01T{it}" for it in ("12:30:00.", "12:30:00.5x", "12:30:00Z", "25", "12:30:00.5+01:00")]
+            for text in wrong:
+                self.assertRaises(ValueError, table.count, text)
+                self.assertRaises(ValueError, table.count_many, [text], None)
+
     def test_far_ends_are_as_no_ends(self):
         keys = np.array(["1700-01-01", "1970-01-01", "2200-01-01"], "M8[ns]")
         with self.table(keys) as table:

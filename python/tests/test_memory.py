@@ -11,20 +11,21 @@ from unittest import mock
 from ways import crackd, refusing, wants_gcc, wants_library
 
 HERE = pathlib.Path(__file__).resolve().parent
-# fills memory with a table and then with blocks, and prints what `len` says where a count is refused, and how many rows
-# the count finds once there is memory again
+# fills memory with a table and then with blocks, and prints how many rows were placed, what `len` says where a count is
+# refused, and how many rows the count finds once there is memory again
 FILL = """
 import resource
 from ways import crackd
-table, keys, blocks = crackd.Table(), range(20_000), []
+table, placed, keys, blocks = crackd.Table(), 0, range(20_000), []
 with open("/proc/self/statm", encoding="ascii") as file:
     room = int(file.read().split()[0]) * resource.getpagesize() + 60 * 2**20
 resource.setrlimit(resource.RLIMIT_AS, (room, resource.RLIM_INFINITY))
 try:
     while True:
-        table.insert_many(keys, keys)
-except MemoryError:
-    pass
+        placed += len(table.insert_many(keys, keys))
+except MemoryError as error:
+    # (one of numpy's own comes before anything is placed)
+    placed += getattr(error, "done", 0)
 try:
     while True:
         blocks.append(bytearray(2**18))
@@ -36,7 +37,7 @@ try:
 except crackd.OutOfMemory:
     length = len(table)
 resource.setrlimit(resource.RLIMIT_AS, (resource.RLIM_INFINITY, resource.RLIM_INFINITY))
-print(length, table.count())
+print(placed, length, table.count())
 """
 STEPS, ONE_IN, STEPS_IN_TURN, SECONDS = 100_000, 25, 40, 600
 # (a child looks for no program, and reports none that isn't proved)
@@ -83,12 +84,16 @@ class Lengths(unittest.TestCase):
                 self.assertEqual(len(table), 5)
 
     def test_the_length_after_memory_ran_out(self):
-        how = {"cwd": HERE, "env": ENVIRONMENT, "capture_output": True, "text": True, "timeout": SECONDS}
-        ran = subprocess.run([sys.executable, "-c", FILL], check=False, **how)
-        self.assertEqual((ran.returncode, ran.stderr), (0, ""))
-        length, rows = map(int, ran.stdout.split())
-        self.assertGreater(rows, 100_000)
-        self.assertEqual(length, rows)
+        for trim in ("131072", "65536"):
+            # (the second is what Dask sets; there the row numbers are joined without memory to spare)
+            environment = {**ENVIRONMENT, "MALLOC_TRIM_THRESHOLD_": trim}
+            how = {"cwd": HERE, "env": environment, "capture_output": True, "text": True, "timeout": SECONDS}
+            with self.subTest(trim):
+                ran = subprocess.run([sys.executable, "-c", FILL], check=False, **how)
+                self.assertEqual((ran.returncode, ran.stderr), (0, ""))
+                placed, length, rows = map(int, ran.stdout.split())
+                self.assertGreater(placed, 100_000)
+                self.assertEqual((length, rows), (placed, placed))
 
 
 @wants_library

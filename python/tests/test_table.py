@@ -563,6 +563,34 @@ class InProcessCases(Cases, InProcess, unittest.TestCase):
     """In the process."""
 
 
+@wants_library
+class BoundCases(InProcess, unittest.TestCase):
+    """The pieces of tables after many ranges and updates."""
+
+    def pieces(self, policy):
+        """How many pieces a table of 5,000 rows has after 300 counts, and then 200 sums with updates before each."""
+        drawn, plain = random.Random(3), PlainTable()
+        with self.table(policy=policy, partitions=1) as table:
+            keys = drawn.sample(range(100_000), 5000)
+            rows = numbers(table.insert_many(keys, [it % 7 for it in keys]))
+            plain.rows = {row: (key, key % 7) for row, key in zip(rows, keys)}
+            for low in drawn.sample(range(99_000), 300):
+                self.assertEqual(table.count(low, low + 500), plain.count(low, low + 500))
+            for low in drawn.sample(range(50_000), 200):
+                gone = drawn.sample(sorted(plain.rows), 10)
+                table.delete_many(gone)
+                rows = numbers(table.insert_many([low + it for it in range(10)], range(10)))
+                plain.rows = {row: it for row, it in plain.rows.items() if row not in gone}
+                plain.rows.update((row, (low + it, it)) for it, row in enumerate(rows))
+                self.assertEqual(table.sum(low, low + 50_000), plain.sum(low, low + 50_000))
+            return len(table.layout().parts[0].pieces)
+
+    def test_auto_alone_forgets_bounds(self):
+        self.assertLess(self.pieces("auto"), 300)
+        for policy in ("complete", "gradual", "ripple"):
+            self.assertGreater(self.pieces(policy), 900)
+
+
 @wants_program
 class OverTcpCases(Cases, OverTcp, unittest.TestCase):
     """Over TCP."""

@@ -7,7 +7,8 @@ ghost use Rattle.crack_index.specs.Walks.{Climbs, Descends};
 ghost use Rattle.crack_index.specs.Raises.{Raises};
 ghost use Rattle.crack_index.specs.Places.{Places};
 ghost use Rattle.crack_index.specs.Marks.{Rising, Fits, HasBound, position_of, next_mark, last_mark, first_behind};
-ghost use Rattle.crack_index.specs.Marks.{last_before, added, removed, raised, lowered, lowered_at, piece_at, pieces_from};
+ghost use Rattle.crack_index.specs.Marks.{last_before, added, removed, raised, lowered, lowered_at, piece_at};
+ghost use Rattle.crack_index.specs.Marks.{pieces_from};
 
 use crate::tree::{self, Link, Node};
 use crate::{Mark, Pass, Placer, Raiser, Visitor, lowering, raising, walk};
@@ -133,8 +134,8 @@ impl CrackerIndex {
         self.len -= 1;
     }
 
-    /// A pass over at most `bounds` of the bounds above a key, the lowest first. It finds those whose two pieces hold at
-    /// most `rows` rows together. O(log bounds).
+    /// A pass over at most `bounds` of the bounds above a key, the lowest first. It finds those whose two pieces hold
+    /// at most `rows` rows together. O(log bounds).
     pub fn pass_after(&self, key: Key, rows: usize, bounds: usize) -> Pass {
         let from = self.bound_below(key).map_or(0, |mark| mark.position);
         Pass::new(key, from, rows, bounds)

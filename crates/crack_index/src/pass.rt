@@ -61,8 +61,8 @@ impl Pass {
         to.saturating_sub(self.from) <= self.rows
     }
 
-    /// Meets a bound after the last one, where the piece above that one ends. Returns whether it halts: as the two pieces
-    /// of the last one hold few rows, or as it meets no more bounds.
+    /// Meets a bound after the last one, where the piece above that one ends. Returns whether it halts: the two pieces
+    /// of the last one hold few rows, or it meets no more bounds.
     fn meet(&mut self, last: &mut Option<Mark>, mark: Mark) -> bool
         ensures { (all : List Mark) → Contains all mark → IfSome last.old (λ m. Contains all m) →
             IfSome last.new (λ m. Contains all m) }

@@ -7,8 +7,8 @@ use crack_index::Pass;
 use crack_row::{InnerBound, Key};
 
 impl Store {
-    /// A pass over at most `bounds` of the bounds above a key, the lowest first. It finds those whose two pieces hold at
-    /// most `rows` rows together. O(log bounds).
+    /// A pass over at most `bounds` of the bounds above a key, the lowest first. It finds those whose two pieces hold
+    /// at most `rows` rows together. O(log bounds).
     pub fn pass_after(&self, key: Key, rows: usize, bounds: usize) -> Pass {
         self.inside.index.pass_after(key, rows, bounds)
     }

@@ -143,11 +143,11 @@ impl Store {
         Ok(())
     }
 
-    /// Cracks the column at both ends of the range, as `crack` does. Before that it is cracked beside each of them, the low
-    /// one first: if the end is missing from the bounds that there are, its piece has more than 2,048 rows, and of nine
-    /// keys sampled there fewer than three are on the one side of the end, then at a further bound in the middle of these
-    /// keys. O(size of their pieces + bounds); O(log bounds) for ends that are there already, which takes no memory.
-    /// Refused with 8 if it finds no memory; then nothing has changed.
+    /// Cracks the column at both ends of the range, as `crack` does, and before that beside them, the low one first: if
+    /// there are bounds, the end is missing, its piece has more than 2,048 rows, and of nine keys sampled there neither
+    /// end has at least three on each side, then at the end and at a further bound in the middle of these keys.
+    /// O(size of their pieces + bounds); O(log bounds) for ends that are there already, which takes no memory. Refused
+    /// with 8 if it finds no memory; then nothing has changed.
     pub fn crack_further(&mut self, range: KeyRange) -> Result<(), Refusal>
         ensures ok { OnOk result (CracksFurther self.old self.new range) }
         ensures cracked { OnOk result (IsCracked self.new range) }
