@@ -259,6 +259,26 @@ class Between(InProcess, unittest.TestCase):
 
 
 @wants_library
+class Children(InProcess, unittest.TestCase):
+    """What a forked child does with its parent's table when it lets go of it: nothing."""
+
+    def test_it_frees_nothing(self):
+        with self.table() as table:
+            table.insert(1, 5)
+            child = os.fork()
+            if not child:
+                status = 1
+                try:
+                    with standing_in(close=lambda real, *words: os._exit(7)):
+                        table.__del__()
+                    status = 0
+                finally:
+                    os._exit(status)
+            self.assertEqual(os.waitstatus_to_exitcode(os.waitpid(child, 0)[1]), 0)
+            self.assertEqual((table.count(), table.sum()), (1, 5))
+
+
+@wants_library
 class Histories(InProcess, unittest.TestCase):
     """Histories keep what selects listed, so they are emptied as selects go on: after about 100,000 listed rows, and as
     many as the table has. The number of entries that `checkpoint` reports shows it."""
