@@ -3,6 +3,7 @@
 import os
 import pathlib
 import tempfile
+import threading
 import unittest
 from unittest import mock
 
@@ -151,6 +152,24 @@ class FirstErrors(unittest.TestCase):
         failed = crackd.shard.ShardFailed("a full disk")
         found = cluster.error_of({0: failed}, shards, is_done, "rows")
         self.assertEqual((found is failed, found.answers), (True, "rows"))
+
+
+@wants_cluster
+class LostShards(unittest.TestCase):
+    """Shards that a table has lost."""
+
+    def test_they_are_not_asked_again(self):
+        table, asked = cluster.Table.__new__(cluster.Table), []
+        lost = cluster.ShardLost(1, 5, None, "keys from 5", LOST)
+        table._lock, table._futures, table._tokens = threading.RLock(), [object()], ["first", "second"]
+        table._lost = {1: lost}
+        table._start = lambda shard, *_: asked.append(shard) or shard
+        table._result = lambda shard, _: (table._tokens[shard], 7)
+        self.assertEqual(table._ask({0: (), 1: ()}, "begin"), ({0: 7}, {1: lost}))
+        self.assertEqual(asked, [0])
+        with self.assertRaises(cluster.ShardLost) as caught:
+            table._all({0: (), 1: ()}, "begin")
+        self.assertEqual((caught.exception.shard, caught.exception is lost), (1, False))
 
 
 @wants_cluster
