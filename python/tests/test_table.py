@@ -505,7 +505,8 @@ class BoundCases(InProcess, unittest.TestCase):
         drawn, plain = random.Random(3), PlainTable()
         with self.table(policy=policy, partitions=1) as table:
             keys = drawn.sample(range(100_000), 5000)
-            plain.rows = {row: (key, key % 7) for row, key in zip(numbers(table.insert_many(keys, [it % 7 for it in keys])), keys)}
+            rows = numbers(table.insert_many(keys, [it % 7 for it in keys]))
+            plain.rows = {row: (key, key % 7) for row, key in zip(rows, keys)}
             for low in drawn.sample(range(99_000), 300):
                 self.assertEqual(table.count(low, low + 500), plain.count(low, low + 500))
             for low in drawn.sample(range(50_000), 200):
