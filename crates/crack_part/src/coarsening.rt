@@ -12,8 +12,8 @@ use crack_store::Store;
 /// A bound is forgotten if its two pieces hold at most this many rows together.
 const FEW_ROWS: usize = 1024;
 
-/// How many bounds a pass meets before one read: it takes less than 2 ms.
-const MOST_BOUNDS: usize = 8192;
+/// How many bounds a pass meets before one read, in less than 2 ms.
+const MOST_BOUNDS: usize = 2048;
 
 /// Forgets bounds under `Policy::Auto`, if a pass over them is due. No row moves. Takes no memory.
 #[inline(always)]
