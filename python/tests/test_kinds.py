@@ -106,8 +106,9 @@ class OfKinds:
     def test_selects(self):
         for kind in self.kinds:
             with self.filled(kind) as (table, model):
-                found = table.select()
-                self.assertEqual(str(getattr(found.keys, "dtype", kind.key_type)), kind.key_type)
+                least = kind.keys[0]
+                for found in (table.select(), table.select(least, least), table.select(None, least)):
+                    self.assertEqual(str(getattr(found.keys, "dtype", kind.key_type)), kind.key_type)
                 ends = [*kind.keys, *kind.ends[:: max(1, len(kind.ends) // 20)], None]
                 for low, high in [*((it, None) for it in ends), *((None, it) for it in ends)]:
                     self.assertEqual(selected(table.select(low, high)), model.inside(low, high), (low, high))
