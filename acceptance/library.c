@@ -437,11 +437,37 @@ static void check_refusals(void) {
     EXPECT(0, crackd_close(&handle));
 }
 
+/* 9 comes only if there are as many rows as cells: cells of rows that were deleted or changed are freed before. */
+static void check_cells(void) {
+    crackd_handle handle = {0};
+    uint32_t part = 9, parts[3] = {9, 9, 9};
+    uint64_t serial = 9, number = 9, keys[3] = {1, 2, 3}, serials[3] = {9, 9, 9};
+    int64_t payloads[3] = {1, 2, 3};
+    uint8_t is = 9, flags[3] = {9, 9, 9};
+    EXPECT(0, crackd_open(&handle, SPLITS, 0, 100, 3, 1000));
+    for (int round = 0; round < 3; round++) {
+        EXPECT(0, crackd_insert_many(&handle, keys, 3, payloads, 3, parts, 3, serials, 3, &number));
+        EXPECT(0, crackd_count(&handle, CRACKD_COMPLETE, 0, 9, &number));
+        EXPECT(3, number);
+        EXPECT(9, crackd_insert(&handle, 4, 4, &part, &serial));
+        EXPECT(0, crackd_delete(&handle, parts[0], serials[0], &is, &number, payloads));
+        for (uint64_t key = 5; key < 9; key++) {
+            EXPECT(0, crackd_update(&handle, parts[1], serials[1], key, 1, &is));
+            EXPECT(0, crackd_count(&handle, CRACKD_RIPPLE, key, key, &number));
+            EXPECT(1, number);
+        }
+        EXPECT(0, crackd_delete_many(&handle, parts, 3, serials, 3, flags, 3, &number));
+        EXPECT(true, flags[0] == 0 && flags[1] == 1 && flags[2] == 1);
+    }
+    EXPECT(0, crackd_close(&handle));
+}
+
 int main(void) {
     EXPECT(0, strncmp(crackd_version(), "crackd ", 7));
     check_closed();
     check_openings();
     check_refusals();
+    check_cells();
     run_steps(0);
     printf("%" PRIu64 " refused\n", refuse_each());
     return 0;

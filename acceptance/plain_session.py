@@ -34,6 +34,11 @@ FIELDS = {
     **dict.fromkeys(["layout", "checkpoint"], [PART]),
     "quit": [],
 }
+# the first word of a line of an HTTP request: a method, or the name of a header with a colon after it
+HTTP = re.compile(rb"(?:GET|POST|HEAD|PUT|DELETE|OPTIONS|CONNECT|TRACE|PATCH)\Z|[0-9A-Za-z-]+:")
+# what ends a session; and what asks no partition
+LAST = ("quit", "http")
+UNASKED = ("policy", *LAST)
 Said = str | tuple[str, list]
 HEADER, MARK = b"key,payload\n", b"\xef\xbb\xbf"
 # the quoted part of a field of CSV, its rest, and what ends it
@@ -90,10 +95,13 @@ def values(words: list[bytes], fields: list[tuple[int, int]]) -> list[int] | Non
 
 
 def read_line(line: bytes) -> Said:
-    """What a line is: `BLANK`, the text of a refusal, or a kind and its numbers."""
+    """What a line is: `BLANK`, the text of a refusal, or a kind and its numbers. The kind of a line of an HTTP request
+    is `http`, however long it is."""
     words = [it for it in line.split(b" ") if it]
     if not words and len(line) <= LINE_BYTES:
         return BLANK
+    if HTTP.match(line[:LINE_BYTES].lstrip(b" ").partition(b" ")[0]):
+        return "http", []
     kind, *names = [it.decode("latin-1") for it in words] if len(line) <= LINE_BYTES else [""]
     if kind == "policy" and len(names) == 1 and names[0] in POLICIES:
         return kind, names
@@ -110,13 +118,13 @@ def read_line(line: bytes) -> Said:
 
 
 def statements(given: bytes) -> list[Said]:
-    """What the lines of a session's input are, up to a `quit`, without blank ones."""
+    """What the lines of a session's input are, up to one that ends it, without blank ones."""
     found = []
     for line in lines(given):
         said = read_line(line)
         if said != BLANK:
             found.append(said)
-        if said == ("quit", []):
+        if said[0] in LAST:
             break
     return found
 
@@ -289,7 +297,7 @@ class Session:
 
     def parts_of(self, said: Said) -> list[Part]:
         """The partitions that a statement asks: for an empty range that of its low end."""
-        if isinstance(said, str) or said[0] in ("policy", "quit"):
+        if isinstance(said, str) or said[0] in UNASKED:
             return []
         kind, numbers = said
         if kind in RANGES and numbers[0] != numbers[1]:
@@ -298,8 +306,10 @@ class Session:
 
     def answer(self, said: Said) -> list[str] | Part:
         """The lines of the answer to a statement, or the partition whose layout it asks for."""
-        if isinstance(said, str) or said[0] in ("policy", "quit"):
-            return [said] if isinstance(said, str) else [f"policy {said[1][0]}" if said[1] else "bye"]
+        if isinstance(said, str):
+            return [said]
+        if said[0] in UNASKED:
+            return [f"policy {said[1][0]}" if said[1] else {"quit": "bye", "http": "refused 1"}[said[0]]]
         (kind, numbers), parts = said, self.parts_of(said)
         try:
             if not parts:

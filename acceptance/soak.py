@@ -19,6 +19,7 @@ import time
 import typing
 
 import fixtures
+import ordered_script
 import random_script
 import test_clients
 import test_csv
@@ -86,6 +87,7 @@ def kinds() -> dict[str, Kind]:
         Kind("memory", test_memory.check),
         Kind("memory-workers", test_memory.check_workers),
         Kind("scripts", random_script.check),
+        Kind("orders", ordered_script.check),
     ]
     return {it.name: it for it in all_kinds}
 

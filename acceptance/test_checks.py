@@ -188,6 +188,7 @@ class Reference(unittest.TestCase):
         for given, lines in ends.items():
             self.assertEqual(plain_session.lines(given), lines)
         self.assertEqual(statements(b"quit\nquit\n"), [("quit", [])])
+        self.assertEqual(statements(b"count: 1\nquit\n"), [("http", [])])
 
 
 def altered(lines: list[bytes], *more: typing.Callable) -> typing.Iterator[bytes]:

@@ -224,11 +224,13 @@ def reads_nothing(guest: Guest) -> None:
 
 
 def random_bytes(guest: Guest) -> None:
-    """Sends random bytes in which no line is a statement. It reads the replies, each a refusal, or resets."""
+    """Sends random bytes in which no line is a statement, or one of HTTP, which would end the session. It reads the
+    replies, each a refusal, or resets."""
     numbers = guest.numbers
     size = numbers.randrange(1, 30_000)
     text = numbers.randbytes(size) if numbers.random() < 0.5 else bytes(numbers.choices(LIKELY, k=size))
-    lines = [line for line in text.split(b"\n") if not WORDS.match(line)]
+    some = (line for line in text.split(b"\n") if not WORDS.match(line))
+    lines = [line for line in some if read_line(line.removesuffix(b"\r")) != ("http", [])]
     with Client(guest.port) as it:
         it.socket.sendall(b"\n".join(lines))
         if numbers.random() < 0.2:

@@ -10,9 +10,10 @@ import re
 import sys
 
 import fixtures
+import ordered_script
 import random_script
 import run
-from plain_session import FIELDS, POLICIES, Limits, Session, read_line, replies, statements
+from plain_session import FIELDS, LAST, POLICIES, Limits, Session, read_line, replies, statements
 
 SESSION_LINES = 5000
 NUMBERS = [0, 1, 2, 9, 10, 99, 100, 101, *random_script.EDGES, 2**64 + 1, 10**19, 10**20 - 1, 10**20]
@@ -25,7 +26,15 @@ ODD_WORDS = b"INSERT inser inserts insert1 row refused bye none checkpoints fold
 # what is sometimes between words; and short lines
 GAPS = [b" "] * 12 + [b"  ", b"   ", b"\t", b"", b"\r"]
 SPACES = [b"", b" ", b"\r", b"\r\r", b" \r", b"\r ", b"\0", b"\x80", b" " * 200, b" " * 201, b" " * 200 + b"\r"]
+# requests of HTTP, each with statements in its body
+REQUESTS = [
+    b"POST / HTTP/1.1\r\nHost: 127.0.0.1:4000\r\n\r\ninsert 1 1\ncount 0 5\n",
+    b"GET /" + b"x" * 300 + b" HTTP/1.1\ncount 0 5\n",
+    b"content-type:text/plain\n\nquit\n",
+    b"X-1: 1\ninsert 1 1\n",
+]
 ENDS = [b"", b"quit", b"quit\n", b"quit\nlayout 0\n", b"count 0 5", b"count 0 5\r", b"count 0 ", b"\r", b" " * 201]
+ENDS += REQUESTS
 # how many bytes are written at a time
 PIECES = [1, 2, 3, 7, 199, 201, 4095, 4096, 4097, 65536]
 ASKED = b"\nselect 0 18446744073709551616\nsum 0 18446744073709551616\n"
@@ -101,7 +110,7 @@ def random_input(numbers: random.Random, many: int) -> bytes:
     given: list[bytes] = []
     while len(given) < many:
         line = random_line(numbers) + numbers.choice([b"\n", b"\n", b"\n", b"\r\n"])
-        if ("quit", []) not in statements(line):
+        if not any(it[0] in LAST for it in statements(line)):
             given.append(line)
     return b"".join(given) + numbers.choice(ENDS)
 
@@ -139,8 +148,15 @@ class Lines(fixtures.Case):
             for end in [b"", b"\r"]:
                 self.assert_answered(b"insert 7 70\n" + cut + end)
         rest = [it[size:] for it in whole for size in range(len(it) + 1)]
-        kept = [it for it in [*cuts, *rest] if read_line(it) != ("quit", [])]
+        kept = [it for it in [*cuts, *rest] if read_line(it)[0] not in LAST]
         self.assert_answered(b"".join(it + end for it in kept for end in [b"\n", b"\r\n"]), piece=1)
+
+    def test_requests_of_http(self) -> None:
+        """Requests of HTTP are written in pieces of all sizes, at the beginning of a session and inside it."""
+        for it in REQUESTS:
+            for piece in PIECES:
+                self.assert_answered(it + ASKED, piece)
+                self.assert_answered(b"insert 7 70\n" + it + ASKED, piece)
 
     def test_each_byte_anywhere(self) -> None:
         """Each of the 256 bytes is put before, in and after a statement, and around a sign."""
@@ -165,4 +181,9 @@ class RandomScripts(fixtures.Case):
 
 
 fixtures.add_seeds(Lines, range(1, 21), check)
+class OrderedScripts(fixtures.Case):
+    """A script for each seed of ordered_script.py."""
+
+
+fixtures.add_seeds(OrderedScripts, ordered_script.SEEDS, ordered_script.check)
 fixtures.add_seeds(RandomScripts, random_script.SEEDS, random_script.check)

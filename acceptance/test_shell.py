@@ -134,11 +134,6 @@ class Sessions(fixtures.Case):
 for head, lines in fixtures.sections("shell.txt").items():
     name, words = head.split(":")
     fixtures.add(Sessions, name, Sessions.assert_shows, words.split(), lines.split("\n"))
-# README's session, with a time after each reply
-readme = (fixtures.TOP / "README.md").read_text(encoding="utf-8").replace("../examples", f"{fixtures.TOP}/examples")
-session = re.findall(r"^crackd> (.*)\n(.*)  \(.* ms\)$", readme, re.MULTILINE)
-shown = [f"{typed} | %{reply} @" for typed, reply in session]
-fixtures.add(Sessions, "of_readme", Sessions.assert_shows, [], [*shown, "= 1003 1001 0 1001"])
 
 
 class Typed(fixtures.Case):

@@ -37,7 +37,7 @@ enum {
     CRACKD_NO_SUCH_PARTITION = 5,
     /* there is no memory: an allocation was refused */
     CRACKD_OUT_OF_MEMORY = 8,
-    /* no cell is free for a row, and its partition has as many as it may have */
+    /* no cell is free for a row, and its partition has as many rows as it may have cells */
     CRACKD_FULL = 9,
     /* the partition has answered as many commands as it ever may */
     CRACKD_LIFE_OVER = 10,

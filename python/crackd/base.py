@@ -57,9 +57,9 @@ def row_of(row: Any) -> int:
 class AnyTable(abc.ABC):
     """A table of rows, each with a key and a payload: in this process, on a server, or on a cluster.
 
-    Ranges are half open, as in Python: `low` is inside and `high` isn't, and None means no end. Each row has a
-    number, which stays with it and is never used again. Any thread may call any method; a table answers one call at a
-    time. Close it, or use it in a `with`.
+    Ranges are half open, as in Python: `low` is inside and `high` isn't, and None means no end. A low end above its
+    high end is a ValueError. Each row has a number, which stays with it and is never used again. Any thread may call
+    any method; a table answers one call at a time. Close it, or use it in a `with`.
     """
 
     _keys: Keys

@@ -42,7 +42,6 @@ class Channel:
     def send(self, text: bytes) -> None:
         """Sends lines, now or while answers are waited for."""
         self.unsent = memoryview(bytes(self.unsent) + text) if self.unsent else memoryview(text)
-        self._since = time.monotonic()
         self._push()
 
     def _push(self) -> None:

@@ -53,8 +53,13 @@ class Client(AnyTable):
 
     def _check_open(self) -> None:
         with self._lock:
-            if self._channel is None:
-                raise Closed("the connection is closed; connect again")
+            self._opened()
+
+    def _opened(self) -> Channel:
+        """The channel, if the connection is open."""
+        if self._channel is None:
+            raise Closed("the connection is closed; connect again")
+        return self._channel
 
     def _leave(self) -> None:
         super()._leave()
@@ -81,12 +86,13 @@ class Client(AnyTable):
     def _exchange(self, text: bytes, lines: int) -> bytes:
         """Sends statements, and returns that many lines of replies; after a single one also those that it announces.
         An error in between ends the connection, since later replies would no longer match."""
-        self._check_open()
+        channel = self._opened()
         try:
-            self._channel.timeout = self._timeout
-            self._channel.send(text)
-            said = self._channel.block(lines)
-            return said + self._channel.block(_listed(said)) if lines == 1 else said
+            channel.timeout = self._timeout
+            channel.send(text)
+            said = channel.block(lines)
+            more = _listed(said) if lines == 1 else 0
+            return said + channel.block(more) if more else said
         except BaseException:
             self._disconnect()
             raise
@@ -104,8 +110,7 @@ class Client(AnyTable):
     def _ask_some(self, form: str, columns: list, heard: list[bytes]) -> None:
         """Adds the replies to a statement for each row of the columns to a list. When a history is full, a checkpoint
         is made, and refused statements are sent again."""
-        self._check_open()
-        channel = self._channel
+        channel = self._opened()
         try:
             heard.append(self._exchange(joined_text(form, *columns), len(columns[0])))
             if FULL in heard[-1]:

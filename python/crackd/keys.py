@@ -6,7 +6,6 @@ import fractions
 import math
 import numbers
 import struct
-import sys
 from typing import Any, Optional, Sequence
 
 from .arrays import (
@@ -114,12 +113,13 @@ class Keys:
 
     def one(self, key: Any) -> int:
         """The number of a key."""
-        if self.kind == "f":
-            return self._of_float(exact_float(key))
-        if self.kind == "M":
-            return self._of_date(key)
-        whole_key = key if type(key) is int else whole(key, "a key")
-        number = whole_key if self.kind == "u" else whole_key + SIGN
+        if type(key) is not int or self.kind not in "ui":
+            if self.kind == "f":
+                return self._of_float(exact_float(key))
+            if self.kind == "M":
+                return self._of_date(key)
+            key = whole(key, "a key")
+        number = key if self.kind == "u" else key + SIGN
         if not 0 <= number < TOP:
             raise OverflowError(
                 f"the key {shown(key)} doesn't fit into {'an unsigned' if self.kind == 'u' else 'a signed'} integer "
@@ -234,7 +234,7 @@ class Keys:
         try:
             number = float(end)
         except OverflowError:
-            number = math.inf if end > 0 else -sys.float_info.max
+            number = math.inf if end > 0 else -math.inf
         return self._of_float(math.nextafter(number, math.inf) if number < end else number)
 
     def ends(self, low: Any, high: Any, place: Optional[int] = None) -> tuple[int, int]:

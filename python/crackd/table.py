@@ -129,15 +129,17 @@ class Table(AnyTable):
 
     def _insert_many(self, keys: Any, payloads: Any) -> Any:
         parts, serials, done = empty("I", len(keys)), empty("Q", len(keys)), c_uint64()
+        # (after a refusal there may be no memory for the row numbers)
+        rows = empty("Q", len(keys))
         try:
             with self._lock:
                 code = self._run(self._library.insert_many, keys, payloads, parts, serials, byref(done))
                 self._held += done.value
             self._check(code, done.value)
-            return _joined(parts, serials)
+            return _joined(parts, serials, rows)
         except BaseException as error:
             # (a signal is noticed once the library has returned, and its handler may raise anything)
-            error.answers = _joined(parts[: done.value], serials[: done.value])
+            error.answers = _joined(*(it[: done.value] for it in (parts, serials, rows)))
             raise
 
     def _delete_many(self, rows: Any) -> Any:
@@ -267,10 +269,15 @@ def _parted(rows: Any) -> tuple[Any, Any]:
     )
 
 
-def _joined(parts: Any, serials: Any) -> Any:
-    """The row numbers of partitions and serials."""
+def _joined(parts: Any, serials: Any, rows: Any = None) -> Any:
+    """The row numbers of partitions and serials, in an array of numpy that may be given."""
     if np is not None:
-        return parts.astype(np.uint64) << np.uint64(SHIFT) | serials
+        found = np.empty(len(parts), np.uint64) if rows is None else rows
+        # (in place, which takes no memory)
+        found[:] = parts
+        found <<= np.uint64(SHIFT)
+        found |= serials
+        return found
     return from_ints("Q", [part << SHIFT | serial for part, serial in zip(parts, serials)], "row numbers")
 
 

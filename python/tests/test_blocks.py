@@ -1,6 +1,7 @@
 """Over TCP: calls for more items than are sent at once, and what a server of the tests answers."""
 
 import contextlib
+import itertools
 import socket
 import threading
 import unittest
@@ -8,9 +9,11 @@ from unittest import mock
 
 from ways import OverTcp, crackd, wants_program
 
-from crackd import client
+from crackd import client, server
 
 AT_ONCE = 3
+# how long either side waits for the other at most
+SECONDS = 30
 
 
 def numbers(it):
@@ -26,6 +29,7 @@ def answering(reply):
 
         def answer():
             with listening.accept()[0] as connection, connection.makefile("rb") as lines:
+                connection.settimeout(SECONDS)
                 for line in lines:
                     said = reply(line)
                     if said is None:
@@ -137,6 +141,42 @@ class Answers(Blocks, unittest.TestCase):
                 self.assertEqual((part.column, part.pending_in), columns)
 
 
+@wants_program
+class FullHistories(Blocks, unittest.TestCase):
+    """A server that makes no checkpoints by itself, with histories of a few commands."""
+
+    @contextlib.contextmanager
+    def table(self, limit, policy="auto"):
+        words = [server.find_program(), "--workers", "1", "--limit", str(limit), "--until-eof", "--quiet"]
+        with server.Server([*words, str(2**63 + 50)], crackd.keys.Keys("i"), policy) as served:
+            with served.connect(timeout=SECONDS) as table:
+                yield table
+
+    def test_each_call(self):
+        for limit, at_once in itertools.product((1, 2, 7), (3, 100)):
+            with self.subTest(limit=limit, at_once=at_once), mock.patch.object(client, "STATEMENTS_AT_ONCE", at_once):
+                with self.table(limit) as table:
+                    self.each_call(table)
+
+    def each_call(self, table):
+        keys = range(40, 60)
+        rows = numbers(table.insert_many(keys, keys))
+        self.assertEqual(len(set(rows)), 20)
+        for _ in range(3):
+            self.assertEqual((table.count(), table.sum(), len(table.select().rows)), (20, sum(keys), 20))
+        self.assertEqual(numbers(table.count_many(keys, None)), list(range(20, 0, -1)))
+        self.assertEqual(table.sum_many(keys, range(41, 61)), list(keys))
+        self.assertEqual(list(table.update_many(rows, keys, [1] * 20)), [True] * 20)
+        self.assertEqual(list(table.delete_many([*rows[::2], rows[0]])), [True] * 10 + [False])
+        for key in (40, 59):
+            row = table.insert(key, 5)
+            self.assertEqual((table.update(row, key, 6), table.delete(row), table.delete(row)), (True, True, False))
+        table.settle()
+        self.assertEqual((table.sum(), table.layout().rows), (10, 10))
+        self.assertGreater(table.checkpoint(), 0)
+        self.assertEqual(table.checkpoint(), 0)
+
+
 class Scripted(unittest.TestCase):
     """A server that answers as it never would, or goes."""
 
@@ -148,7 +188,7 @@ class Scripted(unittest.TestCase):
             said = replies[line.split()[0].decode()]
             return said.pop(0) if isinstance(said, list) else said
 
-        with answering(reply) as port, crackd.connect(port=port) as table:
+        with answering(reply) as port, crackd.connect(port=port, timeout=SECONDS) as table:
             yield table
 
     def test_a_checkpoint_that_is_refused(self):
@@ -160,6 +200,23 @@ class Scripted(unittest.TestCase):
                 with self.assertRaises(kind) as caught:
                     table.checkpoint()
                 self.assertEqual(caught.exception.code, code)
+
+    CALLS = {
+        "insert": lambda table: table.insert(1, 2),
+        "delete": lambda table: table.delete(1),
+        "update": lambda table: table.update(1, 2, 3),
+        "count": lambda table: table.count(1, 2),
+        "sum": lambda table: table.sum(1, 2),
+        "select": lambda table: table.select(1, 2),
+    }
+
+    def test_checkpoints_that_make_no_room(self):
+        for name, call in self.CALLS.items():
+            for said, kind in [(b"folded 0\n", crackd.HistoryFull), (b"refused 8\n", crackd.OutOfMemory)]:
+                full = {"policy": b"policy auto\n", "checkpoint": said, name: b"refused 6 0\n", "quit": b"bye\n"}
+                with self.subTest(name, said=said), self.connected(full) as table:
+                    self.assertRaises(kind, call, table)
+                    self.assertRaises(kind, call, table)
 
     def test_checkpoints_add_up(self):
         said = [b"folded 3\n", b"folded 4\n", *[b"refused 5\n"] * 62]
@@ -181,17 +238,10 @@ class Scripted(unittest.TestCase):
     def test_each_refusal_of_a_server(self):
         kinds = {4: crackd.WrongPartition, 5: crackd.NoSuchPartition, 8: crackd.OutOfMemory, 9: crackd.Full}
         kinds |= {10: crackd.LifeOver, 1: crackd.Refused, 2: crackd.Refused, 7: crackd.Refused}
-        calls = {
-            "insert": lambda table: table.insert(1, 2),
-            "delete": lambda table: table.delete(1),
-            "update": lambda table: table.update(1, 2, 3),
-            "count": lambda table: table.count(1, 2),
-            "sum": lambda table: table.sum(1, 2),
-            "select": lambda table: table.select(1, 2),
-        }
         for code, kind in kinds.items():
-            said = {"policy": b"policy auto\n", "quit": b"bye\n", **{name: b"refused %d\n" % code for name in calls}}
-            for name, call in calls.items():
+            refusals = {name: b"refused %d\n" % code for name in self.CALLS}
+            said = {"policy": b"policy auto\n", "quit": b"bye\n", **refusals}
+            for name, call in self.CALLS.items():
                 with self.subTest(name, code=code), self.connected(said) as table:
                     with self.assertRaises(kind) as caught:
                         call(table)

@@ -3,6 +3,7 @@ what happens between two calls."""
 
 import contextlib
 import ctypes
+import os
 import threading
 import time
 import unittest
@@ -11,6 +12,7 @@ from unittest import mock
 from ways import InProcess, crackd, np, wants_library, wants_numpy
 
 from crackd import library
+from crackd import table as table_module
 
 THREADS, CALLS, SECONDS_OF_A_CALL = 12, 4, 0.001
 MANY = ("insert_many", "delete_many", "update_many", "count_many", "sum_many")
@@ -186,6 +188,19 @@ class Reported(InProcess, unittest.TestCase):
                             call(lows, [5, 5, 5])
                         self.assertEqual(caught.exception.done, wanted)
 
+    def test_the_length_of_a_table_that_is_refused_memory(self):
+        with self.table(splits=[10, 20, 30]) as table:
+            rows = table.insert_many(range(40), range(40))
+            table.settle()
+            table.insert_many([1, 11, 35], [1, 1, 1])
+            table.delete_many(rows[5:25])
+            for code, wanted in [(8, 23), (10, crackd.LifeOver), (101, crackd.Closed)]:
+                with self.subTest(code), standing_in(count=lambda real, *words, code=code: code):
+                    if isinstance(wanted, int):
+                        self.assertEqual(len(table), wanted)
+                    else:
+                        self.assertRaises(wanted, len, table)
+
     def test_a_table_of_arrays_that_fails_is_closed(self):
         for name, code in [("insert_many", 9), ("insert_many", 8), ("count", 8)]:
             watch = Watch()
@@ -244,6 +259,26 @@ class Between(InProcess, unittest.TestCase):
 
 
 @wants_library
+class Children(InProcess, unittest.TestCase):
+    """What a forked child does with its parent's table when it lets go of it: nothing."""
+
+    def test_it_frees_nothing(self):
+        with self.table() as table:
+            table.insert(1, 5)
+            child = os.fork()
+            if not child:
+                status = 1
+                try:
+                    with standing_in(close=lambda real, *words: os._exit(7)):
+                        table.__del__()
+                    status = 0
+                finally:
+                    os._exit(status)
+            self.assertEqual(os.waitstatus_to_exitcode(os.waitpid(child, 0)[1]), 0)
+            self.assertEqual((table.count(), table.sum()), (1, 5))
+
+
+@wants_library
 class Histories(InProcess, unittest.TestCase):
     """Histories keep what selects listed, so they are emptied as selects go on: after about 100,000 listed rows, and as
     many as the table has. The number of entries that `checkpoint` reports shows it."""
@@ -269,6 +304,37 @@ class Histories(InProcess, unittest.TestCase):
             rows = table.insert_many(range(400_000), range(400_000))
             self.assertTrue(all(table.delete_many(rows[self.ROWS :])))
             self.assertLess(self.entries(table, self.SELECTS), 250)
+
+    def test_rows_that_come_and_go_one_by_one(self):
+        # (selects of 1,000 rows each, of which the third is the first to list more than 2,000)
+        for way, remains in [("one", 1000), ("many", 1000), ("none", 4000)]:
+            with self.subTest(way), mock.patch.object(table_module, "LISTED", 1000), self.table() as table:
+                rows = [table.insert(it, 1) for it in range(4000)]
+                if way == "one":
+                    self.assertTrue(all([table.delete(it) for it in rows[1000:]]))
+                    self.assertFalse(any([table.delete(it) for it in rows[1000:]]))
+                elif way == "many":
+                    self.assertTrue(all(table.delete_many(rows[1000:])))
+                    self.assertFalse(any(table.delete_many(rows[1000:])))
+                self.assertEqual(len(table), remains)
+                table.checkpoint()
+                for _ in range(4):
+                    self.assertEqual(len(table.select(0, 1000).rows), 1000)
+                self.assertEqual(table.checkpoint() < 6, way != "none")
+
+    def test_memory_of_a_loop_of_selects(self):
+        def resident():
+            with open("/proc/self/statm", encoding="ascii") as file:
+                return int(file.read().split()[1]) * os.sysconf("SC_PAGE_SIZE")
+
+        # (the last 1,000 selects list 5 million rows, of 8 bytes or more in a history)
+        with self.table() as table:
+            table.insert_many(range(5000), range(5000))
+            for number in range(1200):
+                self.assertEqual(len(table.select().rows), 5000)
+                if number == 200:
+                    before = resident()
+            self.assertLess(resident() - before, 20_000_000)
 
     def test_rows_that_are_there_make_room(self):
         with self.table(range(100_000), rows=400_000) as table:

@@ -23,15 +23,19 @@ LEAST, GREATEST = -(2**63), 2**63 - 1
 MODULE = {}
 
 
-def setUpModule():
+def begin():
+    """Starts the cluster of a module or class of tests."""
     if cluster is not None and crackd.library.find_library() is not None:
         MODULE["stack"] = contextlib.ExitStack()
         MODULE["client"] = MODULE["stack"].enter_context(local(WORKERS))
 
 
-def tearDownModule():
+def end():
     if MODULE:
         MODULE["stack"].close()
+
+
+setUpModule, tearDownModule = begin, end
 
 
 class OnWorkers:

@@ -7,7 +7,7 @@ import math
 import unittest
 
 from clusters import wants_cluster, wants_pandas
-from test_cluster import OnWorkers, setUpModule, tearDownModule  # noqa: F401 (unittest runs the functions)
+from test_cluster import OnWorkers, begin, end
 from ways import InProcess, OverTcp, crackd, np, wants_library, wants_numpy, wants_program
 
 LEAST, GREATEST, UNSIGNED = -(2**63), 2**63 - 1, 2**64 - 1
@@ -122,8 +122,8 @@ class EndsOfNumbers:
 
     def test_a_low_end_above_its_high_end_is_named(self):
         for kind, pairs in {
-            "int64": [(3, 1), (0.7, 0.5), (2**70, 2**69), (-(2**69), -(2**70)), (math.inf, 10**400), (GREATEST, LEAST)],
-            "uint64": [(3, 1), (-1, -2), (2**70, 2**69), (UNSIGNED, 0)],
+            "int64": [(3, 1), (0.7, 0.5), (10**5000, 2**69), (-(2**69), -(2**70)), (math.inf, 5), (GREATEST, LEAST)],
+            "uint64": [(3, 1), (-1, -2), (2**70, 2**69), (UNSIGNED, 0), (math.inf, 10**400)],
             "float64": [(0.0, -5e-324), (2**53 + 1, 2**53), (10**400, 10**399), (math.inf, -math.inf)],
         }.items():
             with self.subTest(kind), self.table(key_type=kind) as table:
@@ -166,6 +166,7 @@ class EndsOfNumbers:
                     for ends in ([end], [end, 1]):
                         self.assertRaises((TypeError, ValueError), table.count_many, ends, None)
                         self.assertRaises((TypeError, ValueError), table.sum_many, None, ends)
+                self.assertRaisesRegex(ValueError, "NaN can't be the end of a range", table.count, math.nan)
                 for ends in (b"\1\2", bytearray(8), memoryview(b"12"), "12", b"", ""):
                     self.assertRaises(TypeError, table.count_many, ends, None)
                     self.assertRaises(TypeError, table.sum_many, None, ends)
@@ -214,6 +215,24 @@ class EndsOfDates:
                 self.assertEqual([table.count(end) for end in ends], wanted[unit])
                 self.assertEqual([table.sum(None, end) for end in ends], [len(these) - it for it in wanted[unit]])
                 self.assertEqual(numbers(table.count_many(ends, None)), wanted[unit])
+
+    def test_text_is_an_end_of_dates(self):
+        times = ["2020-01-01", "2020-01-01T12", "2020-01-01T12:30", "2020-01-01T12:30:00.25", "2020-01-01T12:30:00.5"]
+        with self.table(key_type="datetime64[us]") as table:
+            table.insert_many(np.array(times, "M8[us]"), [1] * 5)
+            for at, text in enumerate(times):
+                for each in (text, text.replace("T", " ")):
+                    self.assertEqual((table.count(each), table.count(None, each)), (5 - at, at))
+            self.assertEqual((table.count("2020"), table.count("2020-01"), table.count("+2020-01-01 12:30")), (5, 5, 3))
+            self.assertEqual(numbers(table.count_many(times, None)), [5, 4, 3, 2, 1])
+            self.assertEqual(numbers(table.count_many(np.array(times), None)), [5, 4, 3, 2, 1])
+            near = "2020-01-01T12:30:00.250000000000000001"
+            self.assertEqual((table.count(near), table.count(None, near[:-1] + "0")), (1, 3))
+            wrong = ["", "now", "NaT", "2020-1-1", "20-01-01", "2020-13", "2020-01-01T12.5", "2020-01-01 12:30.5", "٢٠"]
+            wrong += [f"2020-01-01T{it}" for it in ("12:30:00.", "12:30:00.5x", "12:30:00Z", "25", "12:30:00.5+01:00")]
+            for text in wrong:
+                self.assertRaises(ValueError, table.count, text)
+                self.assertRaises(ValueError, table.count_many, [text], None)
 
     def test_far_ends_are_as_no_ends(self):
         keys = np.array(["1700-01-01", "1970-01-01", "2200-01-01"], "M8[ns]")
@@ -312,8 +331,10 @@ class OverTcpDates(EndsOfDates, OverTcp, unittest.TestCase):
     """Over TCP."""
 
 
-class Few:
-    """Fewer cases, since each call of a cluster takes milliseconds."""
+class Few(OnWorkers):
+    """On a cluster of its own, fewer cases, since each call takes milliseconds."""
+
+    setUpClass, tearDownClass = staticmethod(begin), staticmethod(end)
 
     @staticmethod
     def some(count):
@@ -330,13 +351,7 @@ class Few:
 
 @wants_library
 @wants_cluster
-class OnAClusterNumbers(OnWorkers, EndsOfNumbers, unittest.TestCase):
-    """On a cluster."""
-
-
-@wants_library
-@wants_cluster
-class OnAClusterDates(Few, OnWorkers, EndsOfDates, unittest.TestCase):
+class OnAClusterCases(Few, EndsOfNumbers, EndsOfDates, unittest.TestCase):
     """On a cluster."""
 
 

@@ -141,13 +141,13 @@ class Files(unittest.TestCase):
         wrong = ["2021-02-29 00:00:00", "2020-13-01 00:00:00", "2020-00-01 00:00:00", "2020-01-00 00:00:00"]
         wrong += ["2020-01-02 24:00:00", "2020-01-02 03:60:05", "2020-01-02 03:04:60", "0000-01-02 03:04:05"]
         wrong += ["2020-01-02T03:04:05", "2020-01-02 03:04", "2020-01-02", "2020-01-02 03:04:05.5", "NaT", ""]
-        wrong += ["2020/01/02 03:04:05", "-020-01-02 03:04:05", "2020-01-02 03:04:05Z", "+2020-01-02 03:04:05"]
+        wrong += ["2020/01/02 03:04:05", "-020-01-02 03:04:05", "2020-01-02 03:04:05Z", "+020-01-02 03:04:05"]
         for field in wrong:
             text, said = f"2020-01-02 03:04:05,1\n{field},1\n", f"{field!r} isn't a date of the form {form!r}"
             self.wrong(f"line 2, column 1: {said}", text, key_column=whole)
-        field = "2020-01-02 03:04:05."
-        said = f"line 1, column 1: {field!r} isn't a date of the form '{form}.%f'"
-        self.wrong(said, f"{field},1\n", key_column=parts)
+        for field in ("2020-01-02 03:04:05.", "2020-01-02 03:04:05.0000001", "2020-01-02 03:04:05.+1"):
+            said = f"line 1, column 1: {field!r} isn't a date of the form '{form}.%f'"
+            self.wrong(said, f"{field},1\n", key_column=parts)
 
     def test_the_first_wrong_field_is_named_in_each_block(self):
         lines = [f"{it},{it}" for it in range(20)]
@@ -163,6 +163,7 @@ class Files(unittest.TestCase):
                 self.wrong(f"line {at + 1}, column 2: 'x' isn't an integer", "\n".join(late))
                 said = f"field larger than field limit ({csv.field_size_limit()})"
                 self.wrong(f"line {at + 1}, column 1: {said}", "\n".join(early))
+            self.wrong(f"line 1, column 1: {said}", f"{far}\n", "a", "b")
 
     def test_wrong_options(self):
         for delimiter in (";;", "", None, 5, "\n", "\r", '"', b","):
@@ -180,7 +181,8 @@ class Files(unittest.TestCase):
 
     def test_wrong_arguments(self):
         self.assertRaises(ValueError, self.read, "1,2\n", -1)
-        self.assertRaises(ValueError, self.read, "a,b\n", "a", header=False)
+        self.assertRaisesRegex(ValueError, "columns have names only", self.read, "a,b\n", "a", header=False)
+        self.wrong("line 1, column 1: 'key' isn't an integer", "key,payload\n1,2\n", header=False)
         self.assertRaises(FileNotFoundError, crackd.load_csv, "missing.csv")
         self.assertRaises(ValueError, crackd.load_csv, "missing.csv", key_type="text")
 
@@ -198,8 +200,9 @@ class Loads:
     def test_a_load_into_a_table(self):
         with self.table() as table:
             self.assertIs(crackd.load_csv(self.path("key,payload\n1,10\n2,-30\n-7,5\n"), into=table), table)
-            self.assertEqual((table.count(), table.sum(), table.sum(0, 2)), (3, -15, 10))
+            # (before a query, which may merge them)
             self.assertEqual(sum(it.pending_in for it in table.layout().parts), 0)
+            self.assertEqual((table.count(), table.sum(), table.sum(0, 2)), (3, -15, 10))
 
     def test_a_bad_file_loads_nothing(self):
         with self.table() as table:
@@ -240,6 +243,9 @@ class LoadsInProcess(Loads, InProcess, unittest.TestCase):
                 (table.sum(np.datetime64("2020-02-01"), np.datetime64("2020-03-01")), table.count()), (5, 2)
             )
             self.assertEqual(table.select().keys.dtype, np.dtype("datetime64[us]"))
+        early = self.path("1969-12-31,5\n")
+        with crackd.load_csv(early, key_format="%Y-%m-%d", key_type="uint64") as table:
+            self.assertEqual(table.select().keys.tolist(), [datetime.datetime(1969, 12, 31)])
 
 
 class Splits(unittest.TestCase):

@@ -5,6 +5,7 @@ import os
 import signal
 import threading
 import unittest
+from unittest import mock
 
 from clusters import cluster, local, wants_cluster
 from ways import InProcess, OverTcp, crackd, wants_library, wants_program
@@ -103,6 +104,16 @@ class Forking:
 @wants_library
 class ForkingInProcess(Forking, InProcess, unittest.TestCase):
     """In the process."""
+
+    def test_a_child_frees_no_memory_of_its_parent(self):
+        def work():
+            closed = []
+            with mock.patch.object(table._library, "close", closed.append):
+                table.__del__()
+            return [str(len(closed))]
+
+        with self.table() as table:
+            self.assertEqual(in_child(work), ["0"])
 
     def test_a_child_opens_a_table_of_its_own(self):
         def work():

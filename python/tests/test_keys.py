@@ -10,7 +10,7 @@ import pickle
 import unittest
 
 from clusters import wants_cluster, wants_pandas
-from test_cluster import MODULE, OnWorkers, setUpModule, tearDownModule  # noqa: F401 (unittest runs the functions)
+from test_cluster import MODULE, OnWorkers, begin, end
 from ways import InProcess, OverTcp, crackd, np, wants_library, wants_numpy, wants_program
 
 from crackd.keys import Keys, kind_of
@@ -110,7 +110,8 @@ class Arguments:
                     self.assertRaises(OverflowError, table.insert_many, [1, 1], [1, number])
             self.assertRaises(OverflowError, table.delete, -1)
             self.assertRaises(OverflowError, table.delete, 2**64)
-            self.assertEqual(table.count(), 0)
+            rows = [table.insert(key, payload) for key in (-(2**63), GREATEST) for payload in (-(2**63), GREATEST)]
+            self.assertEqual((table.sum(None, 0), table.sum(GREATEST), table.delete(rows[0])), (-1, -1, True))
 
     def test_keys_of_floats_are_exact(self):
         exact = [0, -1, 2**53, 2**70, -(2**1000), 0.1, -0.0, 5e-324, math.inf, -math.inf, fractions.Fraction(1, 4)]
@@ -130,6 +131,9 @@ class Arguments:
                 self.assertRaises((TypeError, ValueError), table.insert, key, 1)
                 self.assertRaises((TypeError, ValueError), table.insert_many, [1.0, key], [1, 1])
             self.assertRaises(OverflowError, table.insert_many, range(2**53, 2**53 + 2), [1, 1])
+            for sign in () if np is None else (-1, 1):
+                self.assertRaises(OverflowError, table.insert_many, np.array([0, sign * (2**53 + 1)]), [1, 1])
+                self.assertTrue(table.delete(table.insert_many(np.array([sign * 2**53]), [1])[0]))
             self.assertEqual(table.count(), 2 * len(exact))
 
     @wants_numpy
@@ -162,7 +166,7 @@ class Arguments:
         import pandas
 
         for dtype in ("Int64", "UInt8", "Int16"):
-            whole, gap = pandas.Series([3, 1, 2], [9, 9, 9], dtype), pandas.Series([3, None, 2], dtype=dtype)
+            whole, gap = pandas.Series([3, 1, 2], [9, 9, 9], dtype), pandas.Series([3, None, None], dtype=dtype)
             with self.subTest(dtype), self.table(whole) as table:
                 rows = pandas.Series(numbers(table.insert_many(whole, whole)), dtype="UInt64")
                 self.assertEqual((table.sum(2), numbers(table.count_many(whole, None))), (5, [1, 3, 2]))
@@ -207,12 +211,19 @@ class Arguments:
                         found, rest = divmod(number * sizes[other], sizes[own])
                         kind = OverflowError if abs(found) > GREATEST else ValueError if rest else None
                         self.one_date(table, np.datetime64(number, other), kind or np.datetime64(found, own))
+        with self.table(key_type="datetime64[s]") as table:
+            # (the least integer of 64 bits is NaT)
+            self.one_date(table, np.datetime64(-(2**62), "2s"), OverflowError)
+            self.one_date(table, np.datetime64(-(2**62) + 1, "2s"), np.datetime64(-(2**63) + 2, "s"))
+            table.insert_many([np.datetime64(2**62, "s"), np.datetime64(0, "ns")], [1, 2])
+            self.assertEqual(sorted(table.select().keys.astype(int)), [0, 2**62])
         with self.table(key_type="datetime64[as]") as table:
             for year in (1969, 1971, 2020):
                 self.assertRaises(OverflowError, table.insert, np.datetime64(year - 1970, "Y"), 1)
                 self.assertRaises(OverflowError, table.insert_many, np.array([year - 1970]).view("M8[Y]"), [1])
-            table.insert_many(np.array([0]).view("M8[Y]"), [1])
-            self.assertEqual(table.select().keys.astype(int).tolist(), [0])
+            for unit in ("Y", "M", "W", "D", "s"):
+                table.insert_many(np.array([0]).view(f"M8[{unit}]"), [1])
+            self.assertEqual(table.select().keys.astype(int).tolist(), [0] * 5)
 
     def one_date(self, table, key, wanted):
         """A date as one key, in a list, in an array, and as one among several."""
@@ -225,6 +236,14 @@ class Arguments:
         rows = [table.insert(key, 1), *(row for keys in lists for row in table.insert_many(keys, [1] * len(keys)))]
         self.assertEqual(np.count_nonzero(table.select().keys == wanted), 6)
         table.delete_many(rows)
+
+    @wants_numpy
+    def test_dates_of_another_byte_order(self):
+        keys = np.array(["1969-12-31T23", "2020-01-01T00"], ">M8[h]")
+        with self.table(keys) as table:
+            table.insert_many(keys, [1, 2])
+            self.assertEqual((table.sum(keys[1]), table.sum_many(keys, None)), (2, [3, 2]))
+            self.assertEqual(table.select().keys.tolist(), keys.tolist())
 
     @wants_numpy
     def test_keys_in_months_and_years(self):
@@ -316,9 +335,21 @@ class Options(unittest.TestCase):
 
 
 @wants_library
+class InProcessArguments(Arguments, InProcess, unittest.TestCase):
+    """In the process."""
+
+
+@wants_program
+class OverTcpArguments(Arguments, OverTcp, unittest.TestCase):
+    """Over TCP."""
+
+
+@wants_library
 @wants_cluster
-class OptionsOfACluster(unittest.TestCase):
-    """What opens a table on a cluster."""
+class OnACluster(OnWorkers, Arguments, unittest.TestCase):
+    """On a cluster of its own, and what opens a table there."""
+
+    setUpClass, tearDownClass = staticmethod(begin), staticmethod(end)
 
     def test_limits_of_a_cluster(self):
         from crackd import cluster
@@ -357,22 +388,6 @@ class OptionsOfACluster(unittest.TestCase):
             self.assertEqual(table.sum(None, times[2]), 4)
         with self.assertRaisesRegex(ValueError, "missing"):
             cluster.Table.from_dask(MODULE["client"], frame, "gap")
-
-
-@wants_library
-class InProcessArguments(Arguments, InProcess, unittest.TestCase):
-    """In the process."""
-
-
-@wants_program
-class OverTcpArguments(Arguments, OverTcp, unittest.TestCase):
-    """Over TCP."""
-
-
-@wants_library
-@wants_cluster
-class OnAClusterArguments(OnWorkers, Arguments, unittest.TestCase):
-    """On a cluster."""
 
 
 if __name__ == "__main__":

@@ -1,10 +1,17 @@
 """Each method with each kind of keys at its limits: in the process, over TCP and on a cluster, by exact numbers."""
 
 import contextlib
+import fractions
+import itertools
+import math
+import pathlib
+import tempfile
 import unittest
+from unittest import mock
 
 from clusters import cluster, local, wants_cluster
-from kinds import KINDS, value
+from kinds import GREATEST, KINDS, LEAST, value
+from test_shards import Steps
 from ways import InProcess, OverTcp, crackd, np, wants_library, wants_numpy, wants_program
 
 WORKERS = 2
@@ -99,8 +106,9 @@ class OfKinds:
     def test_selects(self):
         for kind in self.kinds:
             with self.filled(kind) as (table, model):
-                found = table.select()
-                self.assertEqual(str(getattr(found.keys, "dtype", kind.key_type)), kind.key_type)
+                least = kind.keys[0]
+                for found in (table.select(), table.select(least, least), table.select(None, least)):
+                    self.assertEqual(str(getattr(found.keys, "dtype", kind.key_type)), kind.key_type)
                 ends = [*kind.keys, *kind.ends[:: max(1, len(kind.ends) // 20)], None]
                 for low, high in [*((it, None) for it in ends), *((None, it) for it in ends)]:
                     self.assertEqual(selected(table.select(low, high)), model.inside(low, high), (low, high))
@@ -150,6 +158,31 @@ class OfKinds:
         self.assertEqual(table.checkpoint(), 0)
         self.expect(table, model, kind)
 
+    def test_both_zeros_are_a_key(self):
+        zeros = [0.0, -0.0, 0, fractions.Fraction(0)]
+        arrays = [] if np is None else [np.array([0.0, -0.0], it) for it in ("f2", "f4", "f8")]
+        with self.table(key_type="float64") as table:
+            for it in zeros:
+                table.insert(it, 1)
+            for it in (zeros, *arrays):
+                table.insert_many(it, [1] * len(it))
+            rows = table.count()
+            for it in zeros:
+                self.assertEqual((table.count(it), table.count(None, it), table.sum(it, 5e-324)), (rows, 0, rows))
+            for it in (zeros, *arrays):
+                self.assertEqual(numbers(table.count_many(it, None)), [rows] * len(it))
+                self.assertEqual(numbers(table.count_many(it, it)), [0] * len(it))
+            self.assertEqual({math.copysign(1, it) for it in table.select().keys}, {1.0})
+
+    def test_checkpoints_of_all_partitions(self):
+        with self.table(splits=[10, 20, 30], key_type="int64") as table:
+            for keys in (range(40), range(40), [35], [5, 15, 25]):
+                rows = numbers(table.insert_many(keys, keys))
+                self.assertEqual((table.checkpoint(), table.checkpoint()), (len(keys), 0))
+            self.assertEqual(list(table.delete_many(rows)), [True] * 3)
+            self.assertEqual((table.checkpoint(), table.checkpoint()), (3, 0))
+            self.assertEqual((table.count(), table.sum()), (81, 2 * sum(range(40)) + 35))
+
     def test_keys_of_other_types(self):
         for kind in self.kinds:
             with self.filled(kind) as (table, model):
@@ -177,6 +210,10 @@ class OfKinds:
                 self.far_updates(table, kind, rows, at)
                 model.put(rows[at : at + 1], kind.keys[at : at + 1], [7])
                 self.expect(table, model, kind)
+                for row, key in zip(numbers(rows), kind.keys):
+                    found = table.update(row, key, 5), table.delete(row), table.delete(row), table.update(row, key, 5)
+                    self.assertEqual(found, (True, True, False, False))
+                self.assertEqual((table.count(), table.sum()), (0, 0))
 
     def far_updates(self, table, kind, rows, at):
         """Updates to a key of another partition, of rows beside a split."""
@@ -230,6 +267,55 @@ class OfKinds:
                             self.assertRaises(error, table.insert_many, np.array([key, key]), [1, 1])
                             self.assertRaises(error, table.update_many, [row], np.array([key]), [1])
                 self.expect(table, model, kind)
+
+    def test_what_is_no_row_number(self):
+        wrong = [(it, OverflowError) for it in (-1, -(2**63), 2**64, 2**64 + 1, 10**400)]
+        wrong += [(it, TypeError) for it in (None, "0", b"0", 0.0, True, False, [0])]
+        if np is not None:
+            wrong += [(np.int64(-1), OverflowError), (np.bool_(0), TypeError), (np.float64(0), TypeError)]
+        with self.table(key_type="int64") as table:
+            row = int(table.insert_many([7], [70])[0])
+            for it, error in wrong:
+                with self.subTest(row=it):
+                    self.assertRaises(error, table.delete, it)
+                    self.assertRaises(error, table.update, it, 7, 1)
+                    self.assertRaises(error, table.delete_many, [row, it])
+                    self.assertRaises(error, table.update_many, [row, it], [7, 7], [1, 1])
+            for it in (2**64 - 1, 2**63, 9 << 48):
+                self.assertRaises(crackd.NoSuchPartition, table.delete, it)
+                self.assertRaises(crackd.NoSuchPartition, table.update_many, [it], [7], [1])
+            for it in (row + 1, 2**48 - 1):
+                self.assertEqual((table.delete(it), list(table.update_many([it], [7], [1]))), (False, [False]))
+            self.assertEqual((table.count(), table.sum()), (1, 70))
+
+    def test_what_is_no_payload(self):
+        wrong = [(it, OverflowError) for it in (LEAST - 1, GREATEST + 1, 10**400, -(10**400))]
+        wrong += [(it, TypeError) for it in (None, "0", b"0", 0.0, math.nan, True, False, [0])]
+        with self.table(key_type="int64") as table:
+            row = int(table.insert_many([7], [70])[0])
+            for it, error in wrong:
+                with self.subTest(payload=it):
+                    self.assertRaises(error, table.insert, 7, it)
+                    self.assertRaises(error, table.insert_many, [7, 7], [1, it])
+                    self.assertRaises(error, table.update, row, 7, it)
+                    self.assertRaises(error, table.update_many, [row, row], [7, 7], [1, it])
+            self.assertEqual((table.count(), table.sum()), (1, 70))
+            for it in (LEAST, LEAST + 1, GREATEST - 1, GREATEST):
+                self.assertEqual((table.update(row, 7, it), table.sum()), (True, it))
+                self.assertEqual((list(table.update_many([row], [7], [it])), table.sum()), ([True], it))
+
+    def test_lists_of_different_lengths(self):
+        with self.table(key_type="int64") as table:
+            row = int(table.insert_many([7], [70])[0])
+            sizes = [it for it in itertools.product(range(3), repeat=3) if len(set(it)) > 1]
+            for rows, keys, payloads in sizes:
+                with self.subTest(rows=rows, keys=keys, payloads=payloads):
+                    if keys != payloads:
+                        self.assertRaises(ValueError, table.insert_many, [7] * keys, [1] * payloads)
+                        self.assertRaises(ValueError, table.count_many, [7] * keys, [7] * payloads)
+                        self.assertRaises(ValueError, table.sum_many, [7] * keys, [7] * payloads)
+                    self.assertRaises(ValueError, table.update_many, [row] * rows, [7] * keys, [1] * payloads)
+            self.assertEqual((table.count(), table.sum()), (1, 70))
 
     def test_what_is_no_list(self):
         wrong = [bytes(8), bytearray(8), memoryview(bytes(8)), "12345678", b"", "", 5, None]
@@ -308,6 +394,38 @@ class ClusterKinds(OfKinds, unittest.TestCase):
     def table(self, sample=(), rows=0, **options):
         with cluster.Table(self.client, sample, rows, **options) as table:
             yield table
+
+    def test_saves(self):
+        for kind in self.kinds:
+            with tempfile.TemporaryDirectory() as room, self.subTest(kind.name):
+                folder, steps = pathlib.Path(room) / "saved", Steps()
+                splits, wanted = kind.given(kind.keys[1:4:2]), sorted(zip(map(value, kind.keys), kind.payloads))
+                with self.table(splits=splits, key_type=kind.key_type) as table:
+                    table.insert_many(kind.given(kind.keys), kind.payloads)
+                    with steps.written():
+                        manifest = table.save(folder)
+                found = manifest["counts"], sum(manifest["sums"])
+                self.assertEqual(found, ([1, 2, len(wanted) - 3], sum(kind.payloads)))
+                part, named, last = steps.steps
+                self.assertEqual((part[0], named, last), ("sync", ("replace", "manifest.json"), ("sync", "saved")))
+                self.assertTrue(part[1].startswith("manifest.json."))
+                with mock.patch.object(cluster, "ROWS_A_TASK", 2):
+                    for shards in (1, 2):
+                        with cluster.Table.restore(self.client, folder, shards=shards) as table:
+                            found = selected(table.select())
+                            self.assertEqual((table.shards, sorted(found.values())), (shards, wanted))
+                            self.assertEqual(str(table.select().keys.dtype), kind.key_type)
+
+    def test_partitions_that_a_shard_does_not_have(self):
+        with self.table(splits=[100], key_type="int64") as table:
+            rows = numbers(table.insert_many([1, 2, 200, 201], [1, 2, 4, 8]))
+            for wrong in (rows[0] + (1 << 48), rows[2] + (1 << 48), 2 << 54, 1023 << 54, rows[0] + (63 << 48)):
+                for call, *columns in [(table.delete_many,), (table.update_many, [1, 1, 200, 2], [9] * 4)]:
+                    given = [rows[0] + 99, wrong, rows[2], rows[1]]
+                    with self.assertRaises(crackd.NoSuchPartition) as caught:
+                        call(given, *columns)
+                    self.assertEqual((caught.exception.done, caught.exception.later), (1, 0))
+            self.assertEqual((table.count(), table.sum()), (4, 15))
 
 
 if __name__ == "__main__":

@@ -92,7 +92,8 @@ class Texts(unittest.TestCase):
         self.assertNotIn("pieces ", "".join(list(part([1] * 20).drawn())[1:]))
 
     def test_row_numbers(self):
-        for row, text in [(0, "0.0"), (1, "0.1"), (2**48 - 1, f"0.{2**48 - 1}"), (2**48, "1.0"), (63 << 48 | 7, "63.7")]:
+        wanted = {0: "0.0", 1: "0.1", 2**48 - 1: f"0.{2**48 - 1}", 2**48: "1.0", 63 << 48 | 7: "63.7"}
+        for row, text in wanted.items():
             self.assertEqual(crackd.row_text(row), text)
 
 

@@ -1,4 +1,4 @@
-"""Tables in the process that are refused memory."""
+"""Tables in the process that are refused memory, and what frees that of their histories."""
 
 import os
 import pathlib
@@ -6,29 +6,42 @@ import subprocess
 import sys
 import tempfile
 import unittest
+from unittest import mock
 
-from ways import refusing, wants_gcc, wants_library
+from ways import crackd, refusing, wants_gcc, wants_library
 
 HERE = pathlib.Path(__file__).resolve().parent
-# fills a table until memory is refused, and prints how many rows that are and what `len` says then
+# fills memory with a table and then with blocks, and prints how many rows were placed, what `len` says where a count is
+# refused, and how many rows the count finds once there is memory again
 FILL = """
 import resource
 from ways import crackd
-table, placed, keys = crackd.Table(), 0, range(20_000)
+table, placed, keys, blocks = crackd.Table(), 0, range(20_000), []
 with open("/proc/self/statm", encoding="ascii") as file:
     room = int(file.read().split()[0]) * resource.getpagesize() + 60 * 2**20
 resource.setrlimit(resource.RLIMIT_AS, (room, resource.RLIM_INFINITY))
 try:
     while True:
         placed += len(table.insert_many(keys, keys))
-except crackd.OutOfMemory as error:
-    placed += error.done
+except MemoryError as error:
+    # (one of numpy's own comes before anything is placed)
+    placed += getattr(error, "done", 0)
+try:
+    while True:
+        blocks.append(bytearray(2**18))
+except MemoryError:
+    # (Python itself needs some)
+    del blocks[-4:]
 try:
     table.count()
 except crackd.OutOfMemory:
-    print(placed, len(table))
+    length = len(table)
+resource.setrlimit(resource.RLIMIT_AS, (resource.RLIM_INFINITY, resource.RLIM_INFINITY))
+print(placed, length, table.count())
 """
 STEPS, ONE_IN, STEPS_IN_TURN, SECONDS = 100_000, 25, 40, 600
+# (a child looks for no program, and reports none that isn't proved)
+ENVIRONMENT = {**os.environ, "CRACKD": os.devnull}
 
 
 @wants_library
@@ -41,7 +54,7 @@ class Refusals(unittest.TestCase):
         with tempfile.TemporaryDirectory() as room:
             also = refusing(room, **environment)
             command = [sys.executable, str(HERE / "refusals.py"), *words]
-            how = {"env": {**os.environ, **also}, "capture_output": True, "text": True, "timeout": SECONDS}
+            how = {"env": {**ENVIRONMENT, **also}, "capture_output": True, "text": True, "timeout": SECONDS}
             ran = subprocess.run(command, check=False, **how)
         self.assertEqual((ran.returncode, ran.stderr), (0, ""))
         return int(ran.stdout)
@@ -61,13 +74,51 @@ class Refusals(unittest.TestCase):
 class Lengths(unittest.TestCase):
     """What `len` returns where a query finds no memory."""
 
+    def test_the_length_of_several_partitions(self):
+        with crackd.Table(splits=[10, 20]) as table:
+            rows = table.insert_many([1, 2, 3, 11, 12, 25], range(6))
+            table.settle()
+            table.delete(rows[1])
+            with mock.patch.object(table._library, "count", lambda *_: 8):
+                self.assertRaises(crackd.OutOfMemory, table.count)
+                self.assertEqual(len(table), 5)
+
     def test_the_length_after_memory_ran_out(self):
-        how = {"cwd": HERE, "capture_output": True, "text": True, "timeout": SECONDS}
-        ran = subprocess.run([sys.executable, "-c", FILL], check=False, **how)
-        self.assertEqual((ran.returncode, ran.stderr), (0, ""))
-        placed, length = map(int, ran.stdout.split())
-        self.assertGreater(placed, 100_000)
-        self.assertEqual(length, placed)
+        for trim in ("131072", "65536"):
+            # (the second is what Dask sets; there the row numbers are joined without memory to spare)
+            environment = {**ENVIRONMENT, "MALLOC_TRIM_THRESHOLD_": trim}
+            how = {"cwd": HERE, "env": environment, "capture_output": True, "text": True, "timeout": SECONDS}
+            with self.subTest(trim):
+                ran = subprocess.run([sys.executable, "-c", FILL], check=False, **how)
+                self.assertEqual((ran.returncode, ran.stderr), (0, ""))
+                placed, length, rows = map(int, ran.stdout.split())
+                self.assertGreater(placed, 100_000)
+                self.assertEqual((length, rows), (placed, placed))
+
+
+@wants_library
+class Listed(unittest.TestCase):
+    """When selects empty the histories, which keep the rows that they listed."""
+
+    def test_selects_make_checkpoints_once_they_listed_more_than_the_rows_and_some(self):
+        with mock.patch.object(crackd.table, "LISTED", 10), crackd.Table() as table:
+            rows = table.insert_many(range(20), range(20))
+            with mock.patch.object(table._library, "checkpoint", wraps=table._library.checkpoint) as checkpoint:
+
+                def expect(lists, made):
+                    """The last of these selects makes a checkpoint, and none before it."""
+                    for ends in lists:
+                        self.assertEqual(checkpoint.call_count, made - 1)
+                        table.select(*ends)
+                    self.assertEqual(checkpoint.call_count, made)
+
+                expect([(0, 15), (0, 15), (0, 1)], 1)
+                self.assertTrue(all([table.delete(row) for row in rows[:6]]))
+                self.assertTrue(all(table.delete_many(rows[6:10])))
+                self.assertFalse(table.delete(rows[0]))
+                expect([(0, 20), (10, 20), (10, 11)], 2)
+                table.insert(10, 1)
+                expect([(0, 20), (11, 20), (19, 20), (10, 11)], 3)
 
 
 if __name__ == "__main__":

@@ -131,6 +131,17 @@ class Openings(unittest.TestCase):
                 with self.subTest(options, opened=opened), self.assertRaises(TypeError):
                     opened(**options).close()
 
+    def test_limits_that_are_out_of_range(self):
+        for name, most in [("history", 10**6), ("cells", 2**20)]:
+            for limit in (0, -1, most + 1, 2**64, 2**64 + 5, -(2**64) + 5):
+                with self.subTest(name, limit=limit):
+                    self.assertRaises(crackd.BadLimit, crackd.Table, **{name: limit})
+                    # (its program refuses what can't be read as a limit, without a number)
+                    self.assertRaises((crackd.BadLimit, crackd.NoServer), crackd.serve, **{name: limit})
+            for limit in (1, most):
+                with self.subTest(name, limit=limit), crackd.Table(**{name: limit}) as table:
+                    self.assertEqual((table.insert(1, 5), table.sum()), (0, 5))
+
     def test_how_many_partitions_there_are(self):
         right = [
             ({"partitions": 1}, 1),

@@ -3,6 +3,7 @@
 import os
 import pathlib
 import tempfile
+import threading
 import unittest
 from unittest import mock
 
@@ -154,6 +155,60 @@ class FirstErrors(unittest.TestCase):
 
 
 @wants_cluster
+class LostShards(unittest.TestCase):
+    """Shards that a table has lost."""
+
+    def test_they_are_not_asked_again(self):
+        table, asked = cluster.Table.__new__(cluster.Table), []
+        lost = cluster.ShardLost(1, 5, None, "keys from 5", LOST)
+        table._lock, table._futures, table._tokens = threading.RLock(), [object()], ["first", "second"]
+        table._lost = {1: lost}
+        table._start = lambda shard, *_: asked.append(shard) or shard
+        table._result = lambda shard, _: (table._tokens[shard], 7)
+        self.assertEqual(table._ask({0: (), 1: ()}, "begin"), ({0: 7}, {1: lost}))
+        self.assertEqual(asked, [0])
+        with self.assertRaises(cluster.ShardLost) as caught:
+            table._all({0: (), 1: ()}, "begin")
+        self.assertEqual((caught.exception.shard, caught.exception is lost), (1, False))
+
+
+@wants_cluster
+class Ranges(unittest.TestCase):
+    """Many ranges over several shards, whose answers are given here."""
+
+    FIRSTS, LASTS = np and np.array([0, 1, 5, 12, 25], np.uint64), np and np.array([9, 0, 15, 29, 26], np.uint64)
+
+    def table(self, answers, errors):
+        """A table of the shards 0 to 9, 10 to 19, and from 20, which give these answers and errors."""
+        table = cluster.Table.__new__(cluster.Table)
+        table._cuts, table.shards, table.asked = np.array([10, 20], np.uint64), 3, {}
+
+        def ask(words, name):
+            table.asked = {shard: [it.tolist() for it in ends] for shard, ends in words.items()}
+            return answers, errors
+
+        table._ask = ask
+        return table
+
+    def test_each_shard_is_asked_what_it_may_have(self):
+        answers = {0: [1, 2], 1: [10, 20], 2: [100, 200]}
+        for call in ("_count_many", "_sum_many"):
+            table = self.table({it: np.array(found) for it, found in answers.items()}, {})
+            found = getattr(table, call)(self.FIRSTS, self.LASTS)
+            self.assertEqual(numbers(found), [1, 0, 12, 120, 200])
+            wanted = {0: [[0, 5], [9, 15]], 1: [[5, 12], [15, 29]], 2: [[12, 25], [29, 26]]}
+            self.assertEqual(table.asked, wanted)
+
+    def test_the_first_range_that_was_refused(self):
+        for errors, done in [({1: 0}, 2), ({1: 1}, 3), ({2: 1}, 4), ({2: 1, 1: 1}, 3), ({0: 1, 2: 0}, 2)]:
+            raised = {shard: crackd.OutOfMemory(8, at) for shard, at in errors.items()}
+            for call in ("_count_many", "_sum_many"):
+                with self.subTest(errors, call=call), self.assertRaises(crackd.OutOfMemory) as caught:
+                    getattr(self.table({}, dict(raised)), call)(self.FIRSTS, self.LASTS)
+                self.assertEqual((caught.exception.code, caught.exception.done), (8, done))
+
+
+@wants_cluster
 class Parts(unittest.TestCase):
     """How rows and keys are divided."""
 
@@ -164,7 +219,7 @@ class Parts(unittest.TestCase):
         self.assertEqual(crackd.shard.shard_of(cuts[:0], keys).tolist(), [0] * 9)
 
     def test_blocks_keep_the_order_of_rows(self):
-        for shards in ([], [3], [0, 0, 0], [5, 0, 5, 1, 0, 5], [1023, 0, 1023]):
+        for shards in ([], [3], [0, 0, 0], [5, 0, 5, 1, 0, 5], [1023, 0, 1023], [it * 7919 % 3 for it in range(5000)]):
             found = {it.shard: it.places.tolist() for it in crackd.shard.blocks_of(np.array(shards, np.int64))}
             wanted = {it: [at for at, shard in enumerate(shards) if shard == it] for it in sorted(set(shards))}
             self.assertEqual((found, list(found)), (wanted, list(wanted)))

@@ -14,6 +14,12 @@ from crackd import client
 SECONDS = 20
 
 
+def setUpModule():
+    """A control-C is a KeyboardInterrupt, also where the tests are a job in the background, which ignores it."""
+    before = signal.signal(signal.SIGINT, signal.default_int_handler)
+    unittest.addModuleCleanup(signal.signal, signal.SIGINT, before)
+
+
 def numbers(it):
     return [int(each) for each in it]
 

@@ -241,6 +241,23 @@ class Cases:
             self.assertEqual((table.count(), table.sum()), (3, 7))
             self.assertEqual(list(table.delete_many(caught.exception.answers)), [True] * 3)
 
+    def test_a_partition_is_full_only_with_as_many_rows_as_cells(self):
+        with self.table(cells=1000) as table:
+            rows = table.insert_many(range(600), [1] * 600)
+            for payload in (2, 3, 4):
+                table.settle()
+                self.assertTrue(all(table.update_many(rows, range(600), [payload] * 600)))
+            self.assertEqual((table.count(), table.sum()), (600, 2400))
+            table.settle()
+            self.assertTrue(all(table.delete_many(rows)))
+            rows = table.insert_many(range(1000), range(1000))
+            table.settle()
+            self.assertRaises(crackd.Full, table.insert, 5, 5)
+            self.assertTrue(all([table.delete(row) for row in rows[:20]]))
+            more = [table.insert(key, 1) for key in range(20)]
+            self.assertEqual((len(set(more)), table.count(), table.sum(0, 20)), (20, 1000, 20))
+            self.assertRaises(crackd.Full, table.insert_many, [5], [5])
+
     def test_bad_openings(self):
         for options, kind in [
             ({"history": 0}, crackd.BadLimit),
@@ -544,6 +561,34 @@ class Cases:
 @wants_library
 class InProcessCases(Cases, InProcess, unittest.TestCase):
     """In the process."""
+
+
+@wants_library
+class BoundCases(InProcess, unittest.TestCase):
+    """The pieces of tables after many ranges and updates."""
+
+    def pieces(self, policy):
+        """How many pieces a table of 5,000 rows has after 300 counts, and then 200 sums with updates before each."""
+        drawn, plain = random.Random(3), PlainTable()
+        with self.table(policy=policy, partitions=1) as table:
+            keys = drawn.sample(range(100_000), 5000)
+            rows = numbers(table.insert_many(keys, [it % 7 for it in keys]))
+            plain.rows = {row: (key, key % 7) for row, key in zip(rows, keys)}
+            for low in drawn.sample(range(99_000), 300):
+                self.assertEqual(table.count(low, low + 500), plain.count(low, low + 500))
+            for low in drawn.sample(range(50_000), 200):
+                gone = drawn.sample(sorted(plain.rows), 10)
+                table.delete_many(gone)
+                rows = numbers(table.insert_many([low + it for it in range(10)], range(10)))
+                plain.rows = {row: it for row, it in plain.rows.items() if row not in gone}
+                plain.rows.update((row, (low + it, it)) for it, row in enumerate(rows))
+                self.assertEqual(table.sum(low, low + 50_000), plain.sum(low, low + 50_000))
+            return len(table.layout().parts[0].pieces)
+
+    def test_auto_alone_forgets_bounds(self):
+        self.assertLess(self.pieces("auto"), 300)
+        for policy in ("complete", "gradual", "ripple"):
+            self.assertGreater(self.pieces(policy), 900)
 
 
 @wants_program

@@ -124,6 +124,15 @@ class SharingInProcess(Sharing, InProcess, unittest.TestCase):
         least = [min(it) for it in zip(*[times() for _ in range(7)])]
         self.assertLess(max(least), 2)
 
+    def test_rows_that_come_and_go_fill_no_partition(self):
+        count = 600_000
+        with crackd.Table.from_arrays(range(count), partitions=1) as table:
+            self.assertTrue(all(table.update_many(table.row_numbers, range(count), range(1, count + 1))))
+            self.assertEqual((table.count(), table.sum()), (count, count * (count + 1) // 2))
+            self.assertTrue(all(table.delete_many(table.row_numbers)))
+            table.insert_many(range(count), range(count))
+            self.assertEqual((table.count(), table.sum(0, 3)), (count, 3))
+
     def test_memory_is_given_back(self):
         def resident():
             with open("/proc/self/statm", encoding="ascii") as file:

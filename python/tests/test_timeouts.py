@@ -10,7 +10,7 @@ import unittest
 from ways import crackd, standing_in, wants_program
 
 # a timeout that a test waits for, a pause that is shorter, and the most that a wait may take
-SOON, PAUSE, MOST = 0.4, 0.1, 20
+SOON, PAUSE, MOST = 1, 0.15, 20
 
 
 class Silence(unittest.TestCase):
@@ -71,6 +71,8 @@ class Silence(unittest.TestCase):
 
         with standing_in(play) as port:
             table = crackd.connect(port=port, timeout=SOON)
+            # (nobody waits for it meanwhile)
+            time.sleep(SOON + PAUSE)
             self.assertEqual(table.count(), 7)
             table.close()
 

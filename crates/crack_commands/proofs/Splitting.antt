@@ -1,6 +1,6 @@
 -- Words and numbers.
 use Rattle.std.proofs.Common.{◌≡◌, ℕ, ◌+◌, ◌<◌, ◌≤◌, true, false, eqb, List, [], ◌∷◌, ◌++◌, length, take, drop, get_or, refl, sym, ap, ◌∙◌, subst, arith, ⊎_elim, append-nil, length-take}
-use Rattle.std.proofs.lemmas.Bool.{or_parts, false≢true, ne_eqb, cases_lt}
+use Rattle.std.proofs.lemmas.Bool.{or_parts, false≢true, eq-eqb, ne_eqb, cases_lt}
 use Rattle.std.proofs.lemmas.List.{take_more, at_drop_more, take-append-drop, drop_all, drop_more}
 use Rattle.std.proofs.Math.Seq.{drop-nil}
 use Rattle.std.proofs.lemmas.List.Sums.{position_or_len_is}
@@ -94,12 +94,12 @@ pub is_word_none : (w : List ℕ) → length w ≡ 0 → is_word w ≡ false
 is_word_none [] h = refl
 is_word_none (b ∷ bs) h = absurd (omega arith)
 
--- the place of the first full stop, where none is before it
-pub stop_here : (xs : List ℕ) (i : ℕ) → i < length xs → get_or xs i 0 ≡ 46 → ((k : ℕ) → k < i → eqb (get_or xs k 0) 46 ≡ false) → i ≡ position_or_len (λ b. eqb b 46) xs
-stop_here xs i below here before = sym (position_or_len_is (λ b. eqb b 46) xs i 0 (omega (arith, below)) before (λ within. rw here refl))
+-- the first place of a byte, where none is before it
+pub place_here : (byte : ℕ) (xs : List ℕ) (i : ℕ) → i < length xs → get_or xs i 0 ≡ byte → ((k : ℕ) → k < i → eqb (get_or xs k 0) byte ≡ false) → i ≡ position_or_len (λ b. eqb b byte) xs
+place_here byte xs i below here before = sym (position_or_len_is (λ b. eqb b byte) xs i 0 (omega (arith, below)) before (λ within. eq-eqb _ _ here))
 
-pub no_stop : (xs : List ℕ) (i : ℕ) → length xs ≤ i → ((k : ℕ) → k < i → eqb (get_or xs k 0) 46 ≡ false) → length xs ≡ position_or_len (λ b. eqb b 46) xs
-no_stop xs i all before = sym (position_or_len_is (λ b. eqb b 46) xs (length xs) 0 (omega arith) (λ k below. before k (omega (arith, below, all))) (λ within. absurd (omega (arith, within))))
+pub no_place : (byte : ℕ) (xs : List ℕ) (i : ℕ) → length xs ≤ i → ((k : ℕ) → k < i → eqb (get_or xs k 0) byte ≡ false) → length xs ≡ position_or_len (λ b. eqb b byte) xs
+no_place byte xs i all before = sym (position_or_len_is (λ b. eqb b byte) xs (length xs) 0 (omega arith) (λ k below. before k (omega (arith, below, all))) (λ within. absurd (omega (arith, within))))
 
 -- the first word and the others
 pub first_is : (bytes word rest : List ℕ) → IsFirstWord bytes word rest → slice_index_or (words bytes) 0 [] ≡ word

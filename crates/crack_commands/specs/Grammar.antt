@@ -1,5 +1,5 @@
 -- The statements.
-use Rattle.std.specs.Prelude.{ℕ, ◌+◌, ◌-◌, ◌*◌, ℤ, pos, neg_ℤ, int_le, Bool, List, [], ◌∷◌, length, drop, fold, filter, Option, None, Some, Result, Ok, Err, ◌==◌, ◌&&◌, not, nat_lt, nat_le, if◌then◌else◌, codes, slice_index, slice_index_or}
+use Rattle.std.specs.Prelude.{ℕ, ◌+◌, ◌-◌, ◌*◌, ℤ, pos, neg_ℤ, int_le, Bool, List, [], ◌∷◌, length, drop, fold, filter, Option, None, Some, Result, Ok, Err, ◌==◌, ◌&&◌, ◌||◌, not, nat_lt, nat_le, if◌then◌else◌, codes, slice_index, slice_index_or}
 use Rattle.std.specs.Str.{bytes_eq}
 use Rattle.std.specs.List.{list_all, slice_split, before_first, after_first}
 use Rattle.std.specs.Option.{option_zip, option_and_then, option_map, option_map_or, ok_or}
@@ -14,7 +14,8 @@ use Rattle.crack_row.specs.declared.refusal.Refusal.{Refusal}
 use Rattle.crack_row.specs.declared.refusal.Refusal.TheVariants.{BadStatement, BadRange}
 use Rattle.crack_commands.specs.declared.words.TheConstants.{MOST_DIGITS, GREATEST_PART, GREATEST_SERIAL}
 use Rattle.crack_commands.specs.declared.statement.Statement.{Statement}
-use Rattle.crack_commands.specs.declared.statement.Statement.TheVariants.{Insert, Delete, Update, Count, Sum, Select, Layout, Checkpoint, Policy, Quit}
+use Rattle.crack_commands.specs.declared.statement.Statement.TheVariants.{Insert, Delete, Update, Count, Sum, Select, Layout, Checkpoint, Policy, End}
+use Rattle.crack_commands.specs.declared.statement.Ending.TheVariants.{Quit, Http}
 
 -- the meaning of a line: a statement, or why it isn't one
 abbrev pub Reading : Type 0
@@ -78,6 +79,30 @@ made statement arguments = ok_or (option_map statement arguments) BadStatement
 abbrev pub over : (Range → Statement) → Option (ℕ × ℕ) → Reading
 over statement ends = option_map_or (λ e. if nat_le e.0 e.1 && nat_le e.1 GREATEST_BOUND then Ok (statement (record { low = e.0; high = e.1 })) else Err BadRange) ends (Err BadStatement)
 
+-- whether it is a method of HTTP
+abbrev pub is_method : List ℕ → Bool
+is_method word =
+    bytes_eq word (codes "GET") || bytes_eq word (codes "POST") || bytes_eq word (codes "HEAD") || bytes_eq word (codes "PUT") || bytes_eq word (codes "DELETE")
+    || bytes_eq word (codes "OPTIONS") || bytes_eq word (codes "CONNECT") || bytes_eq word (codes "TRACE") || bytes_eq word (codes "PATCH")
+
+-- whether the byte is a letter, a digit or a hyphen
+abbrev pub is_name_byte : ℕ → Bool
+is_name_byte b = is_digit b || nat_le 65 b && nat_lt b 91 || nat_le 97 b && nat_lt b 123 || b == 45
+
+-- whether it begins with a header of HTTP: there is a colon, and one or more letters, digits and hyphens are before the first one
+abbrev pub has_header : List ℕ → Bool
+has_header word =
+    let name = before_first (λ b. b == 58) word in
+    not (bytes_eq name []) && nat_lt (length name) (length word) && list_all is_name_byte name
+
+-- whether a line with this first word is one of an HTTP request: the word is a method, or begins with a header
+abbrev pub is_http : List ℕ → Bool
+is_http word = is_method word || has_header word
+
+-- the reading of a line whose first word is no name of a statement: a line of an HTTP request ends the session
+abbrev pub unnamed : List ℕ → Reading
+unnamed word = if is_http word then Ok (End Http) else Err BadStatement
+
 -- the statement with this name and these arguments
 abbrev pub named : List ℕ → List (List ℕ) → Reading
 named name arguments =
@@ -90,9 +115,13 @@ named name arguments =
     else if bytes_eq name (codes "layout") then made Layout (number_up_to GREATEST_PART (only_word arguments))
     else if bytes_eq name (codes "checkpoint") then made Checkpoint (number_up_to GREATEST_PART (only_word arguments))
     else if bytes_eq name (codes "policy") then made Policy (policy_named (only_word arguments))
-    else if bytes_eq name (codes "quit") && length arguments == 0 then Ok Quit
-    else Err BadStatement
+    else if bytes_eq name (codes "quit") then if length arguments == 0 then Ok (End Quit) else Err BadStatement
+    else unnamed name
 
 -- the meaning of a line: its first word is a name, and the others are the arguments
 unfoldable pub statement_of : List ℕ → Reading
 statement_of line = named (slice_index_or (words line) 0 []) (drop 1 (words line))
+
+-- the meaning of a line that is too long to be a statement, by the bytes at its front: it may be one of an HTTP request
+unfoldable pub long_of : List ℕ → Reading
+long_of front = unnamed (slice_index_or (words front) 0 [])

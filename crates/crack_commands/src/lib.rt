@@ -9,7 +9,7 @@ mod words;
 
 pub use leading::{LeadingInsert, leading_insert};
 pub use output::send;
-pub use statement::{Statement, parse_statement};
+pub use statement::{Ending, Statement, parse_long, parse_statement};
 pub use text::{
     policy_line, write_count, write_each_row, write_folded, write_head, write_layout,
     write_refusal, write_reply, write_row, write_sum, write_text,

@@ -1,12 +1,14 @@
 //! The statement language.
 ghost use Rattle.std.specs.Prelude.{◌≡◌, Some};
+ghost use Rattle.std.specs.List.{list_all};
 ghost use Rattle.crack_commands.specs.Grammar.{statement_of, words, named, number_of, two_of, over, policy_named};
+ghost use Rattle.crack_commands.specs.Grammar.{long_of, unnamed, is_http, is_method, has_header, is_name_byte};
 ghost use Rattle.crack_commands.specs.Inside.{insert_of, delete_of, update_of, update_from, range_from, layout_of};
 ghost use Rattle.crack_commands.specs.Inside.{checkpoint_of, policy_of, quit_of};
 ghost use Rattle.crack_commands.specs.declared.statement.Statement.TheVariants.{Count, Sum, Select};
 
 use crate::words::{
-    key_and_payload, next_word, only_word, read_part, read_row_number, two_numbers,
+    key_and_payload, next_word, only_word, place_of, read_part, read_row_number, two_numbers,
 };
 use crack_row::{Key, KeyRange, Payload, Policy, Refusal, RowNo};
 
@@ -39,7 +41,16 @@ pub enum Statement {
     /// Change how pending rows are merged from now on.
     Policy(Policy),
     /// End the session.
+    End(Ending),
+}
+
+/// Why a session ends with a line.
+#[derive(Clone, Copy, Debug)]
+pub enum Ending {
+    /// The line is the statement `quit`.
     Quit,
+    /// The line is one of an HTTP request, which a web page that is open on the same machine can send.
+    Http,
 }
 
 /// The meaning of a line: a statement, or why it isn't one. Refused with 2 if the ends of a range
@@ -50,6 +61,18 @@ pub fn parse_statement(line: &[u8]) -> Result<Statement, Refusal>
 {
     let (name, rest) = next_word(line);
     parse_named(name, rest)
+}
+
+/// The meaning of a line that is too long to be a statement, by the bytes at its front. Refused with 1, unless it is
+/// one of an HTTP request. O(these bytes), no memory.
+#[tactic(auto, unfolding(crate::specs::Grammar::long_of))]
+#[cold]
+#[inline(never)]
+pub fn parse_long(front: &[u8]) -> Result<Statement, Refusal>
+    ensures { result ≡ long_of front.now }
+{
+    let (word, _) = next_word(front);
+    parse_unnamed(word)
 }
 
 /// The statement with a name, and with what follows it.
@@ -78,8 +101,65 @@ fn parse_named(name: &[u8], rest: &[u8]) -> Result<Statement, Refusal>
     } else if name == b"insert".as_slice() {
         parse_insert(rest)
     } else {
+        parse_unnamed(name)
+    }
+}
+
+/// The reading of a line whose first word is no name of a statement.
+#[cold]
+#[inline(never)]
+fn parse_unnamed(word: &[u8]) -> Result<Statement, Refusal>
+    ensures { result ≡ unnamed word.now }
+{
+    if is_http(word) {
+        Ok(Statement::End(Ending::Http))
+    } else {
         Err(Refusal::BadStatement)
     }
+}
+
+/// Whether a line with this first word is one of an HTTP request.
+fn is_http(word: &[u8]) -> bool
+    ensures { result ≡ is_http word.now }
+{
+    is_method(word) || has_header(word)
+}
+
+/// Whether a word begins with a header of HTTP.
+fn has_header(word: &[u8]) -> bool
+    ensures { result ≡ has_header word.now }
+{
+    let colon = place_of(b':', word);
+    0 < colon && colon < word.len() && is_name(&word[..colon])
+}
+
+/// Whether there are only letters, digits and hyphens.
+fn is_name(bytes: &[u8]) -> bool
+    ensures { result ≡ list_all is_name_byte bytes.now }
+{
+    bytes.iter().all(|b| is_name_byte(*b))
+}
+
+/// Whether it is a letter, a digit or a hyphen.
+fn is_name_byte(b: u8) -> bool
+    ensures { result ≡ is_name_byte b }
+{
+    matches!(b, b'0'..=b'9' | b'A'..=b'Z' | b'a'..=b'z' | b'-')
+}
+
+/// Whether a word is a method of HTTP.
+fn is_method(word: &[u8]) -> bool
+    ensures { result ≡ is_method word.now }
+{
+    word == b"GET".as_slice()
+        || word == b"POST".as_slice()
+        || word == b"HEAD".as_slice()
+        || word == b"PUT".as_slice()
+        || word == b"DELETE".as_slice()
+        || word == b"OPTIONS".as_slice()
+        || word == b"CONNECT".as_slice()
+        || word == b"TRACE".as_slice()
+        || word == b"PATCH".as_slice()
 }
 
 /// An insert with the words after its name.
@@ -220,7 +300,7 @@ fn parse_quit(rest: &[u8]) -> Result<Statement, Refusal>
 {
     let (word, _) = next_word(rest);
     if word.is_empty() {
-        Ok(Statement::Quit)
+        Ok(Statement::End(Ending::Quit))
     } else {
         Err(Refusal::BadStatement)
     }

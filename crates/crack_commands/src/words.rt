@@ -171,7 +171,7 @@ fn next_number(bytes: &[u8]) -> (Option<u128>, &[u8])
 pub fn read_row_number(word: &[u8]) -> Option<RowNo>
     ensures { result ≡ row_number_of word.now }
 {
-    let stop = stop_at(word);
+    let stop = place_of(b'.', word);
     if stop == word.len() {
         return None;
     }
@@ -213,13 +213,12 @@ fn read_serial(word: &[u8]) -> Option<u64>
     }
 }
 
-/// The place of the first full stop, or the length.
-#[tactic(auto, using(crate::proofs::Splitting::stop_here))]
-fn stop_at(word: &[u8]) -> usize
-    ensures { result ≡ position_or_len (λ b. b == 46) word.now }
+/// The first place of a byte, or the length.
+pub(crate) fn place_of(byte: u8, word: &[u8]) -> usize
+    ensures { result ≡ position_or_len (λ b. b == byte) word.now }
 {
     for (i, b) in word.iter().enumerate() {
-        if *b == b'.' {
+        if *b == byte {
             return i;
         }
     }

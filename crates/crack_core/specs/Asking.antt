@@ -1,5 +1,5 @@
--- The answers to one command, and to questions about a range over all partitions, whatever checkpoints were made.
-use Rattle.std.specs.Prelude.{◌≡◌, ◌⊎◌, ℕ, ℤ, pos, Bool, false, List, [], ◌∷◌, map, length, Option, None, Some, Result, Ok, Err, IfOk, IfErr, nat_le, slice_get, sum_by, if◌then◌else◌}
+-- The answers to one command of the only worker, and to questions about a range over all partitions.
+use Rattle.std.specs.Prelude.{◌≡◌, ◌≢◌, ◌⊎◌, ℕ, ◌≤◌, ℤ, pos, Bool, true, List, [], ◌∷◌, length, Option, Result, Ok, Err, IfOk, IfErr, IsSomeAnd, slice_get, sum_by, if◌then◌else◌}
 use Rattle.std.specs.Option.{option_map_or}
 use Rattle.crack_row.specs.Ranges.{Range}
 use Rattle.crack_row.specs.Rows.{total_by}
@@ -11,47 +11,50 @@ use Rattle.crack_row.specs.declared.RowNo.{RowNo}
 use Rattle.crack_row.specs.declared.limit.Limits.{Limits}
 use Rattle.crack_row.specs.declared.command.Command.{Command}
 use Rattle.crack_row.specs.declared.command.Command.TheVariants.{Insert, Delete, Update, Count, Sum, Select}
+use Rattle.crack_row.specs.declared.command.Policy.{Policy}
+use Rattle.crack_row.specs.declared.command.Policy.TheVariants.{Gradual}
 use Rattle.crack_row.specs.declared.command.Reply.{Reply}
 use Rattle.crack_row.specs.declared.command.Reply.TheVariants.{Placed, Gone, Changed, NoRow, Counted, Summed, Rows}
 use Rattle.crack_row.specs.declared.refusal.Refusal.{Refusal}
-use Rattle.crack_row.specs.declared.refusal.Refusal.TheVariants.{OutOfMemory, HistoryFull, LifeOver}
+use Rattle.crack_row.specs.declared.refusal.Refusal.TheVariants.{OutOfMemory, HistoryFull, NoCell}
+use Rattle.crack_plain.specs.Plain.{PlainView}
+use Rattle.crack_part.specs.Parts.{Part}
 use Rattle.crack_part.specs.Upkeep.{is_automatic}
-use Rattle.crack_plain.specs.Plain.{PlainView, accepted_of, checkpointed}
-use Rattle.crack_core.specs.Routes.{keys_of_part, route, parts_of}
-use Rattle.crack_core.specs.Steps.{Bounds, taken_where_full, mapped, IsOutcome, table_after, changed_at}
+use Rattle.crack_core.specs.Routes.{route, parts_of}
+use Rattle.crack_core.specs.Steps.{bounds_of, mapped, IsOutcomeAt, tables_of, tables_after}
+use Rattle.crack_core.specs.Jobs.{Makes}
+use Rattle.crack_core.specs.declared.step.Step.{Step}
 use Rattle.crack_core.specs.declared.asking.Query.{Query}
 use Rattle.crack_core.specs.declared.asking.Query.TheVariants.{CountRows, SumPayloads, SelectRows}
 
--- the bounds of partitions but for those of their histories: of their lives and of their cells
-abbrev pub lasting_bounds : Limits → Bounds
-lasting_bounds limits = record { stop = λ table. if nat_le limits.life (accepted_of table) then Some LifeOver else None; cells = limits.cells; taken = taken_where_full limits; due = λ table. false }
+-- a command of the only worker at a partition, by this policy
+abbrev pub step_at : Policy → ℕ → Command → Step
+step_at policy part command = record { worker = 0; part = part; command = command; policy = policy }
 
--- the partitions as checkpoints leave them: their plain rows, and how many commands each accepted; so no checkpoint shows here
-abbrev pub lasting : List PlainView → List PlainView
-lasting tables = map checkpointed tables
+-- no full history refuses, and a cell is missing only if the partition has as many rows as they may have cells
+abbrev pub Lasts : Limits → Option PlainView → Result Reply Refusal → Type 0
+Lasts limits table outcome = ((entries : ℕ) → outcome ≢ Err (HistoryFull entries)) × (outcome ≡ Err NoCell → IsSomeAnd table (λ (t : PlainView). limits.cells ≤ length t.state.rows))
 
--- a full history refuses, which makes no checkpoint by itself
-abbrev pub RefusesFull : Limits → Result Reply Refusal → Type 0
-RefusesFull limits outcome = (is_automatic limits.upkeep ≡ false) × (outcome ≡ Err (HistoryFull limits.history))
-
--- one partition is asked: the outcome is what its plain rows require; or its history is full, if upkeep is on request
-pub record Asks (limits : Limits) (splits : List Bound) (part : ℕ) (command : Command) (outcome : Result Reply Refusal) (old new : List PlainView) : Type 0 where
-  pub comes_out : IsOutcome (lasting_bounds limits) (keys_of_part splits part) (slice_get old part) command outcome
-      ⊎ RefusesFull limits outcome
-  pub leaves : new ≡ changed_at (λ table. checkpointed (table_after table command)) old part outcome
+-- one partition is asked: the outcome is what its plain rows require, these change as it says, its history has one more entry if it was answered, and
+-- its store is read by the step's policy; if upkeep is automatic, only as many rows as cells, or the end of its life, stop it
+pub record Asks (limits : Limits) (splits : List Bound) (step : Step) (outcome : Result Reply Refusal) (old new : List Part) : Type 0 where
+  pub comes_out : IsOutcomeAt (bounds_of limits) splits (tables_of old) step.part step.command outcome
+  pub leaves : tables_of new ≡ tables_after (bounds_of limits) (tables_of old) step.part step.command outcome
+  pub makes : Makes splits limits step outcome old new
+  pub lasts : is_automatic limits.upkeep ≡ true → Lasts limits (slice_get (tables_of old) step.part) outcome
 
 -- a row is placed in the partition of its key, and this is its number
-pub record Inserts (limits : Limits) (splits : List Bound) (key : Key) (payload : Payload) (result : Result RowNo Refusal) (old new : List PlainView) : Type 0 where
-  pub asks : Asks limits splits (route splits key.0) (Insert key payload) (mapped (λ (row : RowNo). Placed row.serial) result) old new
+pub record Inserts (limits : Limits) (splits : List Bound) (key : Key) (payload : Payload) (result : Result RowNo Refusal) (old new : List Part) : Type 0 where
+  pub asks : Asks limits splits (step_at Gradual (route splits key.0) (Insert key payload)) (mapped (λ (row : RowNo). Placed row.serial) result) old new
   pub part : IfOk result (λ row. row.part ≡ route splits key.0)
 
 -- a row is removed, and this is the row
-abbrev pub Deletes : Limits → List Bound → RowNo → Result (Option Row) Refusal → List PlainView → List PlainView → Type 0
-Deletes limits splits row result old new = Asks limits splits row.part (Delete row.serial) (mapped (λ (row : Option Row). option_map_or Gone row NoRow) result) old new
+abbrev pub Deletes : Limits → List Bound → RowNo → Result (Option Row) Refusal → List Part → List Part → Type 0
+Deletes limits splits row result old new = Asks limits splits (step_at Gradual row.part (Delete row.serial)) (mapped (λ (row : Option Row). option_map_or Gone row NoRow) result) old new
 
 -- a row gets another key and payload, and this is whether it exists
-abbrev pub Updates : Limits → List Bound → RowNo → Key → Payload → Result Bool Refusal → List PlainView → List PlainView → Type 0
-Updates limits splits row key payload result old new = Asks limits splits row.part (Update row.serial key payload) (mapped (λ (found : Bool). if found then Changed else NoRow) result) old new
+abbrev pub Updates : Limits → List Bound → RowNo → Key → Payload → Result Bool Refusal → List Part → List Part → Type 0
+Updates limits splits row key payload result old new = Asks limits splits (step_at Gradual row.part (Update row.serial key payload)) (mapped (λ (found : Bool). if found then Changed else NoRow) result) old new
 
 -- the command that puts a question to a partition about its part of a range
 abbrev pub asking : Query → Range → Command
@@ -67,14 +70,14 @@ InTurn {S} {R} Asks given old (part ∷ parts) result new =
     ((reply : Reply) × (between : S) × Asks part (Ok reply) old between × (rest : Result (List R) Refusal) × InTurn Asks given between parts rest new × (result ≡ mapped (λ replies. given part reply ∷ replies) rest))
     ⊎ ((e : Refusal) × Asks part (Err e) old new × (result ≡ Err e))
 
--- the partitions that hold parts of a range are asked in turn
-abbrev pub AsksInTurn : Limits → List Bound → (Range → Command) → List PlainView → List (ℕ × Range) → Result (List Reply) Refusal → List PlainView → Type 0
-AsksInTurn limits splits question old parts said new = InTurn (λ (part : ℕ × Range) (outcome : Result Reply Refusal) (between after : List PlainView). Asks limits splits part.0 (question part.1) outcome between after) (λ (part : ℕ × Range) (reply : Reply). reply) old parts said new
+-- the partitions that hold parts of a range are asked in turn, all by one policy
+abbrev pub AsksInTurn : Limits → List Bound → Policy → (Range → Command) → List Part → List (ℕ × Range) → Result (List Reply) Refusal → List Part → Type 0
+AsksInTurn limits splits policy question old parts said new = InTurn (λ (part : ℕ × Range) (outcome : Result Reply Refusal) (between after : List Part). Asks limits splits (step_at policy part.0 (question part.1)) outcome between after) (λ (part : ℕ × Range) (reply : Reply). reply) old parts said new
 
 -- a range is read: the replies of its parts are combined, or it is refused as they are, or for lack of memory before one is asked
-pub record Reads {X : Type 0} (limits : Limits) (splits : List Bound) (question : Range → Command) (comes_to : List Reply → X → Type 0) (range : Range) (result : Result X Refusal) (old new : List PlainView) : Type 0 where
-  pub ok : IfOk result (λ x. (said : List Reply) × AsksInTurn limits splits question old (parts_of splits range) (Ok said) new × comes_to said x)
-  pub err : IfErr result (λ e. AsksInTurn limits splits question old (parts_of splits range) (Err e) new ⊎ ((e ≡ OutOfMemory) × (new ≡ old)))
+pub record Reads {X : Type 0} (limits : Limits) (splits : List Bound) (policy : Policy) (question : Range → Command) (comes_to : List Reply → X → Type 0) (range : Range) (result : Result X Refusal) (old new : List Part) : Type 0 where
+  pub ok : IfOk result (λ x. (said : List Reply) × AsksInTurn limits splits policy question old (parts_of splits range) (Ok said) new × comes_to said x)
+  pub err : IfErr result (λ e. AsksInTurn limits splits policy question old (parts_of splits range) (Err e) new ⊎ ((e ≡ OutOfMemory) × (new ≡ old)))
 
 -- how many rows a reply counts or lists
 abbrev pub counted : Reply → ℕ
@@ -88,9 +91,9 @@ summed (Summed sum) = sum
 summed _ = pos 0
 
 -- a range is counted: so are its parts, and the counts are added
-abbrev pub Counts : Limits → List Bound → Range → Result ℕ Refusal → List PlainView → List PlainView → Type 0
-Counts limits splits range result old new = Reads limits splits (λ part. Count part) (λ said count. count ≡ sum_by counted said) range result old new
+abbrev pub Counts : Limits → List Bound → Policy → Range → Result ℕ Refusal → List Part → List Part → Type 0
+Counts limits splits policy range result old new = Reads limits splits policy (λ part. Count part) (λ said count. count ≡ sum_by counted said) range result old new
 
 -- the payloads of a range are added up: those of its parts, and then these sums
-abbrev pub Sums : Limits → List Bound → Range → Result ℤ Refusal → List PlainView → List PlainView → Type 0
-Sums limits splits range result old new = Reads limits splits (λ part. Sum part) (λ said sum. sum ≡ total_by summed said) range result old new
+abbrev pub Sums : Limits → List Bound → Policy → Range → Result ℤ Refusal → List Part → List Part → Type 0
+Sums limits splits policy range result old new = Reads limits splits policy (λ part. Sum part) (λ said sum. sum ≡ total_by summed said) range result old new

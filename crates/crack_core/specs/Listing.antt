@@ -6,10 +6,11 @@ use Rattle.crack_row.specs.Rows.{row_with}
 use Rattle.crack_row.specs.declared.Bound.{Bound}
 use Rattle.crack_row.specs.declared.Row.{Row}
 use Rattle.crack_row.specs.declared.limit.Limits.{Limits}
+use Rattle.crack_row.specs.declared.command.Policy.{Policy}
 use Rattle.crack_row.specs.declared.command.Reply.{Reply}
 use Rattle.crack_row.specs.declared.command.Reply.TheVariants.{Rows}
 use Rattle.crack_row.specs.declared.refusal.Refusal.{Refusal}
-use Rattle.crack_plain.specs.Plain.{PlainView}
+use Rattle.crack_part.specs.Parts.{Part}
 use Rattle.crack_core.specs.Routes.{parts_of}
 use Rattle.crack_core.specs.Asking.{Reads}
 use Rattle.crack_core.specs.Bulk.{key_at, payload_at}
@@ -30,6 +31,6 @@ AreInLists rows parts serials keys payloads = (k : ℕ) (row : ℕ × Row) → s
     (slice_index_or parts k 0, row_with (record { 0 = slice_index_or serials k 0 }) (key_at keys k) (payload_at payloads k)) ≡ row
 
 -- the rows of a range are listed: there are this many, and as many of them as there is room for are in the lists
-abbrev pub Selects : Limits → List Bound → List ℕ → List ℕ → List ℕ → List ℤ → Range → Result ℕ Refusal → List PlainView → List PlainView → Type 0
-Selects limits splits parts serials keys payloads range result old new =
-    Reads limits splits (λ part. Select part) (λ said found. (found ≡ length (all_listed (parts_of splits range) said)) × AreInLists (all_listed (parts_of splits range) said) parts serials keys payloads) range result old new
+abbrev pub Selects : Limits → List Bound → Policy → List ℕ → List ℕ → List ℕ → List ℤ → Range → Result ℕ Refusal → List Part → List Part → Type 0
+Selects limits splits policy parts serials keys payloads range result old new =
+    Reads limits splits policy (λ part. Select part) (λ said found. (found ≡ length (all_listed (parts_of splits range) said)) × AreInLists (all_listed (parts_of splits range) said) parts serials keys payloads) range result old new

@@ -1,4 +1,4 @@
-//! Commands of worker 0 whatever checkpoints were made, and ranges over all partitions.
+//! Commands of the only worker, and ranges over all partitions.
 ghost use Rattle.std.specs.Prelude.{◌≡◌, ◌⊎◌, ℕ, ℤ, ◌<◌, ◌≤◌, ◌≤ℤ◌, ◌^◌, neg_ℤ, pos, [], All, length, vec_capacity};
 ghost use Rattle.std.specs.Prelude.{sum_by, Ok, Err, IfOk, IfErr, if◌then◌else◌};
 ghost use Rattle.std.specs.Option.{option_map_or};
@@ -8,8 +8,7 @@ ghost use Rattle.crack_row.specs.declared.Payload.{Payload};
 ghost use Rattle.crack_row.specs.declared.Serial.{Serial};
 ghost use Rattle.crack_row.specs.declared.command.Command.TheVariants.{Insert, Delete, Update};
 ghost use Rattle.crack_plain.specs.Plain.{PlainState, IsSmall, reply_to};
-ghost use Rattle.crack_core.specs.Steps.{tables_of};
-ghost use Rattle.crack_core.specs.Asking.{Asks, lasting, Inserts, Deletes, Updates, Counts, Sums, asking};
+ghost use Rattle.crack_core.specs.Asking.{Asks, Inserts, Deletes, Updates, Counts, Sums, asking};
 ghost use Rattle.crack_core.specs.Asking.{AsksInTurn, counted, summed};
 
 use crate::{Core, Step};
@@ -41,21 +40,21 @@ impl Query {
 }
 
 impl Core {
-    /// Asks one partition as `step` does, and is refused as that is: with 6 only if upkeep is on request. What is known
-    /// afterwards doesn't depend on the checkpoints that were made.
-    pub fn ask(&mut self, step: &Step) -> Result<Reply, Refusal>
-        ensures asks { Asks self.old.limits self.old.splits step.now.part step.now.command result
-            (lasting (tables_of self.old.parts)) (lasting (tables_of self.new.parts)) }
+    /// Asks one partition as `step` does.
+    fn ask(&mut self, step: &Step) -> Result<Reply, Refusal>
+        ensures asks { Asks self.old.limits self.old.splits step.now result self.old.parts self.new.parts }
         ensures small { IfOk result IsSmall }
         ensures opened { (self.new.splits ≡ self.old.splits) × (self.new.limits ≡ self.old.limits) }
     {
-        self.step(*step)
+        let answered = self.step(*step);
+        self.facts();
+        answered
     }
 
-    /// Places a row in the partition of its key. Refused as `ask` is, with 6, 10, 9 and 8.
+    /// Places a row in the partition of its key. Refused as `step` is, with 6, 10, 9 and 8.
     pub fn insert(&mut self, key: Key, payload: Payload) -> Result<RowNo, Refusal>
-        ensures inserts { Inserts self.old.limits self.old.splits key payload result
-            (lasting (tables_of self.old.parts)) (lasting (tables_of self.new.parts)) }
+        ensures inserts { Inserts self.old.limits self.old.splits key payload result self.old.parts
+            self.new.parts }
         ensures opened { (self.new.splits ≡ self.old.splits) × (self.new.limits ≡ self.old.limits) }
     {
         let part = self.route(key);
@@ -75,10 +74,10 @@ impl Core {
         }
     }
 
-    /// Removes a row, and returns it as it was; `None` if it doesn't exist. Refused as `ask` is, with 5, 6, 10 and 8.
+    /// Removes a row, and returns it as it was; `None` if it doesn't exist. Refused as `step` is, with 5,
+    /// 6, 10 and 8.
     pub fn delete(&mut self, row: RowNo) -> Result<Option<Row>, Refusal>
-        ensures deletes { Deletes self.old.limits self.old.splits row result (lasting (tables_of self.old.parts))
-            (lasting (tables_of self.new.parts)) }
+        ensures deletes { Deletes self.old.limits self.old.splits row result self.old.parts self.new.parts }
         ensures opened { (self.new.splits ≡ self.old.splits) × (self.new.limits ≡ self.old.limits) }
     {
         let command = Command::Delete { serial: row.serial };
@@ -95,10 +94,10 @@ impl Core {
     }
 
     /// Replaces the key and the payload of a row, which keeps its number; returns whether it exists. Refused as
-    /// `ask` is.
+    /// `step` is.
     pub fn update(&mut self, row: RowNo, key: Key, payload: Payload) -> Result<bool, Refusal>
-        ensures updates { Updates self.old.limits self.old.splits row key payload result
-            (lasting (tables_of self.old.parts)) (lasting (tables_of self.new.parts)) }
+        ensures updates { Updates self.old.limits self.old.splits row key payload result self.old.parts
+            self.new.parts }
         ensures opened { (self.new.splits ≡ self.old.splits) × (self.new.limits ≡ self.old.limits) }
     {
         let command = Command::Update {
@@ -118,12 +117,11 @@ impl Core {
         }
     }
 
-    /// Counts the rows of a range, over all partitions: each that holds a part of it is asked. Refused with 6, 10 and 8
-    /// as `ask` is; the partitions before the refusing one have then answered. Takes memory for one reply of each
+    /// Counts the rows of a range, over all partitions: each that holds a part of it is asked. Refused with 6, 10 and
+    /// 8 as `step` is; the partitions before the refusing one have then answered. Takes memory for one reply of each
     /// partition that it meets.
     pub fn count(&mut self, range: KeyRange, policy: Policy) -> Result<u64, Refusal>
-        ensures counts { Counts self.old.limits self.old.splits range result (lasting (tables_of self.old.parts))
-            (lasting (tables_of self.new.parts)) }
+        ensures counts { Counts self.old.limits self.old.splits policy range result self.old.parts self.new.parts }
         ensures opened { (self.new.splits ≡ self.old.splits) × (self.new.limits ≡ self.old.limits) }
     {
         self.facts();
@@ -143,8 +141,7 @@ impl Core {
 
     /// Adds up the payloads of the rows of a range, over all partitions, as `count` does. Refused as `count` is.
     pub fn sum(&mut self, range: KeyRange, policy: Policy) -> Result<i128, Refusal>
-        ensures sums { Sums self.old.limits self.old.splits range result (lasting (tables_of self.old.parts))
-            (lasting (tables_of self.new.parts)) }
+        ensures sums { Sums self.old.limits self.old.splits policy range result self.old.parts self.new.parts }
         ensures small { IfOk result (λ sum. (neg_ℤ (pos (2 ^ 102)) ≤ℤ sum) × (sum ≤ℤ pos (2 ^ 102))) }
         ensures opened { (self.new.splits ≡ self.old.splits) × (self.new.limits ≡ self.old.limits) }
     {
@@ -173,11 +170,11 @@ impl Core {
     ) -> Result<Vec<Reply>, Refusal>
         requires few { length parts.now ≤ 64 }
         ensures ok { IfOk result (λ replies.
-            AsksInTurn self.old.limits self.old.splits (λ range. asking query range)
-            (lasting (tables_of self.old.parts)) parts.now (Ok replies.items) (lasting (tables_of self.new.parts))) }
+            AsksInTurn self.old.limits self.old.splits policy (λ range. asking query range)
+            self.old.parts parts.now (Ok replies.items) self.new.parts) }
         ensures err { IfErr result (λ e.
-            AsksInTurn self.old.limits self.old.splits (λ range. asking query range)
-            (lasting (tables_of self.old.parts)) parts.now (Err e) (lasting (tables_of self.new.parts))
+            AsksInTurn self.old.limits self.old.splits policy (λ range. asking query range)
+            self.old.parts parts.now (Err e) self.new.parts
             ⊎ ((e ≡ Refusal.OutOfMemory) × (self.new ≡ self.old))) }
         ensures small { IfOk result (λ replies. All IsSmall replies.items × (length replies.items ≤ 64)) }
         ensures few { IfOk result (λ replies. length replies.items ≤ length parts.now) }
@@ -203,12 +200,11 @@ impl Core {
         requires none { replies.old.items ≡ [] }
         requires room { length parts.now ≤ vec_capacity replies.old }
         ensures ok { IfOk result (λ _.
-            AsksInTurn self.old.limits self.old.splits (λ range. asking query range)
-            (lasting (tables_of self.old.parts)) parts.now (Ok replies.new.items)
-            (lasting (tables_of self.new.parts))) }
+            AsksInTurn self.old.limits self.old.splits policy (λ range. asking query range)
+            self.old.parts parts.now (Ok replies.new.items) self.new.parts) }
         ensures err { IfErr result (λ e.
-            AsksInTurn self.old.limits self.old.splits (λ range. asking query range)
-            (lasting (tables_of self.old.parts)) parts.now (Err e) (lasting (tables_of self.new.parts))) }
+            AsksInTurn self.old.limits self.old.splits policy (λ range. asking query range)
+            self.old.parts parts.now (Err e) self.new.parts) }
         ensures small { All IsSmall replies.new.items }
         ensures few { length replies.new.items ≤ length parts.now }
         ensures opened { (self.new.splits ≡ self.old.splits) × (self.new.limits ≡ self.old.limits) }

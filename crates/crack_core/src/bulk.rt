@@ -1,7 +1,6 @@
 //! Many calls in one, over lists that the caller gives.
 ghost use Rattle.std.specs.Prelude.{◌≡◌, ◌<◌, ◌≤◌, ◌≤ℤ◌, ◌^◌, neg_ℤ, pos, length, IfOk};
-ghost use Rattle.crack_core.specs.Steps.{tables_of};
-ghost use Rattle.crack_core.specs.Asking.{lasting, Counts, Sums};
+ghost use Rattle.crack_core.specs.Asking.{Counts, Sums};
 ghost use Rattle.crack_core.specs.Bulk.{Went, InsertsAt, DeletesAt, UpdatesAt, CountsAt, SumsAt, OverKeys};
 ghost use Rattle.crack_core.specs.Bulk.{of_halves, flag};
 
@@ -58,8 +57,8 @@ impl Core {
         last: KeyNumber,
         policy: Policy,
     ) -> Result<u64, Refusal>
-        ensures counts { OverKeys (Counts self.old.limits self.old.splits) first last result
-            (lasting (tables_of self.old.parts)) (lasting (tables_of self.new.parts)) }
+        ensures counts { OverKeys (Counts self.old.limits self.old.splits policy) first last result
+            self.old.parts self.new.parts }
         ensures opened { (self.new.splits ≡ self.old.splits) × (self.new.limits ≡ self.old.limits) }
     {
         match KeyRange::new(first as BoundNumber, last as BoundNumber + 1) {
@@ -76,8 +75,8 @@ impl Core {
         last: KeyNumber,
         policy: Policy,
     ) -> Result<i128, Refusal>
-        ensures sums { OverKeys (Sums self.old.limits self.old.splits) first last result
-            (lasting (tables_of self.old.parts)) (lasting (tables_of self.new.parts)) }
+        ensures sums { OverKeys (Sums self.old.limits self.old.splits policy) first last result
+            self.old.parts self.new.parts }
         ensures small { IfOk result (λ sum. (neg_ℤ (pos (2 ^ 102)) ≤ℤ sum) × (sum ≤ℤ pos (2 ^ 102))) }
         ensures opened { (self.new.splits ≡ self.old.splits) × (self.new.limits ≡ self.old.limits) }
     {
@@ -100,7 +99,7 @@ impl Core {
         requires parts { length parts.old ≡ length keys.now }
         requires serials { length serials.old ≡ length keys.now }
         ensures inserts { Went (InsertsAt self.old.limits self.old.splits keys.now payloads.now parts.new serials.new)
-            (length keys.now) (lasting (tables_of self.old.parts)) result (lasting (tables_of self.new.parts)) }
+            (length keys.now) self.old.parts result self.new.parts }
         ensures opened { (self.new.splits ≡ self.old.splits) × (self.new.limits ≡ self.old.limits) }
     {
         'rows: for i in 0..keys.len() {
@@ -123,7 +122,7 @@ impl Core {
         requires serials { length serials.now ≡ length parts.now }
         requires gone { length gone.old ≡ length parts.now }
         ensures deletes { Went (DeletesAt self.old.limits self.old.splits parts.now serials.now gone.new)
-            (length parts.now) (lasting (tables_of self.old.parts)) result (lasting (tables_of self.new.parts)) }
+            (length parts.now) self.old.parts result self.new.parts }
         ensures opened { (self.new.splits ≡ self.old.splits) × (self.new.limits ≡ self.old.limits) }
     {
         'rows: for i in 0..parts.len() {
@@ -151,8 +150,7 @@ impl Core {
         requires payloads { length payloads.now ≡ length parts.now }
         requires found { length found.old ≡ length parts.now }
         ensures updates { Went (UpdatesAt self.old.limits self.old.splits parts.now serials.now keys.now payloads.now
-            found.new) (length parts.now) (lasting (tables_of self.old.parts)) result
-            (lasting (tables_of self.new.parts)) }
+            found.new) (length parts.now) self.old.parts result self.new.parts }
         ensures opened { (self.new.splits ≡ self.old.splits) × (self.new.limits ≡ self.old.limits) }
     {
         'rows: for i in 0..parts.len() {
@@ -178,8 +176,8 @@ impl Core {
     ) -> Progress
         requires lasts { length lasts.now ≡ length firsts.now }
         requires counts { length counts.old ≡ length firsts.now }
-        ensures counts { Went (CountsAt self.old.limits self.old.splits firsts.now lasts.now counts.new)
-            (length firsts.now) (lasting (tables_of self.old.parts)) result (lasting (tables_of self.new.parts)) }
+        ensures counts { Went (CountsAt self.old.limits self.old.splits policy firsts.now lasts.now counts.new)
+            (length firsts.now) self.old.parts result self.new.parts }
         ensures opened { (self.new.splits ≡ self.old.splits) × (self.new.limits ≡ self.old.limits) }
     {
         'each: for i in 0..firsts.len() {
@@ -205,8 +203,8 @@ impl Core {
         requires lasts { length lasts.now ≡ length firsts.now }
         requires lows { length lows.old ≡ length firsts.now }
         requires highs { length highs.old ≡ length firsts.now }
-        ensures sums { Went (SumsAt self.old.limits self.old.splits firsts.now lasts.now lows.new highs.new)
-            (length firsts.now) (lasting (tables_of self.old.parts)) result (lasting (tables_of self.new.parts)) }
+        ensures sums { Went (SumsAt self.old.limits self.old.splits policy firsts.now lasts.now lows.new highs.new)
+            (length firsts.now) self.old.parts result self.new.parts }
         ensures opened { (self.new.splits ≡ self.old.splits) × (self.new.limits ≡ self.old.limits) }
     {
         'each: for i in 0..firsts.len() {

@@ -2,8 +2,6 @@
 ghost use Rattle.std.specs.Prelude.{◌≡◌, ◌+◌, ◌<◌, ◌≤◌, ◌^◌, ℕ, List, ◌++◌, All, length, OnErr};
 ghost use Rattle.crack_row.specs.declared.Row.{Row};
 ghost use Rattle.crack_plain.specs.Plain.{IsSmall};
-ghost use Rattle.crack_core.specs.Steps.{tables_of};
-ghost use Rattle.crack_core.specs.Asking.{lasting};
 ghost use Rattle.crack_core.specs.Bulk.{OverKeys};
 ghost use Rattle.crack_core.specs.Listing.{Selects, AreInLists, all_listed, listed};
 ghost use Rattle.crack_core.specs.Inside.{of_part};
@@ -28,8 +26,8 @@ impl Core {
         requires serials { length serials.old ≡ length parts.old }
         requires keys { length keys.old ≡ length parts.old }
         requires payloads { length payloads.old ≡ length parts.old }
-        ensures selects { OverKeys (Selects self.old.limits self.old.splits parts.new serials.new keys.new payloads.new)
-            first last result (lasting (tables_of self.old.parts)) (lasting (tables_of self.new.parts)) }
+        ensures selects { OverKeys (Selects self.old.limits self.old.splits policy parts.new serials.new keys.new
+            payloads.new) first last result self.old.parts self.new.parts }
         ensures unwritten { OnErr result ((parts.new ≡ parts.old) × (serials.new ≡ serials.old) ×
             (keys.new ≡ keys.old) × (payloads.new ≡ payloads.old)) }
         ensures opened { (self.new.splits ≡ self.old.splits) × (self.new.limits ≡ self.old.limits) }
@@ -53,8 +51,8 @@ impl Core {
         requires serials { length serials.old ≡ length parts.old }
         requires keys { length keys.old ≡ length parts.old }
         requires payloads { length payloads.old ≡ length parts.old }
-        ensures selects { Selects self.old.limits self.old.splits parts.new serials.new keys.new payloads.new range
-            result (lasting (tables_of self.old.parts)) (lasting (tables_of self.new.parts)) }
+        ensures selects { Selects self.old.limits self.old.splits policy parts.new serials.new keys.new payloads.new
+            range result self.old.parts self.new.parts }
         ensures unwritten { OnErr result ((parts.new ≡ parts.old) × (serials.new ≡ serials.old) ×
             (keys.new ≡ keys.old) × (payloads.new ≡ payloads.old)) }
         ensures opened { (self.new.splits ≡ self.old.splits) × (self.new.limits ≡ self.old.limits) }

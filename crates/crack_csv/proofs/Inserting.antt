@@ -1,6 +1,7 @@
 -- The calls of a load, one record after another.
-use Rattle.std.proofs.Common.{◌≡◌, ℕ, ◌+◌, ◌==◌, ◌&&◌, ◌⊎◌, true, false, Option, Some, Ok, List, [], ◌∷◌, ◌++◌, length, map, refl, sym, ap, ◌∙◌, subst, inl, inr, arith, length-append, append-nil}
+use Rattle.std.proofs.Common.{◌≡◌, ℕ, ◌+◌, ◌==◌, ◌&&◌, ◌⊎◌, Bool, true, false, Option, Some, None, Ok, Err, List, [], ◌∷◌, ◌++◌, length, map, refl, sym, ap, ◌∙◌, subst, inl, inr, arith, length-append, append-nil}
 use Rattle.std.specs.List.{AllZip}
+use Rattle.std.proofs.lemmas.Bool.Decides.{nat_tests}
 use Rattle.std.proofs.lemmas.List.{map-append}
 use Rattle.csv.specs.Reading.{AreRecords, default_config, Reached, source_of, strip_bom, reader_state}
 use Rattle.csv.specs.declared.parser.State.TheVariants as st
@@ -13,7 +14,7 @@ use Rattle.crack_row.specs.declared.refusal.Refusal.TheVariants.{ReadFault, OutO
 use Rattle.crack_session.specs.Calls.{Call, Calls}
 use Rattle.crack_session.proofs.Calling.{Calls-then, Calls-push}
 use Rattle.crack_csv.specs.declared.record.NewRow.{NewRow}
-use Rattle.crack_csv.specs.Asked.{insertion, AreInsertions, IsAskedAll, IsAskedFirst, IsRefusedBy}
+use Rattle.crack_csv.specs.Asked.{insertion, AreInsertions, IsAskedAll, IsAskedFirst, IsLastRefused, IsRefusedBy}
 use Rattle.crack_csv.specs.Inside.{Fields, IsBehind, AsksRow, AsksNoRow}
 use Rattle.crack_csv.specs.Records.{is_header, without_header, new_row_of}
 use Rattle.crack_csv.proofs.Loading.{without_header-push, no_header, first_is_header, ReadsOne}
@@ -26,6 +27,22 @@ AllZip-add R (a ∷ xs) (b ∷ ys) x y all one = (all.0, AllZip-add R xs ys x y 
 
 abbrev IsAnswered : List Bound → Policy → NewRow → Call → Type 0
 IsAnswered splits policy row call = (reply : Reply) × (call ≡ insertion splits policy row (Ok reply))
+
+-- a record that is a header is the first
+pub is_first : (number : ℕ) (header : Bool) → (number == 1 && header) ≡ true → number ≡ 1
+is_first number header is = grind (arith, nat_tests)
+
+refused_last : {D : Type 0} (leads : D → Call → D → Type 0) (splits splits' : List Bound) (policy : Policy) (number : ℕ) (row : Option NewRow) (e : Refusal) (old new : D) → e ≡ ReadFault → splits' ≡ splits
+    → (calls : List Call) × Calls leads old calls new × IsRefusedBy splits' policy number row e calls → IsLastRefused leads splits policy ReadFault new
+refused_last leads splits splits' policy number None e old new is same asks = absurd (cc (asks.2.0, is))
+refused_last leads splits splits' policy number (Some row) e old new is same asks =
+    let here : Calls leads old (insertion splits' policy row (Err e) ∷ []) new = subst (λ (l : List Call). Calls leads old l new) asks.2 asks.1 in
+    let led : leads old (insertion splits' policy row (Err e)) new = subst (leads old (insertion splits' policy row (Err e))) (sym here.2) here.1 in
+    (row, old, subst (λ (s : List Bound). leads old (insertion s policy row (Err ReadFault)) new) same (subst (λ (x : Refusal). leads old (insertion splits' policy row (Err x)) new) is led))
+
+-- the call by which a desk refuses a record with 17 is the last
+pub is_refused_last : {D : Type 0} (leads : D → Call → D → Type 0) (splits splits' : List Bound) (policy : Policy) (number : ℕ) (fields : Fields) (e : Refusal) (old new : D) → e ≡ ReadFault → splits' ≡ splits → AsksNoRow leads splits' policy number fields e old new → IsLastRefused leads splits policy ReadFault new
+is_refused_last leads splits splits' policy number fields e old new is same asks = refused_last leads splits splits' policy number (new_row_of fields) e old new is same asks
 
 module _ {R D : Type 0} (remaining : R → Option (List ℕ)) (leads : D → Call → D → Type 0) (splits : List Bound) (policy : Policy) (bytes : List ℕ) (old : D) where
   -- A reader is before the record with this number, and the insertions of the records before it are asked.

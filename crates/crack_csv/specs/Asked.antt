@@ -14,6 +14,7 @@ use Rattle.crack_row.specs.declared.refusal.Refusal.TheVariants.{OutOfMemory, Wr
 use Rattle.crack_core.specs.Routes.{route, keys_of_part}
 use Rattle.crack_session.specs.Calls.{Call, Asked, Calls}
 use Rattle.crack_core.specs.Listing.{listed}
+use Rattle.crack_csv.specs.declared.TheConstants.{MOST_RECORDS}
 use Rattle.crack_csv.specs.declared.load.LoadFault.{LoadFault}
 use Rattle.crack_csv.specs.declared.record.NewRow.{NewRow}
 use Rattle.crack_csv.specs.Exports.{record_text, AreUnsent}
@@ -43,6 +44,14 @@ IsRefusedBy splits policy number (Some row) e calls = calls ≡ insertion splits
 abbrev pub IsAskedFirst : {D : Type 0} → (D → Call → D → Type 0) → List Bound → Policy → List ℕ → LoadFault → D → D → Type 0
 IsAskedFirst leads splits policy bytes fault old new = (records : List (List (List ℕ))) × AreFirstOf (strip_bom bytes) records × (calls : List Call) × (last : List Call) × Calls leads old (calls ++ last) new × AreInsertions splits policy records fault.loaded calls
     × (((last ≡ []) × ((fault.refusal ≡ ReadFault) ⊎ (fault.refusal ≡ OutOfMemory))) ⊎ ((fields : List (List ℕ)) × AreFirstOf (strip_bom bytes) (records ++ fields ∷ []) × (without_header (records ++ fields ∷ []) ≡ without_header records ++ fields ∷ []) × IsRefusedBy splits policy (length records + 1) (new_row_of fields) fault.refusal last))
+
+-- the last call of a desk asked it to insert a row, and it refused
+abbrev pub IsLastRefused : {D : Type 0} → (D → Call → D → Type 0) → List Bound → Policy → Refusal → D → Type 0
+IsLastRefused {D} leads splits policy e new = (row : NewRow) × (old : D) × leads old (insertion splits policy row (Err e)) new
+
+-- why a load is refused with 17: its reader has failed, there are as many records as allowed, or the desk gave this refusal
+abbrev pub MayBeUnread : {D : Type 0} → (D → Call → D → Type 0) → List Bound → Policy → Bool → LoadFault → D → Type 0
+MayBeUnread leads splits policy failed fault new = fault.refusal ≡ ReadFault → (failed ≡ true) ⊎ ((fault.loaded ≡ MOST_RECORDS) ⊎ IsLastRefused leads splits policy ReadFault new)
 
 -- the call that asks a partition for all its rows, and its outcome
 abbrev pub listing : List Bound → Policy → ℕ → Result Reply Refusal → Call

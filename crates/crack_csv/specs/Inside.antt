@@ -81,10 +81,11 @@ pub record IsPartCut (bounds : Bounds) (splits : List Bound) (tables : List Plai
 abbrev pub BringsRow : Bounds → List Bound → List PlainView → Fields → Option (List PlainView) → Type 0
 BringsRow bounds splits tables fields left = (row : NewRow) × (new_row_of fields ≡ Some row) × (left ≡ Some (with_row bounds splits tables row))
 
--- the refusal that says why a record isn't read: no memory was found, or otherwise the reader failed
-abbrev pub unread_by : ErrorKind → Refusal
-unread_by kind.OutOfMemory = OutOfMemory
-unread_by _ = ReadFault
+-- the refusal that says why a record isn't read: 17 if the reader has failed and memory was found, else 8
+abbrev pub unread_by : ErrorKind → Bool → Refusal
+unread_by kind.OutOfMemory failed = OutOfMemory
+unread_by _ true = ReadFault
+unread_by _ false = OutOfMemory
 
 -- a reader reads bytes as CSV by default, records of any number of fields, and takes none of them as a header itself
 pub record IsReady {R : Type 0} (reader : Reader R) : Type 0 where

@@ -1,14 +1,15 @@
 //! Records of CSV: their meaning, and how they are read.
 ghost use Rattle.std.specs.Prelude.{◌≡◌, ◌≢◌, ◌⊎◌, ◌++◌, ◌∷◌, ◌==◌, ◌&&◌, [], ℕ, List, true, false, length, Ok, Err};
 ghost use Rattle.std.specs.Prelude.{IfOk, IfErr, IfSome, IfNone};
-ghost use Rattle.csv.specs.Reading.{AreRecords, default_config, error_kind};
+ghost use Rattle.csv.specs.Reading.{AreRecords, default_config, error_kind, reader_source};
 ghost use Rattle.csv.specs.Records.{fields_of};
 ghost use Rattle.csv.specs.declared.parser.State.TheVariants as st;
+ghost use Rattle.crack_row.specs.Devices.{device, has_failed};
 ghost use Rattle.crack_csv.specs.Inside.{Fields, unread_by, IsReady, IsBehind};
 ghost use Rattle.crack_csv.specs.Records.{is_header, new_row_of};
 
 use crack_commands::{read_key, read_payload};
-use crack_row::{Key, Payload, Refusal};
+use crack_row::{Key, Payload, Refusal, Watched};
 use csv::{ByteRecord, Error, ErrorKind, Reader};
 use std::io::Read;
 
@@ -64,38 +65,44 @@ fn two_fields(fields: &ByteRecord) -> Option<(&[u8], &[u8])>
     }
 }
 
-/// Reads the next record, if there is one. Refused with 17 if the reader failed, and with 8 if no memory was
-/// found.
-pub fn read_next<R: Read>(reader: &mut Reader<R>, fields: &mut ByteRecord) -> Result<bool, Refusal>
+/// Reads the next record, if there is one. Refused with 17 only if the reader has failed, and else with 8.
+pub fn read_next<R: Read>(
+    reader: &mut Reader<Watched<R>>,
+    fields: &mut ByteRecord,
+) -> Result<bool, Refusal>
     requires { IsReady reader.old }
     ensures ready { IfOk result (λ found. found ≡ true → IsReady reader.new) }
     ensures more { IfOk result (λ found. found ≡ true → (text : List ℕ) (records : List Fields) →
-        IsBehind R.remaining reader.old text records →
-        IsBehind R.remaining reader.new text (records ++ fields_of fields.new ∷ [])) }
+        IsBehind (λ w. R.remaining (device w)) reader.old text records →
+        IsBehind (λ w. R.remaining (device w)) reader.new text (records ++ fields_of fields.new ∷ [])) }
     ensures end { IfOk result (λ found. found ≡ false → (text : List ℕ) (records : List Fields) →
-        IsBehind R.remaining reader.old text records → AreRecords default_config st.StartRecord text records) }
+        IsBehind (λ w. R.remaining (device w)) reader.old text records →
+        AreRecords default_config st.StartRecord text records) }
     ensures err { IfErr result (λ e. (e ≡ Refusal.ReadFault) ⊎ (e ≡ Refusal.OutOfMemory)) }
+    ensures failed { IfErr result (λ e. e ≡ Refusal.ReadFault → has_failed (reader_source reader.new) ≡ true) }
 {
-    found_or_refused(reader.read_byte_record(fields))
+    let read = reader.read_byte_record(fields);
+    found_or_refused(read, reader.get_ref().failed())
 }
 
-/// The outcome of reading a record, with the refusal that says why it isn't read: 8 if no memory was found, else 17.
-fn found_or_refused(read: Result<bool, Error>) -> Result<bool, Refusal>
+/// The outcome of reading a record, with the refusal that says why it isn't read.
+fn found_or_refused(read: Result<bool, Error>, failed: bool) -> Result<bool, Refusal>
     ensures ok { IfOk read (λ found. result ≡ Ok found) }
-    ensures err { IfErr read (λ error. result ≡ Err (unread_by (error_kind error))) }
+    ensures err { IfErr read (λ error. result ≡ Err (unread_by (error_kind error) failed)) }
 {
     match read {
         Ok(found) => Ok(found),
-        Err(error) => Err(unread_by(error.kind())),
+        Err(error) => Err(unread_by(error.kind(), failed)),
     }
 }
 
-/// The refusal that says why a record isn't read: 8 if no memory was found, else 17.
-fn unread_by(kind: &ErrorKind) -> Refusal
-    ensures { result ≡ unread_by kind.now }
+/// The refusal that says why a record isn't read: 17 if the reader has failed and memory was found, else 8.
+fn unread_by(kind: &ErrorKind, failed: bool) -> Refusal
+    ensures { result ≡ unread_by kind.now failed }
 {
     match kind {
         ErrorKind::OutOfMemory => Refusal::OutOfMemory,
-        _ => Refusal::ReadFault,
+        _ if failed => Refusal::ReadFault,
+        _ => Refusal::OutOfMemory,
     }
 }

@@ -16,10 +16,10 @@ use Rattle.crack_index.specs.Cuts.{Rises, piece_at, next_at, put, given}
 use Rattle.crack_index.proofs.Pieces.{given_same, given_apart, at_first, at_later, at_before}
 
 -- whether the query for a key finds another
-at_same : (key other : ℕ) → key ≡ other → is_at (nat_cmp key) other ≡ true
+pub at_same : (key other : ℕ) → key ≡ other → is_at (nat_cmp key) other ≡ true
 at_same key other h = rw (le-ltb key other (omega arith), eq-eqb key other h) refl
 
-at_apart : (key other : ℕ) → key ≢ other → is_at (nat_cmp key) other ≡ false
+pub at_apart : (key other : ℕ) → key ≢ other → is_at (nat_cmp key) other ≡ false
 at_apart key other h = elim (cases_lt key other) [
   | inl l ↦ rw (lt-ltb key other l) refl
   | inr l ↦ rw (le-ltb key other l, ne_eqb key other h) refl

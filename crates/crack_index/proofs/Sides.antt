@@ -2,20 +2,21 @@
 use Rattle.std.proofs.Common.{◌≡◌, ℕ, zero, suc, max, ◌+◌, ◌-◌, ◌^◌, ◌<◌, ◌≤◌, List, [], ◌∷◌, ◌++◌, map, length, get_or, append_assoc, append-nil, ◌⊎◌, Some, None, refl, sym, ap, ◌∙◌, inl, inr, arith, length-append}
 use Rattle.std.specs.Prelude.{Option, unwrap_or}
 use Rattle.std.specs.List.{All}
-use Rattle.std.proofs.lemmas.Bool.{cases_eq, cases_lt, lt-ltb, le-ltb, lt-leb, le-leb}
+use Rattle.std.proofs.lemmas.Bool.{cases_eq, cases_lt, eq-eqb, ne_eqb, lt-ltb, le-ltb, lt-leb, le-leb}
 use Rattle.std.proofs.lemmas.List.{map-append, length-map}
 use Rattle.std.proofs.lemmas.List.Elements.{All-nil, All-cons, All-head, All-tail}
 use Rattle.crack_index.specs.declared.mark.Mark.{Mark}
 use Rattle.crack_index.specs.declared.tree.Edge.{Edge}
 use Rattle.crack_row.specs.declared.Bound.{Bound}
 use Rattle.crack_row.specs.declared.layout.PieceSize.{PieceSize}
-use Rattle.crack_index.specs.Marks.{pieces_from, size_between, InOrder, Rising, next_mark, last_mark, first_behind, last_before, added, raised, lowered, lowered_at}
+use Rattle.crack_index.specs.Marks.{pieces_from, size_between, InOrder, Rising, next_mark, last_mark, first_behind, last_before, added, removed, raised, lowered, lowered_at, HasBound}
 use Rattle.std.specs.declared.alloc.Global.{Global}
 use Rattle.std.proofs.Common.{Box}
 use Rattle.crack_index.specs.Heights.{least, most}
 use Rattle.crack_index.specs.Trees.{Grown, marks_of}
 use Rattle.crack_index.specs.Keeps.{height_of, IsTall, DifferByAtMost, IsBalanced, IsKept}
 use Rattle.crack_index.proofs.MarkLaws.{Rising-tail, Rising-cons, Rising-head}
+use Rattle.crack_index.proofs.RemoveLaws.{SomeMarks-Rising, SomeMarks-removed, length-removed}
 use Rattle.crack_index.proofs.MarkLemmas.{map_same, raised_below, raised_apart, lowered_above, lowered_apart, lowered_at_apart, lowered_at_same}
 
 -- Order
@@ -357,3 +358,38 @@ lowered_at-zero marks = map_same (lowered_at 0) marks (λ k d h. same (get_or ma
           lowered_at_same 0 m e ∙ (rw down refl)
       | inr ne ↦ lowered_at_apart 0 m ne
     ]
+
+-- Removing
+
+-- a bound that isn't there
+removed-none : (b : ℕ) (ms : List Mark) → All (λ n. b < n.bound.0) ms → removed b ms ≡ ms
+removed-none b [] above = refl
+removed-none b (m ∷ ms) above = rw (ne_eqb m.bound.0 b (λ s. absurd (let h = All-head (λ n. b < n.bound.0) m ms above in omega arith))) (ap (λ ys. m ∷ ys) (removed-none b ms (All-tail (λ n. b < n.bound.0) m ms above)))
+
+pub removed-left : (b : ℕ) (l : List Mark) (m : Mark) (r : List Mark) → Rising (l ++ m ∷ r) → b < m.bound.0 → removed b (l ++ m ∷ r) ≡ removed b l ++ m ∷ r
+removed-left b [] m r rising h =
+    rw (ne_eqb m.bound.0 b (λ s. absurd (omega arith))) (ap (λ ys. m ∷ ys) (removed-none b r (λ k d i. omega (arith, (Rising-head m r rising k d i).bounds))))
+removed-left b (x ∷ l) m r rising h = elim (cases_eq x.bound.0 b) [
+  | inl e ↦ rw (eq-eqb x.bound.0 b e) refl
+  | inr n ↦ rw (ne_eqb x.bound.0 b n) (ap (λ ys. x ∷ ys) (removed-left b l m r (Rising-tail x (l ++ m ∷ r) rising) h))
+]
+
+pub removed-right : (b : ℕ) (l : List Mark) (m : Mark) (r : List Mark) → Rising (l ++ m ∷ r) → m.bound.0 < b → removed b (l ++ m ∷ r) ≡ l ++ m ∷ removed b r
+removed-right b [] m r rising h = rw (ne_eqb m.bound.0 b (λ s. absurd (omega arith))) refl
+removed-right b (x ∷ l) m r rising h =
+    let below = (All-head (λ y. InOrder y m) x l (Rising-before (x ∷ l) m r rising)).bounds in
+    rw (ne_eqb x.bound.0 b (λ s. absurd (omega arith))) (ap (λ ys. x ∷ ys) (removed-right b l m r (Rising-tail x (l ++ m ∷ r) rising) h))
+
+pub removed-here : (b : ℕ) (l : List Mark) (m : Mark) (r : List Mark) → Rising (l ++ m ∷ r) → m.bound.0 ≡ b → removed b (l ++ m ∷ r) ≡ l ++ r
+removed-here b [] m r rising e = rw (eq-eqb m.bound.0 b e) refl
+removed-here b (x ∷ l) m r rising e =
+    let below = (All-head (λ y. InOrder y m) x l (Rising-before (x ∷ l) m r rising)).bounds in
+    rw (ne_eqb x.bound.0 b (λ s. absurd (omega arith))) (ap (λ ys. x ∷ ys) (removed-here b l m r (Rising-tail x (l ++ m ∷ r) rising) e))
+
+-- an index without one of its marks
+pub IsKept-removed : (b : ℕ) (marks new : List Mark) (spare len left : ℕ) → new ≡ removed b marks → HasBound marks b → left + 1 ≡ len → IsKept marks spare len → IsKept new spare left
+IsKept-removed b marks new spare len left is there one kept = record {
+  rising = rw is (SomeMarks-Rising (removed b marks) marks (SomeMarks-removed b marks) kept.rising);
+  counted = omega (arith, ap (λ (xs : List Mark). length xs) is, length-removed b marks there, kept.counted);
+  few = omega (arith, kept.few);
+}

@@ -31,9 +31,18 @@ abbrev pub given : ℕ → ℤ → List (ℕ × ℤ) → List (ℕ × ℤ)
 given key sum [] = []
 given key sum (e ∷ es) = cond (key == e.0) ((e.0, sum) ∷ es) (e ∷ given key sum es)
 
+-- the pieces without the one that begins at the key, whose keys are the piece's below it
+abbrev pub dropped : ℕ → List (ℕ × ℤ) → List (ℕ × ℤ)
+dropped key [] = []
+dropped key (e ∷ es) = cond (key == e.0) es (e ∷ dropped key es)
+
 -- the sum of one part of a piece, by that of the piece and that of the other part
 abbrev pub IsRest : ℤ → ℤ → ℤ → Type 0
 IsRest whole part rest = IsKnown rest → IsKnown whole × IsKnown part × (whole ≡ part +ℤ rest)
+
+-- the sum of a piece, by those of its two parts
+abbrev pub IsWhole : ℤ → ℤ → ℤ → Type 0
+IsWhole lower upper whole = IsKnown whole → IsKnown lower × IsKnown upper × (whole ≡ lower +ℤ upper)
 
 -- the keys from the first to the last
 abbrev pub span : ℕ → ℕ → Range

@@ -91,6 +91,20 @@ abbrev pub added : Mark → List Mark → List Mark
 added m [] = m ∷ []
 added m (n ∷ ns) = cond (nat_lt m.bound.0 n.bound.0) (m ∷ n ∷ ns) (n ∷ added m ns)
 
+-- the marks without the bound
+abbrev pub removed : ℕ → List Mark → List Mark
+removed bound [] = []
+removed bound (m ∷ ms) = cond (m.bound.0 == bound) ms (m ∷ removed bound ms)
+
+-- the first list is some of the second's marks, in their order
+pub data SomeMarks : List Mark → List Mark → Type 0 where
+  -- the empty list of the empty list
+  nothing : SomeMarks [] []
+  -- the first mark is left out
+  left_out : (m : Mark) (some all : List Mark) → SomeMarks some all → SomeMarks some (m ∷ all)
+  -- the first mark is one of them
+  kept : (m : Mark) (some all : List Mark) → SomeMarks some all → SomeMarks (m ∷ some) (m ∷ all)
+
 -- a bound at or above `low` that is at the place moves up by one
 abbrev pub raised : ℕ → ℕ → Mark → Mark
 raised low place m = record m { position = cond (nat_le low m.bound.0 && (m.position == place)) (m.position + 1) m.position }

@@ -2,7 +2,7 @@
 ghost use Rattle.std.specs.Prelude.{◌≡◌, ◌<◌, ◌≤◌};
 ghost use Rattle.crack_row.specs.declared.TheConstants.{GREATEST_BOUND};
 ghost use Rattle.crack_index.specs.Sums.{IsKnown, later};
-ghost use Rattle.crack_index.specs.Cuts.{IsRest};
+ghost use Rattle.crack_index.specs.Cuts.{IsRest, IsWhole};
 
 use crate::source::Source;
 use crate::sums::UNKNOWN;
@@ -31,6 +31,19 @@ pub(crate) fn rest(whole: i128, part: i128) -> i128
     }
     match whole.checked_sub(part) {
         Some(rest) => rest,
+        None => UNKNOWN,
+    }
+}
+
+/// The sum of a piece, by those of its two parts.
+pub(crate) fn whole(lower: i128, upper: i128) -> i128
+    ensures { IsWhole lower upper result }
+{
+    if lower == UNKNOWN || upper == UNKNOWN {
+        return UNKNOWN;
+    }
+    match lower.checked_add(upper) {
+        Some(whole) => whole,
         None => UNKNOWN,
     }
 }

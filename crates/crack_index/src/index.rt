@@ -1,16 +1,17 @@
 //! The cracker index: the bounds that divide a cracked column, each with its place.
 ghost use Rattle.std.specs.Prelude.{◌≡◌, ℕ, ◌+◌, ◌-◌, ◌<◌, ◌≤◌, ◌==◌, ◌↔◌, [], map, length, reverse, All, Contains};
-ghost use Rattle.std.specs.Prelude.{sum_by, IsOk, IsSome, IfSome, IfOk, IfErr, OnOk, IsTrue};
+ghost use Rattle.std.specs.Prelude.{sum_by, IsOk, IfNone, IsSome, IfSome, IfOk, IfErr, OnOk, IsTrue};
 ghost use Rattle.crack_row.specs.Layouts.{AreJoined};
 ghost use Rattle.crack_index.specs.Heights.{least, most};
 ghost use Rattle.crack_index.specs.Walks.{Climbs, Descends};
 ghost use Rattle.crack_index.specs.Raises.{Raises};
 ghost use Rattle.crack_index.specs.Places.{Places};
 ghost use Rattle.crack_index.specs.Marks.{Rising, Fits, HasBound, position_of, next_mark, last_mark, first_behind};
-ghost use Rattle.crack_index.specs.Marks.{last_before, added, raised, lowered, lowered_at, piece_at, pieces_from};
+ghost use Rattle.crack_index.specs.Marks.{last_before, added, removed, raised, lowered, lowered_at, piece_at};
+ghost use Rattle.crack_index.specs.Marks.{pieces_from};
 
 use crate::tree::{self, Link, Node};
-use crate::{Mark, Placer, Raiser, Visitor, lowering, raising, walk};
+use crate::{Mark, Pass, Placer, Raiser, Visitor, lowering, raising, walk};
 use crack_row::{InnerBound, Key, KeyRange, PieceSize, Refusal};
 use std::alloc::Global;
 use std::marker::Model;
@@ -119,6 +120,49 @@ impl CrackerIndex {
         let root = self.root.take();
         self.root = Some(tree::insert(root, Mark { bound, position }, node));
         self.len += 1;
+    }
+
+    /// Removes a bound, and frees its node. Takes no memory. O(log bounds).
+    pub fn remove(&mut self, bound: InnerBound)
+        requires { HasBound self.old.marks bound.0 }
+        ensures marks { self.new.marks ≡ removed bound.0 self.old.marks }
+        ensures room { self.new.room ≡ self.old.room }
+        ensures rising { Rising self.new.marks }
+    {
+        let root = self.root.take();
+        self.root = tree::remove(root, bound.number());
+        self.len -= 1;
+    }
+
+    /// A pass over at most `bounds` of the bounds above a key, the lowest first. It finds those whose two pieces hold
+    /// at most `rows` rows together. O(log bounds).
+    pub fn pass_after(&self, key: Key, rows: usize, bounds: usize) -> Pass {
+        let from = self.bound_below(key).map_or(0, |mark| mark.position);
+        Pass::new(key, from, rows, bounds)
+    }
+
+    /// Removes the next bound that a pass finds, and returns it, in a column of `len` rows; `None` at the end of the
+    /// pass. Takes no memory. O(log bounds) and a step for each bound that the pass meets.
+    pub fn remove_few(&mut self, pass: &mut Pass, len: usize) -> Option<InnerBound>
+        ensures there { IfSome result (λ b. HasBound self.old.marks b.0) }
+        ensures marks { IfSome result (λ b. self.new.marks ≡ removed b.0 self.old.marks) }
+        ensures none { IfNone result (self.new.marks ≡ self.old.marks) }
+        ensures room { self.new.room ≡ self.old.room }
+        ensures rising { Rising self.new.marks }
+    {
+        let found = self.find_few(pass, len);
+        if let Some(bound) = found {
+            self.remove(bound);
+        }
+        found
+    }
+
+    /// The next bound that a pass finds, in a column of `len` rows.
+    fn find_few(&self, pass: &mut Pass, len: usize) -> Option<InnerBound>
+        ensures there { IfSome result (λ b. HasBound self.now.marks b.0) }
+        ensures rising { Rising self.now.marks }
+    {
+        pass.next_few(&self.root, len)
     }
 
     /// The position of the bound, if it is in the index. O(log bounds).

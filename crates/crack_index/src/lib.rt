@@ -6,6 +6,7 @@ mod amounts;
 pub mod index;
 mod lowering;
 pub mod mark;
+pub mod pass;
 mod raising;
 pub mod source;
 pub mod sums;
@@ -15,6 +16,7 @@ mod walk;
 
 pub use index::{CrackerIndex, Piece};
 pub use mark::Mark;
+pub use pass::Pass;
 pub use source::Source;
 pub use sums::PieceSums;
 pub use visitor::{Placer, Raiser, Visitor};

@@ -4,7 +4,7 @@ ghost use Rattle.std.specs.Map.{keys_of};
 ghost use Rattle.crack_row.specs.declared.TheConstants.{GREATEST_BOUND};
 ghost use Rattle.crack_index.specs.Sums.{AreRight, AreKnown, AreTold, IsAdditive, IsEnd, Changes, Extends};
 ghost use Rattle.crack_index.specs.Sums.{adjusted, total_in, distance_in};
-ghost use Rattle.crack_index.specs.Cuts.{Rises, Walks, piece_at, next_at, put, given, span};
+ghost use Rattle.crack_index.specs.Cuts.{Rises, Walks, piece_at, next_at, put, given, dropped, span};
 
 use crate::amounts;
 use crate::source::Source;
@@ -88,6 +88,39 @@ impl PieceSums {
             return;
         };
         self.give(start, amounts::later(sum, change));
+    }
+
+    /// Joins the piece that begins at the key to the one below it, if both sums are known. Takes no memory.
+    /// O(log pieces).
+    pub fn join(&mut self, key: Key)
+        ensures { (m : ℕ → ℕ → ℤ) → IsAdditive m → AreRight m self.old → AreRight m self.new }
+    {
+        let key = key.number();
+        if key == 0 {
+            return;
+        }
+        let Some((low, lower)) = self.piece_at(key - 1) else {
+            return;
+        };
+        let Some((start, upper)) = self.piece_at(key) else {
+            return;
+        };
+        if start != key {
+            return;
+        }
+        let whole = amounts::whole(lower, upper);
+        if whole != UNKNOWN {
+            self.drop_at(key);
+            self.give(low, whole);
+        }
+    }
+
+    /// Drops the piece that begins at the key: its keys are the piece's below it.
+    fn drop_at(&mut self, key: KeyNumber)
+        ensures value { self.new ≡ dropped key self.old }
+        ensures rises { Rises self.old }
+    {
+        let _ = self.sums.remove(&key);
     }
 
     /// The sum of a range, by the pieces in it. The pieces in which its ends lie are cut there, and the source is asked

@@ -3,7 +3,7 @@
 ghost use Rattle.std.specs.Prelude.{◌≡◌, ◌+◌, ◌-◌, ◌^◌, ◌<◌, ◌≤◌, max, length, [], ◌∷◌, ◌++◌, map, List, ℕ, vec_len};
 ghost use Rattle.std.specs.Prelude.{vec_capacity, OnOk, IfOk, IfErr};
 ghost use Rattle.crack_index.specs.Marks.{Rising, added, last_mark, next_mark, first_behind, last_before, raised};
-ghost use Rattle.crack_index.specs.Marks.{lowered, lowered_at, size_between, pieces_from};
+ghost use Rattle.crack_index.specs.Marks.{lowered, lowered_at, removed, size_between, pieces_from};
 ghost use Rattle.crack_index.specs.Keeps.{height_of, IsBalanced, IsTall, DifferByAtMost};
 ghost use Rattle.crack_index.specs.Trees.{Grown, marks_of};
 ghost use Rattle.crack_index.specs.Rotations.{IsHeightOver};
@@ -322,6 +322,58 @@ fn lean_right(left: Link, mark: Mark, mut top: Box<Node>, spare: Box<Node>) -> B
     let before = with_children(left, mark, parts.left, spare);
     let behind = with_children(parts.right, between, outer, top);
     with_children(Some(before), parts.mark, Some(behind), middle)
+}
+
+/// The first mark of a tree, and the tree of the others.
+#[derive(Drop)]
+struct First {
+    mark: Mark,
+    rest: Link,
+}
+
+/// Takes the first mark out of a tree, and frees its node. O(log marks), takes no memory.
+fn take_first(mut node: Box<Node>) -> First
+    requires few { length node.value.marks < 2 ^ 64 }
+    ensures marks { node.value.marks ≡ result.mark ∷ marks_of result.rest }
+    ensures not_higher { height_of result.rest ≤ node.value.height }
+    ensures one_lower { node.value.height ≤ height_of result.rest + 1 }
+{
+    let Parts { left, mark, right } = node.open();
+    let Some(left) = left else {
+        return First { mark, rest: right };
+    };
+    let first = take_first(left);
+    let joined = join(first.rest, mark, right, node);
+    First {
+        mark: first.mark,
+        rest: Some(joined),
+    }
+}
+
+/// The tree without the mark of this bound, if it has one, whose node is freed. O(log marks), takes no memory.
+pub(crate) fn remove(link: Link, bound: KeyNumber) -> Link
+    requires few { length (marks_of link) < 2 ^ 64 }
+    ensures marks { marks_of result ≡ removed bound (marks_of link) }
+    ensures not_higher { height_of result ≤ height_of link }
+    ensures one_lower { height_of link ≤ height_of result + 1 }
+{
+    let Some(mut here) = link else {
+        return None;
+    };
+    let Parts { left, mark, right } = here.open();
+    if bound < mark.bound.number() {
+        let rest = remove(left, bound);
+        return Some(join(rest, mark, right, here));
+    }
+    if mark.bound.number() < bound {
+        let rest = remove(right, bound);
+        return Some(join(left, mark, rest, here));
+    }
+    let Some(right) = right else {
+        return left;
+    };
+    let first = take_first(right);
+    Some(join(left, first.mark, first.rest, here))
 }
 
 /// Each bound at or above `low` that is at the place moves up by one. O(log marks) and the marks at that place.

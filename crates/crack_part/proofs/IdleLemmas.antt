@@ -5,14 +5,14 @@ use Rattle.crack_row.specs.Ranges.{Range}
 use Rattle.crack_row.specs.declared.command.Policy.{Policy}
 use Rattle.crack_row.specs.declared.command.Policy.TheVariants.{Complete, Gradual, Ripple, Auto}
 use Rattle.crack_state.specs.State.{State, IsIntact}
-use Rattle.crack_state.specs.Merge.{Refines, IsInner, IsCracked, IsSettled, Leaves, LeavesOutside, Evicts, is_touched}
+use Rattle.crack_state.specs.Merge.{IsCracked, IsSettled, Leaves, LeavesOutside, Evicts, is_touched}
 use Rattle.crack_state.specs.Merge.SomeOf.{nothing}
-use Rattle.crack_state.proofs.CrackLaws.{keys-refined}
 use Rattle.crack_state.proofs.FollowLaws.{Follows-refl, Tallies-room}
 use Rattle.crack_state.proofs.MergeLaws.{Merges-untouched}
 use Rattle.crack_state.proofs.OutsideLaws.{SomeOf-none, SomeOf-refl}
 use Rattle.crack_merge.specs.Near.{MergesNear, fillers_of}
-use Rattle.crack_part.specs.Parts.{LeavesNear, read_by, CracksAndMerges}
+use Rattle.crack_part.specs.Parts.{LeavesNear, read_by, CracksBy, CracksAndMerges}
+use Rattle.crack_part.proofs.KeepLemmas.{Keeps-cracked}
 
 LeavesOutside-idle : (s : State) (r : Range) → s.pending_in ≡ [] → s.pending_out ≡ [] → LeavesOutside s s r
 LeavesOutside-idle s r no_in no_out = record { some = rw no_out nothing; few = rw no_out (omega arith) }
@@ -68,14 +68,14 @@ LeavesNear-idle Ripple s r intact settled no_in no_out = MergesNear-idle s r int
 LeavesNear-idle Auto s r intact settled no_in no_out = tt
 
 -- a store that was cracked and has no pending row is merged
-pub CracksAndMerges-idle : (policy : Policy) (s u : State) (r : Range) → r.low ≤ r.high → s.keys.low ≤ r.low → r.high ≤ s.keys.high → Refines s u r → IsCracked u r → IsIntact u [] → u.pending_in ≡ [] → u.pending_out ≡ [] → CracksAndMerges (read_by policy) s u r
-CracksAndMerges-idle policy s u r order low high refines cracked intact no_in no_out =
+pub CracksAndMerges-idle : (policy : Policy) (s u : State) (r : Range) → r.low ≤ r.high → s.keys.low ≤ r.low → r.high ≤ s.keys.high → CracksBy policy s u r → IsCracked u r → IsIntact u [] → u.pending_in ≡ [] → u.pending_out ≡ [] → CracksAndMerges policy s u r
+CracksAndMerges-idle policy s u r order low high cracks cracked intact no_in no_out =
     let untouched : is_touched u r ≡ false = rw (no_in, no_out) refl in
-    let keys : u.keys ≡ s.keys = keys-refined (IsInner s.keys r) s u refines in
+    let keys : u.keys ≡ s.keys = (Keeps-cracked policy s u r cracks).ends in
     let complete = Merges-untouched u r order (rw keys low) (rw keys high) cracked untouched intact in
     record {
       cracked = u;
-      refines = refines;
+      cracks = cracks;
       intact = intact;
       does = (
         record { follows = complete.follows; intact = intact; settled = complete.settled; leaves = Leaves-idle policy u r no_in no_out untouched },

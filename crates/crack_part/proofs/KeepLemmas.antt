@@ -1,5 +1,5 @@
 -- What cracks and merges preserve in a store, and its state if they found no memory.
-use Rattle.std.proofs.Common.{◌≡◌, ℕ, ◌+◌, ◌<◌, ◌≤◌, Bool, true, false, cond, not, List, [], ◌∷◌, filter, length, Option, Some, None, refl, ap, subst, ◌∙◌, inl, inr, arith}
+use Rattle.std.proofs.Common.{◌≡◌, ℕ, ◌+◌, ◌<◌, ◌≤◌, Bool, true, false, cond, not, List, [], ◌∷◌, filter, length, min, max, Option, Some, None, refl, sym, ap, subst, ◌∙◌, inl, inr, arith}
 use Rattle.std.proofs.lemmas.Bool.{cases_lt}
 use Rattle.std.proofs.lemmas.List.{take_all, drop_all, append-nil}
 use Rattle.crack_row.specs.Ranges.{Range, is_in, clipped}
@@ -11,12 +11,15 @@ use Rattle.crack_state.specs.State.{State, IsIntact, live_rows, freed_of}
 use Rattle.crack_state.specs.Steps.{SameButRoom}
 use Rattle.crack_state.specs.Merge.{Refines, Follows, Merges, Tallies, Leaves, LeavesOutside, SomeOf, is_touched, outside_of}
 use Rattle.crack_state.specs.Merge.SomeOf.{nothing, left_out, kept}
+use Rattle.crack_index.specs.declared.mark.Mark.{Mark}
+use Rattle.crack_state.proofs.CoarsenLaws.{Coarsens-same, IsIntact-coarse}
 use Rattle.crack_state.proofs.OutsideLaws.{SomeOf-none, SomeOf-refl, SomeOf-trans}
 use Rattle.crack_state.proofs.StepLaws.{IsIntact-room}
 use Rattle.crack_state.proofs.CrackLaws.{keys-refined, live_rows-refined, cells-refined, pending_out-refined}
 use Rattle.crack_state.proofs.FollowLaws.{Follows-trans, Follows-room, Tallies-trans, Tallies-room, length_marks-Follows}
+use Rattle.crack_store.specs.Further.{CracksBeside, CracksFurther}
 use Rattle.crack_merge.specs.Merges.{EvictsFirst, LeavesRest, Stops}
-use Rattle.crack_part.specs.Parts.{is_merged_first, read_by, CracksAndMerges, Settles, ReadsRange, StopsAt, StopsRead, Prepares, SparesCleared}
+use Rattle.crack_part.specs.Parts.{is_merged_first, read_by, MayCoarsen, CracksBy, CracksAndMerges, Settles, ReadsRange, StopsAt, StopsRead, Prepares, SparesCleared}
 use Rattle.crack_part.specs.Inside.{Readies}
 
 -- commands see the same rows, and there are as many cells, and as many of them freed or still to be
@@ -49,8 +52,27 @@ Keeps-refined s u r refines =
       freed = rw (cells, doomed) refl;
     }
 
+-- a crack beside an end of a range, if it is made
+Keeps-beside : (s t : State) (r : Range) (end : ℕ) → CracksBeside s t r end → Keeps s t
+Keeps-beside s t r end beside = elim beside [
+  | inl little ↦ Keeps-refined s t (record { low = min end little.1.0; high = max end little.1.0 }) little.1.2
+  | inr none ↦ rw none.1 (Keeps-refl s)
+]
+
+Keeps-further : (s t : State) (r : Range) → CracksFurther s t r → Keeps s t
+Keeps-further s t r done =
+    let beside = Keeps-trans s done.beside_low done.beside_both (Keeps-beside s done.beside_low r r.low done.low) (Keeps-beside done.beside_low done.beside_both r r.high done.high) in
+    Keeps-trans s done.beside_both t beside (Keeps-refined done.beside_both t r done.refines)
+
+-- the crack for a range
+pub Keeps-cracked : (policy : Policy) (s u : State) (r : Range) → CracksBy policy s u r → Keeps s u
+Keeps-cracked Auto s u r cracks = Keeps-further s u r cracks
+Keeps-cracked Complete s u r cracks = Keeps-refined s u r cracks
+Keeps-cracked Gradual s u r cracks = Keeps-refined s u r cracks
+Keeps-cracked Ripple s u r cracks = Keeps-refined s u r cracks
+
 pub Keeps-merged : (policy : Policy) (s t : State) (r : Range) → CracksAndMerges policy s t r → Keeps s t
-Keeps-merged policy s t r done = Keeps-trans s done.cracked t (Keeps-refined s done.cracked r done.refines) (Keeps-follows done.cracked t done.does.0.follows)
+Keeps-merged policy s t r done = Keeps-trans s done.cracked t (Keeps-cracked policy s done.cracked r done.cracks) (Keeps-follows done.cracked t done.does.0.follows)
 
 -- merging all pending rows first leaves the live rows as they were
 pub Keeps-readied : (due : Bool) (s t : State) → Readies due s t → Keeps s t
@@ -65,8 +87,34 @@ IsIntact-readied due s t readies intact = elim readies [
   | inr first ↦ first.1.does.0.intact
 ]
 
+-- forgotten bounds leave the live rows as they were
+Keeps-marks : (s : State) (ms : List Mark) → Keeps s (record s { marks = ms })
+Keeps-marks s ms = record { ends = refl; live = refl; cells = refl; freed = refl }
+
+pub Keeps-coarse : (policy : Policy) (s t : State) → MayCoarsen policy s t → Keeps s t
+Keeps-coarse Auto s t coarse = subst (λ (x : State). Keeps s x) (sym coarse.same) (Keeps-marks s t.marks)
+Keeps-coarse Complete s t same = rw same (Keeps-refl s)
+Keeps-coarse Gradual s t same = rw same (Keeps-refl s)
+Keeps-coarse Ripple s t same = rw same (Keeps-refl s)
+
+pub IsIntact-coarsened : (policy : Policy) (s t : State) → MayCoarsen policy s t → IsIntact s [] → IsIntact t []
+IsIntact-coarsened Auto s t coarse intact = IsIntact-coarse s t [] coarse intact
+IsIntact-coarsened Complete s t same intact = rw same intact
+IsIntact-coarsened Gradual s t same intact = rw same intact
+IsIntact-coarsened Ripple s t same intact = rw same intact
+
+pub MayCoarsen-same : (policy : Policy) (s : State) → MayCoarsen policy s s
+MayCoarsen-same Auto s = Coarsens-same s
+MayCoarsen-same Complete s = refl
+MayCoarsen-same Gradual s = refl
+MayCoarsen-same Ripple s = refl
+
 Keeps-settled : (policy : Policy) (s t : State) (r : Range) → Settles policy s t r → Keeps s t
-Keeps-settled policy s t r done = Keeps-trans s done.ready t (Keeps-readied (is_merged_first policy s) s done.ready done.readies) (Keeps-merged (read_by policy) done.ready t r done.does)
+Keeps-settled policy s t r done =
+    let coarse = done.does.coarse in
+    let readied = Keeps-readied (is_merged_first policy s) s done.ready done.readies in
+    let coarsened = Keeps-coarse policy done.ready coarse done.does.coarsens in
+    Keeps-trans s done.ready t readied (Keeps-trans done.ready coarse t coarsened (Keeps-merged policy coarse t r done.does.does))
 
 -- nothing is read of an empty range
 pub ReadsRange-none : (policy : Policy) (s : State) (r : Range) → r.high ≤ r.low → ReadsRange policy s s r
@@ -84,7 +132,7 @@ Keeps-reads policy s t r reads = elim (cases_lt r.low r.high) [
 
 IsIntact-reads : (policy : Policy) (s t : State) (r : Range) → ReadsRange policy s t r → IsIntact s [] → IsIntact t []
 IsIntact-reads policy s t r reads intact = elim (cases_lt r.low r.high) [
-  | inl filled ↦ (reads.settled filled).does.does.0.intact
+  | inl filled ↦ (reads.settled filled).does.does.does.0.intact
   | inr empty ↦ rw (reads.empty empty) intact
 ]
 
@@ -100,7 +148,7 @@ IsIntact-prepared policy keys (Some range) s t reads intact = IsIntact-reads pol
 pub Keeps-stopped : (policy : Policy) (s t : State) (r : Range) → StopsAt policy s t r → Keeps s t
 Keeps-stopped policy s t r read = elim read [
   | inl same ↦ Keeps-room s t same
-  | inr cut ↦ let done = cut.1 in Keeps-trans s done.cracked t (Keeps-refined s done.cracked r done.refines) (Keeps-follows done.cracked t done.does.follows)
+  | inr cut ↦ let done = cut.1 in Keeps-trans s done.cracked t (Keeps-cracked policy s done.cracked r done.cracks) (Keeps-follows done.cracked t done.does.follows)
 ]
 
 pub IsIntact-stopped : (policy : Policy) (s t : State) (r : Range) → StopsAt policy s t r → IsIntact s [] → IsIntact t []
@@ -112,7 +160,11 @@ IsIntact-stopped policy s t r read intact = elim read [
 Keeps-stops : (policy : Policy) (s t : State) (r : Range) → StopsRead policy s t r → Keeps s t
 Keeps-stops policy s t r read = elim read [
   | inl first ↦ Keeps-stopped Complete s t s.keys first.1
-  | inr done ↦ Keeps-trans s done.ready t (Keeps-readied (is_merged_first policy s) s done.ready done.readies) (Keeps-stopped (read_by policy) done.ready t r done.does)
+  | inr done ↦
+      let coarse = done.does.coarse in
+      let readied = Keeps-readied (is_merged_first policy s) s done.ready done.readies in
+      let coarsened = Keeps-coarse policy done.ready coarse done.does.coarsens in
+      Keeps-trans s done.ready t readied (Keeps-trans done.ready coarse t coarsened (Keeps-stopped policy coarse t r done.does.does))
 ]
 
 -- a command that found no memory leaves the live rows as they were
@@ -124,7 +176,8 @@ pub IsIntact-spared : (policy : Policy) (keys : Range) (range : Option Range) (s
 IsIntact-spared policy keys None s t spared intact = IsIntact-room s t [] spared intact
 IsIntact-spared policy keys (Some range) s t spared intact = elim spared [
   | inl first ↦ IsIntact-stopped Complete s t s.keys first.1 intact
-  | inr done ↦ IsIntact-stopped (read_by policy) done.ready t (clipped range keys) done.does (IsIntact-readied (is_merged_first policy s) s done.ready done.readies intact)
+  | inr done ↦ IsIntact-stopped policy done.does.coarse t (clipped range keys) done.does.does
+      (IsIntact-coarsened policy done.ready done.does.coarse done.does.coarsens (IsIntact-readied (is_merged_first policy s) s done.ready done.readies intact))
 ]
 
 -- those of the handles that pass a test
@@ -203,7 +256,7 @@ StopsRead-room policy s t r same = by_test (is_merged_first policy s) refl
   where
     by_test : (b : Bool) → is_merged_first policy s ≡ b → StopsRead policy s t r
     by_test true due = inl (due, inl same)
-    by_test false undue = inr (record { ready = s; readies = inl (undue, refl); does = inl same })
+    by_test false undue = inr (record { ready = s; readies = inl (undue, refl); does = record { coarse = s; coarsens = MayCoarsen-same policy s; does = inl same } })
 
 -- nothing was read
 pub Spares-same : (policy : Policy) (keys : Range) (range : Option Range) (s : State) → SparesCleared policy keys range s s
@@ -215,9 +268,10 @@ StopsRead-read : (policy : Policy) (s u t : State) (r : Range) → ReadsRange po
 StopsRead-read policy s u t r reads room = elim (cases_lt r.low r.high) [
   | inl filled ↦
       let done = reads.settled filled in
-      let read = done.does in
+      let read = done.does.does in
       let stops = Stops-merged (read_by policy) read.cracked u t r read.does.0 read.does.2 room in
-      inr (record { ready = done.ready; readies = done.readies; does = inr (filled, record { cracked = read.cracked; refines = read.refines; intact = read.intact; does = stops }) })
+      let stopped = inr (filled, record { cracked = read.cracked; cracks = read.cracks; intact = read.intact; does = stops }) in
+      inr (record { ready = done.ready; readies = done.readies; does = record { coarse = done.does.coarse; coarsens = done.does.coarsens; does = stopped } })
   | inr empty ↦ StopsRead-room policy s t r (subst (λ (x : State). SameButRoom x t) (reads.empty empty) room)
 ]
 

@@ -18,7 +18,8 @@ use Rattle.crack_plain.specs.Totals.{inserted, deleted, updated}
 use Rattle.crack_state.specs.State.{State, IsIntact, live_rows, freed_of}
 use Rattle.crack_state.specs.Steps.{admitted, SameButRoom}
 use Rattle.crack_state.specs.Points.{pending_by, Removes, Rewrites}
-use Rattle.crack_state.specs.Merge.{Refines, Merges, Tallies}
+use Rattle.crack_state.specs.Merge.{Coarsens, Refines, Merges, Tallies}
+use Rattle.crack_store.specs.Further.{CracksFurther}
 use Rattle.crack_merge.specs.Merges.{Stops}
 use Rattle.crack_merge.specs.Near.{MergesNear}
 use Rattle.crack_part.specs.Cells.{is_cleared_first}
@@ -77,16 +78,21 @@ abbrev pub LeavesNear : Policy → State → State → Range → Type 0
 LeavesNear Ripple s t r = MergesNear s t r
 LeavesNear _ s t r = Unit {0}
 
--- a store is cracked at the ends of a range, which leaves it intact, and then this step is made
-pub record CracksAnd (Does : State → State → Type 0) (s t : State) (r : Range) : Type 0 where
+-- how a store is cracked for a range: at its ends, and under auto before that beside the ends that say little about their pieces
+abbrev pub CracksBy : Policy → State → State → Range → Type 0
+CracksBy Auto s t r = CracksFurther s t r
+CracksBy _ s t r = Refines s t r
+
+-- a store is cracked for a range, which leaves it intact, and then this step is made
+pub record CracksAnd (policy : Policy) (Does : State → State → Type 0) (s t : State) (r : Range) : Type 0 where
   pub cracked : State
-  pub refines : Refines s cracked r
+  pub cracks : CracksBy policy s cracked r
   pub intact : IsIntact cracked []
   pub does : Does cracked t
 
--- a store is cracked at the ends of a range, and then merged
+-- a store is cracked for a range, and then merged
 abbrev pub CracksAndMerges : Policy → State → State → Range → Type 0
-CracksAndMerges policy s t r = CracksAnd (λ (cracked merged : State). Merges policy cracked merged r × LeavesNear policy cracked merged r × Tallies policy cracked merged) s t r
+CracksAndMerges policy s t r = CracksAnd policy (λ (cracked merged : State). Merges (read_by policy) cracked merged r × LeavesNear (read_by policy) cracked merged r × Tallies (read_by policy) cracked merged) s t r
 
 -- if that is due, all pending rows are merged first, by a read of all keys under complete, and then this step is made
 pub record ReadiesAnd (due : Bool) (Does : State → State → Type 0) (s t : State) : Type 0 where
@@ -94,19 +100,30 @@ pub record ReadiesAnd (due : Bool) (Does : State → State → Type 0) (s t : St
   pub readies : ((due ≡ false) × (ready ≡ s)) ⊎ ((due ≡ true) × CracksAndMerges Complete s ready s.keys)
   pub does : Does ready t
 
--- a range is read, after all pending rows were merged if that is due
+-- under auto bounds may be forgotten; the other policies forget none
+abbrev pub MayCoarsen : Policy → State → State → Type 0
+MayCoarsen Auto s t = Coarsens s t
+MayCoarsen policy s t = t ≡ s
+
+-- bounds may be forgotten, and then this step is made
+pub record CoarsensAnd (policy : Policy) (Does : State → State → Type 0) (s t : State) : Type 0 where
+  pub coarse : State
+  pub coarsens : MayCoarsen policy s coarse
+  pub does : Does coarse t
+
+-- a range is read, after all pending rows were merged if that is due, and bounds were forgotten
 abbrev pub Settles : Policy → State → State → Range → Type 0
-Settles policy s t r = ReadiesAnd (is_merged_first policy s) (λ (ready settled : State). CracksAndMerges (read_by policy) ready settled r) s t
+Settles policy s t r = ReadiesAnd (is_merged_first policy s) (CoarsensAnd policy (λ (coarse settled : State). CracksAndMerges policy coarse settled r)) s t
 
 -- what a read of a range does to a store: nothing if the range is empty
 pub record ReadsRange (policy : Policy) (s t : State) (r : Range) : Type 0 where
   pub empty : r.high ≤ r.low → t ≡ s
   pub settled : r.low < r.high → Settles policy s t r
 
--- what a read of a range under one policy that found no memory did to a store: nothing, or the store is cracked at the ends of the range, no other
--- bound is new, and the merge stopped on the way
+-- what a read of a range under one policy that found no memory did to a store: nothing, or the store is cracked for the range, no other bound is new,
+-- and the merge stopped on the way
 abbrev pub StopsAt : Policy → State → State → Range → Type 0
-StopsAt policy s t r = SameButRoom s t ⊎ ((r.low < r.high) × CracksAnd (λ (cracked stopped : State). Stops policy cracked stopped r) s t r)
+StopsAt policy s t r = SameButRoom s t ⊎ ((r.low < r.high) × CracksAnd policy (λ (cracked stopped : State). Stops (read_by policy) cracked stopped r) s t r)
 
 -- no memory was found while all pending rows were merged, which was due, or afterwards; then this step was made
 abbrev pub ReadiesOr : Bool → (State → State → Type 0) → State → State → Type 0
@@ -114,7 +131,7 @@ ReadiesOr due Stops s t = ((due ≡ true) × StopsAt Complete s t s.keys) ⊎ Re
 
 -- what a read of a range that found no memory did to a store: it stopped where all pending rows are merged first, or at the range
 abbrev pub StopsRead : Policy → State → State → Range → Type 0
-StopsRead policy s t r = ReadiesOr (is_merged_first policy s) (λ (ready stopped : State). StopsAt (read_by policy) ready stopped r) s t
+StopsRead policy s t r = ReadiesOr (is_merged_first policy s) (CoarsensAnd policy (λ (coarse stopped : State). StopsAt policy coarse stopped r)) s t
 
 -- what is done to a store before the reply to a command: the range that it reads, if any, is read as far as it is within the keys
 abbrev pub Prepares : Policy → Range → Option Range → State → State → Type 0

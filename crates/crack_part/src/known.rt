@@ -8,8 +8,9 @@ ghost use Rattle.crack_state.specs.Merge.{IsCracked, IsSettled};
 ghost use Rattle.crack_part.specs.Parts.{IsFaithful};
 ghost use Rattle.crack_part.specs.KnownSums.{Knows, IsFresh, SaysSettled, left, sum_before, with_row};
 
+use crate::passes::Passes;
 use crack_index::{PieceSums, Source};
-use crack_row::{Command, KeyRange, Row, Serial};
+use crack_row::{Command, InnerBound, KeyRange, Row, Serial};
 use crack_store::Store;
 use std::alloc::Global;
 use std::marker::Model;
@@ -24,6 +25,7 @@ const MOST_PLACED: u64 = 256;
 pub(crate) struct KnownSums {
     pieces: PieceSums,
     since: u64,
+    pub(crate) passes: Passes,
 }
 
 impl Model for KnownSums {
@@ -42,6 +44,7 @@ impl KnownSums {
         KnownSums {
             pieces: PieceSums::new(alloc),
             since: 0,
+            passes: Passes::new(),
         }
     }
 
@@ -74,6 +77,13 @@ impl KnownSums {
             self.pieces.adjust(before.key, -before.payload.amount());
             self.pieces.adjust(row.key, row.payload.amount());
         }
+    }
+
+    /// Joins the two pieces between which a bound was forgotten, if both sums are known. O(log pieces).
+    pub(crate) fn join(&mut self, bound: InnerBound)
+        ensures { (plain : PlainState) → Knows self.old plain → Knows self.new plain }
+    {
+        self.pieces.join(bound.key());
     }
 
     /// The sum of a range for which the store is settled. Parts whose sum isn't known are summed in the store. None if

@@ -2,9 +2,11 @@
 #![tactic(auto)]
 
 mod changes;
+mod coarsening;
 mod history;
 mod known;
 pub mod partition;
+mod passes;
 mod reads;
 mod replies;
 mod settling;

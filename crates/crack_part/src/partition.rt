@@ -626,7 +626,7 @@ fn answer(
         (next.new ≡ next.old)) }
     ensures err { IfErr result (λ e. e ≡ Refusal.OutOfMemory) }
 {
-    let common = prepare(store, alloc, keys, command.range(), policy)?;
+    let common = prepare(store, known, alloc, keys, command.range(), policy)?;
     carry_out(store, known, next, alloc, command, common)
 }
 
@@ -635,6 +635,7 @@ fn answer(
 #[inline(always)]
 fn prepare(
     store: &mut Store,
+    known: &mut KnownSums,
     alloc: Global,
     keys: KeyRange,
     range: Option<KeyRange>,
@@ -644,6 +645,7 @@ fn prepare(
     ensures prepared { OnOk result (Prepares policy keys range store.old store.new) }
     ensures common { IfOk result (λ common. AreCommon range keys common) }
     ensures settled { IfOk result (λ common. IfSome common (λ r. IsSettled store.new r)) }
+    ensures knows { (plain : PlainState) → Knows known.old plain → Knows known.new plain }
     ensures spared { OnErr result (SparesCleared policy keys range store.old store.new) }
     ensures err { IfErr result (λ e. e ≡ Refusal.OutOfMemory) }
 {
@@ -653,7 +655,7 @@ fn prepare(
             if common.is_empty() {
                 return Ok(None);
             }
-            settle(store, alloc, keys, common, policy)?;
+            settle(store, known, alloc, keys, common, policy)?;
             Ok(Some(common))
         }
         None => Ok(None),

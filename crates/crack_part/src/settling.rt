@@ -1,11 +1,16 @@
 //! The preparation of the store before a range is read, by the policy.
 ghost use Rattle.std.specs.Prelude.{◌≡◌, ◌+◌, ◌*◌, ◌<◌, ◌≤◌, nat_le, length, true, IfOk, IfErr, OnErr, OnOk};
+ghost use Rattle.crack_plain.specs.Plain.{PlainState};
+ghost use Rattle.crack_state.specs.Steps.{SameButRoom};
 ghost use Rattle.crack_state.specs.Merge.{IsCracked, Merges, Tallies};
 ghost use Rattle.crack_merge.specs.Merges.{Stops};
 ghost use Rattle.crack_part.specs.Parts.{is_merged_first, read_by, CracksAndMerges, Settles};
 ghost use Rattle.crack_part.specs.Inside.{Readies};
-ghost use Rattle.crack_part.specs.Parts.{LeavesNear, StopsAt, StopsRead};
+ghost use Rattle.crack_part.specs.KnownSums.{Knows};
+ghost use Rattle.crack_part.specs.Parts.{CracksBy, LeavesNear, StopsAt, StopsRead};
 
+use crate::coarsening::coarsen;
+use crate::known::KnownSums;
 use crack_merge::{merge_complete, merge_gradual, merge_ripple};
 use crack_row::{KeyRange, Policy, Refusal};
 use crack_store::{MergeReport, Store};
@@ -13,10 +18,12 @@ use std::alloc::Global;
 use std::mem;
 
 /// Settles the store for a range. Under `Policy::Auto` all pending rows are merged first if many insertions are
-/// pending, as a count of all keys under `Policy::Complete` does, and the range is then read under `Policy::Ripple`.
+/// pending, as a count of all keys under `Policy::Complete` does, then bounds may be forgotten, the store is cracked
+/// beside ends that say little, and the range is then read under `Policy::Ripple`.
 #[inline(never)]
 pub(crate) fn settle(
     store: &mut Store,
+    known: &mut KnownSums,
     alloc: Global,
     keys: KeyRange,
     range: KeyRange,
@@ -28,9 +35,11 @@ pub(crate) fn settle(
     requires high { range.high ≤ keys.high }
     ensures settled { OnOk result (Settles policy store.old store.new range) }
     ensures stopped { OnErr result (StopsRead policy store.old store.new range) }
+    ensures knows { (plain : PlainState) → Knows known.old plain → Knows known.new plain }
     ensures err { IfErr result (λ e. e ≡ Refusal.OutOfMemory) }
 {
     make_ready(store, alloc, keys, policy)?;
+    coarsen(store, known, policy);
     crack_and_merge(store, alloc, keys, range, policy)
 }
 
@@ -78,11 +87,11 @@ pub(crate) fn crack_and_merge(
     requires filled { range.low < range.high }
     requires low { store.old.keys.low ≤ range.low }
     requires high { range.high ≤ store.old.keys.high }
-    ensures settled { OnOk result (CracksAndMerges (read_by policy) store.old store.new range) }
-    ensures stopped { OnErr result (StopsAt (read_by policy) store.old store.new range) }
+    ensures settled { OnOk result (CracksAndMerges policy store.old store.new range) }
+    ensures stopped { OnErr result (StopsAt policy store.old store.new range) }
     ensures err { IfErr result (λ e. e ≡ Refusal.OutOfMemory) }
 {
-    if let Err(refusal) = store.crack(range) {
+    if let Err(refusal) = crack(store, range, policy) {
         return Err(refusal);
     }
     store.facts();
@@ -90,6 +99,23 @@ pub(crate) fn crack_and_merge(
         return Ok(());
     }
     merge_cracked(store, alloc, keys, range, policy)
+}
+
+/// Cracks the store at the ends of a range, and under `Policy::Auto` before that beside those ends that say little
+/// about the pieces into which they fall.
+#[inline(always)]
+fn crack(store: &mut Store, range: KeyRange, policy: Policy) -> Result<(), Refusal>
+    ensures cracked { OnOk result (CracksBy policy store.old store.new range) }
+    ensures at_ends { OnOk result (IsCracked store.new range) }
+    ensures same { OnErr result (SameButRoom store.old store.new) }
+    ensures err { IfErr result (λ e. e ≡ Refusal.OutOfMemory) }
+{
+    match policy {
+        Policy::Auto => store.crack_further(range),
+        Policy::Complete => store.crack(range),
+        Policy::Gradual => store.crack(range),
+        Policy::Ripple => store.crack(range),
+    }
 }
 
 /// Merges by the policy what a range needs, by whose ends the store was cracked. It is never inlined: it needs room for

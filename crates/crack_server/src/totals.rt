@@ -1,4 +1,11 @@
 //! The end of a run: its workers are gathered, and its totals written.
+ghost use Rattle.std.specs.Prelude.{◌≡◌, List, map, IfOk};
+ghost use Rattle.crack_table.specs.Cover.{Covers, kept_of};
+ghost use Rattle.crack_table.specs.Gather.{AreTotals, receipts_of};
+ghost use Rattle.crack_witness.specs.Witnesses.{WitnessedState};
+ghost use Rattle.crack_witness_table.specs.Audit.{AuditedState};
+ghost use Rattle.crack_witness_table.specs.Gather.{AreGathered, held_by};
+
 use crack_core::Book;
 use crack_row::Refusal;
 use crack_table::{Closed, Table, Worker, gather};
@@ -54,7 +61,11 @@ pub(crate) fn witnessed_totals_of<J: Naming>(
     alloc: Global,
     table: WitnessedTable<J>,
     askers: Vec<Asker<J>>,
-) -> Result<Totals, Refusal> {
+) -> Result<Totals, Refusal>
+    ensures gathered { IfOk result (λ totals. (parts : List WitnessedState) ×
+        AreGathered J.owner table.splits table.limits table.workers askers.items parts ×
+        AreTotals (held_by parts) totals.accepted totals.inserted totals.deleted totals.held) }
+{
     let gathered = gathered(alloc, table, askers)?;
     let totals = totals_in(&gathered);
     drop(gathered);
@@ -67,7 +78,14 @@ pub(crate) fn audited_totals_of<J: Naming>(
     alloc: Global,
     table: WitnessedTable<J>,
     workers: Vec<AuditedAsker<J>>,
-) -> Result<Totals, Refusal> {
+) -> Result<Totals, Refusal>
+    // The totals are those of partitions that agree with the workers, and whose pasts the receipts of all books cover.
+    ensures audited { IfOk result (λ totals. (parts : List WitnessedState) ×
+        AreGathered J.owner table.splits table.limits table.workers
+        (map (λ (w : AuditedState). w.asker) workers.items) parts ×
+        AreTotals (held_by parts) totals.accepted totals.inserted totals.deleted totals.held ×
+        Covers (map kept_of (held_by parts)) (receipts_of (map (λ (w : AuditedState). w.book) workers.items))) }
+{
     let (askers, books) = match parted(alloc, workers) {
         Ok(parted) => parted,
         Err(_) => {
@@ -97,7 +115,11 @@ fn gathered<J: Naming>(
     alloc: Global,
     table: WitnessedTable<J>,
     askers: Vec<Asker<J>>,
-) -> Result<Gathered<J>, Refusal> {
+) -> Result<Gathered<J>, Refusal>
+    ensures gathered { IfOk result (λ s. AreGathered J.owner table.splits table.limits table.workers askers.items
+        s.parts.items) }
+    ensures totals { IfOk result (λ s. AreTotals (held_by s.parts.items) s.accepted s.inserted s.deleted s.held) }
+{
     match gather_witnessed(alloc, table, askers) {
         Ok(gathered) => Ok(gathered),
         Err(refused) => {
@@ -112,7 +134,10 @@ fn gathered<J: Naming>(
 fn parted<J: Naming>(
     alloc: Global,
     workers: Vec<AuditedAsker<J>>,
-) -> Result<(Vec<Asker<J>>, Vec<Book>), AllocError> {
+) -> Result<(Vec<Asker<J>>, Vec<Book>), AllocError>
+    ensures askers { IfOk result (λ r. r.0.items ≡ map (λ (w : AuditedState). w.asker) workers.items) }
+    ensures books { IfOk result (λ r. r.1.items ≡ map (λ (w : AuditedState). w.book) workers.items) }
+{
     let mut askers = Vec::with_capacity(alloc, workers.len())?;
     let mut books = Vec::with_capacity(alloc, workers.len())?;
     'workers: for worker in workers {
@@ -124,7 +149,14 @@ fn parted<J: Naming>(
 }
 
 /// The totals of gathered workers.
-fn totals_in<J: Naming>(gathered: &Gathered<J>) -> Totals {
+fn totals_in<J: Naming>(gathered: &Gathered<J>) -> Totals
+    ensures { result ≡ record {
+      accepted = gathered.now.accepted;
+      inserted = gathered.now.inserted;
+      deleted = gathered.now.deleted;
+      held = gathered.now.held;
+    } }
+{
     Totals {
         accepted: gathered.accepted,
         inserted: gathered.inserted,

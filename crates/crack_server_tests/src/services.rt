@@ -2,12 +2,14 @@
 ghost use Rattle.crack_witness.specs.Witnesses.{AreNames};
 
 use crate::servers::{client, port_of};
-use crack_row::{GREATEST_CELLS, GREATEST_LIFE, Limits, Policy, Refusal, Upkeep};
+use crack_row::{
+    Command, GREATEST_CELLS, GREATEST_LIFE, Key, Limits, Payload, Policy, Refusal, Upkeep,
+};
 use crack_server::{run_audited_service, run_server, run_service, run_witnessed_service};
 use crack_service::{Ending, Host, Notice, Terms};
 use crack_table::{Gate, Table};
-use crack_witness::Naming;
-use crack_witness_table::UnnamedTable;
+use crack_witness::{Asker, Naming};
+use crack_witness_table::{UnnamedTable, WitnessedTable};
 use std::alloc::Global;
 use std::marker::Brand;
 use std::net::{Net, TcpListener, TcpStream};
@@ -23,6 +25,16 @@ use std::thread::Threads;
 struct Second {
     asked: AtomicU64,
     entries: AtomicU64,
+}
+
+impl Second {
+    /// A gate that has counted nothing.
+    fn new() -> Second {
+        Second {
+            asked: AtomicU64::new(0),
+            entries: AtomicU64::new(0),
+        }
+    }
 }
 
 impl Gate for Second {
@@ -44,6 +56,17 @@ struct Notes {
     checkpoints: AtomicU64,
     sessions: AtomicU64,
     cut_off: AtomicU64,
+}
+
+impl Notes {
+    /// A host that was notified of nothing.
+    fn new() -> Notes {
+        Notes {
+            checkpoints: AtomicU64::new(0),
+            sessions: AtomicU64::new(0),
+            cut_off: AtomicU64::new(0),
+        }
+    }
 }
 
 impl Host for Notes {
@@ -77,13 +100,15 @@ enum Way {
     WitnessedNotingNone,
     Audited,
     AuditedNotingNone,
+    /// Its worker asked before it kept receipts, and there is no session.
+    AuditedLate,
 }
 
 /// The options of a server with a host.
 fn terms(way: Way) -> Terms {
     Terms {
         policy: Policy::Gradual,
-        ending: Ending::AfterSessions(1),
+        ending: Ending::AfterSessions(u64::from(!matches!(way, Way::AuditedLate))),
         idle: Some(60),
         notes_checkpoints: matches!(way, Way::NotingCheckpoints | Way::Witnessed | Way::Audited),
     }
@@ -164,9 +189,15 @@ fn serve_named<J: Naming + Send + Sync, H: Threads + Wait + Sync>(
 ) -> Result<(), Refusal>
     requires { AreNames J.book J.owner table.opened }
 {
-    let (table, askers) = table.named::<J>(alloc)?;
+    let (table, mut askers) = table.named::<J>(alloc)?;
     let mut input: &[u8] = b"";
-    if matches!(way, Way::Audited | Way::AuditedNotingNone) {
+    if matches!(way, Way::AuditedLate) {
+        ask_early(rt, &table, gate, &mut askers)?;
+    }
+    if matches!(
+        way,
+        Way::Audited | Way::AuditedNotingNone | Way::AuditedLate
+    ) {
         run_audited_service(
             rt,
             alloc,
@@ -193,6 +224,24 @@ fn serve_named<J: Naming + Send + Sync, H: Threads + Wait + Sync>(
             output,
         )
     }
+}
+
+/// An insert of the first of some workers, which keeps no receipt.
+fn ask_early<J: Naming, H: Wait>(
+    rt: &H,
+    table: &WitnessedTable<J>,
+    gate: &Second,
+    askers: &mut Vec<Asker<J>>,
+) -> Result<(), Refusal> {
+    let Some(worker) = askers.first_mut() else {
+        return Err(Refusal::WorkersMissing { missing: 1 });
+    };
+    let insert = Command::Insert {
+        key: Key::from_number(10),
+        payload: Payload::from_number(1),
+    };
+    table.ask(rt, gate, worker, 0, insert, Policy::Gradual)?;
+    Ok(())
 }
 
 /// Seven commands, and a layout that shows by which policy they were answered.
@@ -242,15 +291,7 @@ fn assert_way<H: Threads + Wait + Net<Listener = TcpListener, Stream = TcpStream
     way: Way,
     wanted: [u64; 5],
 ) {
-    let gate = Second {
-        asked: AtomicU64::new(0),
-        entries: AtomicU64::new(0),
-    };
-    let host = Notes {
-        checkpoints: AtomicU64::new(0),
-        sessions: AtomicU64::new(0),
-        cut_off: AtomicU64::new(0),
-    };
+    let (gate, host) = (Second::new(), Notes::new());
     let bound = TcpListener::bind(rt, "127.0.0.1:0");
     let listener = bound.ok().expect(rt, "a listener");
     let port = port_of(rt, &listener);
@@ -280,4 +321,18 @@ fn a_server_asks_its_gate_and_notifies_its_host(rt: HostRuntime) {
         let (way, wanted) = WAYS[place];
         assert_way(&rt, rt.alloc(), way, wanted);
     }
+}
+
+/// An entry that no receipt names is found by the audit at a server's end, whose totals aren't written.
+#[test]
+fn an_entry_without_a_receipt_refuses_an_audited_server(rt: HostRuntime) {
+    let (gate, host) = (Second::new(), Notes::new());
+    let bound = TcpListener::bind(&rt, "127.0.0.1:0");
+    let listener = bound.ok().expect(&rt, "a listener");
+    let (written, ended) = service(&rt, rt.alloc(), &listener, Way::AuditedLate, &gate, &host);
+    let strange = Refusal::StrangeReceipt {
+        part: 0,
+        position: 0,
+    };
+    assert!(rt; ended == Err(strange) && written.is_empty());
 }

@@ -17,7 +17,7 @@ use Rattle.crack_session.specs.declared.session.Fault.{Fault}
 use Rattle.crack_session.specs.declared.session.How.{How}
 use Rattle.crack_session.specs.declared.session.How.TheVariants.{Quit, InputEnded}
 use Rattle.crack_commands.specs.Grammar.{Reading}
-use Rattle.crack_session.specs.Readings.{statements, is_quit, reading_of}
+use Rattle.crack_session.specs.Readings.{statements, is_last, reading_of}
 use Rattle.crack_session.specs.Input.{first_line, after_line, kept_of}
 use Rattle.crack_session.specs.Answers.{IsAnswer, is_short_answer, answer_text}
 use Rattle.crack_session.specs.Telling.{Tells, marked}
@@ -75,19 +75,19 @@ pub concat-push : (xs : List (List ℕ)) (y : List ℕ) → concat (xs ++ y ∷ 
 concat-push [] y = append-nil y
 concat-push (x ∷ xs) y = ap (λ z. x ++ z) (concat-push xs y) ∙ sym (append_assoc x (concat xs) y)
 
--- how statements end: by a quit if there is one
+-- how statements end: by one that ends the session, if there is one
 abbrev ending : List Reading → How
-ending rs = if list_any is_quit rs then Quit else InputEnded
+ending rs = if list_any is_last rs then Quit else InputEnded
 
-ending-push : (rs : List Reading) (r : Reading) → ending rs ≡ InputEnded → ending (rs ++ r ∷ []) ≡ cond (is_quit r) Quit InputEnded
-ending-push [] r none = by_test (is_quit r)
+ending-push : (rs : List Reading) (r : Reading) → ending rs ≡ InputEnded → ending (rs ++ r ∷ []) ≡ cond (is_last r) Quit InputEnded
+ending-push [] r none = by_test (is_last r)
   where
     by_test : (b : Bool) → cond (b || false) Quit InputEnded ≡ cond b Quit InputEnded
     by_test true = refl
     by_test false = refl
-ending-push (q ∷ rs) r none = by_test (is_quit q) none (ending-push rs r)
+ending-push (q ∷ rs) r none = by_test (is_last q) none (ending-push rs r)
   where
-    by_test : (b : Bool) → cond (b || list_any is_quit rs) Quit InputEnded ≡ InputEnded → (ending rs ≡ InputEnded → ending (rs ++ r ∷ []) ≡ cond (is_quit r) Quit InputEnded) → cond (b || list_any is_quit (rs ++ r ∷ [])) Quit InputEnded ≡ cond (is_quit r) Quit InputEnded
+    by_test : (b : Bool) → cond (b || list_any is_last rs) Quit InputEnded ≡ InputEnded → (ending rs ≡ InputEnded → ending (rs ++ r ∷ []) ≡ cond (is_last r) Quit InputEnded) → cond (b || list_any is_last (rs ++ r ∷ [])) Quit InputEnded ≡ cond (is_last r) Quit InputEnded
     by_test true is later = absurd (cc is)
     by_test false is later = later is
 
@@ -146,7 +146,7 @@ pub Answered-desk : {bounds bounds' : Bounds} {splits splits' : List Bound} (r :
 Answered-desk r a answered e f = rw (← e, ← f) answered
 
 -- one more statement
-pub Going-more : {W : Type 0} (contents : W → Option (List ℕ)) {bounds : Bounds} {splits : List Bound} {all left : List Reading} {s0 s : Option (List PlainView)} {out0 : Option (List ℕ)} (r : Reading) (a : Answer) (old new : Progress) (s' : Option (List PlainView)) (w w' : Watched W) → Going bounds splits all (r ∷ left) old.statements old.first_short InputEnded s0 s out0 (contents (device w)) → Answered bounds splits r a s s' → Tells contents a old new (Ok tt) w w' → Going bounds splits all left new.statements new.first_short (cond (is_quit r) Quit InputEnded) s0 s' out0 (contents (device w'))
+pub Going-more : {W : Type 0} (contents : W → Option (List ℕ)) {bounds : Bounds} {splits : List Bound} {all left : List Reading} {s0 s : Option (List PlainView)} {out0 : Option (List ℕ)} (r : Reading) (a : Answer) (old new : Progress) (s' : Option (List PlainView)) (w w' : Watched W) → Going bounds splits all (r ∷ left) old.statements old.first_short InputEnded s0 s out0 (contents (device w)) → Answered bounds splits r a s s' → Tells contents a old new (Ok tt) w w' → Going bounds splits all left new.statements new.first_short (cond (is_last r) Quit InputEnded) s0 s' out0 (contents (device w'))
 Going-more contents {bounds} {splits} {all} {left} {s0} {s} {out0} r a old new s' w w' g answered tells = record {
   done = g.done ++ r ∷ [];
   split = g.split ∙ sym (append_assoc g.done (r ∷ []) left);
@@ -218,17 +218,17 @@ Going-cut_in contents bytes o x fault {bounds} {splits} {left} {s0} {s} {out0} r
       written_is = appended (contents (device w)) _ (contents (device w')) _ was.written_is tells.writes.front.2 ∙ ap Some (append_assoc o (concat was.texts) (take tells.writes.front.0 text));
     })
 
--- a session goes on after a statement, or ends at a quit
+-- a session goes on after a statement, or ends with it
 pub Going-on : {bounds : Bounds} {splits : List Bound} {all : List Reading} (rest : List Reading) {k : ℕ} {short : Option ℕ} {s0 s : Option (List PlainView)} {out0 out : Option (List ℕ)} (q : Bool) → Going bounds splits all (cond q [] rest) k short (cond q Quit InputEnded) s0 s out0 out → q ≡ false → Going bounds splits all rest k short InputEnded s0 s out0 out
 Going-on {bounds} {splits} {all} rest {k} {short} {s0} {s} {out0} {out} q g e = subst (λ (b : Bool). Going bounds splits all (cond b [] rest) k short (cond b Quit InputEnded) s0 s out0 out) e g
 
-pub Going-quit : {bounds : Bounds} {splits : List Bound} {all : List Reading} (rest : List Reading) {k : ℕ} {short : Option ℕ} {s0 s : Option (List PlainView)} {out0 out : Option (List ℕ)} (q : Bool) → Going bounds splits all (cond q [] rest) k short (cond q Quit InputEnded) s0 s out0 out → q ≡ true → Going bounds splits all [] k short Quit s0 s out0 out
-Going-quit {bounds} {splits} {all} rest {k} {short} {s0} {s} {out0} {out} q g e = subst (λ (b : Bool). Going bounds splits all (cond b [] rest) k short (cond b Quit InputEnded) s0 s out0 out) e g
+pub Going-last : {bounds : Bounds} {splits : List Bound} {all : List Reading} (rest : List Reading) {k : ℕ} {short : Option ℕ} {s0 s : Option (List PlainView)} {out0 out : Option (List ℕ)} (q : Bool) → Going bounds splits all (cond q [] rest) k short (cond q Quit InputEnded) s0 s out0 out → q ≡ true → Going bounds splits all [] k short Quit s0 s out0 out
+Going-last {bounds} {splits} {all} rest {k} {short} {s0} {s} {out0} {out} q g e = subst (λ (b : Bool). Going bounds splits all (cond b [] rest) k short (cond b Quit InputEnded) s0 s out0 out) e g
 
 -- the next line is a statement
-pub Going-line : {bounds : Bounds} {splits : List Bound} {all : List Reading} {k : ℕ} {short : Option ℕ} {how : How} {s0 s : Option (List PlainView)} {out0 : Option (List ℕ)} (out out' : Option (List ℕ)) (u line : List ℕ) (r : Reading) → Going bounds splits all (statements u) k short how s0 s out0 out → Keeps out out' → 0 < length u → kept_of line ≡ kept_of (first_line u) → reading_of line ≡ Some r → Going bounds splits all (r ∷ cond (is_quit r) [] (statements (after_line u))) k short how s0 s out0 out'
+pub Going-line : {bounds : Bounds} {splits : List Bound} {all : List Reading} {k : ℕ} {short : Option ℕ} {how : How} {s0 s : Option (List PlainView)} {out0 : Option (List ℕ)} (out out' : Option (List ℕ)) (u line : List ℕ) (r : Reading) → Going bounds splits all (statements u) k short how s0 s out0 out → Keeps out out' → 0 < length u → kept_of line ≡ kept_of (first_line u) → reading_of line ≡ Some r → Going bounds splits all (r ∷ cond (is_last r) [] (statements (after_line u))) k short how s0 s out0 out'
 Going-line out out' u line r g h some kept said = Going-left _ (Going-kept out out' g h) (next_some u line r some kept said)
 
 -- the next line is a statement, and is answered
-pub Going-answered : {W : Type 0} (contents : W → Option (List ℕ)) {bounds : Bounds} {splits : List Bound} {all : List Reading} {s0 s : Option (List PlainView)} {out0 out : Option (List ℕ)} (u line : List ℕ) (r : Reading) (a : Answer) (old new : Progress) (s' : Option (List PlainView)) (w w' : Watched W) → Going bounds splits all (statements u) old.statements old.first_short InputEnded s0 s out0 out → Keeps out (contents (device w)) → 0 < length u → kept_of line ≡ kept_of (first_line u) → reading_of line ≡ Some r → Answered bounds splits r a s s' → Tells contents a old new (Ok tt) w w' → Going bounds splits all (cond (is_quit r) [] (statements (after_line u))) new.statements new.first_short (cond (is_quit r) Quit InputEnded) s0 s' out0 (contents (device w'))
+pub Going-answered : {W : Type 0} (contents : W → Option (List ℕ)) {bounds : Bounds} {splits : List Bound} {all : List Reading} {s0 s : Option (List PlainView)} {out0 out : Option (List ℕ)} (u line : List ℕ) (r : Reading) (a : Answer) (old new : Progress) (s' : Option (List PlainView)) (w w' : Watched W) → Going bounds splits all (statements u) old.statements old.first_short InputEnded s0 s out0 out → Keeps out (contents (device w)) → 0 < length u → kept_of line ≡ kept_of (first_line u) → reading_of line ≡ Some r → Answered bounds splits r a s s' → Tells contents a old new (Ok tt) w w' → Going bounds splits all (cond (is_last r) [] (statements (after_line u))) new.statements new.first_short (cond (is_last r) Quit InputEnded) s0 s' out0 (contents (device w'))
 Going-answered contents {bounds} {splits} {all} {s0} {s} {out0} {out} u line r a old new s' w w' g h some kept said answered tells = Going-more contents r a old new s' w w' (Going-line out (contents (device w)) u line r g h some kept said) answered tells

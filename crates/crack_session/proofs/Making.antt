@@ -18,7 +18,7 @@ use Rattle.crack_session.specs.declared.session.Progress.{Progress}
 use Rattle.crack_session.specs.Answers.{is_short_answer, answer_text}
 use Rattle.crack_session.specs.Calls.{Call, Calls, IsReadingMadeOf, policy_after, AreMadeOf, AreAnswersOf}
 use Rattle.crack_session.specs.Input.{first_line, after_line, kept_of}
-use Rattle.crack_session.specs.Readings.{statements, is_quit, reading_of}
+use Rattle.crack_session.specs.Readings.{statements, is_last, reading_of}
 use Rattle.crack_session.specs.Sessions.{first_short}
 use Rattle.crack_session.specs.Telling.{Tells, marked}
 use Rattle.crack_commands.specs.Texts.{AppendsFront}
@@ -127,15 +127,15 @@ module _ {D : Type 0} (leads : D → Call → D → Type 0) (splits : List Bound
   }
 
   -- the next line is a statement
-  pub Making-line : {k : ℕ} {short : Option ℕ} {policy : Policy} {now : D} (out out' : Option (List ℕ)) (u line : List ℕ) (r : Reading) → Making leads splits first old all (statements u) k short policy now out0 out → Keeps out out' → 0 < length u → kept_of line ≡ kept_of (first_line u) → reading_of line ≡ Some r → Making leads splits first old all (r ∷ cond (is_quit r) [] (statements (after_line u))) k short policy now out0 out'
+  pub Making-line : {k : ℕ} {short : Option ℕ} {policy : Policy} {now : D} (out out' : Option (List ℕ)) (u line : List ℕ) (r : Reading) → Making leads splits first old all (statements u) k short policy now out0 out → Keeps out out' → 0 < length u → kept_of line ≡ kept_of (first_line u) → reading_of line ≡ Some r → Making leads splits first old all (r ∷ cond (is_last r) [] (statements (after_line u))) k short policy now out0 out'
   Making-line out out' u line r m h some kept said = Making-left _ (Making-kept out out' m h) (next_some u line r some kept said)
 
-  -- a session goes on after a statement, or ends at a quit
+  -- a session goes on after a statement, or ends with it
   pub Making-on : {k : ℕ} {short : Option ℕ} {policy : Policy} {now : D} {out : Option (List ℕ)} (rest : List Reading) (b : Bool) → Making leads splits first old all (cond b [] rest) k short policy now out0 out → b ≡ false → Making leads splits first old all rest k short policy now out0 out
   Making-on rest b m e = Making-left rest m (ap (λ (t : Bool). cond t [] rest) e)
 
-  pub Making-quit : {k : ℕ} {short : Option ℕ} {policy : Policy} {now : D} {out : Option (List ℕ)} (rest : List Reading) (b : Bool) → Making leads splits first old all (cond b [] rest) k short policy now out0 out → b ≡ true → Making leads splits first old all [] k short policy now out0 out
-  Making-quit rest b m e = Making-left [] m (ap (λ (t : Bool). cond t [] rest) e)
+  pub Making-last : {k : ℕ} {short : Option ℕ} {policy : Policy} {now : D} {out : Option (List ℕ)} (rest : List Reading) (b : Bool) → Making leads splits first old all (cond b [] rest) k short policy now out0 out → b ≡ true → Making leads splits first old all [] k short policy now out0 out
+  Making-last rest b m e = Making-left [] m (ap (λ (t : Bool). cond t [] rest) e)
 
 -- a session whose input has ended
 pub Making-written : {D : Type 0} (leads : D → Call → D → Type 0) (splits : List Bound) (first : Policy) (old : D) (bytes o : List ℕ) (short' : Option ℕ) {k : ℕ} {short : Option ℕ} {policy : Policy} {now : D} {out0 out : Option (List ℕ)} → Making leads splits first old (statements bytes) [] k short policy now out0 out → short' ≡ short → out0 ≡ Some o → AreWritten (AreAnswersOf leads splits first old now) (statements bytes) o short' out

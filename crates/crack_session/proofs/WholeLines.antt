@@ -3,7 +3,7 @@ use Rattle.std.proofs.Common.{◌≡◌, ℕ, ◌+◌, ◌<◌, Bool, true, fals
 use Rattle.std.proofs.lemmas.Bool.{cases_Bool, eqb-true, false≢true}
 use Rattle.std.proofs.lemmas.List.{append_cancel_right}
 use Rattle.crack_session.specs.Input.{has_feed, first_line, after_line, kept_of, IsBegun}
-use Rattle.crack_session.specs.Readings.{statements, reading_of, is_quit}
+use Rattle.crack_session.specs.Readings.{statements, reading_of, is_last}
 use Rattle.crack_session.specs.Sessions.{whole_lines}
 use Rattle.crack_commands.specs.Grammar.{Reading}
 use Rattle.crack_session.proofs.Feeds.{first_line-append, after_line-append}
@@ -49,7 +49,7 @@ whole_to : (xs ys : List ℕ) → has_feed ys ≡ false → whole_lines (xs ++ 1
 whole_to [] ys h = ap (λ z. 10 ∷ z) (none_whole ys h)
 whole_to (x ∷ xs) ys h = let in_it : has_feed (x ∷ xs ++ 10 ∷ ys) ≡ true = feed_in (x ∷ xs) ys in rw in_it (ap (λ z. x ∷ z) (whole_to xs ys h))
 
--- A prefix of some bytes, of whole lines, is used, and the rest is left: the prefix has k statements, and no quit.
+-- A prefix of some bytes, of whole lines, is used, and the rest is left: the prefix has k statements, none of which ends the session.
 pub record AreUsed (bytes left : List ℕ) (k : ℕ) : Type 0 where
   pub used : List ℕ
   pub joined : bytes ≡ used ++ left
@@ -85,7 +85,7 @@ AreUsed-blank {bytes} {k} u line a h kept blank = record {
   whole = used_whole a.used u;
 }
 
-pub AreUsed-more : {bytes : List ℕ} {k : ℕ} (u line : List ℕ) (r : Reading) (n : ℕ) → AreUsed bytes u k → has_feed u ≡ true → kept_of line ≡ kept_of (first_line u) → reading_of line ≡ Some r → is_quit r ≡ false → n ≡ k + 1 → AreUsed bytes (after_line u) n
+pub AreUsed-more : {bytes : List ℕ} {k : ℕ} (u line : List ℕ) (r : Reading) (n : ℕ) → AreUsed bytes u k → has_feed u ≡ true → kept_of line ≡ kept_of (first_line u) → reading_of line ≡ Some r → is_last r ≡ false → n ≡ k + 1 → AreUsed bytes (after_line u) n
 AreUsed-more {bytes} {k} u line r n a h kept said goes more = record {
   used = a.used ++ (first_line u ++ 10 ∷ []);
   joined = used_joined bytes a.used u a.joined h;

@@ -10,12 +10,14 @@ use Rattle.crack_row.specs.declared.command.Command.TheVariants.{Insert as AskIn
 use Rattle.crack_row.specs.declared.command.Reply.{Reply}
 use Rattle.crack_row.specs.declared.layout.Layout.{Layout as PartLayout}
 use Rattle.crack_row.specs.declared.refusal.Refusal.{Refusal}
-use Rattle.crack_row.specs.declared.refusal.Refusal.TheVariants.{OutOfMemory}
+use Rattle.crack_row.specs.declared.refusal.Refusal.TheVariants.{OutOfMemory, BadStatement}
 use Rattle.crack_plain.specs.Plain.{PlainView, checkpointed}
 use Rattle.crack_commands.specs.Grammar.{Reading}
 use Rattle.crack_commands.specs.Texts.{line_text, reply_text, row_text, layout_text, policy_text, refusal_text}
 use Rattle.crack_commands.specs.declared.statement.Statement.{Statement}
-use Rattle.crack_commands.specs.declared.statement.Statement.TheVariants.{Insert, Delete, Update, Count, Sum, Select, Layout, Checkpoint, Policy, Quit}
+use Rattle.crack_commands.specs.declared.statement.Statement.TheVariants.{Insert, Delete, Update, Count, Sum, Select, Layout, Checkpoint, Policy, End}
+use Rattle.crack_commands.specs.declared.statement.Ending.{Ending}
+use Rattle.crack_commands.specs.declared.statement.Ending.TheVariants.{Quit, Http}
 use Rattle.crack_session.specs.declared.answer.Answer.{Answer}
 use Rattle.crack_session.specs.declared.answer.Answer.TheVariants.{Replied, Counted, Summed, Listed, Laid, Folded, Set, Refused, Bye}
 use Rattle.crack_session.specs.declared.query.PartReply.{PartReply}
@@ -67,6 +69,11 @@ pub record IsFolded (tables : List PlainView) (part : ℕ) (answer : Answer) (ne
   pub answer_is : answer ≡ answer_from Folded outcome
   pub new_is : new ≡ changed_at checkpointed tables part outcome
 
+-- the last answer of a session that is ended by a line: a line of an HTTP request is no statement
+abbrev pub farewell : Ending → Answer
+farewell Quit = Bye
+farewell Http = Refused BadStatement
+
 -- an answer to a statement, and the partitions afterwards: the partition that holds a row's key or that its number names is asked, and for
 -- a range those that hold a part of it
 abbrev pub IsAnswerTo : Bounds → List Bound → List PlainView → Statement → Answer → List PlainView → Type 0
@@ -79,7 +86,7 @@ IsAnswerTo bounds splits tables (Select range) answer new = AsksParts bounds spl
 IsAnswerTo bounds splits tables (Layout part) answer new = IsLaidOut splits tables part answer × (new ≡ tables)
 IsAnswerTo bounds splits tables (Checkpoint part) answer new = IsFolded tables part answer new
 IsAnswerTo bounds splits tables (Policy policy) answer new = (answer ≡ Set policy) × (new ≡ tables)
-IsAnswerTo bounds splits tables Quit answer new = (answer ≡ Bye) × (new ≡ tables)
+IsAnswerTo bounds splits tables (End ending) answer new = (answer ≡ farewell ending) × (new ≡ tables)
 
 -- an answer to the reading of a line, and the partitions afterwards
 abbrev pub IsAnswer : Bounds → List Bound → List PlainView → Reading → Answer → List PlainView → Type 0

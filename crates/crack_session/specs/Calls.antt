@@ -12,13 +12,13 @@ use Rattle.crack_row.specs.declared.refusal.Refusal.{Refusal}
 use Rattle.crack_row.specs.declared.refusal.Refusal.TheVariants.{OutOfMemory}
 use Rattle.crack_commands.specs.Grammar.{Reading}
 use Rattle.crack_commands.specs.declared.statement.Statement.{Statement}
-use Rattle.crack_commands.specs.declared.statement.Statement.TheVariants.{Insert, Delete, Update, Count, Sum, Select, Layout, Checkpoint, Policy, Quit}
+use Rattle.crack_commands.specs.declared.statement.Statement.TheVariants.{Insert, Delete, Update, Count, Sum, Select, Layout, Checkpoint, Policy, End}
 use Rattle.crack_core.specs.Routes.{route, parts_of}
 use Rattle.crack_session.specs.declared.answer.Answer.{Answer}
-use Rattle.crack_session.specs.declared.answer.Answer.TheVariants.{Replied, Counted, Summed, Listed, Laid, Folded, Set, Refused, Bye}
+use Rattle.crack_session.specs.declared.answer.Answer.TheVariants.{Replied, Counted, Summed, Listed, Laid, Folded, Set, Refused}
 use Rattle.crack_session.specs.declared.query.PartReply.{PartReply}
 use Rattle.crack_core.specs.Asking.{InTurn, counted, summed}
-use Rattle.crack_session.specs.Answers.{answer_from}
+use Rattle.crack_session.specs.Answers.{answer_from, farewell}
 
 -- a call of a desk, and its outcome: a partition was asked a command by a policy, was told to make a checkpoint, or was asked for its layout
 pub data Call : Type 0 where
@@ -60,7 +60,7 @@ IsMadeOf splits policy (Select range) answer calls = ArePartsAsked policy (λ pa
 IsMadeOf splits policy (Layout part) answer calls = (outcome : Result PartLayout Refusal) × (calls ≡ Looked part outcome ∷ []) × (answer ≡ answer_from (Laid part) outcome)
 IsMadeOf splits policy (Checkpoint part) answer calls = (outcome : Result ℕ Refusal) × (calls ≡ Checkpointed part outcome ∷ []) × (answer ≡ answer_from Folded outcome)
 IsMadeOf splits policy (Policy other) answer calls = (answer ≡ Set other) × (calls ≡ [])
-IsMadeOf splits policy Quit answer calls = (answer ≡ Bye) × (calls ≡ [])
+IsMadeOf splits policy (End ending) answer calls = (answer ≡ farewell ending) × (calls ≡ [])
 
 -- the same for the reading of a line
 abbrev pub IsReadingMadeOf : List Bound → MergePolicy → Reading → Answer → List Call → Type 0

@@ -9,7 +9,7 @@ use Rattle.crack_session.specs.declared.session.End.{End}
 use Rattle.crack_session.specs.declared.session.Fault.{Fault}
 use Rattle.crack_session.specs.declared.session.How.TheVariants.{Quit, InputEnded}
 use Rattle.crack_commands.specs.Grammar.{Reading}
-use Rattle.crack_session.specs.Readings.{statements, is_quit}
+use Rattle.crack_session.specs.Readings.{statements, is_last}
 use Rattle.crack_session.specs.Answers.{answer_text}
 use Rattle.crack_session.specs.Sessions.{AreAnswers, first_short, whole_lines}
 use Rattle.crack_core.specs.Steps.{Bounds}
@@ -29,10 +29,10 @@ pub record AreTold (bounds : Bounds) (splits : List Bound) (tables : List PlainV
   pub answered : AreAnswered bounds splits tables readings texts short left
   pub written_is : written ≡ Some (out ++ concat texts)
 
--- on Ok all statements are counted, and a session ends by a quit if there is one
+-- on Ok all statements are counted, and a session ends by the last of them, or with its input
 pub record CountsStatements (bytes : List ℕ) (end : End) : Type 0 where
   pub statements_are : end.statements ≡ length (statements bytes)
-  pub how_is : end.how ≡ (if list_any is_quit (statements bytes) then Quit else InputEnded)
+  pub how_is : end.how ≡ (if list_any is_last (statements bytes) then Quit else InputEnded)
 
 -- on a fault this many of them are done; on one of the reader, exactly those in the whole lines of the bytes that were taken
 pub record IsDone (bytes : List ℕ) (fault : Fault) (remaining : Option (List ℕ)) : Type 0 where

@@ -10,7 +10,7 @@ ghost use Rattle.crack_core.specs.Routes.{route, parts_of};
 ghost use Rattle.crack_commands.specs.Texts.{Writes};
 ghost use Rattle.crack_session.specs.Telling.{list_text, lists_text, AsksSeveral, AsksDesk};
 ghost use Rattle.crack_session.specs.Answers.{IsAnswerTo, IsAsked, AsksInTurn, AsksParts, IsLaidOut};
-ghost use Rattle.crack_session.specs.Answers.{IsFolded, is_short_answer, answer_text, answer_from};
+ghost use Rattle.crack_session.specs.Answers.{IsFolded, is_short_answer, answer_text, answer_from, farewell};
 ghost use Rattle.crack_session.specs.Calls.{Checkpointed, Looked, IsOneAsked, AreAskedInTurn, AreSeveralAsked};
 ghost use Rattle.crack_session.specs.Calls.{ArePartsAsked, IsMadeOf};
 ghost use Rattle.crack_session.specs.Queries.{joined};
@@ -18,8 +18,8 @@ ghost use Rattle.crack_session.specs.Queries.{joined};
 use crate::desk::Desk;
 use crate::query::{PartReply, ReplyList, joined};
 use crack_commands::{
-    Statement, policy_line, write_count, write_each_row, write_folded, write_head, write_layout,
-    write_refusal, write_reply, write_sum, write_text,
+    Ending, Statement, policy_line, write_count, write_each_row, write_folded, write_head,
+    write_layout, write_refusal, write_reply, write_sum, write_text,
 };
 use crack_core::{Query, only_part, parts_of, route};
 use crack_row::{Command, Key, KeyRange, Layout, Policy, Refusal, Reply, Watched};
@@ -148,9 +148,20 @@ pub fn answer_statement<D: Desk>(
         Statement::Layout(part) => return lay_out(desk, part),
         Statement::Checkpoint(part) => return fold_part(desk, part),
         Statement::Policy(next) => return Answer::Set(next),
-        Statement::Quit => return Answer::Bye,
+        Statement::End(ending) => return farewell(ending),
     };
     ask_part(desk, policy, part, command)
+}
+
+/// The last answer of a session that is ended by a line.
+#[inline(always)]
+fn farewell(ending: Ending) -> Answer
+    ensures { result ≡ farewell ending }
+{
+    match ending {
+        Ending::Quit => Answer::Bye,
+        Ending::Http => Answer::Refused(Refusal::BadStatement),
+    }
 }
 
 /// The partition that holds a key.

@@ -2,14 +2,15 @@
 ghost use Rattle.std.specs.Prelude.{◌≡◌, ◌==◌};
 ghost use Rattle.std.specs.List.{list_all};
 ghost use Rattle.crack_session.specs.Lines.{without_return};
-ghost use Rattle.crack_session.specs.Readings.{reading_of, is_quit};
+ghost use Rattle.crack_session.specs.Readings.{reading_of, is_last};
 
 use crate::LINE_BYTES;
-use crack_commands::{Statement, parse_statement};
+use crack_commands::{Statement, parse_long, parse_statement};
 use crack_row::Refusal;
 
 /// The meaning of a line, unless it is blank: a statement, or why it isn't one. Refused with 2 if the ends of a range
-/// are out of order or too great, else with 1. Takes no memory.
+/// are out of order or too great, else with 1. A line that is too long is read by its front alone: it ends the session
+/// if it is one of an HTTP request. Takes no memory.
 #[tactic(auto, unfolding(crate::specs::Readings::reading_of))]
 #[inline(always)]
 pub fn read_line(line: &[u8]) -> Option<Result<Statement, Refusal>>
@@ -17,7 +18,7 @@ pub fn read_line(line: &[u8]) -> Option<Result<Statement, Refusal>>
 {
     let line = without_return(line);
     if line.len() > LINE_BYTES {
-        return Some(Err(Refusal::BadStatement));
+        return Some(parse_long(&line[..LINE_BYTES]));
     }
     if is_blank(line) {
         return None;
@@ -27,10 +28,10 @@ pub fn read_line(line: &[u8]) -> Option<Result<Statement, Refusal>>
 
 /// Whether a line ends the session.
 #[inline(always)]
-pub fn says_quit(reading: &Result<Statement, Refusal>) -> bool
-    ensures { result ≡ is_quit reading.now }
+pub fn is_last(reading: &Result<Statement, Refusal>) -> bool
+    ensures { result ≡ is_last reading.now }
 {
-    matches!(reading, Ok(Statement::Quit))
+    matches!(reading, Ok(Statement::End(_)))
 }
 
 /// A line without the carriage return at its end.

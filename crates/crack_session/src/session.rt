@@ -14,7 +14,7 @@ ghost use Rattle.crack_session.specs.Written.{AreWritten, AreWrittenThen};
 use crate::answer::{Answer, answer_statement, part_with_key};
 use crate::desk::Desk;
 use crate::input::{LineReader, NextLine, next_line};
-use crate::line::{read_line, says_quit};
+use crate::line::{is_last, read_line};
 use crate::output::flush;
 use crack_commands::{Statement, write_reply};
 use crack_row::{Command, Key, Payload, Policy, Refusal, Reply, Watched};
@@ -24,7 +24,7 @@ use std::io::{Read, Write};
 /// How a session ended.
 #[derive(Clone, Copy, PartialEq, Eq, Debug)]
 pub enum How {
-    /// By the statement `quit`.
+    /// By a line: the statement `quit`, or a line of an HTTP request.
     Quit,
     /// With its input.
     InputEnded,
@@ -240,15 +240,15 @@ fn finish<W: Write>(writer: &mut Watched<W>, progress: Progress, how: How) -> Re
     }
 }
 
-/// Answers the statements of a reader, each whole line before it reads again, until its input ends or a statement is
-/// `quit`; what was read beyond that is dropped. An insert goes to the partition that holds its key, a delete or update
-/// to the one that its row number names, a layout to the one that it names. A range is asked of each partition that
-/// holds a part of it, in rising order: counts and sums are added, and rows are listed partition by partition, without
-/// a copy. The first refusal is the reply. A checkpoint is of the partition that it names. The desk is asked by
-/// `policy` until a statement names another. Output is flushed before each read and at the end: with a buffer
-/// that holds the replies to one read there is at most one write more than reads. Rows and pieces are written one at a
-/// time. Takes only the memory that the desk takes, and that for the replies of several partitions to one statement;
-/// none for a line, so it is never cut off by 8.
+/// Answers the statements of a reader, each whole line before it reads again, until its input ends, a statement is
+/// `quit`, or a line is one of an HTTP request, which is refused with 1; what was read beyond that is dropped. An
+/// insert goes to the partition that holds its key, a delete or update to the one that its row number names, a layout
+/// to the one that it names. A range is asked of each partition that holds a part of it, in rising order: counts and
+/// sums are added, and rows are listed partition by partition, without a copy. The first refusal is the reply. A
+/// checkpoint is of the partition that it names. The desk is asked by `policy` until a statement names another. Output
+/// is flushed before each read and at the end: with a buffer that holds the replies to one read there is at most one
+/// write more than reads. Rows and pieces are written one at a time. Takes only the memory that the desk takes, and
+/// that for the replies of several partitions to one statement; none for a line, so it is never cut off by 8.
 pub fn serve<D: Desk, R: Read, W: Write>(
     alloc: Global,
     desk: &mut D,
@@ -322,7 +322,7 @@ pub fn serve<D: Desk, R: Read, W: Write>(
                     if let Err(refusal) = respond(alloc, desk, reading, &mut progress, writer) {
                         return Err(progress.fault(refusal));
                     }
-                    if says_quit(&reading) {
+                    if is_last(&reading) {
                         return finish(writer, progress, How::Quit);
                     }
                 }

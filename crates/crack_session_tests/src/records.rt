@@ -12,7 +12,8 @@ const TEXT: &[u8] = b"key,payload\n150,6\n50,5\n";
 
 /// How a load ends. It promises nothing, so that no test carries all that `load_csv` promises.
 fn load(alloc: Global, core: &mut Core, source: Source<'_>) -> Result<u64, LoadFault> {
-    load_csv(alloc, core, Policy::Ripple, source)
+    let (ended, _reader) = load_csv(alloc, core, Policy::Ripple, Watched::new(source));
+    ended
 }
 
 /// How an export ends. It promises nothing either.

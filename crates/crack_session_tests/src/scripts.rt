@@ -116,6 +116,21 @@ const STATEMENTS: &[Script] = &[
         statements: 3,
         first_short: None,
     },
+    // a line of an HTTP request is refused, and nothing after it is answered
+    Script {
+        splits: &[],
+        limit: GREATEST_LIMIT,
+        is_plain: true,
+        input: &[
+            b"insert 1 1\nPOST /",
+            &[b'x'; LINE_BYTES],
+            b" HTTP/1.1\r\nHost: 127.0.0.1\r\n\r\ninsert 2 2\ncount 0 5\nquit\n",
+        ],
+        replies: &[b"row 0.0\nrefused 1\n"],
+        how: How::Quit,
+        statements: 2,
+        first_short: None,
+    },
     // the numbers are the greatest key, the greatest bound, and one more than that
     Script {
         splits: &[],

@@ -12,6 +12,7 @@ pub mod CarryLaws
 pub mod CeilingLaws
 pub mod CellLaws
 pub mod ClearLaws
+pub mod CoarsenLaws
 pub mod CountLaws
 pub mod Counters
 pub mod CrackLaws

@@ -8,7 +8,7 @@ use Rattle.crack_row.specs.declared.command.Policy.{Policy}
 use Rattle.crack_row.specs.declared.command.Policy.TheVariants.{Complete, Gradual, Ripple, Auto}
 use Rattle.crack_arena.specs.Arena.{Cell, Handle, read}
 use Rattle.crack_index.specs.declared.mark.Mark.{Mark}
-use Rattle.crack_index.specs.Marks.{HasBound, bounds_of, position_of, next_mark}
+use Rattle.crack_index.specs.Marks.{SomeMarks, HasBound, bounds_of, position_of, next_mark}
 use Rattle.crack_arena.specs.Rows.{key_at}
 use Rattle.crack_state.specs.declared.MergeReport.{MergeReport}
 use Rattle.crack_state.specs.State.{State, Reads, IsIntact, EachCounter, live_rows, freed_of, greatest}
@@ -76,6 +76,11 @@ pub record RefinesBy (IsNew : ℕ → Type 0) (s u : State) : Type 0 where
 -- refined: what a range's crack does, which adds the inner ends of the range
 abbrev pub Refines : State → State → Range → Type 0
 Refines s u r = RefinesBy (IsInner s.keys r) s u
+
+-- coarsened: bounds are forgotten. The marks that are left are some of those there were, in their order, and everything else is the same
+pub record Coarsens (s u : State) : Type 0 where
+  pub same : u ≡ record s { marks = u.marks }
+  pub some : SomeMarks u.marks s.marks
 
 -- settled: no row of either pending column has its key in the range, both ends of the range are in the index or lie outside, and the column
 -- between the two places holds exactly the live rows of the range

@@ -25,7 +25,8 @@ use Rattle.crack_state.specs.Merge.{IsInner, Refines, bound_or, bound_above}
 use Rattle.crack_state.specs.Inside.{RefinesAt}
 use Rattle.crack_state.proofs.CrackLaws.{keys-refined, CracksAt, cracked_at, IsIntact-cracked, RefinesAt-cracked, Refines-both}
 use Rattle.crack_store.specs.declared.cracking.Gap.{Gap}
-use Rattle.crack_store.specs.Gaps.{MissesIn, FallTogether, IsMissing, above_or}
+use Rattle.crack_store.specs.Further.{IsMissing, bound_or_end}
+use Rattle.crack_store.specs.Gaps.{MissesIn, FallTogether}
 
 -- A bound among the marks
 
@@ -354,9 +355,9 @@ Refines-one s u r bound refined missing end others = record {
 }
 
 -- where a bound's own piece ends
-pub above_or-piece : (end : ℕ) (o : Option Mark) → above_or end (option_map (λ (m : Mark). m.bound) o) ≡ bound_or end o
-above_or-piece end None = refl
-above_or-piece end (Some m) = refl
+pub bound_or_end-piece : (end : ℕ) (o : Option Mark) → bound_or_end end (option_map (λ (m : Mark). m.bound) o) ≡ bound_or end o
+bound_or_end-piece end None = refl
+bound_or_end-piece end (Some m) = refl
 
 -- no bound of an intact store is above its keys' high end
 pub none_above : (s : State) (hand : List Handle) (number : ℕ) → IsIntact s hand → s.keys.high ≤ number → s.keys.high ≡ bound_above s number

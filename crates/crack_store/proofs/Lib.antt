@@ -1,7 +1,9 @@
 mod NextLemmas
 mod EdgeLemmas
 mod AdmitLemmas
+mod CoarsenLemmas
 mod CrackLemmas
+mod FurtherLemmas
 mod HandLemmas
 mod LiveLemmas
 mod RememberLemmas

@@ -1,20 +1,16 @@
 -- What private clauses alone cite.
-use Rattle.std.specs.Prelude.{◌≡◌, ◌≢◌, ◌⊎◌, ℕ, ◌<◌, ◌≤◌, length, Option, Some, None}
+-- Which ends of a range are no bounds yet, and the room that cracks at them and beside them need.
+use Rattle.std.specs.Prelude.{◌≡◌, ◌≢◌, ◌⊎◌, ℕ, ◌<◌, ◌≤◌, length}
 use Rattle.crack_row.specs.Ranges.{Range}
 use Rattle.crack_row.specs.declared.InnerBound.{InnerBound}
 use Rattle.crack_index.specs.declared.index.Piece.{Piece}
 use Rattle.crack_index.specs.Marks.{HasBound, piece_at}
 use Rattle.crack_state.specs.State.{State}
 use Rattle.crack_state.specs.Merge.{IsInner, IsCracked, bound_above}
+use Rattle.crack_store.specs.Further.{IsMissing}
 use Rattle.crack_store.specs.declared.cracking.Gap.{Gap}
 use Rattle.crack_store.specs.declared.cracking.Missing.{Missing}
 use Rattle.crack_store.specs.declared.cracking.Missing.TheVariants.{Neither, One, Together, Apart}
-
--- the bound lies strictly between the partition's ends, and isn't in the index
-pub record IsMissing (s : State) (bound : ℕ) : Type 0 where
-  pub low : s.keys.low < bound
-  pub high : bound < s.keys.high
-  pub apart : HasBound s.marks bound → ⊥
 
 -- the bound is missing, and this is its own piece
 pub record MissesIn (s : State) (bound : ℕ) (piece : Piece) : Type 0 where
@@ -51,7 +47,8 @@ Misses s r (One gap) = MissesIn s gap.bound.0 gap.piece × ((gap.bound.0 ≡ r.l
 Misses s r (Together low high) = AreEnds r low.bound.0 high.0 × FallTogether s low high
 Misses s r (Apart low high) = AreEnds r low.bound.0 high.bound.0 × FallApart s low high
 
--- where the keys of a piece end: at the bound above them, or at the end of the partition
-abbrev pub above_or : ℕ → Option InnerBound → ℕ
-above_or end None = end
-above_or end (Some bound) = bound.0
+-- the index has room for two bounds for each end of the range that is missing
+pub record HasRoomBeside (s : State) (r : Range) (room : ℕ) : Type 0 where
+  pub low : IsMissing s r.low → 2 ≤ room
+  pub high : IsMissing s r.high → 2 ≤ room
+  pub both : IsMissing s r.low → IsMissing s r.high → 4 ≤ room

@@ -5,7 +5,8 @@ ghost use Rattle.crack_state.specs.Merge.{Refines, Stands};
 ghost use Rattle.crack_state.specs.Inside.{RefinesAt};
 ghost use Rattle.crack_store.specs.Keeps.{KeepsIntact};
 ghost use Rattle.crack_store.specs.Inside.{lists_of};
-ghost use Rattle.crack_store.specs.Gaps.{MissesIn, FallTogether, Misses, bounds_in, above_or};
+ghost use Rattle.crack_store.specs.Gaps.{MissesIn, FallTogether, Misses, bounds_in};
+ghost use Rattle.crack_store.specs.Further.{bound_or_end};
 
 use crate::inside::Inside;
 use crack_index::Piece;
@@ -31,6 +32,15 @@ pub(crate) enum Missing {
     Apart(Gap, Gap),
 }
 
+impl Gap {
+    /// The piece into which the bound falls.
+    pub(crate) fn piece(self) -> Piece
+        ensures { result ≡ self.piece }
+    {
+        self.piece
+    }
+}
+
 impl Missing {
     /// How many bounds are missing.
     pub(crate) fn bounds(&self) -> usize
@@ -46,7 +56,7 @@ impl Missing {
 
 /// The bound with its own piece, if the bound lies between the partition's ends and isn't in the index. O(log bounds):
 /// a bound is in the index exactly if its piece begins at it.
-fn gap_at(inside: &Inside, bound: Bound) -> Option<Gap>
+pub(crate) fn gap_at(inside: &Inside, bound: Bound) -> Option<Gap>
     ensures bound { IfSome result (λ gap. gap.bound.0 ≡ bound.0) }
     ensures missing { IfSome result (λ gap. MissesIn (lists_of inside.now) gap.bound.0 gap.piece) }
     ensures stands { IfNone result (Stands (lists_of inside.now) bound.0) }
@@ -67,7 +77,7 @@ fn gap_at(inside: &Inside, bound: Bound) -> Option<Gap>
 
 /// Where the keys of a piece end: at the bound above them, or at the end of the partition's keys.
 fn end_of(piece: Piece, keys: KeyRange) -> Bound
-    ensures { result.0 ≡ above_or keys.high piece.high }
+    ensures { result.0 ≡ bound_or_end keys.high piece.high }
 {
     match piece.high {
         Some(bound) => bound.bound(),
@@ -120,6 +130,7 @@ pub(crate) fn crack_at_ends(inside: &mut Inside, range: KeyRange, missing: Missi
     requires room { bounds_in missing ≤ inside.old.index.room }
     ensures intact { KeepsIntact inside.new [] }
     ensures refined { Refines (lists_of inside.old) (lists_of inside.new) range }
+    ensures room { inside.new.index.room + bounds_in missing ≡ inside.old.index.room }
 {
     match missing {
         Missing::Neither => {}
@@ -165,6 +176,7 @@ fn crack_together(inside: &mut Inside, low: Gap, high: InnerBound)
       low = low.bound.0;
       high = high.0;
     }) }
+    ensures room { inside.new.index.room + 2 ≡ inside.old.index.room }
 {
     let Gap { bound: low, piece } = low;
     let (middle, upper) = inside

@@ -8,10 +8,12 @@
 pub mod appending;
 mod ascent;
 pub mod carrying;
+pub mod coarsening;
 mod cracking;
 pub mod draining;
 pub mod evicting;
 pub mod filling;
+mod further;
 mod inside;
 pub mod live;
 mod notes;

@@ -11,9 +11,11 @@ ghost use Rattle.crack_state.specs.Steps.{lifted, lifted_last, admitted, IsAdmis
 ghost use Rattle.crack_state.specs.Merge.{Refines, Stands, IsCracked, edge, bound_above};
 ghost use Rattle.crack_state.specs.Points.{pending_by};
 ghost use Rattle.crack_store.specs.Inside.{no_cells, IsLayoutOf};
+ghost use Rattle.crack_store.specs.Further.{CracksFurther};
 
 use crate::Carrying;
 use crate::cracking::{code_pending, crack_at_ends, missing_ends};
+use crate::further::{BOUNDS_BESIDE, crack_further};
 use crate::inside::Inside;
 use crate::notes::Notes;
 use crate::serial_hash::SerialHashing;
@@ -138,6 +140,28 @@ impl Store {
         let missing = missing_ends(&self.inside, range);
         self.inside.index.reserve(missing.bounds())?;
         crack_at_ends(&mut self.inside, range, missing);
+        Ok(())
+    }
+
+    /// Cracks the column at both ends of the range, as `crack` does, and before that beside them, the low one first: if
+    /// there are bounds, the end is missing, its piece has more than 2,048 rows, and of nine keys sampled there neither
+    /// end has at least three on each side, then at the end and at a further bound in the middle of these keys.
+    /// O(size of their pieces + bounds); O(log bounds) for ends that are there already, which takes no memory. Refused
+    /// with 8 if it finds no memory; then nothing has changed.
+    pub fn crack_further(&mut self, range: KeyRange) -> Result<(), Refusal>
+        ensures ok { OnOk result (CracksFurther self.old self.new range) }
+        ensures cracked { OnOk result (IsCracked self.new range) }
+        ensures live { live_rows self.new ≡ live_rows self.old }
+        ensures same { OnErr result (SameButRoom self.old self.new) }
+        ensures spare { IsCracked self.old range → IsOk result }
+        ensures err { IfErr result (λ e. e ≡ Refusal.OutOfMemory) }
+    {
+        code_pending(&mut self.inside);
+        if missing_ends(&self.inside, range).bounds() == 0 {
+            return Ok(());
+        }
+        self.inside.index.reserve(BOUNDS_BESIDE)?;
+        crack_further(&mut self.inside, range);
         Ok(())
     }
 

@@ -1,7 +1,7 @@
 //! Random rows are put into a store of random rows, and taken out of it, all at once or one after the other: the result
 //! is the same.
-use crate::bulk::merged;
-use crate::carried::carried_by;
+use crate::bulk::{is_merged_in_bulk, merged};
+use crate::carried::{carried_by, is_carried_in_bulk};
 use crate::filled::pulled_by;
 use crate::script::assert_at;
 use std::alloc::Global;
@@ -29,7 +29,28 @@ fn noted_by(rt: &impl Abort, alloc: Global, way: Way, seed: u64, at_once: bool) 
     }
 }
 
-/// Where counts have the numbers of rows that were taken out and evicted.
+/// Whether the rows of a seed are carried in bulk, if they go at once.
+fn is_in_bulk(rt: &impl Abort, alloc: Global, way: Way, seed: u64) -> bool {
+    match way {
+        Way::Merge => is_merged_in_bulk(rt, alloc, seed),
+        Way::Carry => is_carried_in_bulk(rt, alloc, seed, false),
+        Way::CarryUnder => is_carried_in_bulk(rt, alloc, seed, true),
+        Way::Pull => false,
+    }
+}
+
+/// For how many of the seeds below this number they are.
+fn in_bulk(rt: &impl Abort, alloc: Global, way: Way, seeds: u64) -> u64 {
+    let mut count = 0u64;
+    for seed in 0..seeds {
+        count = count.saturating_add(u64::from(is_in_bulk(rt, alloc, way, seed)));
+    }
+    count
+}
+
+/// Where counts have the numbers of rows that were put in, taken out and evicted.
+const PUT_IN: usize = 0;
+
 const TAKEN_OUT: usize = 1;
 
 const EVICTED: usize = 2;
@@ -54,19 +75,20 @@ fn assert_alike(rt: &impl Abort, alloc: Global, way: Way, seeds: u64, place: usi
 
 #[test]
 fn carries_in_bulk_leave_what_one_after_the_other_leaves(rt: HostRuntime) {
-    assert_alike(&rt, rt.alloc(), Way::Merge, 2000, EVICTED);
+    let put_in = assert_alike(&rt, rt.alloc(), Way::Merge, 2000, PUT_IN);
+    assert!(rt; put_in > 1000 && in_bulk(&rt, rt.alloc(), Way::Merge, 2000) > 500);
 }
 
 #[test]
 fn carries_past_doomed_rows_leave_what_one_after_the_other_leaves(rt: HostRuntime) {
-    let evicted = assert_alike(&rt, rt.alloc(), Way::Carry, 2000, EVICTED);
-    assert!(rt; evicted == 0);
+    let put_in = assert_alike(&rt, rt.alloc(), Way::Carry, 2000, PUT_IN);
+    assert!(rt; put_in > 1000 && in_bulk(&rt, rt.alloc(), Way::Carry, 2000) > 500);
 }
 
 #[test]
 fn carries_under_a_ceiling_leave_what_one_after_the_other_leaves(rt: HostRuntime) {
     let evicted = assert_alike(&rt, rt.alloc(), Way::CarryUnder, 2000, EVICTED);
-    assert!(rt; evicted > 100);
+    assert!(rt; evicted > 100 && in_bulk(&rt, rt.alloc(), Way::CarryUnder, 2000) > 100);
 }
 
 #[test]

@@ -1,6 +1,7 @@
 //! Carries in bulk have the result of carrying one row after the other, in random stores.
 ghost use Rattle.std.specs.Prelude.{◌<◌, ◌≤◌};
 
+use crate::carried::carries_in_bulk;
 use crate::merge::{crack_between, merge_at, numbers_of};
 use crate::script::{admits, row};
 use crack_row::{KeyNumber, KeyRange, PieceSize, Policy};
@@ -145,8 +146,27 @@ pub(crate) fn note_counted(rt: &impl Abort, store: &Store, noted: &mut Vec<u64>)
     assert!(rt; noted.extend_from_slice(&numbers_of(store.tally())).is_ok());
 }
 
-/// Merges up to twelve rows of random keys into a store of random rows: all at once, or one after the other. Returns
-/// the counts and its contents then.
+/// Whether up to twelve rows of random keys are put into a store of random rows in bulk.
+pub(crate) fn is_merged_in_bulk(rt: &impl Abort, alloc: Global, seed: u64) -> bool {
+    let mut numbers = Numbers(seed);
+    let keys = numbers.below(60) + 1;
+    let mut store = some_store(rt, alloc, &mut numbers, keys);
+    let part = some_range(rt, &mut numbers, keys);
+    let whole = numbers.below(2) == 0;
+    let range = if whole { KeyRange::all() } else { part };
+    let rows = numbers.below(12);
+    'rows: for _ in 0..rows {
+        let key = numbers.below(keys);
+        insert(rt, &mut store, key);
+    }
+    crack_between(rt, &mut store, range);
+    let in_bulk = carries_in_bulk(rt, &mut store, range, None);
+    drop(store);
+    in_bulk
+}
+
+/// Merges the same rows into the same store: all at once, or one after the other. Returns the counts and its contents
+/// then.
 pub(crate) fn merged(rt: &impl Abort, alloc: Global, seed: u64, at_once: bool) -> Vec<u64> {
     let mut numbers = Numbers(seed);
     let keys = numbers.below(60) + 1;

@@ -121,16 +121,14 @@ pub(crate) fn noted_with_six_more(rt: &impl Abort, alloc: Global, store: Store) 
     noted
 }
 
-/// Carries pending insertions of random keys in a store of random rows, of which some may be doomed: all at once, or
-/// one after the other; under the ceiling at their range's end, or none. Returns the counts, and the contents of the
-/// store once it has six more rows.
-pub(crate) fn carried_by(
+/// A store of random rows, of which some may be doomed, with pending insertions of random keys, which are returned in
+/// their order; and a range whose insertions are to be carried, under the ceiling at its end, or none.
+fn with_some(
     rt: &impl Abort,
     alloc: Global,
     seed: u64,
-    at_once: bool,
     under: bool,
-) -> Vec<u64> {
+) -> (Store, KeyRange, Option<Bound>, Vec<u64>) {
     let mut numbers = Numbers(seed);
     let keys = numbers.below(60) + 1;
     let mut store = some_store(rt, alloc, &mut numbers, keys);
@@ -149,6 +147,48 @@ pub(crate) fn carried_by(
         crack_between(rt, &mut store, part);
     }
     let inserted = insert_some(rt, alloc, &mut store, &mut numbers, keys);
+    (store, range, ceiling, inserted)
+}
+
+/// Whether the insertions of such a store are carried in bulk.
+pub(crate) fn is_carried_in_bulk(rt: &impl Abort, alloc: Global, seed: u64, under: bool) -> bool {
+    let (mut store, range, ceiling, inserted) = with_some(rt, alloc, seed, under);
+    drop(inserted);
+    let in_bulk = carries_in_bulk(rt, &mut store, range, ceiling);
+    drop(store);
+    in_bulk
+}
+
+/// Carries the pending insertions of a range in bulk, under a ceiling or none; returns whether there were some, and it
+/// did so.
+pub(crate) fn carries_in_bulk(
+    rt: &impl Abort,
+    store: &mut Store,
+    range: KeyRange,
+    ceiling: Option<Bound>,
+) -> bool {
+    let Some(first) = store.first_in(range) else {
+        return false;
+    };
+    match ceiling {
+        Some(bound) => {
+            assert!(rt; range.high() <= bound);
+            store.carry_under(range, first, bound)
+        }
+        None => store.carry_in_bulk(range, first),
+    }
+}
+
+/// Carries the insertions of such a store: all at once, or one after the other. Returns the counts, and the contents of
+/// the store once it has six more rows.
+pub(crate) fn carried_by(
+    rt: &impl Abort,
+    alloc: Global,
+    seed: u64,
+    at_once: bool,
+    under: bool,
+) -> Vec<u64> {
+    let (store, range, ceiling, inserted) = with_some(rt, alloc, seed, under);
     let store = if at_once {
         carried(rt, store, range, ceiling)
     } else {

@@ -13,7 +13,11 @@ mod gates;
 #[cfg(test)]
 mod gatherings;
 #[cfg(test)]
+mod lines;
+#[cfg(test)]
 mod loads;
+#[cfg(test)]
+mod locks;
 #[cfg(test)]
 mod memory;
 #[cfg(test)]

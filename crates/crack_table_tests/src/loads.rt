@@ -2,7 +2,7 @@
 use crate::values::{ONE, TEN, assert_totals, open};
 use crack_csv::{LoadFault, load_csv};
 use crack_failing::{ONE_BYTE, Source};
-use crack_row::{Policy, Refusal};
+use crack_row::{Policy, Refusal, Watched};
 use crack_table::OpenGate;
 use crack_worker_desk::WorkerDesk;
 use std::alloc::Global;
@@ -53,7 +53,7 @@ fn assert_load<R: Wait + Abort>(
     let worker = workers.pop().expect(rt, "a worker");
     let mut desk = WorkerDesk::new(rt, &table, &OpenGate, worker);
     let source = Source::new(bytes).cut(ONE_BYTE);
-    let ended = load_csv(alloc, &mut desk, Policy::Ripple, source);
+    let (ended, _reader) = load_csv(alloc, &mut desk, Policy::Ripple, Watched::new(source));
     assert!(rt; workers.push(desk.into_worker()).is_ok());
     assert!(rt; ended == wanted, "{} bytes", bytes.len());
     assert_totals(rt, alloc, table, workers, [loaded, loaded, 0, loaded]);

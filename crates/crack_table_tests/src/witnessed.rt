@@ -4,9 +4,11 @@ ghost use Rattle.crack_witness.specs.Histories.{AreEmpty};
 ghost use Rattle.crack_witness.specs.Witnesses.{AskerState, AreNames};
 
 use crate::gates::{Listing, Visitors};
+use crate::lines::assert_lines;
+use crate::locks::{assert_order, assert_released};
 use crate::values::{TWO, bounds, insert};
 use crack_core::{Book, Receipt};
-use crack_row::{Command, Limits, Policy, Refusal, Reply, Serial};
+use crack_row::{Command, Limits, Policy, Refusal, Reply, Serial, Upkeep};
 use crack_table::{Gate, OpenGate};
 use crack_witness::{Asker, Naming};
 use crack_witness_table::{
@@ -27,21 +29,34 @@ enum Way {
     Missing,
     /// A second worker of one number asks.
     Twin,
+    /// Only a second worker of one number asks, and the first one is gathered.
+    Stranger,
     /// Two workers ask on threads of their own.
     Threads,
     /// A worker with a book is audited.
     Audited,
     /// Layouts and checkpoints of both partitions are requested.
     Parts,
+    /// A worker serves a session.
+    Session,
+    /// Two workers are let into one partition in turn.
+    Order { is_audited: bool },
+    /// A gate looks at partitions whose checkpoints were due.
+    Notes,
 }
 
 /// What happens at a table whose histories may have so many entries, and which has so many workers.
 const WAYS: &[(Way, u64, u64)] = &[
     (Way::Missing, 10, 2),
     (Way::Twin, 10, 1),
+    (Way::Stranger, 10, 1),
     (Way::Threads, 100000, 2),
     (Way::Audited, 10, 1),
     (Way::Parts, 10, 1),
+    (Way::Session, 10, 2),
+    (Way::Order { is_audited: false }, 100000, 2),
+    (Way::Order { is_audited: true }, 100000, 2),
+    (Way::Notes, 1, 2),
 ];
 
 #[test]
@@ -50,8 +65,20 @@ fn witnessed_workers_are_gathered_or_refused(rt: HostRuntime) {
     'ways: for place in 0..WAYS.len() {
         let (way, history, workers) = WAYS[place];
         let splits = bounds(&rt, alloc, TWO);
-        let opened = UnnamedTable::open(alloc, &splits, Limits::of_history(history), workers);
+        let limits = Limits {
+            upkeep: upkeep_of(way),
+            ..Limits::of_history(history)
+        };
+        let opened = UnnamedTable::open(alloc, &splits, limits, workers);
         assert_way::<Brand, _>(&rt, alloc, opened.expect(&rt, "a table"), way);
+    }
+}
+
+/// Checkpoints are automatic if a gate takes note of them.
+fn upkeep_of(way: Way) -> Upkeep {
+    match way {
+        Way::Notes => Upkeep::Automatic,
+        _ => Upkeep::OnRequest,
     }
 }
 
@@ -70,12 +97,16 @@ fn assert_way<J: Naming + Send + Sync, R: Threads + Wait + Abort + Sync>(
             ask_with_twin(rt, alloc, &table, &mut workers);
             assert_totals(rt, alloc, table, workers, Err(strange_at(1)));
         }
+        Way::Stranger => refuse_stranger(rt, alloc, table, workers),
         Way::Threads => work_on_threads(rt, alloc, table, workers),
         Way::Audited => audit_one(rt, alloc, table, workers),
         Way::Parts => {
             assert_parts(rt, &table, &mut workers);
             assert_totals(rt, alloc, table, workers, Ok([3, 3, 0, 3]));
         }
+        Way::Session => assert_lines(rt, alloc, table, workers),
+        Way::Order { is_audited } => assert_order(rt, alloc, table, workers, is_audited),
+        Way::Notes => assert_released(rt, alloc, table, workers),
     }
 }
 
@@ -140,6 +171,34 @@ fn refuse_missing<J: Naming, R: Wait + Abort>(
     assert!(rt; workers.push(second).is_ok());
     assert!(rt; refusal == Refusal::WorkersMissing { missing: 2 });
     assert_totals(rt, alloc, table, workers, Ok([1, 1, 0, 1]));
+}
+
+/// The only worker of a table, which has asked nothing, is refused if a second one of its number asked. Table and
+/// worker are handed back, no checkpoint was made, and the table is gathered with the second one.
+fn refuse_stranger<J: Naming, R: Wait + Abort>(
+    rt: &R,
+    alloc: Global,
+    table: WitnessedTable<J>,
+    workers: Vec<Asker<J>>,
+)
+    requires { (place : ℕ) (a : AskerState) → slice_get workers.items place ≡ Some a → AreEmpty a.seen }
+{
+    let first = workers.first().expect(rt, "a worker");
+    let made = Asker::new(alloc, first.number(), first.front().again(), 2);
+    let mut twin = made.expect(rt, "a twin");
+    let one = ask(rt, &table, &mut twin, 0, insert(7));
+    let two = ask(rt, &table, &mut twin, 0, insert(8));
+    assert!(rt; one.is_ok() && two.is_ok());
+    let refused = gather(alloc, table, workers).err().expect(rt, "a refusal");
+    let GatherRefused {
+        refusal,
+        table,
+        askers: mut workers,
+    } = refused;
+    drop(workers.pop());
+    assert!(rt; refusal == strange_at(0) && table.checkpoint(rt, 0) == Ok(2));
+    assert!(rt; workers.push(twin).is_ok());
+    assert_totals(rt, alloc, table, workers, Ok([2, 2, 0, 2]));
 }
 
 /// The first of some workers, which have asked nothing, and a second one of its number ask a table.

@@ -1,5 +1,5 @@
 -- What contracts see of an opened book, and of witnessed partitions.
-use Rattle.std.specs.Prelude.{◌≡◌, ◌≢◌, ℕ, ◌+◌, ◌<◌, ◌≤◌, ◌⊎◌, List, [], ◌∷◌, ◌++◌, length, sum_by, take, All, Any, AllPairs, Some, slice_index_or}
+use Rattle.std.specs.Prelude.{◌≡◌, ◌≢◌, ℕ, ◌+◌, ◌<◌, ◌≤◌, ◌⊎◌, List, [], ◌∷◌, ◌++◌, length, sum_by, take, All, Any, AllPairs, Some, slice_index_or, replicate}
 use mathlib.Core.List.{IsPrefix}
 use Rattle.logbook.specs.Pages.{Book}
 use Rattle.crack_row.specs.declared.command.Entry.{Entry}
@@ -9,7 +9,7 @@ use Rattle.crack_row.specs.declared.refusal.Refusal.TheVariants.{NoSuchPartition
 use Rattle.crack_part.specs.Parts.{Part}
 use Rattle.crack_part.specs.Refusals.{refusal_of}
 use Rattle.crack_witness.specs.declared.event.Event.{Event}
-use Rattle.crack_witness.specs.Histories.{history_of, calls_by, calls_at, AreHistories, IsPastOf}
+use Rattle.crack_witness.specs.Histories.{history_of, calls_by, calls_at, AreHistories, AreEmpty, IsPastOf}
 
 -- a book, and the number of each owner in it
 pub record OpenedState : Type 0 where
@@ -75,6 +75,13 @@ pub record AskerState : Type 0 where
   pub seen : List Event
   pub fronts : List (List Event)
   pub counts : List ℕ
+
+-- a worker with this number that has seen nothing of this many partitions, and has received no reply from any of them
+pub record IsNewAsker (number parts : ℕ) (a : AskerState) : Type 0 where
+  pub worker_is : a.worker ≡ number
+  pub unseen : AreEmpty a.seen
+  pub fronts_are : a.fronts ≡ replicate parts a.seen
+  pub counts_are : a.counts ≡ replicate parts 0
 
 -- the partition's history, as far as it is now seen, ends with the entry, and all that was seen of it before precedes that
 pub record IsGiven (owner : ℕ → ℕ) (part : ℕ) (entry : Entry) (old new : List Event) : Type 0 where

@@ -9,8 +9,8 @@ ghost use Rattle.crack_part.specs.Parts.{state_of};
 ghost use Rattle.crack_part.specs.Upkeep.{upkept};
 ghost use Rattle.crack_part.specs.Refusals.{refusal_of};
 ghost use Rattle.crack_witness.specs.Histories.{history_of, calls_at, AreHistories, AreEmpty};
-ghost use Rattle.crack_witness.specs.Witnesses.{IsInStep, IsGiven, HasJustItsOwn, Knows, MayRefuseAt, replies_at};
-ghost use Rattle.crack_witness.specs.Witnesses.{replies_to};
+ghost use Rattle.crack_witness.specs.Witnesses.{IsInStep, IsGiven, HasJustItsOwn, IsNewAsker, Knows, MayRefuseAt};
+ghost use Rattle.crack_witness.specs.Witnesses.{replies_at, replies_to};
 
 use crate::opening::Naming;
 use crate::scribe::Front;
@@ -70,7 +70,8 @@ impl<J: Naming> Asker<J> {
     ) -> Result<Asker<J>, AllocError>
         requires empty { AreEmpty front }
         requires few { parts ≤ 64 }
-        ensures ok { IfOk result (λ a. (a.worker ≡ number) × (a.seen ≡ front) × (length a.fronts ≡ parts)) }
+        ensures seen { IfOk result (λ a. a.seen ≡ front) }
+        ensures new { IfOk result (IsNewAsker number parts) }
         ensures none { IfOk result (λ a. replies_to a ≡ 0) }
     {
         let counts = vec![in alloc; 0u64; parts]?;

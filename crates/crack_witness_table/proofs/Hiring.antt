@@ -1,9 +1,8 @@
 -- New workers, and the partitions that they are to ask.
-use Rattle.std.proofs.Common.{◌≡◌, ◌+◌, ℕ, zero, suc, List, [], ◌∷◌, ◌++◌, length, Some, refl, ap, sym, ◌∙◌, subst, arith, length-append}
+use Rattle.std.proofs.Common.{◌≡◌, ◌+◌, ℕ, zero, suc, List, [], ◌∷◌, ◌++◌, length, Some, refl, ap, sym, subst, arith, length-append}
 use Rattle.std.specs.List.{slice_get}
 use Rattle.crack_part.specs.Parts.{Part}
-use Rattle.crack_witness.specs.Histories.{AreEmpty}
-use Rattle.crack_witness.specs.Witnesses.{AskerState, WitnessedState, AreNewFrom}
+use Rattle.crack_witness.specs.Witnesses.{AskerState, WitnessedState, AreNewFrom, IsNewAsker}
 use Rattle.crack_witness_table.specs.Opening.{AreNewAskers}
 
 -- what holds of each place holds of one more
@@ -13,10 +12,10 @@ push_each P [] y old new (suc k) x is = absurd (cc is)
 push_each P (z ∷ zs) y old new zero x is = old zero x is
 push_each {X} P (z ∷ zs) y old new (suc k) x is = push_each (λ (n : ℕ) (v : X). P (suc n) v) zs y (λ j v e. old (suc j) v e) new k x is
 
-pub new_more : (n parts : ℕ) (askers : List AskerState) (a : AskerState) → AreNewAskers n parts askers → a.worker ≡ n → length a.fronts ≡ parts → AreEmpty a.seen → AreNewAskers (n + 1) parts (askers ++ a ∷ [])
-new_more n parts askers a old number fronts empty = record {
+pub new_more : (n parts : ℕ) (askers : List AskerState) (a : AskerState) → AreNewAskers n parts askers → IsNewAsker n parts a → AreNewAskers (n + 1) parts (askers ++ a ∷ [])
+new_more n parts askers a old new = record {
   count = omega (arith, old.count, length-append askers (a ∷ []));
-  numbered = push_each (λ (k : ℕ) (x : AskerState). (x.worker ≡ k) × (length x.fronts ≡ parts) × AreEmpty x.seen) askers a old.numbered (number ∙ sym old.count, fronts, empty);
+  numbered = push_each (λ (k : ℕ) (x : AskerState). IsNewAsker k parts x) askers a old.numbered (subst (λ (k : ℕ). IsNewAsker k parts a) (sym old.count) new);
 }
 
 -- as many partitions are witnessed as there are

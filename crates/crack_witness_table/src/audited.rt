@@ -1,5 +1,5 @@
 //! Workers of a table that witnesses its replies, with receipts for an audit.
-ghost use Rattle.std.specs.Prelude.{◌≡◌, []};
+ghost use Rattle.std.specs.Prelude.{◌≡◌, ◌<◌, []};
 ghost use Rattle.crack_witness_table.specs.Audit.{AsksAudited};
 
 use crate::asking::{ask_behind, with_table_limit};
@@ -8,10 +8,10 @@ use crack_core::Book;
 use crack_row::{Command, Policy, Refusal, Reply};
 use crack_table::Gate;
 use crack_table::worker::note_folded;
-use crack_witness::{Asker, Naming};
+use crack_witness::{Asker, Naming, Witnessed};
 use std::alloc::Global;
 use std::marker::Model;
-use std::sync::Wait;
+use std::sync::{Mutex, MutexGuard, Wait};
 
 /// A worker of a table that witnesses its replies, with a book of receipts. Contracts see both; the book has the
 /// worker's number.
@@ -85,7 +85,7 @@ impl<J: Naming> AuditedAsker<J> {
             return Err(Refusal::NoSuchPartition);
         };
         self.book.reserve()?;
-        let mut witnessed = lock.lock(rt);
+        let mut witnessed = lock_with_room(rt, lock, &self.book);
         let position = witnessed.partition().accepted();
         let kept = command;
         let mut folded = 0;
@@ -105,4 +105,17 @@ impl<J: Naming> AuditedAsker<J> {
         self.book.keep(part, position, kept, copy);
         Ok(reply)
     }
+}
+
+/// Takes a partition's lock, which it may wait for, for a worker whose book has room for the receipt.
+#[inline(always)]
+fn lock_with_room<'a, R: Wait, J: Naming>(
+    rt: &R,
+    lock: &'a Mutex<Witnessed<J>>,
+    book: &Book,
+) -> MutexGuard<'a, Witnessed<J>>
+    requires room { 0 < book.now.room }
+{
+    let _book = book;
+    lock.lock(rt)
 }

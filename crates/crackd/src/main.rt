@@ -75,7 +75,9 @@ fn csv(rt: &HostRuntime, opening: &Opening) -> Result<(), Refusal> {
 
 /// Loads standard input into a core, and writes the core's rows to standard output.
 fn copy_csv(rt: &HostRuntime, core: &mut Core, policy: Policy) -> Result<(), Refusal> {
-    if let Err(fault) = load_csv(rt.alloc(), core, policy, rt.stdin()) {
+    let (loaded, reader) = load_csv(rt.alloc(), core, policy, Watched::new(rt.stdin()));
+    drop(reader);
+    if let Err(fault) = loaded {
         return Err(fault.refusal);
     }
     let mut writer = Watched::new(rt.stdout());

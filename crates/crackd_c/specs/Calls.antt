@@ -1,5 +1,5 @@
 -- The meaning of calls from C.
-use Rattle.std.specs.Prelude.{◌≡◌, ◌⊎◌, ◌<◌, ◌≤◌, ℕ, ◌==◌, true, false, All, List, map, length, Option, None, Some, IsSome, MatchOption, Result, MatchResult, slice_get, slice_index_or, if◌then◌else◌}
+use Rattle.std.specs.Prelude.{◌≡◌, ◌⊎◌, ◌<◌, ◌≤◌, ℕ, ◌==◌, true, false, All, List, map, length, Option, None, Some, IfOk, OnOk, OnErr, MatchOption, Result, MatchResult, slice_get, slice_index_or, if◌then◌else◌}
 use Rattle.std.specs.List.{AllByRecursion}
 use Rattle.std.specs.Option.{option_map_or}
 use Rattle.crack_row.specs.Refusals.{code_of}
@@ -13,12 +13,10 @@ use Rattle.crack_row.specs.declared.limit.Limits.{Limits}
 use Rattle.crack_row.specs.declared.refusal.Refusal.{Refusal}
 use Rattle.crack_row.specs.declared.refusal.Refusal.TheVariants.{OutOfMemory}
 use Rattle.crack_plain.specs.Past.{no_past}
-use Rattle.crack_plain.specs.Plain.{PlainView, checkpointed}
+use Rattle.crack_plain.specs.Plain.{checkpointed}
 use Rattle.crack_store.specs.Inside.{IsLayoutOf}
 use Rattle.crack_part.specs.Parts.{Part}
-use Rattle.crack_core.specs.Asking.{lasting}
 use Rattle.crack_core.specs.Bulk.{NumberedCall, Went}
-use Rattle.crack_core.specs.Cores.{CoreState}
 use Rattle.crack_core.specs.Jobs.{IsFoldedAt}
 use Rattle.crack_core.specs.Opening.{opening_fault, MayFault}
 use Rattle.crack_core.specs.Routes.{keys_of_part}
@@ -49,10 +47,6 @@ status_of refusal = option_map_or code_of refusal 0
 abbrev pub bounds_at : List ℕ → List Bound
 bounds_at splits = map (λ (split : ℕ). record { 0 = split }) splits
 
--- the plain rows of a table, as checkpoints leave them
-abbrev pub rows_of : CoreState → List PlainView
-rows_of core = lasting (tables_of core.parts)
-
 -- a handle still holds its table, which has the splits and the limits that it was opened with
 abbrev pub StaysOpen : Handle → Handle → Type 0
 StaysOpen old new = (new.is_open ≡ true) × (new.core.splits ≡ old.core.splits) × (new.core.limits ≡ old.core.limits)
@@ -71,31 +65,27 @@ OnLists count lengths Made old new status unwritten =
     ((AllByRecursion (λ n. n ≡ count) lengths → ⊥) → Declines old new status unwritten LENGTHS_DIFFER) × (AllByRecursion (λ n. n ≡ count) lengths → Made old new status unwritten)
 
 -- a call by the policy with a number: it isn't made if there is none
-abbrev pub ByPolicy : ℕ → (Handle → Handle → ℕ → Type 0 → Type 0) → Handle → Handle → ℕ → Type 0 → Type 0
-ByPolicy number Made old new status unwritten = (policy_at number ≡ None → Declines old new status unwritten NO_SUCH_POLICY) × (IsSome (policy_at number) → Made old new status unwritten)
+abbrev pub ByPolicy : ℕ → (Policy → Handle → Handle → ℕ → Type 0 → Type 0) → Handle → Handle → ℕ → Type 0 → Type 0
+ByPolicy number Made old new status unwritten = MatchOption (policy_at number) (Declines old new status unwritten NO_SUCH_POLICY) (λ policy. Made policy old new status unwritten)
 
--- the outcome of a call on a table, which stays open, follows from its limits, splits and rows: its status is 0, and this is written; or it is
+-- the outcome of a call on a table, which stays open, follows from its limits, splits and partitions: its status is 0, and this is written; or it is
 -- the number of a refusal, and nothing is
-abbrev pub ComesOut : {X : Type 0} → (Limits → List Bound → Result X Refusal → List PlainView → List PlainView → Type 0) → (X → Type 0) → Handle → Handle → ℕ → Type 0 → Type 0
-ComesOut {X} Asks Writes old new status unwritten = StaysOpen old new × ((outcome : Result X Refusal) × Asks old.core.limits old.core.splits outcome (rows_of old.core) (rows_of new.core) × MatchResult outcome (λ x. (status ≡ 0) × Writes x) (λ e. (status ≡ code_of e) × unwritten))
+abbrev pub ComesOut : {X : Type 0} → (Limits → List Bound → Result X Refusal → List Part → List Part → Type 0) → (X → Type 0) → Handle → Handle → ℕ → Type 0 → Type 0
+ComesOut {X} Asks Writes old new status unwritten = StaysOpen old new × ((outcome : Result X Refusal) × Asks old.core.limits old.core.splits outcome old.core.parts new.core.parts × MatchResult outcome (λ x. (status ≡ 0) × Writes x) (λ e. (status ≡ code_of e) × unwritten))
 
 -- the result of a list of this many calls on a table: its status is 0, or the number of the refusal at which it stopped, and this many calls were
 -- answered
 abbrev pub GoesOn : (Limits → List Bound → NumberedCall) → ℕ → ℕ → Handle → Handle → ℕ → Type 0 → Type 0
-GoesOn call count done old new status unwritten = StaysOpen old new × ((progress : Progress) × (status ≡ status_of progress.refusal) × (done ≡ progress.done) × Went (call old.core.limits old.core.splits) count (rows_of old.core) progress (rows_of new.core))
+GoesOn call count done old new status unwritten = StaysOpen old new × ((progress : Progress) × (status ≡ status_of progress.refusal) × (done ≡ progress.done) × Went (call old.core.limits old.core.splits) count old.core.parts progress new.core.parts)
 
--- a layout is that of the store of the partition with this number
-abbrev pub IsLayoutAt : List Part → ℕ → Layout → Type 0
-IsLayoutAt parts part layout = (p : Part) → slice_get parts part ≡ Some p → IsLayoutOf p.store layout
-
--- a partition's layout is written, or why there is none, and the table is as it was
+-- the layout of a partition's store is written, or why there is none, and the table is as it was
 abbrev pub Shows : ℕ → Totals → List ℕ → List ℕ → Handle → Handle → ℕ → Type 0 → Type 0
-Shows part totals lows sizes old new status unwritten = (new.is_open ≡ true) × (new.core ≡ old.core) × ((outcome : Result Layout Refusal) × IsLayoutOutcome (keys_of_part old.core.splits part) (slice_get (tables_of old.core.parts) part) outcome × MatchResult outcome (λ layout. IsLayoutAt old.core.parts part layout × (status ≡ 0) × (totals ≡ totals_in layout) × PiecesIn layout.pieces lows sizes) (λ e. (status ≡ code_of e) × unwritten))
+Shows part totals lows sizes old new status unwritten = (new.is_open ≡ true) × (new.core ≡ old.core) × ((outcome : Result Layout Refusal) × IsLayoutOutcome (keys_of_part old.core.splits part) (slice_get (tables_of old.core.parts) part) outcome × IfOk outcome (λ layout. (p : Part) → slice_get old.core.parts part ≡ Some p → IsLayoutOf p.store layout) × MatchResult outcome (λ layout. (status ≡ 0) × (totals ≡ totals_in layout) × PiecesIn layout.pieces lows sizes) (λ e. (status ≡ code_of e) × unwritten))
 
--- a checkpoint of a partition is made, which leaves its store and all other partitions as they were, and how many entries its history had is written;
--- or the table is as it was
+-- a checkpoint of a partition is made, which leaves its store and the other partitions as they were, and how many entries its history had is written;
+-- or it is refused, and the table is as it was
 abbrev pub FoldsOne : ℕ → ℕ → Handle → Handle → ℕ → Type 0 → Type 0
-FoldsOne part folded old new status unwritten = StaysOpen old new × ((outcome : Result ℕ Refusal) × IsFoldOutcome (slice_get (tables_of old.core.parts) part) outcome × (tables_of new.core.parts ≡ changed_at checkpointed (tables_of old.core.parts) part outcome) × MatchResult outcome (λ count. IsFoldedAt part old.core.parts new.core.parts × (status ≡ 0) × (folded ≡ count)) (λ e. (new.core ≡ old.core) × (status ≡ code_of e) × unwritten))
+FoldsOne part folded old new status unwritten = StaysOpen old new × ((outcome : Result ℕ Refusal) × IsFoldOutcome (slice_get (tables_of old.core.parts) part) outcome × (tables_of new.core.parts ≡ changed_at checkpointed (tables_of old.core.parts) part outcome) × OnOk outcome (IsFoldedAt part old.core.parts new.core.parts) × OnErr outcome (new.core ≡ old.core) × MatchResult outcome (λ count. (status ≡ 0) × (folded ≡ count)) (λ e. (status ≡ code_of e) × unwritten))
 
 -- a handle holds a table that was just opened
 abbrev pub IsFresh : Handle → List ℕ → Limits → Type 0

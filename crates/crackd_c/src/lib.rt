@@ -177,8 +177,8 @@ pub extern "C" fn crackd_count(
     last: u64,
     count: &mut u64,
 ) -> u32
-    ensures counts { OnTable handle.old handle.new result (count.new ≡ count.old) (ByPolicy policy (ComesOut (λ limits
-        splits. OverKeys (Counts limits splits) first last) (λ rows. count.new ≡ rows))) }
+    ensures counts { OnTable handle.old handle.new result (count.new ≡ count.old) (ByPolicy policy (λ policy. ComesOut
+        (λ limits splits. OverKeys (Counts limits splits policy) first last) (λ rows. count.new ≡ rows))) }
 {
     if !handle.is_open() {
         return CLOSED;
@@ -207,7 +207,8 @@ pub extern "C" fn crackd_sum(
     high: &mut i64,
 ) -> u32
     ensures sums { OnTable handle.old handle.new result ((low.new ≡ low.old) × (high.new ≡ high.old)) (ByPolicy policy
-        (ComesOut (λ limits splits. OverKeys (Sums limits splits) first last) (λ s. of_halves low.new high.new ≡ s))) }
+        (λ policy. ComesOut (λ limits splits. OverKeys (Sums limits splits policy) first last) (λ s.
+        of_halves low.new high.new ≡ s))) }
 {
     if !handle.is_open() {
         return CLOSED;
@@ -242,9 +243,9 @@ pub extern "C" fn crackd_select(
 ) -> u32
     ensures selects { OnTable handle.old handle.new result ((parts.new ≡ parts.old) × (serials.new ≡ serials.old) ×
         (keys.new ≡ keys.old) × (payloads.new ≡ payloads.old) × (found.new ≡ found.old)) (OnLists (length parts.old)
-        (length serials.old ∷ length keys.old ∷ length payloads.old ∷ []) (ByPolicy policy (ComesOut (λ limits splits.
-        OverKeys (Selects limits splits parts.new serials.new keys.new payloads.new) first last) (λ rows. found.new ≡
-        rows)))) }
+        (length serials.old ∷ length keys.old ∷ length payloads.old ∷ []) (ByPolicy policy (λ policy. ComesOut (λ limits
+        splits. OverKeys (Selects limits splits policy parts.new serials.new keys.new payloads.new) first last)
+        (λ rows. found.new ≡ rows)))) }
 {
     if !handle.is_open() {
         return CLOSED;
@@ -420,8 +421,8 @@ pub extern "C" fn crackd_count_many(
     done: &mut u64,
 ) -> u32
     ensures counts { OnTable handle.old handle.new result ((counts.new ≡ counts.old) × (done.new ≡ done.old)) (OnLists
-        (length firsts.now) (length lasts.now ∷ length counts.old ∷ []) (ByPolicy policy (GoesOn (λ limits splits.
-        CountsAt limits splits firsts.now lasts.now counts.new) (length firsts.now) done.new))) }
+        (length firsts.now) (length lasts.now ∷ length counts.old ∷ []) (ByPolicy policy (λ policy. GoesOn (λ limits
+        splits. CountsAt limits splits policy firsts.now lasts.now counts.new) (length firsts.now) done.new))) }
 {
     if !handle.is_open() {
         return CLOSED;
@@ -451,8 +452,8 @@ pub extern "C" fn crackd_sum_many(
 ) -> u32
     ensures sums { OnTable handle.old handle.new result ((lows.new ≡ lows.old) × (highs.new ≡ highs.old) × (done.new ≡
         done.old)) (OnLists (length firsts.now) (length lasts.now ∷ length lows.old ∷ length highs.old ∷ []) (ByPolicy
-        policy (GoesOn (λ limits splits. SumsAt limits splits firsts.now lasts.now lows.new highs.new) (length
-        firsts.now) done.new))) }
+        policy (λ policy. GoesOn (λ limits splits. SumsAt limits splits policy firsts.now lasts.now lows.new highs.new)
+        (length firsts.now) done.new))) }
 {
     if !handle.is_open() {
         return CLOSED;

@@ -20,7 +20,7 @@ from ..layout import rows_text
 from ..server import NoServer, find_program
 from . import modes, typing
 from .child import Interrupts, Server, channel_to
-from .session import POLICY, Records, Session
+from .session import HTTP, POLICY, Records, Reply, Session
 from .texts import GREATEST_KEY, HELP, Ended, Fault, Interrupted, Left, complain, fault_text, in_words, time_text
 
 PROMPT = "crackd> "
@@ -141,7 +141,9 @@ class Shell:
         complain(text)
 
     def statement(self, statement):
-        reply = self.session.ask(with_ends(statement))
+        # (a line at which the server would end the session isn't sent)
+        is_http = HTTP.match(statement[:MOST_LINE_BYTES])
+        reply = Reply(["refused 1"], 0.0) if is_http else self.session.ask(with_ends(statement))
         self.answered += 1
         self.refused += reply.is_refusal
         self.faults += reply.is_refusal

@@ -19,6 +19,8 @@ KEY = re.compile(f"[0-9]{{1,{MOST_DIGITS}}}")
 PAYLOAD = re.compile(f"-?{KEY.pattern}")
 # the first lines of replies that have more, and how many more
 LISTED = re.compile("(?:rows|layout .* pieces) ([0-9]+)")
+# how a line of an HTTP request begins, at which a server ends the session: a method, or a header
+HTTP = re.compile(rb" *(?:(?:GET|POST|HEAD|PUT|DELETE|OPTIONS|CONNECT|TRACE|PATCH)(?: |\Z)|[0-9A-Za-z-]+:)")
 # a load sends this many rows at once, and goes on while at most this many are unanswered
 ROWS_AT_ONCE = 2000
 ROWS_UNANSWERED = 20_000

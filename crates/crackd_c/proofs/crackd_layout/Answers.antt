@@ -3,4 +3,4 @@ use Rattle.std.specs.Prelude.{Err}
 use Rattle.crackd_c.proofs.crackd_layout.Goals as goal
 
 pub returns-in-Err : goal.returns-in-Err
-returns-in-Err c = record { shows = (search rules, λ is_open. (search rules, λ are_equal. (search rules, search rules, (Err c.in-Err.refusal, search rules, search rules)))) }
+returns-in-Err c = record { shows = (search rules, λ is_open. (search rules, λ are_equal. (search rules, search rules, (Err c.in-Err.refusal, search rules, search rules, search rules)))) }

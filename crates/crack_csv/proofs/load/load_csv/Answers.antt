@@ -1,100 +1,42 @@
-use Rattle.std.proofs.Common.{◌∙◌, sym, ap, refl, inl, inr, arith}
+use Rattle.std.proofs.Common.{◌∙◌, ap, inr, Result, Ok, Err, IfOk, IfErr}
 use Rattle.csv.specs.Reading.{builder_config, builder_is_flexible, builder_names_headers, builder_trim}
-use Rattle.csv.specs.Records.{fields_of}
-use Rattle.crack_row.specs.declared.refusal.Refusal.TheVariants.{ReadFault}
-use Rattle.crack_csv.proofs.Inserting.{Inserting-start, Inserting-header, Inserting-row, Inserting-end, Inserting-unread, Inserting-refused}
-use Rattle.crack_csv.proofs.Loading.{Going-start, Going-header, Going-row, Going-end, Going-unread, Going-refused}
 use Rattle.crack_csv.proofs.load.load_csv.Goals as goal
 
-pub records-init : goal.records-init
-records-init g c =
+-- what follows from an outcome holds of it
+ok-from : {A E : Type 0} (P Q : A → Type 0) (r : Result A E) → IfOk r P → ((x : A) → P x → Q x) → IfOk r Q
+ok-from P Q (Ok x) is follows = follows x is
+ok-from P Q (Err e) is follows = tt
+
+err-from : {A E : Type 0} (P Q : E → Type 0) (r : Result A E) → IfErr r P → ((e : E) → P e → Q e) → IfErr r Q
+err-from P Q (Ok x) is follows = tt
+err-from P Q (Err e) is follows = follows e is
+
+pub load_records-ended-requires-clause-ready : goal.load_records-ended-requires-clause-ready
+load_records-ended-requires-clause-ready g c =
     let from = c.from_reader-source.ensures in
     let flexible = c.flexible.ensures in
     let none = c.has_headers.ensures in
     record {
-      going = λ bytes tables e f. Going-start _ _ _ _ tables bytes _ (rw e at from.source) from.state f;
-      inserting = λ bytes e. Inserting-start _ g.D.Desk.leads _ _ bytes _ _ (rw e at from.source) from.state;
-      ready = record {
-        config = from.config ∙ ap builder_config flexible ∙ ap builder_config none ∙ c.new.ensures.config;
-        trim = from.trim ∙ ap builder_trim flexible ∙ ap builder_trim none ∙ c.new.ensures.trim;
-        flexible = from.flexible ∙ ap builder_is_flexible flexible;
-        ready = inr (inr (from.has_headers ∙ ap builder_names_headers flexible ∙ ap builder_names_headers none, from.headers));
-      };
-      few = omega arith;
-      accepted = omega arith;
-      splits = refl;
-      bounds = refl;
+      config = from.config ∙ ap builder_config flexible ∙ ap builder_config none ∙ c.new.ensures.config;
+      trim = from.trim ∙ ap builder_trim flexible ∙ ap builder_trim none ∙ c.new.ensures.trim;
+      flexible = from.flexible ∙ ap builder_is_flexible flexible;
+      ready = inr (inr (from.has_headers ∙ ap builder_names_headers flexible ∙ ap builder_names_headers none, from.headers));
     }
 
-pub returns-in-Ok-false-clause-loaded : goal.returns-in-Ok-false-clause-loaded
-returns-in-Ok-false-clause-loaded g c = λ bytes tables e f.
-    Going-end (c.records.invariant.going bytes tables e f) (c.in-Ok-false.ensures.end c.in-Ok-false.field-0-test)
+pub load_records-ended-requires-clause-start : goal.load_records-ended-requires-clause-start
+load_records-ended-requires-clause-start g c = c.from_reader-source.ensures.state
 
-pub returns-in-Err-clause-cut_short : goal.returns-in-Err-clause-cut_short
-returns-in-Err-clause-cut_short g c = λ bytes tables e f.
-    Going-unread c.in-Err.refusal (c.records.invariant.going bytes tables e f) c.in-Err.ensures.err
-
-pub records-preserved-then-is_header_at : goal.records-preserved-then-is_header_at
-records-preserved-then-is_header_at g c = record {
-  going = λ bytes tables e f. Going-header c.read_next.new.reader (fields_of c.read_next.new.fields) (c.records.invariant.going bytes tables e f)
-      (c.in-Ok-true.ensures.more c.in-Ok-true.field-0-test) (sym c.is_header_at.ensures ∙ c.if-is_header_at.true);
-  inserting = λ bytes e. Inserting-header _ _ _ _ bytes _ c.read_next.new.reader (fields_of c.read_next.new.fields) (c.records.invariant.inserting bytes e)
-      (c.in-Ok-true.ensures.more c.in-Ok-true.field-0-test) (sym c.is_header_at.ensures ∙ c.if-is_header_at.true);
-  ready = c.in-Ok-true.ensures.ready c.in-Ok-true.field-0-test;
-  few = c.records.invariant.few;
-  accepted = c.records.invariant.accepted;
-  splits = c.records.invariant.splits;
-  bounds = c.records.invariant.bounds;
-}
-
-pub returns-then-loaded-eq-MOST_RECORDS-clause-cut_short : goal.returns-then-loaded-eq-MOST_RECORDS-clause-cut_short
-returns-then-loaded-eq-MOST_RECORDS-clause-cut_short g c = λ bytes tables e f.
-    Going-refused ReadFault c.read_next.new.reader (fields_of c.read_next.new.fields) _ (c.records.invariant.going bytes tables e f)
-    (c.in-Ok-true.ensures.more c.in-Ok-true.field-0-test) (sym c.is_header_at.ensures ∙ c.if-is_header_at.false)
-    (λ known h. h) (λ known h. inl (let all = c.if-loaded-eq-MOST_RECORDS.true in omega (arith, all), refl))
-
-pub returns-in-Err-insert_record-clause-cut_short : goal.returns-in-Err-insert_record-clause-cut_short
-returns-in-Err-insert_record-clause-cut_short g c = λ bytes tables e f.
-    Going-refused c.in-Err-insert_record.refusal c.read_next.new.reader (fields_of c.read_next.new.fields) _ (c.records.invariant.going bytes tables e f)
-    (c.in-Ok-true.ensures.more c.in-Ok-true.field-0-test) (sym c.is_header_at.ensures ∙ c.if-is_header_at.false)
-    c.in-Err-insert_record.ensures.kept
-    (λ known h. inr (
-      let few = c.records.invariant.few in let more = c.if-loaded-eq-MOST_RECORDS.false in omega (arith, few, more),
-      rw (c.records.invariant.bounds, c.records.invariant.splits) at c.in-Err-insert_record.ensures.refused known h,
-    ))
+pub returns-clause-loaded : goal.returns-clause-loaded
+returns-clause-loaded g c = ok-from _ _ c.load_records-ended.result c.load_records-ended.ensures.loaded (λ count was bytes tables e f. was bytes tables (rw e at c.from_reader-source.ensures.source) f)
 
 pub returns-clause-cut_short : goal.returns-clause-cut_short
-returns-clause-cut_short g c = λ bytes tables e f. Going-unread ReadFault (c.records.invariant.going bytes tables e f) (inl refl)
+returns-clause-cut_short g c = err-from _ _ c.load_records-ended.result c.load_records-ended.ensures.cut_short (λ fault was bytes tables e f. was bytes tables (rw e at c.from_reader-source.ensures.source) f)
 
-pub records-preserved : goal.records-preserved
-records-preserved g c = record {
-  going = λ bytes tables e f.
-      Going-row c.read_next.new.reader (fields_of c.read_next.new.fields) _ (c.records.invariant.going bytes tables e f)
-      (c.in-Ok-true.ensures.more c.in-Ok-true.field-0-test) (sym c.is_header_at.ensures ∙ c.if-is_header_at.false)
-      (rw (c.records.invariant.bounds, c.records.invariant.splits) at c.in-Ok.ensures.inserted);
-  inserting = λ bytes e.
-      Inserting-row _ _ _ _ bytes _ c.read_next.new.reader (fields_of c.read_next.new.fields) _ _ (c.records.invariant.inserting bytes e)
-      (c.in-Ok-true.ensures.more c.in-Ok-true.field-0-test) (sym c.is_header_at.ensures ∙ c.if-is_header_at.false) c.records.invariant.splits c.in-Ok.ensures.asks;
-  ready = c.in-Ok-true.ensures.ready c.in-Ok-true.field-0-test;
-  few = let few = c.records.invariant.few in let more = c.if-loaded-eq-MOST_RECORDS.false in omega (arith, few, more);
-  accepted = let more = c.in-Ok.ensures.accepted in let was = c.records.invariant.accepted in omega (arith, more, was);
-  splits = c.insert_record.ensures.splits ∙ c.records.invariant.splits;
-  bounds = c.insert_record.ensures.bounds ∙ c.records.invariant.bounds;
-}
-
-pub returns-in-Ok-false-clause-asks : goal.returns-in-Ok-false-clause-asks
-returns-in-Ok-false-clause-asks g c = λ bytes e. Inserting-end _ _ _ _ bytes _ (c.records.invariant.inserting bytes e) (c.in-Ok-false.ensures.end c.in-Ok-false.field-0-test)
-
-pub returns-in-Err-clause-asks_in_part : goal.returns-in-Err-clause-asks_in_part
-returns-in-Err-clause-asks_in_part g c = λ bytes e. Inserting-unread _ _ _ _ bytes _ c.in-Err.refusal (c.records.invariant.inserting bytes e) c.in-Err.ensures.err
-
-pub returns-then-loaded-eq-MOST_RECORDS-clause-asks_in_part : goal.returns-then-loaded-eq-MOST_RECORDS-clause-asks_in_part
-returns-then-loaded-eq-MOST_RECORDS-clause-asks_in_part g c = λ bytes e. Inserting-unread _ _ _ _ bytes _ ReadFault (c.records.invariant.inserting bytes e) (inl refl)
-
-pub returns-in-Err-insert_record-clause-asks_in_part : goal.returns-in-Err-insert_record-clause-asks_in_part
-returns-in-Err-insert_record-clause-asks_in_part g c = λ bytes e.
-    Inserting-refused _ _ _ _ bytes _ c.in-Err-insert_record.refusal c.read_next.new.reader (fields_of c.read_next.new.fields) _ _ (c.records.invariant.inserting bytes e)
-    (c.in-Ok-true.ensures.more c.in-Ok-true.field-0-test) (sym c.is_header_at.ensures ∙ c.if-is_header_at.false) c.records.invariant.splits c.in-Err-insert_record.ensures.asks_in_vain
+pub returns-clause-asks : goal.returns-clause-asks
+returns-clause-asks g c = ok-from _ _ c.load_records-ended.result c.load_records-ended.ensures.asks (λ count was bytes e. was bytes (rw e at c.from_reader-source.ensures.source))
 
 pub returns-clause-asks_in_part : goal.returns-clause-asks_in_part
-returns-clause-asks_in_part g c = λ bytes e. Inserting-unread _ _ _ _ bytes _ ReadFault (c.records.invariant.inserting bytes e) (inl refl)
+returns-clause-asks_in_part g c = err-from _ _ c.load_records-ended.result c.load_records-ended.ensures.asks_in_part (λ fault was bytes e. was bytes (rw e at c.from_reader-source.ensures.source))
+
+pub returns-clause-causes : goal.returns-clause-causes
+returns-clause-causes g c = rw c.into_inner.ensures c.load_records-ended.ensures.causes

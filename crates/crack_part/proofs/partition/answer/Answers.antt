@@ -37,7 +37,7 @@ pub returns-clause-replies : goal.returns-clause-replies
 returns-clause-replies c = IfOk-weaker c.carry_out.result _ _ (λ reply replied plain numbered faithful knows.
     let prepared = rw c.range.ensures at c.in_ok-common.ensures.prepared in
     let keeps = Keeps-prepared c.args.policy c.args.keys _ c.args.store.now c.prepare.new.store prepared in
-    replied plain numbered (IsFaithful-kept c.args.store.now c.prepare.new.store c.args.next.now plain keeps faithful) knows) c.carry_out.ensures.reply
+    replied plain numbered (IsFaithful-kept c.args.store.now c.prepare.new.store c.args.next.now plain keeps faithful) (c.in_ok-common.ensures.knows plain knows)) c.carry_out.ensures.reply
 
 pub returns-clause-small : goal.returns-clause-small
 returns-clause-small c = IfOk-weaker c.carry_out.result _ _ (λ reply small plain numbered faithful few.
@@ -58,4 +58,4 @@ pub returns-clause-knows : goal.returns-clause-knows
 returns-clause-knows c = λ plain numbered faithful knows.
     let prepared = rw c.range.ensures at c.in_ok-common.ensures.prepared in
     let keeps = Keeps-prepared c.args.policy c.args.keys _ c.args.store.now c.prepare.new.store prepared in
-    c.carry_out.ensures.knows plain numbered (IsFaithful-kept c.args.store.now c.prepare.new.store c.args.next.now plain keeps faithful) knows
+    c.carry_out.ensures.knows plain numbered (IsFaithful-kept c.args.store.now c.prepare.new.store c.args.next.now plain keeps faithful) (c.in_ok-common.ensures.knows plain knows)

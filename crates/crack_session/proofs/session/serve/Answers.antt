@@ -3,15 +3,15 @@ use Rattle.crack_row.specs.Devices.{device, reads_of}
 use Rattle.crack_session.specs.declared.session.How.TheVariants.{Quit, InputEnded}
 use Rattle.crack_commands.specs.declared.statement.Statement.TheVariants.{Insert}
 use Rattle.crack_session.specs.Input.{after_line, is_line}
-use Rattle.crack_session.specs.Readings.{statements, reading_of, is_quit}
+use Rattle.crack_session.specs.Readings.{statements, reading_of, is_last}
 use Rattle.crack_session.proofs.Reading.{start_input, IsPaid-then, counted-then}
 use Rattle.crack_session.proofs.Following.{next_blank}
 use Rattle.crack_session.proofs.Finishing.{IsOver, fault-done, fault-short, fault-refusal, finish-counted, finish-served, finish-done, finish-cut_off}
-use Rattle.crack_session.proofs.Going.{Going-start, Going-kept, Going-left, Going-line, Going-answered, Going-within, Going-done, Going-cut, Going-cut_in, Going-on, Going-quit, Answered-desk, Tells-uncounted}
-use Rattle.crack_session.proofs.Making.{IsMade, Making-start, Making-kept, Making-left, Making-line, Making-more, Making-on, Making-quit, Making-cut, Making-cut_in, finish-written, finish-written_in_part}
+use Rattle.crack_session.proofs.Going.{Going-start, Going-kept, Going-left, Going-line, Going-answered, Going-within, Going-done, Going-cut, Going-cut_in, Going-on, Going-last, Answered-desk, Tells-uncounted}
+use Rattle.crack_session.proofs.Making.{IsMade, Making-start, Making-kept, Making-left, Making-line, Making-more, Making-on, Making-last, Making-cut, Making-cut_in, finish-written, finish-written_in_part}
 use Rattle.crack_session.proofs.WholeLines.{AreUsed-start, AreUsed-blank, AreUsed-more, AreUsed-done, line_feeds}
 use Rattle.crack_session.proofs.session.serve.Given.{Over}
-use Rattle.crack_session.proofs.session.serve.Goals.{After-finish, After-finish-then-says_quit}
+use Rattle.crack_session.proofs.session.serve.Goals.{After-finish, After-finish-then-is_last}
 use Rattle.crack_session.proofs.session.serve.Goals as goal
 
 pub lines-init : goal.lines-init
@@ -61,11 +61,11 @@ returns-in-Ok-Ended-clause-splits g c = c.lines.invariant.splits
 pub returns-in-Ok-Ended-clause-bounds : goal.returns-in-Ok-Ended-clause-bounds
 returns-in-Ok-Ended-clause-bounds g c = c.lines.invariant.bounds
 
-pub returns-then-says_quit-clause-splits : goal.returns-then-says_quit-clause-splits
-returns-then-says_quit-clause-splits g c = c.respond.ensures.asks.splits_are ∙ c.lines.invariant.splits
+pub returns-then-is_last-clause-splits : goal.returns-then-is_last-clause-splits
+returns-then-is_last-clause-splits g c = c.respond.ensures.asks.splits_are ∙ c.lines.invariant.splits
 
-pub returns-then-says_quit-clause-bounds : goal.returns-then-says_quit-clause-bounds
-returns-then-says_quit-clause-bounds g c = c.respond.ensures.asks.bounds_are ∙ c.lines.invariant.bounds
+pub returns-then-is_last-clause-bounds : goal.returns-then-is_last-clause-bounds
+returns-then-is_last-clause-bounds g c = c.respond.ensures.asks.bounds_are ∙ c.lines.invariant.bounds
 
 pub returns-in-Err-respond-clause-splits : goal.returns-in-Err-respond-clause-splits
 returns-in-Err-respond-clause-splits g c = c.respond.ensures.asks.splits_are ∙ c.lines.invariant.splits
@@ -112,20 +112,20 @@ returns-in-Ok-Ended-clause-done g c = finish-done c.finish.result c.lines.progre
 pub returns-in-Ok-Ended-clause-cut_off : goal.returns-in-Ok-Ended-clause-cut_off
 returns-in-Ok-Ended-clause-cut_off g c = finish-cut_off c.finish.result c.lines.progress InputEnded c.finish.ensures.fault (at_end g c)
 
--- the statement was a quit
-at_quit : (g : Over) (c : After-finish-then-says_quit g) → IsOver (g.D.Desk.bounds c.args.desk.now) (g.D.Desk.splits c.args.desk.now) (g.R.Read.remaining (device c.args.reader.now)) c.respond.new.progress Quit (g.D.Desk.tables c.args.desk.now) (g.D.Desk.tables c.respond.new.desk) (g.W.Write.contents (device c.args.writer.now)) (g.W.Write.contents (device c.finish-then-says_quit.new.writer))
-at_quit g c = λ bytes e.
+-- the line ended the session
+at_last : (g : Over) (c : After-finish-then-is_last g) → IsOver (g.D.Desk.bounds c.args.desk.now) (g.D.Desk.splits c.args.desk.now) (g.R.Read.remaining (device c.args.reader.now)) c.respond.new.progress Quit (g.D.Desk.tables c.args.desk.now) (g.D.Desk.tables c.respond.new.desk) (g.W.Write.contents (device c.args.writer.now)) (g.W.Write.contents (device c.finish-then-is_last.new.writer))
+at_last g c = λ bytes e.
     let inv = c.lines.invariant.going bytes e in
     let some = rw c.in-Ok-Other.field-0-is at c.in-Ok-Other.ensures.line in
     let next = some inv.0 inv.1 in
     let said = ap reading_of (sym c.line.ensures) ∙ sym c.in-Some.ensures in
     let more = Going-answered g.W.Write.contents inv.0 c.next_line.new.input.line c.in-Some.reading c.in_default-respond.ensures.answer c.lines.progress c.respond.new.progress _ c.next_line.new.writer c.respond.new.writer inv.2 c.next_line.ensures.bytes next.0 next.1 said
     (Answered-desk c.in-Some.reading c.in_default-respond.ensures.answer c.in_default-respond.ensures.asks.is c.lines.invariant.bounds c.lines.invariant.splits) c.in_default-respond.ensures.tells in
-    let quit : is_quit c.in-Some.reading ≡ true = sym c.says_quit.ensures ∙ c.if-says_quit.true in
-    Going-kept _ _ (Going-quit (statements (after_line inv.0)) (is_quit c.in-Some.reading) more quit) c.finish-then-says_quit.ensures.bytes
+    let last : is_last c.in-Some.reading ≡ true = sym c.is_last.ensures ∙ c.if-is_last.true in
+    Going-kept _ _ (Going-last (statements (after_line inv.0)) (is_last c.in-Some.reading) more last) c.finish-then-is_last.ensures.bytes
 
-made_at_quit : (g : Over) (c : After-finish-then-says_quit g) → IsMade g.D.Desk.leads (g.D.Desk.splits c.args.desk.now) c.args.policy c.args.desk.now (g.R.Read.remaining (device c.args.reader.now)) c.respond.new.progress c.respond.new.desk (g.W.Write.contents (device c.args.writer.now)) (g.W.Write.contents (device c.finish-then-says_quit.new.writer))
-made_at_quit g c = λ bytes e.
+made_at_last : (g : Over) (c : After-finish-then-is_last g) → IsMade g.D.Desk.leads (g.D.Desk.splits c.args.desk.now) c.args.policy c.args.desk.now (g.R.Read.remaining (device c.args.reader.now)) c.respond.new.progress c.respond.new.desk (g.W.Write.contents (device c.args.writer.now)) (g.W.Write.contents (device c.finish-then-is_last.new.writer))
+made_at_last g c = λ bytes e.
     let inv = c.lines.invariant.made bytes e in
     let some = rw c.in-Ok-Other.field-0-is at c.in-Ok-Other.ensures.line in
     let next = some inv.0 inv.1 in
@@ -133,26 +133,26 @@ made_at_quit g c = λ bytes e.
     let line = Making-line g.D.Desk.leads (g.D.Desk.splits c.args.desk.now) c.args.policy c.args.desk.now (statements bytes) _ _ _ inv.0 c.next_line.new.input.line c.in-Some.reading inv.2 c.next_line.ensures.bytes next.0 next.1 said in
     let asks = c.in_default-respond.ensures.asks in
     let more = Making-more g.D.Desk.leads (g.D.Desk.splits c.args.desk.now) c.args.policy c.args.desk.now (statements bytes) _ g.W.Write.contents c.in-Some.reading c.in_default-respond.ensures.answer c.lines.progress c.respond.new.progress c.respond.new.desk c.next_line.new.writer c.respond.new.writer _ asks.calls line c.lines.invariant.splits asks.were asks.made c.in_default-respond.ensures.tells in
-    let quit : is_quit c.in-Some.reading ≡ true = sym c.says_quit.ensures ∙ c.if-says_quit.true in
-    Making-kept g.D.Desk.leads (g.D.Desk.splits c.args.desk.now) c.args.policy c.args.desk.now (statements bytes) _ _ _ (Making-quit g.D.Desk.leads (g.D.Desk.splits c.args.desk.now) c.args.policy c.args.desk.now (statements bytes) _ (statements (after_line inv.0)) (is_quit c.in-Some.reading) more quit) c.finish-then-says_quit.ensures.bytes
+    let last : is_last c.in-Some.reading ≡ true = sym c.is_last.ensures ∙ c.if-is_last.true in
+    Making-kept g.D.Desk.leads (g.D.Desk.splits c.args.desk.now) c.args.policy c.args.desk.now (statements bytes) _ _ _ (Making-last g.D.Desk.leads (g.D.Desk.splits c.args.desk.now) c.args.policy c.args.desk.now (statements bytes) _ (statements (after_line inv.0)) (is_last c.in-Some.reading) more last) c.finish-then-is_last.ensures.bytes
 
-pub returns-then-says_quit-clause-written : goal.returns-then-says_quit-clause-written
-returns-then-says_quit-clause-written g c = finish-written g.D.Desk.leads (g.D.Desk.splits c.args.desk.now) c.args.policy c.args.desk.now c.finish-then-says_quit.result c.respond.new.progress Quit c.finish-then-says_quit.ensures.end (made_at_quit g c)
+pub returns-then-is_last-clause-written : goal.returns-then-is_last-clause-written
+returns-then-is_last-clause-written g c = finish-written g.D.Desk.leads (g.D.Desk.splits c.args.desk.now) c.args.policy c.args.desk.now c.finish-then-is_last.result c.respond.new.progress Quit c.finish-then-is_last.ensures.end (made_at_last g c)
 
-pub returns-then-says_quit-clause-written_in_part : goal.returns-then-says_quit-clause-written_in_part
-returns-then-says_quit-clause-written_in_part g c = finish-written_in_part g.D.Desk.leads (g.D.Desk.splits c.args.desk.now) c.args.policy c.args.desk.now c.finish-then-says_quit.result c.respond.new.progress Quit c.finish-then-says_quit.ensures.fault (made_at_quit g c)
+pub returns-then-is_last-clause-written_in_part : goal.returns-then-is_last-clause-written_in_part
+returns-then-is_last-clause-written_in_part g c = finish-written_in_part g.D.Desk.leads (g.D.Desk.splits c.args.desk.now) c.args.policy c.args.desk.now c.finish-then-is_last.result c.respond.new.progress Quit c.finish-then-is_last.ensures.fault (made_at_last g c)
 
-pub returns-then-says_quit-clause-ends : goal.returns-then-says_quit-clause-ends
-returns-then-says_quit-clause-ends g c = finish-counted c.finish-then-says_quit.result c.respond.new.progress Quit c.finish-then-says_quit.ensures.end (at_quit g c)
+pub returns-then-is_last-clause-ends : goal.returns-then-is_last-clause-ends
+returns-then-is_last-clause-ends g c = finish-counted c.finish-then-is_last.result c.respond.new.progress Quit c.finish-then-is_last.ensures.end (at_last g c)
 
-pub returns-then-says_quit-clause-served : goal.returns-then-says_quit-clause-served
-returns-then-says_quit-clause-served g c = finish-served c.finish-then-says_quit.result c.respond.new.progress Quit c.finish-then-says_quit.ensures.end (at_quit g c)
+pub returns-then-is_last-clause-served : goal.returns-then-is_last-clause-served
+returns-then-is_last-clause-served g c = finish-served c.finish-then-is_last.result c.respond.new.progress Quit c.finish-then-is_last.ensures.end (at_last g c)
 
-pub returns-then-says_quit-clause-done : goal.returns-then-says_quit-clause-done
-returns-then-says_quit-clause-done g c = finish-done c.finish-then-says_quit.result c.respond.new.progress Quit _ c.finish-then-says_quit.ensures.fault (at_quit g c)
+pub returns-then-is_last-clause-done : goal.returns-then-is_last-clause-done
+returns-then-is_last-clause-done g c = finish-done c.finish-then-is_last.result c.respond.new.progress Quit _ c.finish-then-is_last.ensures.fault (at_last g c)
 
-pub returns-then-says_quit-clause-cut_off : goal.returns-then-says_quit-clause-cut_off
-returns-then-says_quit-clause-cut_off g c = finish-cut_off c.finish-then-says_quit.result c.respond.new.progress Quit c.finish-then-says_quit.ensures.fault (at_quit g c)
+pub returns-then-is_last-clause-cut_off : goal.returns-then-is_last-clause-cut_off
+returns-then-is_last-clause-cut_off g c = finish-cut_off c.finish-then-is_last.result c.respond.new.progress Quit c.finish-then-is_last.ensures.fault (at_last g c)
 
 pub returns-in-Err-respond-clause-done : goal.returns-in-Err-respond-clause-done
 returns-in-Err-respond-clause-done g c = λ bytes e.
@@ -208,8 +208,8 @@ returns-in-Err-respond_to_insert-clause-written_in_part g c = λ bytes out e f.
     Making-cut_in g.D.Desk.leads (g.D.Desk.splits c.args.desk.now) c.args.policy c.args.desk.now g.W.Write.contents bytes out c.fault-in-Err-respond_to_insert.result (Ok (Insert c.in-Ok-Insert.key c.in-Ok-Insert.payload)) c.in-Err-respond_to_insert.ensures.answer c.lines.progress c.respond_to_insert.new.progress c.in-Err-respond_to_insert.refusal c.respond_to_insert.new.desk c.next_line.new.writer c.respond_to_insert.new.writer _ asks.calls line c.lines.invariant.splits asks.were asks.made c.in-Err-respond_to_insert.ensures.tells
     (fault-done c.fault-in-Err-respond_to_insert.result c.respond_to_insert.new.progress c.in-Err-respond_to_insert.refusal c.fault-in-Err-respond_to_insert.ensures) (fault-short c.fault-in-Err-respond_to_insert.result c.respond_to_insert.new.progress c.in-Err-respond_to_insert.refusal c.fault-in-Err-respond_to_insert.ensures) (fault-refusal c.fault-in-Err-respond_to_insert.result c.respond_to_insert.new.progress c.in-Err-respond_to_insert.refusal c.fault-in-Err-respond_to_insert.ensures) f
 
-pub lines-preserved-else-says_quit : goal.lines-preserved-else-says_quit
-lines-preserved-else-says_quit g c =
+pub lines-preserved-else-is_last : goal.lines-preserved-else-is_last
+lines-preserved-else-is_last g c =
     record {
       going = λ bytes e.
           let inv = c.lines.invariant.going bytes e in
@@ -219,10 +219,10 @@ lines-preserved-else-says_quit g c =
           let said = ap reading_of (sym c.line.ensures) ∙ sym c.in-Some.ensures in
           let more = Going-answered g.W.Write.contents inv.0 c.next_line.new.input.line c.in-Some.reading c.in_default-respond.ensures.answer c.lines.progress c.respond.new.progress _ c.next_line.new.writer c.respond.new.writer inv.2 c.next_line.ensures.bytes next.0 next.1 said
           (Answered-desk c.in-Some.reading c.in_default-respond.ensures.answer c.in_default-respond.ensures.asks.is c.lines.invariant.bounds c.lines.invariant.splits) c.in_default-respond.ensures.tells in
-          let goes : is_quit c.in-Some.reading ≡ false = sym c.says_quit.ensures ∙ c.if-says_quit.false in (
+          let goes : is_last c.in-Some.reading ≡ false = sym c.is_last.ensures ∙ c.if-is_last.false in (
             after_line inv.0,
             next.2,
-            Going-on (statements (after_line inv.0)) (is_quit c.in-Some.reading) more goes,
+            Going-on (statements (after_line inv.0)) (is_last c.in-Some.reading) more goes,
             λ goes_on. AreUsed-more inv.0 c.next_line.new.input.line c.in-Some.reading c.respond.new.progress.statements (inv.3 (c.in-Ok-Other.ensures.paid goes_on).0)
                 (line_feeds inv.0 c.next_line.new.input.ended (last refl inv.0 inv.1) goes_on) next.1 said goes c.in_default-respond.ensures.tells.count,
           );
@@ -234,8 +234,8 @@ lines-preserved-else-says_quit g c =
           let line = Making-line g.D.Desk.leads (g.D.Desk.splits c.args.desk.now) c.args.policy c.args.desk.now (statements bytes) _ _ _ inv.0 c.next_line.new.input.line c.in-Some.reading inv.2 c.next_line.ensures.bytes next.0 next.1 said in
           let asks = c.in_default-respond.ensures.asks in
           let more = Making-more g.D.Desk.leads (g.D.Desk.splits c.args.desk.now) c.args.policy c.args.desk.now (statements bytes) _ g.W.Write.contents c.in-Some.reading c.in_default-respond.ensures.answer c.lines.progress c.respond.new.progress c.respond.new.desk c.next_line.new.writer c.respond.new.writer _ asks.calls line c.lines.invariant.splits asks.were asks.made c.in_default-respond.ensures.tells in
-          let goes : is_quit c.in-Some.reading ≡ false = sym c.says_quit.ensures ∙ c.if-says_quit.false in
-          (after_line inv.0, next.2, Making-on g.D.Desk.leads (g.D.Desk.splits c.args.desk.now) c.args.policy c.args.desk.now (statements bytes) _ (statements (after_line inv.0)) (is_quit c.in-Some.reading) more goes);
+          let goes : is_last c.in-Some.reading ≡ false = sym c.is_last.ensures ∙ c.if-is_last.false in
+          (after_line inv.0, next.2, Making-on g.D.Desk.leads (g.D.Desk.splits c.args.desk.now) c.args.policy c.args.desk.now (statements bytes) _ (statements (after_line inv.0)) (is_last c.in-Some.reading) more goes);
       reader = let ok = c.in-Ok-Other.ensures.unfailed in ok.0 ∙ c.lines.invariant.reader;
       writer = let ok = c.in-Ok-Other.ensures.unfailed in c.in_default-respond.ensures.tells.writes.unfailed ∙ ok.1 ∙ c.lines.invariant.writer;
       splits = c.respond.ensures.asks.splits_are ∙ c.lines.invariant.splits;
@@ -259,7 +259,7 @@ lines-preserved-in_default g c =
           (Answered-desk (Ok (Insert c.in-Ok-Insert.key c.in-Ok-Insert.payload)) c.in_default.ensures.answer c.in_default.ensures.asks.is c.lines.invariant.bounds c.lines.invariant.splits) c.in_default.ensures.tells in (
             after_line inv.0,
             next.2,
-            Going-on (statements (after_line inv.0)) (is_quit (Ok (Insert c.in-Ok-Insert.key c.in-Ok-Insert.payload))) more refl,
+            Going-on (statements (after_line inv.0)) (is_last (Ok (Insert c.in-Ok-Insert.key c.in-Ok-Insert.payload))) more refl,
             λ goes_on. AreUsed-more inv.0 c.next_line.new.input.line (Ok (Insert c.in-Ok-Insert.key c.in-Ok-Insert.payload)) c.respond_to_insert.new.progress.statements (inv.3 (c.in-Ok-Insert.ensures.paid goes_on).0)
                 (line_feeds inv.0 c.next_line.new.input.ended (last refl inv.0 inv.1) goes_on) next.1 said refl c.in_default.ensures.tells.count,
           );
@@ -271,7 +271,7 @@ lines-preserved-in_default g c =
           let line = Making-line g.D.Desk.leads (g.D.Desk.splits c.args.desk.now) c.args.policy c.args.desk.now (statements bytes) _ _ _ inv.0 c.next_line.new.input.line (Ok (Insert c.in-Ok-Insert.key c.in-Ok-Insert.payload)) inv.2 c.next_line.ensures.bytes next.0 next.1 said in
           let asks = c.in_default.ensures.asks in
           let more = Making-more g.D.Desk.leads (g.D.Desk.splits c.args.desk.now) c.args.policy c.args.desk.now (statements bytes) _ g.W.Write.contents (Ok (Insert c.in-Ok-Insert.key c.in-Ok-Insert.payload)) c.in_default.ensures.answer c.lines.progress c.respond_to_insert.new.progress c.respond_to_insert.new.desk c.next_line.new.writer c.respond_to_insert.new.writer _ asks.calls line c.lines.invariant.splits asks.were asks.made c.in_default.ensures.tells in
-          (after_line inv.0, next.2, Making-on g.D.Desk.leads (g.D.Desk.splits c.args.desk.now) c.args.policy c.args.desk.now (statements bytes) _ (statements (after_line inv.0)) (is_quit (Ok (Insert c.in-Ok-Insert.key c.in-Ok-Insert.payload))) more refl);
+          (after_line inv.0, next.2, Making-on g.D.Desk.leads (g.D.Desk.splits c.args.desk.now) c.args.policy c.args.desk.now (statements bytes) _ (statements (after_line inv.0)) (is_last (Ok (Insert c.in-Ok-Insert.key c.in-Ok-Insert.payload))) more refl);
       reader = let ok = c.in-Ok-Insert.ensures.unfailed in ok.0 ∙ c.lines.invariant.reader;
       writer = let ok = c.in-Ok-Insert.ensures.unfailed in c.in_default.ensures.tells.writes.unfailed ∙ ok.1 ∙ c.lines.invariant.writer;
       splits = c.respond_to_insert.ensures.asks.splits_are ∙ c.lines.invariant.splits;

@@ -1,8 +1,25 @@
+use Rattle.crack_core.specs.Routes.{keys_of_part}
+use Rattle.std.specs.Prelude.{slice_get}
 use Rattle.crack_core.specs.Steps.{tables_of}
-use Rattle.crack_core.proofs.AskLaws.{asked}
+use Rattle.crack_core.proofs.AskLaws.{lasts-by, parts-same}
 use Rattle.crack_core.proofs.cores.Core.ask.Goals as goal
 
 pub returns-clause-asks : goal.returns-clause-asks
 returns-clause-asks c =
-    let s = c.args.step.now in
-    asked c.args.self.now.limits c.args.self.now.splits (tables_of c.args.self.now.parts) (tables_of c.step.new.self.parts) s.part s.command c.step.result c.step.ensures.outcome c.step.ensures.after
+    let core = c.args.self.now in
+    let step = c.args.step.now in
+    let did = c.step-answered.ensures in
+    let are = c.facts.ensures.parts in
+    record {
+      comes_out = did.outcome;
+      leaves = did.after;
+      makes = record {
+        parts = rw (did.opened.0, did.opened.1) at are;
+        kept = did.kept;
+        others = did.others;
+        store = did.store;
+        spared = did.spared;
+        same = parts-same c.step-answered.result core c.step-answered.new.self did.same;
+      };
+      lasts = λ automatic. lasts-by core.limits (keys_of_part core.splits step.part) (slice_get (tables_of core.parts) step.part) step.command c.step-answered.result automatic did.outcome;
+    }

@@ -8,4 +8,4 @@ count_in-requires c = rw c.as_slice-in-Ok-read_parts.ensures.value (counts-fit c
 
 pub returns-in-Ok-clause-counts : goal.returns-in-Ok-clause-counts
 returns-in-Ok-clause-counts c =
-    reads-refused c.args.self.now c.read_parts.new.self (λ part. Count part) _ c.args.range c.as_slice.result.now _ (c.as_slice.ensures ∙ c.in-Ok.ensures.ok) c.in-Err-read_parts.ensures.err
+    reads-refused c.args.self.now c.read_parts.new.self c.args.policy (λ part. Count part) _ c.args.range c.as_slice.result.now _ (c.as_slice.ensures ∙ c.in-Ok.ensures.ok) c.in-Err-read_parts.ensures.err

@@ -1,7 +1,5 @@
 use Rattle.std.proofs.Common.{arith, refl, ◌∙◌}
 use Rattle.std.specs.Prelude.{◌<◌, length}
-use Rattle.crack_core.specs.Steps.{tables_of}
-use Rattle.crack_core.specs.Asking.{lasting}
 use Rattle.crack_core.specs.Bulk.{none}
 use Rattle.crack_core.proofs.BulkLaws.{went-whole, deletes-more, deletes-stop}
 use Rattle.crack_core.proofs.cores.Core.delete_many.Goals as goal
@@ -11,7 +9,7 @@ rows-init c = record { so_far = none; opened = (refl, refl) }
 
 pub returns-in-Err-clause-deletes : goal.returns-in-Err-clause-deletes
 returns-in-Err-clause-deletes c =
-    rw c.stopped.ensures (deletes-stop c.args.self.now.limits c.args.self.now.splits c.args.parts.now c.args.serials.now c.rows.gone c.rows.i c.row_of-row.result c.in-Err.refusal (lasting (tables_of c.args.self.now.parts)) (lasting (tables_of c.rows.self.parts)) (lasting (tables_of c.delete.new.self.parts))
+    rw c.stopped.ensures (deletes-stop c.args.self.now.limits c.args.self.now.splits c.args.parts.now c.args.serials.now c.rows.gone c.rows.i c.row_of-row.result c.in-Err.refusal c.args.self.now.parts c.rows.self.parts c.delete.new.self.parts
     c.rows-test.true c.row_of-row.ensures c.rows.invariant.so_far (rw (c.rows.invariant.opened.1, c.rows.invariant.opened.0) at c.in-Err.ensures.deletes))
 
 pub returns-in-Err-clause-opened : goal.returns-in-Err-clause-opened
@@ -21,7 +19,7 @@ pub rows-preserved : goal.rows-preserved
 rows-preserved c =
     let in_gone : c.rows.i < length c.rows.gone = omega arith in record {
       so_far =
-          deletes-more c.args.self.now.limits c.args.self.now.splits c.args.parts.now c.args.serials.now c.rows.gone c.rows.i c.row_of-row.result c.in-Ok.went c.is_some.result c.flag.result (lasting (tables_of c.args.self.now.parts)) (lasting (tables_of c.rows.self.parts)) (lasting (tables_of c.delete.new.self.parts))
+          deletes-more c.args.self.now.limits c.args.self.now.splits c.args.parts.now c.args.serials.now c.rows.gone c.rows.i c.row_of-row.result c.in-Ok.went c.is_some.result c.flag.result c.args.self.now.parts c.rows.self.parts c.delete.new.self.parts
           in_gone c.row_of-row.ensures c.is_some.ensures c.flag.ensures c.rows.invariant.so_far (rw (c.rows.invariant.opened.1, c.rows.invariant.opened.0) at c.in-Ok.ensures.deletes);
       opened = (c.in-Ok.ensures.opened.0 ∙ c.rows.invariant.opened.0, c.in-Ok.ensures.opened.1 ∙ c.rows.invariant.opened.1);
     }

@@ -1,11 +1,9 @@
 use Rattle.std.specs.Prelude.{◌≡◌}
-use Rattle.crack_core.specs.Steps.{tables_of}
-use Rattle.crack_core.specs.Asking.{lasting}
 use Rattle.crack_core.specs.Bulk.{Answered, DeletesAt}
 use Rattle.crack_core.proofs.cores.Core.delete_many.Given as goal
 
 abbrev pub invariant-rows : goal.invariant-rows
 invariant-rows l = record {
-  so_far : Answered (DeletesAt l.initial.self.limits l.initial.self.splits l.parts l.serials l.gone) (lasting (tables_of l.initial.self.parts)) l.i (lasting (tables_of l.self.parts));
+  so_far : Answered (DeletesAt l.initial.self.limits l.initial.self.splits l.parts l.serials l.gone) l.initial.self.parts l.i l.self.parts;
   opened : (l.self.splits ≡ l.initial.self.splits) × (l.self.limits ≡ l.initial.self.limits);
 }

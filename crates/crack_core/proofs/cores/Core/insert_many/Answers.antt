@@ -1,8 +1,6 @@
 use Rattle.std.proofs.Common.{arith, refl, ◌∙◌}
 use Rattle.std.specs.Prelude.{◌≡◌, ◌<◌, pos, length, slice_index_or}
 use Rattle.std.proofs.lemmas.Int.{ints, to_z-of_z}
-use Rattle.crack_core.specs.Steps.{tables_of}
-use Rattle.crack_core.specs.Asking.{lasting}
 use Rattle.crack_core.specs.Bulk.{none}
 use Rattle.crack_core.proofs.BulkLaws.{went-whole, inserts-more, inserts-stop}
 use Rattle.crack_core.proofs.cores.Core.insert_many.Goals as goal
@@ -13,7 +11,7 @@ rows-init c = record { so_far = none; opened = (refl, refl) }
 pub returns-in-Err-clause-inserts : goal.returns-in-Err-clause-inserts
 returns-in-Err-clause-inserts c =
     let payload_is : c.from_number.result.0 ≡ slice_index_or c.args.payloads.now c.rows.i (pos 0) = omega (arith, ints, c.from_number.ensures) in
-    rw c.stopped.ensures (inserts-stop c.args.self.now.limits c.args.self.now.splits c.args.keys.now c.args.payloads.now c.rows.parts c.rows.serials c.rows.i c.from_number-key.result c.from_number.result c.in-Err.refusal (lasting (tables_of c.args.self.now.parts)) (lasting (tables_of c.rows.self.parts)) (lasting (tables_of c.insert.new.self.parts))
+    rw c.stopped.ensures (inserts-stop c.args.self.now.limits c.args.self.now.splits c.args.keys.now c.args.payloads.now c.rows.parts c.rows.serials c.rows.i c.from_number-key.result c.from_number.result c.in-Err.refusal c.args.self.now.parts c.rows.self.parts c.insert.new.self.parts
     c.rows-test.true c.from_number-key.ensures payload_is c.rows.invariant.so_far (rw (c.rows.invariant.opened.1, c.rows.invariant.opened.0) at c.in-Err.ensures.inserts))
 
 pub returns-in-Err-clause-opened : goal.returns-in-Err-clause-opened
@@ -25,7 +23,7 @@ rows-preserved c =
     let in_serials : c.rows.i < length c.rows.serials = omega arith in
     let payload_is : c.from_number.result.0 ≡ slice_index_or c.args.payloads.now c.rows.i (pos 0) = grind (arith, ints, to_z-of_z) in record {
       so_far =
-          inserts-more c.args.self.now.limits c.args.self.now.splits c.args.keys.now c.args.payloads.now c.rows.parts c.rows.serials c.rows.i c.from_number-key.result c.from_number.result c.in-Ok.row (lasting (tables_of c.args.self.now.parts)) (lasting (tables_of c.rows.self.parts)) (lasting (tables_of c.insert.new.self.parts))
+          inserts-more c.args.self.now.limits c.args.self.now.splits c.args.keys.now c.args.payloads.now c.rows.parts c.rows.serials c.rows.i c.from_number-key.result c.from_number.result c.in-Ok.row c.args.self.now.parts c.rows.self.parts c.insert.new.self.parts
           in_parts in_serials c.from_number-key.ensures payload_is c.rows.invariant.so_far (rw (c.rows.invariant.opened.1, c.rows.invariant.opened.0) at c.in-Ok.ensures.inserts);
       opened = (c.in-Ok.ensures.opened.0 ∙ c.rows.invariant.opened.0, c.in-Ok.ensures.opened.1 ∙ c.rows.invariant.opened.1);
     }

@@ -1,8 +1,6 @@
 use Rattle.std.proofs.Common.{arith, refl, ◌∙◌}
 use Rattle.std.specs.Prelude.{◌≡◌, ◌<◌, pos, length, slice_index_or}
 use Rattle.std.proofs.lemmas.Int.{ints}
-use Rattle.crack_core.specs.Steps.{tables_of}
-use Rattle.crack_core.specs.Asking.{lasting}
 use Rattle.crack_core.specs.Bulk.{none}
 use Rattle.crack_core.proofs.BulkLaws.{went-whole, updates-more, updates-stop}
 use Rattle.crack_core.proofs.cores.Core.update_many.Goals as goal
@@ -13,7 +11,7 @@ rows-init c = record { so_far = none; opened = (refl, refl) }
 pub returns-in-Err-clause-updates : goal.returns-in-Err-clause-updates
 returns-in-Err-clause-updates c =
     let payload_is : c.from_number.result.0 ≡ slice_index_or c.args.payloads.now c.rows.i (pos 0) = omega (arith, ints, c.from_number.ensures) in
-    rw c.stopped.ensures (updates-stop c.args.self.now.limits c.args.self.now.splits c.args.parts.now c.args.serials.now c.args.keys.now c.args.payloads.now c.rows.found c.rows.i c.row_of-row.result c.from_number-key.result c.from_number.result c.in-Err.refusal (lasting (tables_of c.args.self.now.parts)) (lasting (tables_of c.rows.self.parts)) (lasting (tables_of c.update.new.self.parts))
+    rw c.stopped.ensures (updates-stop c.args.self.now.limits c.args.self.now.splits c.args.parts.now c.args.serials.now c.args.keys.now c.args.payloads.now c.rows.found c.rows.i c.row_of-row.result c.from_number-key.result c.from_number.result c.in-Err.refusal c.args.self.now.parts c.rows.self.parts c.update.new.self.parts
     c.rows-test.true c.row_of-row.ensures c.from_number-key.ensures payload_is c.rows.invariant.so_far (rw (c.rows.invariant.opened.1, c.rows.invariant.opened.0) at c.in-Err.ensures.updates))
 
 pub returns-in-Err-clause-opened : goal.returns-in-Err-clause-opened
@@ -24,7 +22,7 @@ rows-preserved c =
     let in_found : c.rows.i < length c.rows.found = omega arith in
     let payload_is : c.from_number.result.0 ≡ slice_index_or c.args.payloads.now c.rows.i (pos 0) = omega (arith, ints, c.from_number.ensures) in record {
       so_far =
-          updates-more c.args.self.now.limits c.args.self.now.splits c.args.parts.now c.args.serials.now c.args.keys.now c.args.payloads.now c.rows.found c.rows.i c.row_of-row.result c.from_number-key.result c.from_number.result c.in-Ok.is_there c.flag.result (lasting (tables_of c.args.self.now.parts)) (lasting (tables_of c.rows.self.parts)) (lasting (tables_of c.update.new.self.parts))
+          updates-more c.args.self.now.limits c.args.self.now.splits c.args.parts.now c.args.serials.now c.args.keys.now c.args.payloads.now c.rows.found c.rows.i c.row_of-row.result c.from_number-key.result c.from_number.result c.in-Ok.is_there c.flag.result c.args.self.now.parts c.rows.self.parts c.update.new.self.parts
           in_found c.row_of-row.ensures c.from_number-key.ensures payload_is c.flag.ensures c.rows.invariant.so_far (rw (c.rows.invariant.opened.1, c.rows.invariant.opened.0) at c.in-Ok.ensures.updates);
       opened = (c.in-Ok.ensures.opened.0 ∙ c.rows.invariant.opened.0, c.in-Ok.ensures.opened.1 ∙ c.rows.invariant.opened.1);
     }

@@ -1,5 +1,5 @@
-use Rattle.std.proofs.Common.{◌≡◌, ◌∙◌, arith, ap, refl, length, replicate}
-use Rattle.std.proofs.lemmas.List.{length-replicate, replicate_more}
+use Rattle.std.proofs.Common.{◌≡◌, ◌∙◌, ℕ, arith, ap, refl, replicate}
+use Rattle.std.proofs.lemmas.List.{replicate_more}
 use Rattle.crack_witness.proofs.Counting.{asker_fresh, none_counted}
 use Rattle.crack_witness.proofs.asker.Asker.new.Goals as goal
 
@@ -12,10 +12,16 @@ invariant_of-result g c =
     let zeros : c.in_ok-counts.counts.items ≡ replicate c.args.parts 0 = c.in_ok-counts.ensures.items_if_clones_equal (λ y same. same) in
     rw (zeros, c.fronts.invariant, all) (asker_fresh g.J.Naming.owner c.args.number c.args.front c.args.parts c.requires.empty c.requires.few)
 
-pub returns-clause-ok : goal.returns-clause-ok
-returns-clause-ok g c =
+pub returns-clause-new : goal.returns-clause-new
+returns-clause-new g c =
     let all : c.fronts.part ≡ c.args.parts = omega arith in
-    (refl, refl, ap length c.fronts.invariant ∙ (length-replicate c.fronts.part c.args.front ∙ all))
+    let zeros : c.in_ok-counts.counts.items ≡ replicate c.args.parts 0 = c.in_ok-counts.ensures.items_if_clones_equal (λ y same. same) in
+    record {
+      worker_is = refl;
+      unseen = c.requires.empty;
+      fronts_are = c.fronts.invariant ∙ ap (λ (n : ℕ). replicate n c.args.front) all;
+      counts_are = zeros;
+    }
 
 pub returns-clause-none : goal.returns-clause-none
 returns-clause-none g c =

@@ -1,5 +1,0 @@
-use Rattle.std.proofs.Common.{◌≡◌, ◌<◌, ℕ, eqb, get_or, false}
-use Rattle.crack_commands.proofs.words.stop_at.Given as goal
-
-abbrev pub invariant-loop-i : goal.invariant-loop-i
-invariant-loop-i l = (k : ℕ) → k < l.i → eqb (get_or l.word k 0) 46 ≡ false

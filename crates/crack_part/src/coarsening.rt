@@ -1,0 +1,45 @@
+//! Bounds that a partition forgets under `Policy::Auto`.
+ghost use Rattle.std.specs.Prelude.{◌≡◌};
+ghost use Rattle.crack_plain.specs.Plain.{PlainState};
+ghost use Rattle.crack_state.specs.Merge.{Coarsens};
+ghost use Rattle.crack_part.specs.KnownSums.{Knows};
+ghost use Rattle.crack_part.specs.Parts.{MayCoarsen};
+
+use crate::known::KnownSums;
+use crack_row::{Key, Policy};
+use crack_store::Store;
+
+/// A bound is forgotten if its two pieces hold at most this many rows together.
+const FEW_ROWS: usize = 1024;
+
+/// How many bounds a pass meets before one read, in less than 2 ms.
+const MOST_BOUNDS: usize = 2048;
+
+/// Forgets bounds under `Policy::Auto`, if a pass over them is due. No row moves. Takes no memory.
+#[inline(always)]
+pub(crate) fn coarsen(store: &mut Store, known: &mut KnownSums, policy: Policy)
+    ensures coarse { MayCoarsen policy store.old store.new }
+    ensures knows { (plain : PlainState) → Knows known.old plain → Knows known.new plain }
+{
+    match policy {
+        Policy::Auto => {
+            if let Some(key) = known.passes.due(store) {
+                forget_after(store, known, key);
+            }
+        }
+        _ => {}
+    }
+}
+
+/// Makes a pass over the bounds above a key.
+#[inline(never)]
+fn forget_after(store: &mut Store, known: &mut KnownSums, key: Key)
+    ensures coarse { Coarsens store.old store.new }
+    ensures knows { (plain : PlainState) → Knows known.old plain → Knows known.new plain }
+{
+    let mut pass = store.pass_after(key, FEW_ROWS, MOST_BOUNDS);
+    'bounds: while let Some(bound) = store.forget_few(&mut pass) {
+        known.join(bound);
+    }
+    known.passes.note(store, pass.stopped());
+}

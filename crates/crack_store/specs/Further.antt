@@ -1,0 +1,85 @@
+-- The further bound at which a range is cracked beside an end that says little about its piece.
+use Rattle.std.specs.Prelude.{◌≡◌, ◌⊎◌, ℕ, ◌+◌, ◌-◌, ◌*◌, ◌/◌, ◌<◌, ◌≤◌, nat_lt, min, max, List, [], ◌∷◌, length, count_by, Option, Some, None, slice_index_or}
+use Rattle.std.specs.List.Sorted.{IsPermutation, IsNonDecreasingBy}
+use Rattle.crack_row.specs.Ranges.{Range}
+use Rattle.crack_row.specs.declared.InnerBound.{InnerBound}
+use Rattle.crack_arena.specs.Arena.{no_handle}
+use Rattle.crack_arena.specs.Rows.{key_at}
+use Rattle.crack_index.specs.declared.index.Piece.{Piece}
+use Rattle.crack_index.specs.Marks.{HasBound, piece_at}
+use Rattle.crack_state.specs.State.{State}
+use Rattle.crack_state.specs.Merge.{Refines}
+use Rattle.crack_store.specs.declared.further.TheConstants.{MOST_ROWS}
+
+-- the bound lies strictly between the partition's ends, and isn't in the index
+pub record IsMissing (s : State) (bound : ℕ) : Type 0 where
+  pub low : s.keys.low < bound
+  pub high : bound < s.keys.high
+  pub apart : HasBound s.marks bound → ⊥
+
+-- a bound of a piece, or the partition's own end if the piece has no bound there
+abbrev pub bound_or_end : ℕ → Option InnerBound → ℕ
+bound_or_end end None = end
+bound_or_end end (Some bound) = bound.0
+
+-- the piece into which a bound falls
+abbrev pub own_piece : State → ℕ → Piece
+own_piece s bound = piece_at bound (length s.column) s.marks
+
+-- the key of the row at one of nine places that are spread evenly over a piece
+abbrev pub sampled : State → Piece → ℕ → ℕ
+sampled s piece n = key_at s.cells (slice_index_or s.column (piece.from + (2 * n + 1) * (piece.to - piece.from) / 18) no_handle)
+
+-- the keys at these nine places
+abbrev pub samples : State → Piece → List ℕ
+samples s piece = sampled s piece 0 ∷ sampled s piece 1 ∷ sampled s piece 2 ∷ sampled s piece 3 ∷ sampled s piece 4 ∷ sampled s piece 5 ∷ sampled s piece 6 ∷ sampled s piece 7 ∷ sampled s piece 8 ∷ []
+
+-- how many of the keys are below the bound
+abbrev pub count_below : ℕ → List ℕ → ℕ
+count_below bound keys = count_by (λ key. nat_lt key bound) keys
+
+-- of nine keys at least three are below the bound, and at least three aren't
+abbrev pub DividesWell : ℕ → List ℕ → Type 0
+DividesWell bound keys = (3 ≤ count_below bound keys) × (count_below bound keys ≤ 6)
+
+-- the fifth of nine numbers by size
+pub record IsMiddle (numbers : List ℕ) (middle : ℕ) : Type 0 where
+  pub rising : List ℕ
+  pub order : IsNonDecreasingBy (λ (n : ℕ). n) rising
+  pub same : IsPermutation numbers rising
+  pub is : middle ≡ slice_index_or rising 4 0
+
+-- a bound falls into a large piece: there are bounds already, it is none of them, and its own piece is large
+pub record FallsIntoLarge (s : State) (bound : ℕ) : Type 0 where
+  pub cracked : 0 < length s.marks
+  pub missing : IsMissing s bound
+  pub large : MOST_ROWS < (own_piece s bound).to - (own_piece s bound).from
+
+-- one of the range's ends divides the keys well
+abbrev pub EndsDivideWell : Range → List ℕ → Type 0
+EndsDivideWell r keys = DividesWell r.low keys ⊎ DividesWell r.high keys
+
+-- an end of a range says little about its own piece: this is large, and neither end of the range divides its sampled keys well
+abbrev pub SaysLittle : State → Range → ℕ → Type 0
+SaysLittle s r end = FallsIntoLarge s end × (EndsDivideWell r (samples s (own_piece s end)) → ⊥)
+
+-- the further bound is the middle of the sampled keys of the end's own piece, or the piece's low end and one if that is greater; it lies strictly
+-- between the ends of this piece
+pub record IsFurther (s : State) (end further : ℕ) : Type 0 where
+  pub middle : ℕ
+  pub is_middle : IsMiddle (samples s (own_piece s end)) middle
+  pub is : further ≡ max middle (bound_or_end s.keys.low (own_piece s end).low + 1)
+  pub low : bound_or_end s.keys.low (own_piece s end).low < further
+  pub high : further < bound_or_end s.keys.high (own_piece s end).high
+
+-- a store is cracked at an end of a range and at its further bound if the end says little about its piece; else nothing changes
+abbrev pub CracksBeside : State → State → Range → ℕ → Type 0
+CracksBeside s t r end = (SaysLittle s r end × ((further : ℕ) × IsFurther s end further × Refines s t (record { low = min end further; high = max end further }))) ⊎ ((SaysLittle s r end → ⊥) × (t ≡ s))
+
+-- a store is cracked beside the low end of a range, beside its high end, and then at the ends of the range
+pub record CracksFurther (s t : State) (r : Range) : Type 0 where
+  pub beside_low : State
+  pub beside_both : State
+  pub low : CracksBeside s beside_low r r.low
+  pub high : CracksBeside beside_low beside_both r r.high
+  pub refines : Refines beside_both t r

@@ -1,0 +1,26 @@
+//! Bounds that a store forgets.
+ghost use Rattle.std.specs.Prelude.{◌≡◌, IfNone, IfSome};
+ghost use Rattle.crack_index.specs.Marks.{HasBound, removed};
+
+use crate::Store;
+use crack_index::Pass;
+use crack_row::{InnerBound, Key};
+
+impl Store {
+    /// A pass over at most `bounds` of the bounds above a key, the lowest first. It finds those whose two pieces hold
+    /// at most `rows` rows together. O(log bounds).
+    pub fn pass_after(&self, key: Key, rows: usize, bounds: usize) -> Pass {
+        self.inside.index.pass_after(key, rows, bounds)
+    }
+
+    /// Forgets the next bound that a pass finds, and returns it; `None` at the end of the pass. No row moves. Takes no
+    /// memory. O(log bounds) and a step for each bound that the pass meets.
+    pub fn forget_few(&mut self, pass: &mut Pass) -> Option<InnerBound>
+        ensures there { IfSome result (λ b. HasBound self.old.marks b.0) }
+        ensures forgotten { IfSome result (λ b. self.new ≡ record self.old { marks = removed b.0 self.old.marks }) }
+        ensures none { IfNone result (self.new ≡ self.old) }
+    {
+        let len = self.inside.column.len();
+        self.inside.index.remove_few(pass, len)
+    }
+}

@@ -1,0 +1,207 @@
+//! A further bound beside an end of a range that says little about the piece into which it falls ("Stochastic Database
+//! Cracking", PVLDB 2012).
+ghost use Rattle.std.specs.Prelude.{◌≡◌, ◌⊎◌, ◌+◌, ◌-◌, ◌≤◌, ◌<◌, ◌↔◌, IsTrue, [], length, IfSome, IfNone, min, max};
+ghost use Rattle.crack_store.specs.Keeps.{KeepsIntact};
+ghost use Rattle.crack_store.specs.Inside.{lists_of};
+ghost use Rattle.crack_store.specs.Further.{own_piece, sampled, samples, count_below, DividesWell};
+ghost use Rattle.crack_store.specs.Further.{IsMiddle, FallsIntoLarge, EndsDivideWell, SaysLittle, IsFurther};
+ghost use Rattle.crack_store.specs.Further.{CracksBeside, CracksFurther, bound_or_end};
+ghost use Rattle.crack_store.specs.Gaps.{HasRoomBeside};
+
+use crate::cracking::{crack_at_ends, gap_at, missing_ends};
+use crate::inside::Inside;
+use crack_index::Piece;
+use crack_row::{Bound, BoundNumber, GREATEST_BOUND, Key, KeyNumber, KeyRange};
+
+/// A piece with at most this many rows isn't cracked further.
+const MOST_ROWS: usize = 2048;
+
+/// How many keys of a piece are looked at.
+const SAMPLES: usize = 9;
+
+/// How many sampled keys are below a bound that divides them well, at least, and how many aren't.
+const FEWEST: usize = 3;
+
+/// For how many bounds there must be room: for two beside each end of a range.
+pub(crate) const BOUNDS_BESIDE: usize = 4;
+
+/// Cracks beside each end of the range, the low one first, and then at its ends. Takes no memory.
+/// O(size of their pieces + bounds).
+#[inline(never)]
+pub(crate) fn crack_further(inside: &mut Inside, range: KeyRange)
+    requires intact { KeepsIntact inside.old [] }
+    requires room { BOUNDS_BESIDE ≤ inside.old.index.room }
+    ensures intact { KeepsIntact inside.new [] }
+    ensures further { CracksFurther (lists_of inside.old) (lists_of inside.new) range }
+{
+    crack_beside(inside, range, range.low());
+    crack_beside(inside, range, range.high());
+    let missing = missing_ends(inside, range);
+    crack_at_ends(inside, range, missing);
+}
+
+/// Cracks at an end of the range and at its further bound, if the end says little about its piece. Takes no memory.
+/// O(size of the piece + bounds).
+fn crack_beside(inside: &mut Inside, range: KeyRange, end: Bound)
+    requires intact { KeepsIntact inside.old [] }
+    requires end { (end.0 ≡ range.low) ⊎ (end.0 ≡ range.high) }
+    requires room { HasRoomBeside (lists_of inside.old) range inside.old.index.room }
+    ensures intact { KeepsIntact inside.new [] }
+    ensures beside { CracksBeside (lists_of inside.old) (lists_of inside.new) range end.0 }
+    ensures room { HasRoomBeside (lists_of inside.new) range inside.new.index.room }
+{
+    let Some(further) = further_bound(inside, range, end) else {
+        return;
+    };
+    let ends = range_between(inside.keys, end, further);
+    let missing = missing_ends(inside, ends);
+    crack_at_ends(inside, ends, missing);
+}
+
+/// The range between two bounds in either order, which are in these keys or at their ends.
+fn range_between(keys: KeyRange, one: Bound, other: Bound) -> KeyRange
+    requires one { one.0 ≤ keys.high }
+    requires other { other.0 ≤ keys.high }
+    ensures { result ≡ record { low = min one.0 other.0; high = max one.0 other.0 } }
+{
+    let _ = keys.high();
+    let (low, high) = if one < other {
+        (one, other)
+    } else {
+        (other, one)
+    };
+    match KeyRange::between(low, high) {
+        Ok(range) => range,
+        Err(_) => unreachable!(),
+    }
+}
+
+/// The further bound at which the store is cracked beside an end of the range; none if the end says enough about its
+/// piece. O(log bounds).
+fn further_bound(inside: &Inside, range: KeyRange, end: Bound) -> Option<Bound>
+    requires intact { KeepsIntact inside.now [] }
+    ensures little { IfSome result (λ further. SaysLittle (lists_of inside.now) range end.0) }
+    ensures further { IfSome result (λ further. IsFurther (lists_of inside.now) end.0 further.0) }
+    ensures none { IfNone result (SaysLittle (lists_of inside.now) range end.0 → ⊥) }
+{
+    let Some(piece) = large_piece(inside, end) else {
+        return None;
+    };
+    let keys = samples(inside, piece);
+    if ends_divide_well(range, &keys) {
+        return None;
+    }
+    let middle = middle(keys);
+    Some(bound_at(middle, low_of(piece, inside.keys)))
+}
+
+/// The piece into which a missing bound falls, if it is large and there are bounds already. O(log bounds).
+fn large_piece(inside: &Inside, bound: Bound) -> Option<Piece>
+    requires intact { KeepsIntact inside.now [] }
+    ensures own { IfSome result (λ piece. piece ≡ own_piece (lists_of inside.now) bound.0) }
+    ensures falls { IfSome result (λ piece. FallsIntoLarge (lists_of inside.now) bound.0) }
+    ensures within { IfSome result (λ piece. piece.to ≤ length inside.now.column.handles) }
+    ensures none { IfNone result (FallsIntoLarge (lists_of inside.now) bound.0 → ⊥) }
+{
+    if inside.index.is_empty() {
+        return None;
+    }
+    let Some(gap) = gap_at(inside, bound) else {
+        return None;
+    };
+    let piece = gap.piece();
+    if piece.to - piece.from <= MOST_ROWS {
+        return None;
+    }
+    Some(piece)
+}
+
+/// The number at which the keys of a piece begin: that of the bound below them, or of the low end of these keys.
+fn low_of(piece: Piece, keys: KeyRange) -> BoundNumber
+    ensures value { result ≡ bound_or_end keys.low piece.low }
+    ensures small { result ≤ GREATEST_BOUND }
+{
+    let _ = keys.high();
+    match piece.low {
+        Some(bound) => bound.number() as BoundNumber,
+        None => keys.low().number(),
+    }
+}
+
+/// The bound at a key, or the next one above this number if that is greater.
+fn bound_at(key: KeyNumber, low: BoundNumber) -> Bound
+    requires { low ≤ GREATEST_BOUND }
+    ensures { result.0 ≡ max key (low + 1) }
+{
+    Bound::from_number((key as BoundNumber).max(low + 1))
+}
+
+/// Whether one of the range's ends divides the keys well.
+fn ends_divide_well(range: KeyRange, keys: &[KeyNumber; SAMPLES]) -> bool
+    ensures { IsTrue result ↔ EndsDivideWell range keys.now }
+{
+    divides_well(range.low(), keys) || divides_well(range.high(), keys)
+}
+
+/// The keys at nine places that are spread evenly over a piece.
+fn samples(inside: &Inside, piece: Piece) -> [KeyNumber; SAMPLES]
+    requires intact { KeepsIntact inside.now [] }
+    requires within { piece.to ≤ length inside.now.column.handles }
+    requires large { MOST_ROWS < piece.to - piece.from }
+    ensures { result ≡ samples (lists_of inside.now) piece }
+{
+    [
+        sampled(inside, piece, 0),
+        sampled(inside, piece, 1),
+        sampled(inside, piece, 2),
+        sampled(inside, piece, 3),
+        sampled(inside, piece, 4),
+        sampled(inside, piece, 5),
+        sampled(inside, piece, 6),
+        sampled(inside, piece, 7),
+        sampled(inside, piece, 8),
+    ]
+}
+
+/// The key at one of the nine places. O(1).
+fn sampled(inside: &Inside, piece: Piece, n: usize) -> KeyNumber
+    requires intact { KeepsIntact inside.now [] }
+    requires within { piece.to ≤ length inside.now.column.handles }
+    requires large { MOST_ROWS < piece.to - piece.from }
+    requires few { n < SAMPLES }
+    ensures { result ≡ sampled (lists_of inside.now) piece n }
+{
+    let rows = piece.to - piece.from;
+    let place = piece.from + (2 * n + 1) * rows / (2 * SAMPLES);
+    inside.column.key_at(place, &inside.arena).number()
+}
+
+/// Whether at least three of the keys are below the bound, and at least three aren't.
+fn divides_well(bound: Bound, keys: &[KeyNumber; SAMPLES]) -> bool
+    ensures { IsTrue result ↔ DividesWell bound.0 keys.now }
+{
+    let below = count_below(bound, keys);
+    FEWEST <= below && below <= SAMPLES - FEWEST
+}
+
+/// How many of the keys are below the bound.
+fn count_below(bound: Bound, keys: &[KeyNumber; SAMPLES]) -> usize
+    ensures { result ≡ count_below bound.0 keys.now }
+{
+    let mut below = 0;
+    'keys: for i in 0..SAMPLES {
+        if bound.is_above(Key::from_number(keys[i])) {
+            below += 1;
+        }
+    }
+    below
+}
+
+/// The fifth of the keys by size.
+fn middle(keys: [KeyNumber; SAMPLES]) -> KeyNumber
+    ensures { IsMiddle keys result }
+{
+    let mut rising = keys;
+    rising.sort_unstable();
+    rising[SAMPLES / 2]
+}
