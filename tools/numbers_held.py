@@ -179,6 +179,7 @@ SENTENCES = [
             "complete": "0.5, 0 and 0.4",
             "gradual": "0.5, 0 and 42",
             "ripple": "3.2, 3.0 and 8.9",
+            "auto": "0.5, 0 and 0",
         }.items()
     ),
 ]
