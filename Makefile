@@ -19,22 +19,23 @@ help:
 	@echo '             OF=--count: only the numbers'
 
 run:
-	@python3 tools/prove.py crackd -- script
+	@python3 tools/prove.py crackd
+	@crates/crackd/out/crackd script
 
 try: program-unproved
 	@crates/crackd/out/crackd-unproved script
 
 program-unproved:
-	@python3 tools/unproved.py
+	@python3 tools/build.py program-unproved
 
 lib:
-	@python3 tools/library.py
+	@python3 tools/build.py
 
 lib-unproved:
-	@python3 tools/library.py --unproved
+	@python3 tools/build.py library-unproved
 
 test:
-	@python3 acceptance/test.py
+	@.ci/run tests
 
 edits:
 	@python3 tools/edits.py $(OF)

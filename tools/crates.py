@@ -1,8 +1,10 @@
-"""The crates that crates.txt lists: what they use, their files, and sums of all that a proof depends on."""
+"""The crates that crates.txt lists: what they use, their files, sums of all that a proof depends on, and the words by
+which the toolchain's compiler, `rattle`, works on one."""
 
 import dataclasses
 import functools
 import hashlib
+import os
 import pathlib
 import shutil
 import sys
@@ -13,11 +15,13 @@ PARTS = ("src", "specs", "proofs")
 
 @dataclasses.dataclass(frozen=True)
 class Crate:
-    """A crate: its name, its line in crates.txt, and the names of the repository's crates that the line names."""
+    """A crate: its name, its line in crates.txt, and the names of the repository's crates and of the toolchain's
+    libraries that the line names."""
 
     name: str
     line: str
     uses: tuple
+    of_kit: tuple
 
     @property
     def folder(self):
@@ -26,6 +30,11 @@ class Crate:
     @property
     def out(self):
         return self.folder / "out"
+
+    @property
+    def library(self):
+        """Where its library is kept, once it was proved."""
+        return self.out / "proved" / (f"lib{self.name}.a" if self.is_static else f"{self.name}.rlib")
 
     @property
     def is_program(self):
@@ -40,59 +49,68 @@ class Crate:
         """The files that a check of the crate reads, in the order of their paths."""
         return sorted(it for part in PARTS for it in (self.folder / part).rglob("*") if it.is_file())
 
-    def lines(self, ending):
-        """How many lines its sources with this ending have."""
-        return sum(it.read_bytes().count(b"\n") for it in self.sources() if it.name.endswith(ending))
 
-    def edits(self):
-        """Its must-fail edits, in the order of their names."""
-        return sorted((self.folder / "must-fail").glob("*.edit"))
+def read(path):
+    return path.read_text(encoding="utf-8")
 
 
 def parsed(text):
     """The lines of a crates.txt by the names of their crates, in order: each line, and the words after its colon."""
     lines = [it.partition("#")[0].strip() for it in text.splitlines()]
-    parted = [(line, line.partition(":")) for line in lines if line]
-    return {before.split()[0]: (line, after.split()) for line, (before, _, after) in parted}
+    return {line.split(":")[0].split()[0]: (line, line.partition(":")[2].split()) for line in lines if line}
 
 
 @functools.lru_cache(maxsize=None)
 def listed():
-    """All crates by name, each after those that it uses."""
-    lines = parsed((TOP / "crates.txt").read_text())
-    found = {name: Crate(name, line, tuple(it for it in words if it in lines)) for name, (line, words) in lines.items()}
-    ordered = {}
-
-    def place(crate):
-        for it in crate.uses:
-            if it not in ordered:
-                place(found[it])
-        ordered[crate.name] = crate
-
-    for crate in found.values():
-        if crate.name not in ordered:
-            place(crate)
-    return ordered
+    """All crates by name, in the order of crates.txt, where each comes after those that it uses."""
+    lines = parsed(read(TOP / "crates.txt"))
+    own = lambda words: tuple(it for it in words if it in lines)
+    kit = lambda words: ("std", *(it for it in words if it not in lines))
+    return {name: Crate(name, line, own(words), kit(words)) for name, (line, words) in lines.items()}
 
 
 @functools.lru_cache(maxsize=None)
 def below(name):
     """The crates below a crate, each after those that it uses itself."""
-    used = set()
-    for it in listed()[name].uses:
-        used |= {it, *(crate.name for crate in below(it))}
+    used = {one for it in listed()[name].uses for one in (it, *(crate.name for crate in below(it)))}
     return [crate for crate in listed().values() if crate.name in used]
 
 
+def with_below(names):
+    """These crates and those below them, each after those that it uses."""
+    wanted = {crate.name for name in names for crate in [*below(name), listed()[name]]}
+    return [crate for crate in listed().values() if crate.name in wanted]
+
+
+def known(names):
+    """These names, of which each must be that of a crate."""
+    unknown = [it for it in names if it not in listed()]
+    return sys.exit(f"no crate of crates.txt: {' '.join(unknown)}") if unknown else names
+
+
 @functools.lru_cache(maxsize=None)
-def toolchain():
-    """What distinguishes one toolchain from another, found without starting it."""
+def kit():
+    """The folder of the toolchain."""
     rt = shutil.which("rt")
     if not rt:
         sys.exit("the command rt isn't installed: CONTRIBUTING.md lists what is needed")
-    path = pathlib.Path(rt).resolve()
-    kit, stat = path.parent.parent / "KIT-ID", path.stat()
-    return kit.read_text() if kit.exists() else f"{path} {stat.st_size} {stat.st_mtime_ns}"
+    return pathlib.Path(os.path.realpath(rt)).parent.parent
+
+
+def rattle_words(verb, crate, library=lambda crate: crate.library):
+    """The words by which `rattle check` or `rattle build` works on a crate in its folder, over the libraries that are
+    kept of those below it, or those that a function returns."""
+    words = [kit() / "bin" / "rattle", verb, "--crate-name", crate.name]
+    words.append("src/main.rt" if crate.is_program else "src/lib.rt")
+    libraries = {it: kit() / "rlibs" / f"{it}.rlib" for it in crate.of_kit}
+    libraries.update({it: library(listed()[it]) for it in crate.uses})
+    for name, path in libraries.items():
+        words += ["--extern", f"{name}={path}"]
+    for folder in [kit() / "rlibs", *(library(it).parent for it in below(crate.name))]:
+        words += ["-L", f"dependency={folder}"]
+    words += ["--antt-project", kit() / "rattle" / "logic" / "antt-project.json"]
+    words += ["--logic-built", kit() / "logic_built"]
+    return words + (["--crate-type", "staticlib"] if crate.is_static else [])
 
 
 @functools.lru_cache(maxsize=None)
@@ -100,7 +118,7 @@ def sum_of(name):
     """A sum of all that a crate's proof depends on: the toolchain, its line and its files, and the same for the crates
     below it."""
     crate = listed()[name]
-    told = hashlib.sha256(f"{toolchain()}\n{crate.line}\n".encode())
+    told = hashlib.sha256(f"{(kit() / 'KIT-ID').read_text()}\n{crate.line}\n".encode())
     for it in crate.sources():
         told.update(f"{it.relative_to(crate.folder)}\n".encode())
         told.update(hashlib.sha256(it.read_bytes()).digest())

@@ -1,156 +1,82 @@
 """Which must-fail edits are due: those of the crates that changed since all were tried, and a tenth of the others.
 
-A crate has changed if its own text has (sources, definitions or proofs, without comment lines), or if it names
-something of a crate below it whose meaning has: a definition, the statement of a law, a type, or a function's contract,
-whether its own text changed or that of something which it names in turn. The body of a function and the proof of a law
-have no meaning for the crates above. In a crate that hasn't changed, edits that are new or changed themselves are due.
+A crate has changed if its own text has (sources, definitions or proofs), or if what a crate below it states has: its
+definitions, its types, its functions' contracts, and the statements of its laws. The body of a function, the proof of a
+law, imports and comments have no meaning for the crates above. In a crate that hasn't changed, edits that are new or
+changed themselves are due.
 """
 
 import hashlib
+import pathlib
 import re
+import subprocess
+import tempfile
 
 import crates
-import edits
-import functions
 
-WORD = re.compile(r"[^\W\d][\w'⁻₀-₉-]*")
-ITEM = re.compile(r"^(?:(?:pub|abbrev|unfoldable|opaque|data|record|syntax|instance)\s+)*([^\s:(){},]+)")
-COMMENT_LINE = re.compile(r"(?m)^[ \t]*(?://|--).*\n?")
-RUST_ITEM = re.compile(
-    r"^\s*(?:pub(?:\([^)]*\))?\s+)?(?:struct|enum|trait|const|static|type|mod|macro_rules!|ghost)\s+(\w+)"
+COMMENT = re.compile(r"(?m)[ \t]*(?://|--).*$")
+IMPORT = re.compile(r"(?m)^(?:pub(?:\([^)]*\))?\s+|ghost\s+|\s)*(?:use|mod)\b.*$")
+# a function's body, behind the last line of what it says of itself
+BODY = re.compile(
+    r"(?m)^( *)((?:pub(?:\([^)]*\))? )?(?:const )?(?:unsafe )?(?:extern \S+ )?fn .*|(?:\) *(?:->.*)?)?)"
+    r"\{\n(?:.*\n)*?\1\}$"
 )
+# the equations of a law, behind its statement
+EQUATIONS = re.compile(r"(?m)^[^\s:=][^:=\n]*=.*\n(?:\s.*\n)*")
+# files of proofs that no other file can cite
+OF_FUNCTIONS = ("Answers.antt", "Invariants.antt", "Proof.antt")
 
 
-def words_of(text):
-    """The words of a text, without comments."""
-    return set(WORD.findall(re.sub(r"(?m)(?:--|//).*$", "", text)))
+def git(*words):
+    """What git says about the checkout; nothing if there is none."""
+    ran = subprocess.run(["git", *words], cwd=crates.TOP, capture_output=True, check=False)
+    return ran.stdout if ran.returncode == 0 else b""
 
 
 def without_comments(text):
-    """A file's text without its comment lines, on which no proof depends."""
-    return COMMENT_LINE.sub("", text).strip()
+    """A file's lines without comments, on which no proof depends, and without blank ones."""
+    return "".join(f"{it.rstrip()}\n" for it in COMMENT.sub("", text).splitlines() if it.strip())
 
 
-def definitions(text, with_bodies):
-    """The items of a file of definitions or laws by name: their text, or only their statement."""
-    found, name, is_body = {}, "", False
-    for line in text.splitlines():
-        if not line.strip() or line.startswith("--"):
-            continue
-        if not line[0].isspace():
-            name = ITEM.match(line)[1] if ITEM.match(line) else line
-            is_body = name in found and "=" in line and ":" not in line.partition("=")[0]
-        # (which names a file imports has no meaning by itself)
-        if name not in ("use", "mod") and (with_bodies or not is_body):
-            found[name] = found.get(name, "") + line.strip() + "\n"
-    return found
+def texts(folder):
+    """The texts of a crate's files, by path, without comments."""
+    files = [it for part in crates.PARTS for it in (folder / part).rglob("*") if it.is_file()]
+    return {str(it.relative_to(folder)): without_comments(it.read_text(errors="replace")) for it in files}
 
 
-def faces(text):
-    """The items of a source file by name, without the bodies of functions and without tests."""
-    found, name, closes = {}, "", None
-    for line in re.sub(r"(?m)\s*//.*$", "", text).splitlines():
-        if closes is not None:
-            closes = None if line.rstrip() == closes else closes
-            continue
-        if re.match(r"\s*(?:pub(?:\([^)]*\))?\s+|ghost\s+)?use\b", line):
-            continue
-        function, item = functions.FUNCTION.match(line), RUST_ITEM.match(line)
-        block = functions.BLOCK.match(line)
-        if function:
-            name = function[2]
-        elif block:
-            name = functions.owner_of(block[2])[0] or name
-        elif item:
-            name = item[1]
-        found[name] = found.get(name, "") + line.strip() + "\n"
-        opens = re.match(r"(\s*)(?:.*\S)?\s*\{$", line)
-        indent = re.match(r"\s*", line)[0]
-        is_body = (
-            opens
-            and (function or line.strip() == "{" or re.match(r"\s*\)\s*(->.*)?\{$", line))
-            and name
-            and not block
-            and not item
-        )
-        closes = indent + "}" if is_body else None
-    return found
+def stated(of_files):
+    """What a crate's texts, by path, state: without imports, bodies, proofs, spaces and line ends."""
+    shorten = {"src": lambda it: BODY.sub(r"\1\2{", it), "proofs": lambda it: EQUATIONS.sub("", it)}
+    kept = [(path, text) for path, text in sorted(of_files.items()) if not path.endswith(OF_FUNCTIONS)]
+    said = [shorten.get(path.partition("/")[0], str)(text) for path, text in kept]
+    return "".join(IMPORT.sub("", "".join(said)).split())
 
 
-def items_of(path, text):
-    """What a file of a crate states, by name."""
-    if path.startswith("src/"):
-        return faces(text)
-    return definitions(text, path.startswith("specs/"))
-
-
-def texts_before(commit, crate):
-    """A crate's files at a commit, by path, without comment lines."""
-    prefix = f"crates/{crate.name}/"
-    folders = [f"{prefix}{it}" for it in crates.PARTS]
-    names = edits.git("ls-tree", "-r", "--name-only", commit, "--", *folders).splitlines()
-    return {it.removeprefix(prefix): without_comments(edits.git("show", f"{commit}:{it}")) for it in names}
-
-
-def texts_now(crate):
-    """A crate's files as they are, by path, without comment lines."""
-    return {
-        str(it.relative_to(crate.folder)): without_comments(it.read_text(errors="replace")) for it in crate.sources()
-    }
-
-
-def stated(texts):
-    """All that a crate's files state, by name."""
-    found = {}
-    for path, text in sorted(texts.items()):
-        for name, said in items_of(path, text).items():
-            found[name] = found.get(name, "") + said
-    return found
-
-
-def alike(one, other):
-    """Whether two texts differ only in spaces and line ends."""
-    return "".join((one or "").split()) == "".join((other or "").split())
-
-
-def changed_names(before, now, changed_below):
-    """The names of a crate whose meaning changed: by their own text, or by a name that they cite."""
-    names = {it for it in {*before, *now} if not alike(before.get(it), now.get(it))}
-    cited = {name: words_of(text) for name, text in now.items()}
-    while True:
-        more = {name for name, words in cited.items() if name not in names and words & (names | changed_below)}
-        if not more:
-            return names
-        names |= more
-
-
-def changed_crates(commit):
-    """The names of the crates whose text, or what they cite of crates below, changed since a commit."""
-    found, meanings = set(), {}
-    lines_before = crates.parsed(edits.git("show", f"{commit}:crates.txt"))
+def changed_crates(before):
+    """The names of the crates whose text, or what a crate below them states, differs from that of another checkout."""
+    found, restated = set(), set()
+    lines = crates.parsed((before / "crates.txt").read_text())
     for crate in crates.listed().values():
-        before, now = texts_before(commit, crate), texts_now(crate)
-        below = set().union(*(meanings[it.name] for it in crates.below(crate.name)))
-        own = before != now or lines_before.get(crate.name, ("",))[0] != crate.line
-        cites = any(words_of(text) & below for text in now.values())
-        meanings[crate.name] = changed_names(stated(before), stated(now), below) if own or cites else set()
-        if own or cites:
+        old, new = texts(before / "crates" / crate.name), texts(crate.folder)
+        is_own = old != new or lines.get(crate.name, ("",))[0] != crate.line
+        if is_own and stated(old) != stated(new):
+            restated.add(crate.name)
+        if is_own or restated.intersection(it.name for it in crates.below(crate.name)):
             found.add(crate.name)
     return found
 
 
-def since():
-    """The commit whose edits were all tried, if it is an ancestor of this one."""
-    commit = edits.TRIED.read_text().strip() if edits.TRIED.exists() else ""
-    kind = edits.git("cat-file", "-t", commit) if re.fullmatch(r"[0-9a-f]{40}", commit) else ""
-    base = edits.git("merge-base", commit, "HEAD") if kind == "commit" else ""
-    return commit if commit and base == commit else ""
+def since(tried):
+    """The commit that a file names, if it is an ancestor of this one."""
+    commit = tried.read_text().strip() if tried.exists() else ""
+    is_whole = re.fullmatch(r"[0-9a-f]{40}", commit)
+    return commit if is_whole and git("merge-base", commit, "HEAD").decode().strip() == commit else ""
 
 
-def is_new(edit, commit):
-    """Whether an edit's own text differs from that of the commit."""
-    path = f"crates/{edit.crate}/must-fail/{edit.name}"
-    return edits.git("show", f"{commit}:{path}") != (crates.TOP / path).read_text(errors="replace").strip()
+def is_new(edit, before):
+    """Whether an edit's own text differs from that of another checkout."""
+    old, new = (top / "crates" / edit.crate / "must-fail" / edit.name for top in (before, crates.TOP))
+    return not old.exists() or old.read_bytes() != new.read_bytes()
 
 
 def is_drawn(edit, commit):
@@ -158,15 +84,17 @@ def is_drawn(edit, commit):
     return hashlib.sha256(f"{commit} {edit.label}".encode()).digest()[0] * 10 < 256
 
 
-def due():
-    """The edits that are due, those of changed crates first, and a line about them."""
-    every = [edit for crate in crates.listed().values() for edit in edits.edits_of(crate)]
-    commit = since()
+def due(every, tried):
+    """Those of the edits that are due since the commit that a file names, those of changed crates first, and a line
+    about them."""
+    commit, head = since(tried), git("rev-parse", "HEAD").decode().strip()
     if not commit:
         return every, "edits: there is no commit whose edits were all tried, so all are due"
-    changed = changed_crates(commit)
-    head = edits.git("rev-parse", "HEAD")
-    first = [it for it in every if it.crate in changed or is_new(it, commit)]
+    with tempfile.TemporaryDirectory(prefix="crackd-due-") as room:
+        files = git("archive", commit, "crates", "crates.txt")
+        subprocess.run(["tar", "-x", "-C", room], input=files, check=True)
+        changed = changed_crates(pathlib.Path(room))
+        first = [it for it in every if it.crate in changed or is_new(it, pathlib.Path(room))]
     others = [it for it in every if it not in first and is_drawn(it, head)]
     of = ", ".join(sorted(changed & {it.crate for it in first})) or "none"
     said = f"edits: {len(first)} are due, new ones or of crates that changed since {commit[:12]} ({of})"

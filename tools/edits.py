@@ -1,54 +1,52 @@
 #!/usr/bin/env python3
-"""Tries must-fail edits, wrong bodies that the prover must refuse: edits.py [CRATE..]
+"""Tries must-fail edits, wrong bodies that the prover must refuse: edits.py [CRATE ..], or edits.py --due SECONDS
 
-It tries all of them, or those of the named crates. First it proves the crates that aren't up to date. Then edits are
-tried in parallel, as many as there are processors and memory for, each starting from what a check of its crate kept.
+It tries all of them, or those of the named crates, or as many of those that are due (due.py) as it can begin in a time,
+once their crates are proved: in parallel, as many as there are processors and memory for, each starting from what a
+check of its crate kept. The last line is 'N passed, M failed'.
 
-Edits that change different functions are tried together, in one check: a function's proof may cite what the others
-promise and nothing of their bodies, and a check says for each function whether its own proof holds, or only lacks that
-of another. An edit is refused if the function that it changes isn't proved itself. So functions of which one may call
-the other are tried separately. If a check of several leaves an edit open all the same (its function lacks another's
-proof, or is proved), it is tried again among fewer, and finally by itself: then it is refused if the crate isn't
-proved. An edit that can't be applied or read is a failure, like one that isn't refused.
-
-At the end there is a table of the processor seconds that an edit takes, with its share of the check without edits that
-its crate needs first. If all edits of all crates were refused, and the crates are those of the last commit,
-tools/edits-tried names that commit. The last line is 'N passed, M failed'.
+Edits that change different functions are tried in one check: a function's proof may cite what the others promise and
+nothing of their bodies, and a check says for each function whether its own proof holds, or only lacks that of another.
+So functions of which one may call the other are tried separately. An edit whose function isn't proved itself is
+refused. One that a check of several leaves open (its function lacks another's proof, or is proved) is tried again among
+fewer, and finally by itself: then it is refused if the crate isn't proved. One that can't be applied or read is a
+failure, like one that isn't refused.
 """
 
-import collections
+import concurrent.futures
 import dataclasses
 import functools
 import os
+import pathlib
 import re
-import subprocess
+import resource
+import shutil
 import sys
+import tempfile
+import threading
 import time
 
 import crates
-import functions
-import lanes
+import due
 import prove
-import rooms
+from reading import sources
 
 TRIED = crates.TOP / "tools" / "edits-tried"
 # How many edits one check tries at most, by round.
 SIZES = (8, 3, 1)
-# How many seconds a check of several edits takes at most, at first; later it is what was observed.
-SECONDS = 60.0
 UNREAD = re.compile(r"is not in scope|has no field|is no name|operand is missing|expected the end|cannot continue")
 ERROR = re.compile(r"(?:\./)?(\S+?):\d+:\d+: error: (?:(`[^`]*`): )?(.*)")
 
 
 @dataclasses.dataclass(frozen=True)
 class Edit:
-    """An edit: its crate, its name, its changes (the file, the old text and the new), and the function that it changes,
-    if there is only one."""
+    """An edit: its crate, its name, its changes (the file, the old text and the new), the function that it changes, if
+    there is only one, and what is wrong with it, if anything."""
 
     crate: str
     name: str
-    changes: tuple
-    function: functions.Function = None
+    changes: tuple = ()
+    function: sources.Function = None
     fault: str = ""
 
     @property
@@ -56,66 +54,60 @@ class Edit:
         return f"{self.crate}/{self.name}"
 
 
-def read(path, crate):
-    """Reads an edit. What is wrong with it, if anything, is its fault."""
-    file, old, changes, places, texts = "", None, [], set(), {}
-    for line in path.read_text(encoding="utf-8", errors="replace").split("\n"):
-        if line.startswith("file: "):
-            file = line[len("file: ") :].strip()
-        elif line.startswith("old: "):
-            old = line[len("old: ") :]
-        elif line.startswith("new:") and file and old:
-            new = line[len("new:") :].removeprefix(" ")
-            if not (crate.folder / file).is_file() or not file.startswith(tuple(f"{it}/" for it in crates.PARTS)):
-                return Edit(crate.name, path.name, (), None, f"there is no file {file}")
-            text = texts.setdefault(file, (crate.folder / file).read_text())
-            if text.count(old) != 1:
-                return Edit(
-                    crate.name,
-                    path.name,
-                    (),
-                    None,
-                    f"an 'old:' text is in {file} {text.count(old)} times, and not once",
-                )
-            at = text.find(old) + len(old) - len(old.lstrip())
-            places.add(functions.function_at(file, text, at) if file.startswith("src/") else None)
-            texts[file] = text.replace(old, new)
-            changes.append((file, old, new))
-            old = None
-    if not changes or old:
-        return Edit(crate.name, path.name, (), None, "it isn't a list of files with pairs of 'old:' and 'new:'")
-    return Edit(crate.name, path.name, tuple(changes), *(places if len(places) == 1 else ()))
-
-
-def edits_of(crate):
-    """The edits of a crate; a file that isn't one has a fault."""
-    folder = crate.folder / "must-fail"
-    others = [it for it in folder.rglob("*") if it.is_file() and it.suffix != ".md" and it not in crate.edits()]
-    wrong = [
-        Edit(crate.name, it.name, (), None, "an edit is directly in must-fail/, and its name ends in .edit")
-        for it in sorted(others)
-    ]
-    return [*(read(it, crate) for it in crate.edits()), *wrong]
-
-
-def applied(edits):
-    """The texts of the files that these edits of one crate change, or None if the edits can't be made together."""
-    folder, texts = crates.listed()[edits[0].crate].folder, {}
-    for file, old, new in (change for it in edits for change in it.changes):
-        text = texts[file] if file in texts else (folder / file).read_text()
-        if text.count(old) != 1:
-            return None
-        texts[file] = text.replace(old, new)
-    return texts
+@functools.lru_cache(maxsize=None)
+def sources_of(crate):
+    """The files of src/ of a crate, by path."""
+    return {str(it.path.relative_to(crate.folder)): it for it in sources.Names().read(crate.folder)}
 
 
 @functools.lru_cache(maxsize=None)
 def reached_in(name):
     """For each function of a crate those that it may call, directly or not."""
-    crate = crates.listed()[name]
-    return functions.reached(
-        {str(it.relative_to(crate.folder)): it.read_text() for it in crate.sources() if it.suffix == ".rt"}
-    )
+    return sources.reached(sources_of(crates.listed()[name]).values())
+
+
+def applied(crate, changes):
+    """The texts of a crate's files after these changes, the file and the line of each, and why they can't be made, if
+    they can't."""
+    texts, places = {}, []
+    for file, old, new in changes:
+        if not (crate.folder / file).is_file() or file.partition("/")[0] not in crates.PARTS:
+            return texts, places, f"there is no file {file}"
+        text = texts.get(file) or (crate.folder / file).read_text()
+        if text.count(old) != 1:
+            return texts, places, f"an 'old:' text is in {file} {text.count(old)} times, and not once"
+        places.append((file, text[: text.find(old)].count("\n")))
+        texts[file] = text.replace(old, new)
+    return texts, places, ""
+
+
+def read(path, crate):
+    """Reads an edit. What is wrong with it, if anything, is its fault."""
+    file, old, changes = "", None, []
+    for line in path.read_text(encoding="utf-8", errors="replace").split("\n"):
+        word, _, text = line.partition(":")
+        if word == "file":
+            file = text.strip()
+        elif word == "old":
+            old = text.removeprefix(" ")
+        elif word == "new" and file and old:
+            changes.append((file, old, text.removeprefix(" ")))
+            old = None
+    if not changes or old:
+        return Edit(crate.name, path.name, fault="it isn't a list of files with pairs of 'old:' and 'new:'")
+    _, places, fault = applied(crate, changes)
+    # (an old text and a new one have a line each, so lines keep their numbers)
+    files = sources_of(crate)
+    inside = {files[it].function_at(at) if it in files else None for it, at in places}
+    return Edit(crate.name, path.name, tuple(changes), inside.pop() if len(inside) == 1 else None, fault)
+
+
+def edits_of(crate):
+    """The edits of a crate, in the order of their names; a file that isn't one has a fault."""
+    fault, folder = "an edit is directly in must-fail/, and its name ends in .edit", crate.folder / "must-fail"
+    files = sorted(it for it in folder.rglob("*") if it.is_file() and it.suffix != ".md")
+    is_edit = lambda it: it.parent == folder and it.suffix == ".edit"
+    return [read(it, crate) if is_edit(it) else Edit(crate.name, it.name, fault=fault) for it in files]
 
 
 def are_apart(one, other):
@@ -126,17 +118,17 @@ def are_apart(one, other):
     return other.function not in reached.get(one.function, ()) and one.function not in reached.get(other.function, ())
 
 
-def batches(edits, size):
+def changes_of(edits):
+    return [change for it in edits for change in it.changes]
+
+
+def batches(crate, edits, size):
     """Divides these edits of one crate into lists of at most this many, each of edits that can be tried together: those
     that fit with the fewest others first."""
     made = []
     for edit in sorted(edits, key=lambda it: sum(are_apart(it, other) for other in edits)):
-        fits = (
-            lambda batch: len(batch) < size
-            and all(are_apart(edit, it) for it in batch)
-            and applied([*batch, edit]) is not None
-        )
-        batch = next(filter(fits, made), None)
+        apart = (it for it in made if len(it) < size and all(are_apart(edit, other) for other in it))
+        batch = next((it for it in apart if not applied(crate, changes_of([*it, edit]))[2]), None)
         if batch is None:
             made.append([edit])
         else:
@@ -144,40 +136,36 @@ def batches(edits, size):
     return made
 
 
-def kept_stamp(crate):
-    """The file that says which text a crate's last check without edits was about."""
-    return crate.out / "proved" / "kept-stamp"
-
-
-def is_kept(crate):
-    return kept_stamp(crate).exists() and kept_stamp(crate).read_text() == crates.sum_of(crate.name)
-
-
 class Check:
     """What a check of a crate with some edits, or with none, said. If it has none, checks with edits begin with what it
     keeps."""
 
-    def __init__(self, crate, edits, jobs):
-        texts = applied(edits) if edits else {}
-        with rooms.Room(crate) as room:
+    def __init__(self, crate, edits):
+        texts, kept = applied(crate, changes_of(edits))[0], self.kept_of(crate)
+        with tempfile.TemporaryDirectory(prefix="crackd-edit-") as name:
+            room = pathlib.Path(name)
+            for part in filter(lambda it: (crate.folder / it).is_dir(), crates.PARTS):
+                shutil.copytree(crate.folder / part, room / part)
             for file, text in texts.items():
-                (room.folder / file).write_text(text)
-            if rooms.kept_of(crate).is_dir():
-                room.take_kept()
-            begun = time.monotonic()
-            ran = room.start("check", str(jobs), "out/kept")
-            self.said = ran.stdout.read()
-            _, status, used = os.wait4(ran.pid, 0)
-            ran.returncode = self.status = os.waitstatus_to_exitcode(status)
-            self.taken, self.seconds = time.monotonic() - begun, used.ru_utime + used.ru_stime
+                (room / file).write_text(text)
+            for it in kept.parent.glob("start-*"):
+                shutil.copytree(it, room / "kept")
+            words = [*crates.rattle_words("check", crate), "--jobs", "1", "--incremental", "kept"]
+            self.status, lines = prove.run(words, room)
             if not edits and self.status == 0:
-                room.give("kept", rooms.kept_of(crate))
-                kept_stamp(crate).write_text(crates.sum_of(crate.name))
-        self.lines = self.said.splitlines()
+                for it in kept.parent.glob("start-*"):
+                    shutil.rmtree(it)
+                shutil.move(room / "kept", kept)
+        self.lines = [it.rstrip("\n") for it in lines]
         self.verdict = next((it for it in reversed(self.lines) if it.startswith("logic=")), "")
-        self.is_read = not any(self.is_unread(it, texts) for it in self.lines) and "could not be used" not in self.said
+        self.is_read = not any(self.is_unread(it, texts) or "could not be used" in it for it in self.lines)
         found = [re.match(rf"fn {crate.name}::(\S+): (.*)", it) for it in self.lines]
         self.functions = {it[1]: it[2] for it in found if it}
+
+    @staticmethod
+    def kept_of(crate):
+        """The folder of what a check of a crate as it stands keeps."""
+        return crate.out / "proved" / f"start-{crates.sum_of(crate.name)[:16]}"
 
     @staticmethod
     def is_unread(line, texts):
@@ -188,197 +176,152 @@ class Check:
             return False
         return not found[2] or bool(UNREAD.search(re.sub(r"`[^`]*`", "", found[3])))
 
-    @property
-    def is_refused(self):
-        return self.status == 1 and self.verdict.startswith("logic=not-proved") and self.is_read
+    def verdict_on(self, edit, is_alone):
+        """Whether an edit is refused, and what to say; None if a check of several edits leaves it open."""
+        is_refused = self.status == 1 and self.verdict.startswith("logic=not-proved") and self.is_read
+        if is_refused and (is_alone or self.is_unproved(edit.function)):
+            return True, f"refused{self.reason(edit)}"
+        if not is_alone:
+            return None
+        if self.status == 0:
+            return False, "NOT REFUSED: the crate is still proved with this edit"
+        return False, f"BAD EDIT: no contract was tried: {self.first_error()}"
 
-    def refuses(self, edit):
-        """Whether the function that an edit changes isn't proved itself."""
-        named = [said for name, said in self.functions.items() if edit.function.is_named(name.split("::"))]
-        # (one that no file answers has no proof, and the check says what to answer; one that lacks another's proof
-        # names it)
-        return self.is_refused and any(
-            it == "not proved" or it.startswith("no proof: expected answers") for it in named
-        )
+    def is_unproved(self, function):
+        """Whether a function isn't proved itself: one that no file answers has no proof, and the check says what to
+        answer; one that lacks another's proof names it."""
+        named = [said for name, said in self.functions.items() if function.is_named(name.split("::"))]
+        return any(it.startswith(("not proved", "no proof: expected answers")) for it in named)
 
     def reason(self, edit):
         """The first error about the function, if there is one."""
         errors = [found for it in self.lines if (found := ERROR.match(it))]
-        parts = [*edit.function.module, edit.function.owner, edit.function.name] if edit.function else []
-        own = [it for it in errors if all(part in it[1].split("/") for part in parts if part)]
-        first = next(iter(own if edit.function else errors), None)
+        of = edit.function
+        parts = {*of.module, of.owner, of.name} - {""} if of else set()
+        first = next((it for it in errors if parts.issubset(it[1].split("/"))), None)
         return f": {first[0][:140]}" if first else ""
 
+    def first_error(self):
+        return next((it for it in self.lines if ERROR.match(it)), self.lines[-1] if self.lines else "")[:300]
 
-@dataclasses.dataclass
-class Result:
-    """How a trial of an edit ended: whether it was refused, and its share of processor seconds."""
 
-    edit: Edit
-    is_refused: bool
-    seconds: float
-    text: str
+@functools.lru_cache(maxsize=None)
+def need_of(crate):
+    """How much memory a check of a crate may take, in bytes, as measured: a gigabyte, and an amount per line."""
+    lines = lambda it, ending: sum(file.read_bytes().count(b"\n") for file in it.sources() if file.suffix == ending)
+    own = 1_000_000 * lines(crate, ".rt") + 200_000 * lines(crate, ".antt")
+    return 1_000_000_000 + own + 80_000 * sum(lines(it, ".rt") for it in crates.below(crate.name))
+
+
+def side_by_side(tasks, is_over):
+    """Makes calls in parallel, given each with its crate, in this order, as many as there are processors and memory
+    for. Returns their results; None is that of one that wasn't begun, since is_over returned true."""
+    memory = re.search(r"MemAvailable:\s+(\d+)", pathlib.Path("/proc/meminfo").read_text())
+    room, taken, changed = 0.85 * 1024 * int(memory[1]), [], threading.Condition()
+
+    def made(task):
+        crate, call = task
+        need = need_of(crate)
+        with changed:
+            changed.wait_for(lambda: not taken or need + sum(taken) <= room)
+            taken.append(need)
+        try:
+            return None if is_over() else call()
+        finally:
+            with changed:
+                taken.remove(need)
+                changed.notify_all()
+
+    with concurrent.futures.ThreadPoolExecutor(len(os.sched_getaffinity(0))) as pool:
+        return list(pool.map(made, tasks))
 
 
 class Trials:
     """Tries edits in rounds, until each has ended or the time is over."""
 
-    def __init__(self, edits, ends=None, say=print):
-        self.ends, self.say, self.results = ends, say, []
+    def __init__(self, edits, ends=None):
+        # how many were refused and how many not, and of the crates whose check without edits failed, what it said
+        self.ends, self.refused, self.failed, self.unproved = ends, 0, 0, {}
         self.waiting = [it for it in edits if not it.fault]
-        self.batch_seconds, self.unkept, self.kept_seconds = SECONDS, {}, {}
         for it in edits:
             if it.fault:
-                self.end(it, False, 0.0, f"BAD EDIT: {it.fault}")
+                self.end(it, False, f"BAD EDIT: {it.fault}")
 
-    def end(self, edit, is_refused, seconds, text):
-        self.results.append(Result(edit, is_refused, seconds, text))
-        self.say(f"must-fail {edit.label}: {text}")
+    def end(self, edit, is_refused, text):
+        self.refused, self.failed = self.refused + is_refused, self.failed + (not is_refused)
+        print(f"must-fail {edit.label}: {text}", flush=True)
 
     def is_over(self):
-        """Whether a check that begins now might end too late."""
-        return self.ends is not None and time.monotonic() + self.batch_seconds > self.ends
+        """Whether it is too late to begin a check."""
+        return self.ends is not None and time.monotonic() > self.ends
 
-    def keep(self, crate, jobs):
-        """Checks a crate without edits, if what is kept isn't of its text."""
-        if not is_kept(crate):
-            check = Check(crate, [], jobs)
-            self.kept_seconds[crate.name] = check.seconds
-            if check.status:
-                self.unkept[crate.name] = next(
-                    (it for it in check.lines if ERROR.match(it)), check.lines[-1] if check.lines else ""
-                )
-        return []
+    def keep(self, crate):
+        """Checks a crate without edits, for what is kept of that."""
+        check = Check(crate, [])
+        if check.status:
+            self.unproved[crate.name] = check.first_error()
 
-    def try_batch(self, batch, jobs):
+    def try_batch(self, crate, batch):
         """Tries some edits in one check. Returns those that it leaves open; an edit by itself is judged."""
-        why = self.unkept.get(batch[0].crate)
-        if why is not None:
+        if crate.name in self.unproved:
             for edit in batch:
-                self.end(edit, False, 0.0, f"BAD EDIT: the crate isn't proved without it: {why[:300]}")
+                self.end(edit, False, f"BAD EDIT: the crate isn't proved without it: {self.unproved[crate.name]}")
             return []
-        crate = crates.listed()[batch[0].crate]
-        check = Check(crate, batch, jobs)
-        self.batch_seconds = max(check.taken, 0.8 * self.batch_seconds)
-        seconds = check.seconds / len(batch)
-        if len(batch) == 1:
-            # (a check that ended in neither way, such as one that was killed for lack of memory, is repeated once)
-            self.judge(batch[0], check if check.status in (0, 1) else Check(crate, batch, jobs))
-            return []
-        left = []
-        for edit in batch:
-            if check.refuses(edit):
-                self.end(edit, True, seconds, f"refused{check.reason(edit)}")
-            else:
-                left.append(edit)
-        return left
-
-    def judge(self, edit, check):
-        """Ends an edit that was tried by itself."""
-        if check.is_refused:
-            text = f"refused{check.reason(edit)}"
-        elif check.status == 0:
-            text = "NOT REFUSED: the crate is still proved with this edit"
-        else:
-            said = next((it for it in check.lines if ERROR.match(it)), check.lines[-1] if check.lines else "")
-            text = f"BAD EDIT: no contract was tried: {said[:300]}"
-        self.end(edit, check.is_refused, check.seconds, text)
+        check, is_alone = Check(crate, batch), len(batch) == 1
+        if is_alone and check.status not in (0, 1):
+            # (one that ended in neither way, such as one that was killed for lack of memory, is repeated once)
+            check = Check(crate, batch)
+        verdicts = {it: check.verdict_on(it, is_alone) for it in batch}
+        for edit in filter(verdicts.get, batch):
+            self.end(edit, *verdicts[edit])
+        return [it for it in batch if not verdicts[it]]
 
     def run(self):
-        """Tries all that wait. Those for which there was no time stay in the list."""
+        """Tries all that wait, each round among at most so many. Those for which there was no time stay in the list."""
         for size in SIZES:
-            if not self.waiting or self.is_over():
-                return
-            self.round(size)
-
-    def round(self, size):
-        """One round: each waiting edit is tried once, among at most this many."""
-        by_crate = collections.defaultdict(list)
-        for edit in self.waiting:
-            by_crate[edit.crate].append(edit)
-        tasks, of = {}, {}
-        for name, edits in by_crate.items():
-            crate = crates.listed()[name]
-            need, parted, waits = lanes.need_of(crate, crates.below(name)), batches(edits, size), []
-            if len(parted) > 1:
-                # (a single check gains nothing from one without edits before it)
-                waits = [(name, -1)]
-                tasks[name, -1] = lanes.Task([], 1, need, functools.partial(self.keep, crate), most_jobs=1)
-            for at, batch in enumerate(parted):
-                # (those that come first in the list go first)
-                weight = len(self.waiting) - min(self.waiting.index(it) for it in batch)
-                call = functools.partial(self.try_batch, batch)
-                tasks[name, at], of[name, at] = lanes.Task(waits, weight, need, call, most_jobs=1), batch
-        open_ones = dict(of)
-        for key, left in lanes.run(tasks, self.is_over):
-            if key in open_ones:
-                open_ones[key] = left
-        self.waiting = [edit for batch in open_ones.values() for edit in batch]
-
-    def table(self):
-        """The processor seconds of the edits, by crate, with those of the check without edits that a crate needs first,
-        and those that took most."""
-        by_crate = collections.defaultdict(list)
-        for it in self.results:
-            by_crate[it.edit.crate].append(it)
-        rows = [(name, found, self.kept_seconds.get(name, 0.0)) for name, found in by_crate.items()]
-        rows.append(("all", self.results, sum(self.kept_seconds.values())))
-        yield f"{'must-fail edits':24}{'tried':>7}{'refused':>9}{'seconds':>9}{'first':>7}{'an edit':>9}"
-        for name, found, first in rows:
-            seconds = sum(it.seconds for it in found)
-            refused = sum(it.is_refused for it in found)
-            each = (seconds + first) / max(len(found), 1)
-            yield f"{name:24}{len(found):7}{refused:9}{seconds:9.0f}{first:7.0f}{each:9.1f}"
-        slowest = sorted(self.results, key=lambda it: -it.seconds)[:5]
-        yield "slowest: " + ", ".join(f"{it.edit.label} {it.seconds:.0f}" for it in slowest)
-
-
-def ready(names):
-    """Proves these crates and those below them, unless they are up to date. Returns whether all are proved."""
-    prover = prove.Prover(prove.say)
-    held = rooms.held({it.name for name in names for it in [*crates.below(name), crates.listed()[name]]})
-    is_well = prover.prove_all(names)
-    for it in held:
-        os.close(it)
-    return is_well
-
-
-def git(*words):
-    """What git says about the checkout; nothing if there is none."""
-    ran = subprocess.run(["git", *words], cwd=crates.TOP, capture_output=True, text=True, check=False)
-    return ran.stdout.strip() if ran.returncode == 0 else ""
+            of_crate = lambda crate: [it for it in self.waiting if it.crate == crate.name]
+            every = [(crate, it) for crate in crates.listed().values() for it in batches(crate, of_crate(crate), size)]
+            # (a single check gains nothing from one without edits before it)
+            many = {crate for crate, it in every if len(it) < len(of_crate(crate))}
+            bare = sorted((it for it in many if not Check.kept_of(it).exists()), key=need_of, reverse=True)
+            side_by_side([(it, functools.partial(self.keep, it)) for it in bare], self.is_over)
+            every.sort(key=lambda it: min(map(self.waiting.index, it[1])))
+            tasks = [(crate, functools.partial(self.try_batch, crate, batch)) for crate, batch in every]
+            results = zip(every, side_by_side(tasks, self.is_over))
+            self.waiting = [edit for (_, batch), left in results for edit in (batch if left is None else left)]
 
 
 def keep_commit():
-    """Writes down the commit whose edits were all refused, if the crates are those of a commit."""
-    commit = git("rev-parse", "HEAD")
-    if not commit or git("status", "--porcelain", "--", "crates", "crates.txt"):
+    """Writes down in tools/edits-tried the commit whose edits were all refused, if the crates are those of one."""
+    commit = due.git("rev-parse", "HEAD")
+    if not commit or due.git("status", "--porcelain", "--", "crates", "crates.txt"):
         print("the crates aren't those of a commit, so tools/edits-tried stays as it is")
-        return
-    TRIED.write_text(f"{commit}\n")
+    else:
+        TRIED.write_bytes(commit)
 
 
 def main(names):
-    if "--help" in names:
-        print(__doc__.strip())
-        return 0
-    unknown = [it for it in names if it not in crates.listed()]
-    if unknown:
-        print(f"no crate of crates.txt: {' '.join(unknown)}", file=sys.stderr)
-        return 2
-    chosen = [it for it in crates.listed().values() if not names or it.name in names]
-    edits = [edit for crate in chosen for edit in edits_of(crate)]
-    if not ready(sorted({it.crate for it in edits})):
-        print("0 passed, 1 failed")
+    ends, edits = None, [edit for it in crates.listed().values() for edit in edits_of(it)]
+    if len(names) == 2 and names[0] == "--due":
+        ends = time.monotonic() + int(names[1])
+        edits, said = due.due(edits, TRIED)
+        print(said, flush=True)
+    elif crates.known(names):
+        edits = [it for it in edits if it.crate in names]
+    if not prove.prove_names(sorted({it.crate for it in edits})):
+        print("edits: a crate isn't proved, so none was tried\n0 passed, 1 failed")
         return 1
-    trials = Trials(edits, say=lambda text: print(text, flush=True))
+    trials, before = Trials(edits, ends), resource.getrusage(resource.RUSAGE_CHILDREN)
     trials.run()
-    print("\n".join(trials.table()))
-    refused = sum(it.is_refused for it in trials.results)
-    if not names and refused == len(edits):
+    after, tried = resource.getrusage(resource.RUSAGE_CHILDREN), len(edits) - len(trials.waiting)
+    seconds = after.ru_utime + after.ru_stime - before.ru_utime - before.ru_stime
+    print(f"edits: {tried} were tried of {len(edits)}, in {seconds:.0f} processor seconds")
+    if trials.waiting:
+        print(f"edits: left, for lack of time: {', '.join(it.label for it in trials.waiting)}")
+    if not names and trials.refused == len(edits):
         keep_commit()
-    print(f"{refused} passed, {len(edits) - refused} failed", flush=True)
-    return 0 if refused == len(edits) else 1
+    print(f"{trials.refused} passed, {trials.failed} failed", flush=True)
+    return 1 if trials.failed else 0
 
 
 if __name__ == "__main__":

@@ -1,166 +1,131 @@
 #!/usr/bin/env python3
-"""Proves crates in parallel, each as soon as those below it are, and builds programs: prove.py NAME.. [-- WORD..]
+"""Proves crates and those below them, and keeps what is built: prove.py NAME .., or prove.py --all
 
-Each is proved as the gate proves it, except that what didn't change isn't proved again: crates that are up to date are
-skipped, and start nothing of the toolchain. Progress is reported on standard error. A crate that fails ends the run;
-what was proved is kept. With words after `--` the one named program is then run with them, on standard input and
-output.
+`rt ci` proves them, on a copy without the must-fail edits, which it has no option to leave out. It proves nothing again
+that it has proved on this machine. What it built is moved back: programs, and the libraries over which edits are tried.
+A static library, which it only proves, is built as well.
+
+With names nothing is started if all is up to date, and what is said goes to standard error. With --all it is the gate:
+it runs all programs and tests, and the last line of its output is 'N passed, M failed'.
 """
 
+import fcntl
 import hashlib
 import os
-import signal
+import pathlib
+import shutil
+import subprocess
 import sys
-import threading
-import time
+import tempfile
 
 import crates
-import lanes
-import rooms
+from crates import TOP
 
-# Lines of a check that don't help whoever must mend the crate.
+# what a copy leaves out
+LEFT_OUT = {".git", "__pycache__", "out", "must-fail"}
+# lines of a check that don't help whoever must mend a crate
 NOISE = ("checked ", "so far: ", "statements ", "by-macro: ", "logic ", "rt: chose ")
-
-
-def name_in_room(crate):
-    """What proving a crate makes, in the out/ of the room where it is proved."""
-    if crate.is_program:
-        return crate.name
-    return f"lib{crate.name}.a" if crate.is_static else f"rlib/{crate.name}.rlib"
-
-
-def made_of(crate):
-    """What is kept of a proved crate: its program, or its library."""
-    if crate.is_program:
-        return crate.out / crate.name
-    return crate.out / "proved" / name_in_room(crate) if crate.is_static else rooms.library_of(crate)
-
-
-def stamp_of(crate):
-    """The stamp beside what was made of a crate, if that is up to date."""
-    made = made_of(crate) if crate.is_program or crate.is_static else made_of(crate) / "format"
-    return f"{crates.sum_of(crate.name)} {hashlib.sha256(made.read_bytes()).hexdigest()}\n" if made.exists() else ""
 
 
 def stamp_file(crate):
     return crate.out / "proved" / "stamp"
 
 
+def stamp_of(crate, told):
+    """The stamp of what is kept of a crate that was proved with this sum; empty if nothing is."""
+    made = crate.out / crate.name if crate.is_program else crate.library
+    made = made / "format" if made.is_dir() else made
+    return f"{told} {hashlib.sha256(made.read_bytes()).hexdigest()}\n" if made.exists() else ""
+
+
 def is_up_to_date(crate):
-    return stamp_file(crate).exists() and stamp_file(crate).read_text() == stamp_of(crate)
+    return stamp_file(crate).exists() and stamp_file(crate).read_text() == stamp_of(crate, crates.sum_of(crate.name))
 
 
-def clock(seconds):
-    return f"{int(seconds) // 60}:{int(seconds) % 60:02}"
+def copy(top, wanted):
+    """Copies the checkout, or, if only some crates are wanted, these, to a folder that `rt ci` takes for the top of a
+    repository. Returns the sums of those crates that weren't changed meanwhile."""
+    sums = {it.name: crates.sum_of(it.name) for it in wanted}
+    if len(wanted) == len(crates.listed()):
+        shutil.copytree(TOP, top, ignore=lambda _, inside: LEFT_OUT.intersection(inside))
+    else:
+        for it in wanted:
+            shutil.copytree(it.folder, top / "crates" / it.name, ignore=lambda _, inside: LEFT_OUT.intersection(inside))
+        (top / "crates.txt").write_text("".join(f"{it.line}\n" for it in wanted))
+        shutil.copyfile(TOP / "HANDLES", top / "HANDLES")
+    (top / ".git").mkdir()
+    crates.sum_of.cache_clear()
+    return {name: it for name, it in sums.items() if it == crates.sum_of(name)}
 
 
-class Prover:
-    """Proves crates in rooms, and remembers what failed."""
+def run(words, folder, say=lambda line: None):
+    """Runs a command, and passes its lines on as they come. Returns its status and its lines."""
+    how = {"stdin": subprocess.DEVNULL, "stdout": subprocess.PIPE, "stderr": subprocess.STDOUT, "errors": "replace"}
+    lines, environment = [], {**os.environ, "PYTHONUNBUFFERED": "1"}
+    with subprocess.Popen([str(it) for it in words], cwd=folder, env=environment, **how) as started:
+        for line in started.stdout:
+            lines.append(line)
+            say(line)
+    return started.returncode, lines
 
-    def __init__(self, say):
-        self.say, self.started, self.printing = say, time.monotonic(), threading.Lock()
-        self.running, self.failed, self.done = {}, None, 0
 
-    def prove(self, crate, jobs):
-        """Proves one crate, and keeps what was made of it."""
-        begun = time.monotonic()
-        with rooms.Room(crate) as room:
-            ran = room.start("prove", str(jobs))
-            with self.printing:
-                self.running[crate.name] = ran
-                if self.failed:
-                    ran.terminate()
-            said, _ = ran.communicate()
-            with self.printing:
-                del self.running[crate.name]
-                if ran.returncode or self.failed:
-                    self.fail(crate, said)
-                    return False
-            stamp_file(crate).unlink(missing_ok=True)
-            room.give(name_in_room(crate), made_of(crate))
-        stamp_file(crate).parent.mkdir(exist_ok=True)
-        stamp_file(crate).write_text(stamp_of(crate))
-        self.tell(crate, time.monotonic() - begun, jobs)
+def build_static(crate, top):
+    """Proves a static library in a copy over what was built there of the crates below it, and builds it."""
+    library = lambda it: top / "crates" / it.name / "out" / "rlib" / f"{it.name}.rlib"
+    words = [*crates.rattle_words("build", crate, library), "--jobs", len(os.sched_getaffinity(0)), "--backend", "llvm"]
+    words += ["--toolchain", crates.kit() / "toolchain", "-o", f"out/{crate.library.name}"]
+    return run(words, top / "crates" / crate.name)
+
+
+def keep(top, crate, told):
+    """Moves what was built of a crate in a copy back, in place of what is here, and writes the sum of its text down."""
+    out = top / "crates" / crate.name / "out"
+    made = {out / it: crate.out / it for it in (crate.name, f"{crate.name}_tests")}
+    made[out / ("" if crate.is_static else "rlib") / crate.library.name] = crate.library
+    stamp_file(crate).parent.mkdir(parents=True, exist_ok=True)
+    for source, target in made.items():
+        if target.is_dir():
+            shutil.rmtree(target)
+        target.unlink(missing_ok=True)
+        if source.exists():
+            shutil.move(str(source), str(target))
+    stamp_file(crate).write_text(stamp_of(crate, told))
+
+
+def prove(wanted, say, is_gate=False):
+    """Proves these crates, of which each comes after those below it, and keeps what was built, or as the gate all that
+    was. Returns whether all is well, and the lines that were said."""
+    with tempfile.TemporaryDirectory(prefix="crackd-prove-") as room, open(TOP / "crates.txt") as lock:
+        top = pathlib.Path(room) / "crackd"
+        sums = copy(top, wanted)
+        status, lines = run(["rt", "ci"], top, say)
+        for crate in (it for it in wanted if it.is_static and status == 0):
+            status, lines = build_static(crate, top)
+            say("".join(lines) if status else f"rt: {crate.name} is built\n")
+        fcntl.flock(lock, fcntl.LOCK_EX)
+        for crate in wanted if is_gate or status == 0 else ():
+            keep(top, crate, sums.get(crate.name, ""))
+    return status == 0, lines
+
+
+def prove_names(names):
+    """Proves these crates and those below them, unless they are up to date. Returns whether all are proved."""
+    wanted = crates.with_below(names)
+    if all(map(is_up_to_date, wanted)):
         return True
-
-    def fail(self, crate, said):
-        """Remembers the first crate that failed, says why, and ends the others."""
-        if self.failed:
-            return
-        self.failed = crate.name
-        lines = [
-            it for it in said.splitlines() if it.strip() and not it.startswith(NOISE) and not it.endswith(": proved")
-        ]
-        advice = f"{crate.name} is not proved: mend what is reported above, and run this again"
-        self.say("\n".join([*lines[-60:], advice]))
-        for it in self.running.values():
-            it.terminate()
-
-    def tell(self, crate, seconds, jobs):
-        with self.printing:
-            self.done += 1
-            how = f"{clock(seconds)}{f' by {jobs} jobs' if jobs > 1 else ''}"
-            so_far = clock(time.monotonic() - self.started)
-            self.say(f"{crate.name}: proved ({how}), {self.done} of {self.whole}, {so_far} since the start")
-
-    def prove_all(self, names):
-        """Proves these crates and those below them. Returns whether all are proved."""
-        wanted = {crate.name for name in names for crate in [*crates.below(name), crates.listed()[name]]}
-        stale = [crate for crate in crates.listed().values() if crate.name in wanted and not is_up_to_date(crate)]
-        self.whole, tasks = len(stale), {}
-        if stale:
-            self.say(f"proving {len(stale)} of {len(wanted)} crates on {lanes.processors()} processors")
-        for crate in stale:
-            under = crates.below(crate.name)
-            weight = crate.lines(".rt") + crate.lines(".antt") / 2 + 500
-            waits = [it.name for it in under if it in stale]
-            tasks[crate.name] = lanes.Task(
-                waits, weight, lanes.need_of(crate, under), lambda jobs, it=crate: self.prove(it, jobs)
-            )
-        for _ in lanes.run(tasks, lambda: bool(self.failed)):
-            pass
-        return not self.failed
-
-
-def say(text):
-    print(text, file=sys.stderr, flush=True)
-
-
-def end_others(prover):
-    """Ends the running checks on a signal, and then this process."""
-
-    def end(number, _):
-        for it in [*prover.running.values()]:
-            it.terminate()
-        signal.signal(number, signal.SIG_DFL)
-        os.kill(os.getpid(), number)
-
-    for it in (signal.SIGINT, signal.SIGTERM):
-        signal.signal(it, end)
+    tell = lambda text: print(text, end="", file=sys.stderr, flush=True)
+    is_well, lines = prove(wanted, lambda line: tell(line) if line.startswith("rt: ") else None)
+    if not is_well:
+        tell("".join(it for it in lines[-80:] if not it.startswith(NOISE)))
+    return is_well
 
 
 def main(words):
-    cut = words.index("--") if "--" in words else len(words)
-    names, arguments = words[:cut], words[cut + 1 :]
-    if "--help" in names:
-        print(__doc__.strip())
-        return 0
-    unknown = [it for it in names if it not in crates.listed()]
-    if unknown or not names or (cut < len(words) and len(names) > 1):
-        sys.exit(f"no crate of crates.txt: {' '.join(unknown)}" if unknown else __doc__)
-    wanted = {it.name for name in names for it in [*crates.below(name), crates.listed()[name]]}
-    if not all(is_up_to_date(crates.listed()[it]) for it in wanted):
-        held = rooms.held(wanted)
-        prover = Prover(say)
-        end_others(prover)
-        if not prover.prove_all(names):
-            return 1
-        for it in held:
-            os.close(it)
-    if cut == len(words):
-        return 0
-    program = crates.listed()[names[0]].out / names[0]
-    os.execv(program, [str(program), *arguments])
+    if words == ["--all"]:
+        is_well, _ = prove([*crates.listed().values()], lambda line: print(line, end="", flush=True), is_gate=True)
+    else:
+        is_well = prove_names(crates.known(words)) if words else sys.exit(__doc__)
+    return 0 if is_well else 1
 
 
 if __name__ == "__main__":

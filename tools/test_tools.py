@@ -1,79 +1,30 @@
 #!/usr/bin/env python3
-"""Tests of the tools: which function contains a place, which edits are tried together, what a change touches, and what
-is read for a promise."""
+"""Tests of the tools: which function contains a place, which edits are tried together and which are due, what is
+proved, what is read for a promise, and what documents say."""
 
 import pathlib
 import re
 import sys
 import tempfile
 import unittest
-import unittest.mock
 
+# (`python3 -m unittest tools.test_tools` begins at the top)
 sys.path.insert(0, str(pathlib.Path(__file__).resolve().parent))
 
-import cited
 import crates
 import defined
-import definitions
+import documents
 import due
 import edits
-import functions
-import lanes
-import links
 import numbers_held
-import reading
-import rules
-import tested
+import prove
 import trust
-
-SOURCE = """use crate::low;
-
-pub struct Column<T> {
-    places: Vec<T>,
-}
-
-impl<T: Copy> Column<T> {
-    /// How many places it has.
-    pub fn len(&self) -> usize
-    ensures { result ≡ length self.now }
-    {
-        self.places.len()
-    }
-}
-
-impl<R: Read> Read for Watched<R> {
-    fn read(&mut self, bytes: &mut [u8]) -> Result<usize, Error> {
-        self.inner.read(bytes)
-    }
-}
-
-fn alone(a: u64) -> u64
-requires { a ≤ 8 }
-{
-    if a > 4 {
-        return a;
-    }
-    a + 1
-}
-"""
-
-LAWS = """use Rattle.std.specs.Prelude.{length};
-
--- how long it is
-size : List ℕ → ℕ
-size [] = 0
-size (x ∷ xs) = suc (size xs)
-
-size-nil : size [] ≡ 0
-size-nil = refl
-"""
+from reading import definitions, promises, sources
 
 SHELF = {
     "src/lib.rt": """ghost use Rattle.a.specs.Sizes.{size, IsFull as IsLaden};
 ghost use Rattle.a.specs.Other.{size as other_size};
-
 mod inside;
-
 pub use inside::{Scale, Shelf};
 
 /// How many places it has.
@@ -92,35 +43,37 @@ pub fn put(shelf: &mut Shelf, size: u64)
 fn first(shelf: &Shelf) -> u64
     ensures { result ≡ other_size shelf.now.items }
 {
-    0
+    if shelf.is_empty() {
+        return 0;
+    }
+    find(shelf)
+}
+
+fn find(shelf: &Shelf) -> u64 {
+    shelf.weigh()
 }
 """,
     "src/inside.rt": """/// What stands on it.
 pub struct Shelf {
     things: Vec<Thing>,
     /// Where to look first.
-    hint: Hint,
+    hint: Hint<u64>,
 }
 
 impl Model for Shelf {
     ghost use Rattle.std.specs.Prelude.{List};
-
     ghost Value = { List ℕ };
-
     ghost view = { λ s. s.things.items };
-
-    ghost use Rattle.a.specs.Keeps.{AreLight};
-
+    ghost use Rattle.a.specs.Other.{AreLight};
     ghost invariant = { λ s. AreLight s.things.items };
 }
 
 struct Thing(u64);
-
-struct Hint(u64);
+struct Hint<T>(u64);
 
 pub struct Label {
     text: u64,
-    ink: Hint,
+    ink: Hint<u64>,
 }
 
 /// Reads a label.
@@ -132,21 +85,27 @@ pub fn read(label: &Label) -> u64
 
 pub trait Scale {
     ghost weight : ℕ → ℕ;
-
     fn weigh(&self) -> u64
         ensures value { result ≡ weight 0 };
 }
 
 impl Scale for Shelf {
     ghost use Rattle.a.specs.Sizes.{in_grams};
-
     ghost weight = { in_grams };
 }
 
-impl Scale for Hint {
-    ghost use Rattle.a.specs.Scales.{in_ounces};
-
+impl<T: Copy> Scale for Hint<T> {
+    ghost use Rattle.a.specs.Other.{in_ounces};
     ghost weight = { in_ounces };
+    fn weigh(&self) -> u64 {
+        self.0 + 1
+    }
+}
+
+impl<T> Hint<T> {
+    fn len(&self) -> u64 {
+        self.0
+    }
 }
 """,
     "specs/Sizes.antt": """-- How much stands on a shelf.
@@ -181,126 +140,161 @@ use Rattle.a.specs.Sizes.{count}
 
 abbrev pub size : List ℕ → ℕ
 size xs = count xs
-""",
-    "specs/Keeps.antt": """-- What private clauses alone cite.
-use Rattle.a.specs.Sizes.{count}
 
 abbrev pub AreLight : List ℕ → Type 0
 AreLight xs = count xs ≤ 8
-""",
-    "specs/Scales.antt": """-- What private clauses alone cite.
-use Rattle.std.specs.Prelude.{ℕ}
 
 abbrev pub in_ounces : ℕ → ℕ
 in_ounces size = size
 """,
+    "proofs/Laws.antt": """-- how long it is
+use Rattle.a.specs.Sizes.{size}
+
+size-nil : size [] ≡ 0
+size-nil = refl
+""",
 }
 
 
-def function(text):
-    return functions.function_at("src/a/column.rt", SOURCE, SOURCE.find(text))
+def read(page):
+    return crates.read(crates.TOP / page)
+
+
+def function(path, text):
+    lines = SHELF[path].splitlines()
+    at = next(at for at, line in enumerate(lines) if text in line)
+    return sources.Source("a", pathlib.Path(f"crates/a/{path}"), lines).function_at(at)
+
+
+def folder_with(case, files):
+    """A folder with these files, by path, which is removed after the test."""
+    folder = tempfile.TemporaryDirectory()
+    case.addCleanup(folder.cleanup)
+    for path, text in files.items():
+        (pathlib.Path(folder.name) / path).parent.mkdir(parents=True, exist_ok=True)
+        (pathlib.Path(folder.name) / path).write_text(text, encoding="utf-8")
+    return pathlib.Path(folder.name)
+
+
+def shelf(case):
+    """The folder of a crate with the files of the shelf."""
+    return folder_with(case, {f"a/{path}": text for path, text in SHELF.items()}) / "a"
 
 
 class Functions(unittest.TestCase):
+    def assert_named(self, found, right, wrong):
+        """A function has these names in a check, and not the others."""
+        names = [it for it in [*right, *wrong] if found.is_named(it.split("::"))]
+        self.assertEqual(names, right)
+
     def test_a_method_is_of_its_type(self):
-        found = function("self.places.len()")
-        self.assertEqual(found, functions.Function(("a", "column"), "Column", "", "len"))
-        self.assertTrue(found.is_named(["a", "column", "Column", "len"]))
-        self.assertTrue(found.is_named(["a", "Column", "len", "closure"]), "its type is in another module")
-        self.assertFalse(found.is_named(["a", "column", "Row", "len"]))
+        found = function("src/inside.rt", "fn len")
+        self.assertEqual(found, sources.Function(("inside",), "Hint", "", "len"))
+        # (where its type is in another module, a check names that)
+        self.assert_named(found, ["inside::Hint::len", "a::Hint::len::closure"], ["inside::Thing::len"])
 
     def test_a_traits_method_is_of_type_and_trait(self):
-        found = function("self.inner.read")
-        self.assertEqual((found.owner, found.trait, found.name), ("Watched", "Read", "read"))
-        self.assertTrue(found.is_named("a::column::WatchedRead::read".split("::")))
-        self.assertFalse(found.is_named("a::column::WatchedWrite::read".split("::")))
-        self.assertFalse(found.is_named("a::column::Watched::read".split("::")))
+        found = function("src/inside.rt", "self.0 + 1")
+        self.assertEqual((found.owner, found.trait, found.name), ("Hint", "Scale", "weigh"))
+        self.assert_named(found, ["inside::HintScale::weigh"], ["inside::HintOther::weigh", "inside::Hint::weigh"])
 
     def test_a_function_by_itself_is_of_no_type(self):
-        found = function("return a;")
-        self.assertEqual((found.owner, found.name), ("", "alone"))
-        self.assertTrue(found.is_named(["a", "column", "alone"]))
-        self.assertTrue(found.is_named(["a", "column", "alone", "closure"]))
-        self.assertFalse(found.is_named(["a", "alone"]))
+        found = function("src/lib.rt", "return 0;")
+        self.assertEqual((found.module, found.owner, found.name), ((), "", "first"))
+        self.assert_named(found, ["first", "first::closure"], ["inside::first"])
 
     def test_a_function_reaches_what_it_calls_and_what_that_calls(self):
-        text = "fn a() {\n    b();\n}\n\nfn b() {\n    c(1);\n}\n\nfn c(n: u64) {\n    d(n);\n}\n"
-        found = {
-            it.name: {of.name for of in reached} for it, reached in functions.reached({"src/lib.rt": text}).items()
-        }
-        self.assertEqual(found, {"a": {"b", "c"}, "b": {"c"}, "c": set()})
+        files = sources.Names().read(shelf(self))
+        found = {(it.owner, it.name): {of.name for of in of} for it, of in sources.reached(files).items()}
+        self.assertEqual(found[("", "first")], {"find", "weigh"})
+        self.assertEqual((found[("", "find")], found[("Hint", "len")]), ({"weigh"}, set()))
 
     def test_its_first_line_is_in_a_function_and_a_type_is_in_none(self):
-        self.assertEqual(function("fn alone").name, "alone")
-        self.assertIsNone(function("places: Vec<T>"))
+        self.assertEqual(function("src/lib.rt", "fn find").name, "find")
+        self.assertIsNone(function("src/inside.rt", "things: Vec"))
 
 
-class Batches(unittest.TestCase):
+class Edits(unittest.TestCase):
     def test_edits_of_one_function_are_tried_apart_and_each_edit_once(self):
         for crate in crates.listed().values():
             every = [it for it in edits.edits_of(crate) if not it.fault]
-            made = edits.batches(every, 8)
+            made = edits.batches(crate, every, 8)
             self.assertEqual(sorted(it.name for batch in made for it in batch), sorted(it.name for it in every))
-            for batch in made:
-                self.assertTrue(len(batch) <= 8)
-                self.assertTrue(
-                    all(edits.are_apart(one, other) for one in batch for other in batch if one is not other)
-                )
+            self.assertTrue(all(len(batch) <= 8 for batch in made))
+            pairs = [(one, other) for batch in made for one in batch for other in batch if one is not other]
+            self.assertTrue(all(edits.are_apart(*it) for it in pairs))
+
+    def test_each_crate_is_listed_after_those_that_it_uses(self):
+        listed = [*crates.listed()]
+        places = [(listed.index(name), listed.index(it)) for name in listed for it in crates.listed()[name].uses]
+        self.assertTrue(all(used < user for user, used in places))
 
     def test_each_edit_can_be_applied(self):
-        self.assertEqual(
-            [it.label for crate in crates.listed().values() for it in edits.edits_of(crate) if it.fault], []
-        )
+        every = [it for crate in crates.listed().values() for it in edits.edits_of(crate)]
+        self.assertEqual([it.label for it in every if it.fault], [])
+
+    def test_calls_are_made_once_and_none_is_begun_once_it_is_over(self):
+        every, begun = [*crates.listed().values()], []
+        tasks = [(it, lambda it=it: begun.append(it) or it.name) for it in every]
+        self.assertEqual(edits.side_by_side(tasks, lambda: False), [it.name for it in every])
+        self.assertEqual((len(begun), len(set(begun))), (len(every), len(every)))
+        self.assertEqual(edits.side_by_side(tasks, lambda: True), [None] * len(every))
+
+    def test_a_copy_to_be_proved_has_no_edits(self):
+        crate = crates.listed()["crack_failing"]
+        top = folder_with(self, {}) / "top"
+        self.assertEqual(list(prove.copy(top, [crate])), [crate.name])
+        self.assertEqual((top / "crates.txt").read_text(), f"{crate.line}\n")
+        self.assertEqual([it.name for it in (top / "crates").iterdir()], [crate.name])
+        kept = {it.name for it in (top / "crates" / crate.name).iterdir()}
+        self.assertEqual(kept & {"src", "out", "must-fail"}, {"src"})
 
 
 class Due(unittest.TestCase):
-    def test_a_body_is_of_no_meaning_for_the_crates_above(self):
-        self.assertEqual(
-            due.faces(SOURCE), due.faces(SOURCE.replace("a + 1", "a + 2").replace("self.places.len()", "0"))
-        )
+    def assert_meaning(self, path, changes, is_changed):
+        text = SHELF[path.replace("f/Answers", "Laws")]
+        said = lambda text: due.stated({path: due.without_comments(text)})
+        for old, new in changes.items():
+            self.assertIn(old, text)
+            self.assertEqual(said(text) != said(text.replace(old, new)), is_changed, (path, old))
 
-    def test_a_clause_and_a_type_are(self):
-        before = due.faces(SOURCE)
-        for old, new, name in [
-            ("a ≤ 8", "a ≤ 9", "alone"),
-            ("Vec<T>", "List<T>", "Column"),
-            ("(&self)", "(self)", "len"),
-        ]:
-            after = due.faces(SOURCE.replace(old, new))
-            self.assertEqual({it for it in {*before, *after} if before.get(it) != after.get(it)}, {name})
+    def test_bodies_proofs_imports_comments_and_layout_have_no_meaning_for_the_crates_above(self):
+        of_source = {"return 0;": "return 1;", "shelf.weigh()": "0", "/// Puts": "/// Sets", "mod inside;": ""}
+        self.assert_meaning("src/lib.rt", {**of_source, "u64\n    ensures": "u64 ensures"}, False)
+        self.assert_meaning("src/inside.rt", {"self.0 + 1": "self.0"}, False)
+        self.assert_meaning("proofs/Laws.antt", {"= refl": "= search", "-- how": "-- so"}, False)
+        self.assert_meaning("proofs/f/Answers.antt", {"size [] ≡ 0": "size [] ≡ 1"}, False)
 
-    def test_a_definition_is_all_of_its_text_and_a_law_its_statement(self):
-        turned = LAWS.replace("size [] = 0", "size [] = 1").replace("size-nil = refl", "size-nil = search")
-        before, after = due.definitions(LAWS, True), due.definitions(turned, True)
-        self.assertEqual([it for it in before if before[it] != after[it]], ["size", "size-nil"])
-        self.assertEqual(due.definitions(LAWS, False), due.definitions(turned, False))
+    def test_clauses_types_definitions_and_statements_do(self):
+        self.assert_meaning("src/lib.rt", {"size < PLACES": "size ≤ PLACES", "u64 = 8": "u64 = 9"}, True)
+        self.assert_meaning("src/inside.rt", {"Vec<Thing>": "List<Thing>", "(&self)": "(self)"}, True)
+        self.assert_meaning("specs/Sizes.antt", {"size [] = 0": "size [] = 1", "List ℕ": "List ℤ"}, True)
+        self.assert_meaning("proofs/Laws.antt", {"size [] ≡ 0": "size [] ≡ 1"}, True)
 
     def test_a_line_of_comment_changes_nothing(self):
         told = "/// Its length.\nfn len() -> u64 {\n    // (counted)\n    4 - 1\n}\n"
-        self.assertEqual(due.without_comments(told), "fn len() -> u64 {\n    4 - 1\n}")
-        self.assertEqual(
-            due.without_comments("-- a law\nlaw : 1 ≡ 1\n  -- by itself\nlaw = refl\n"), "law : 1 ≡ 1\nlaw = refl"
-        )
+        self.assertEqual(due.without_comments(told), "fn len() -> u64 {\n    4 - 1\n}\n")
+        self.assertEqual(due.without_comments("-- a law\nlaw : 1 ≡ 1\n  -- by itself\n"), "law : 1 ≡ 1\n")
 
-    def test_a_line_that_is_laid_out_anew_changes_no_meaning(self):
-        before = {"twice": "twice n = size (n + n)\n"}
-        self.assertEqual(due.changed_names(before, {"twice": "twice n =\nsize (n + n)\n"}, set()), set())
-        self.assertEqual(due.changed_names(before, {"twice": "twice n = size (n + 1)\n"}, set()), {"twice"})
-
-    def test_what_cites_a_changed_name_has_changed(self):
-        now = {"twice": "twice n = size n", "thrice": "thrice n = twice n", "other": "other n = n"}
-        self.assertEqual(due.changed_names(now, now, {"size"}), {"twice", "thrice"})
+    def test_without_a_commit_all_are_due_and_since_this_one_a_tenth(self):
+        every = [edits.Edit("crack_row", f"no_{number}.edit") for number in range(400)]
+        self.assertEqual(len(due.due(every, pathlib.Path("no-such-file"))[0]), 400)
+        drawn = [it for it in every if due.is_drawn(it, "0" * 40)]
+        self.assertTrue(20 < len(drawn) < 60)
 
 
 class Reading(unittest.TestCase):
     def setUp(self):
-        folder = tempfile.TemporaryDirectory()
-        self.addCleanup(folder.cleanup)
-        crate = pathlib.Path(folder.name) / "a"
-        for path, text in SHELF.items():
-            (crate / path).parent.mkdir(parents=True, exist_ok=True)
-            (crate / path).write_text(text)
-        self.shelf = reading.Reading(reading.all_items([crate]), ["a"])
+        self.shelf = promises.Reading(promises.all_items([shelf(self)]), ["a"])
+
+    def read(self, call, *clauses):
+        """What is read for these clauses of a call, or for all: its lines by name."""
+        items = self.shelf.read_for([(call, clauses)])
+        return {it.name: [line for _, line in it.lines] for it in items}
+
+    def misplaced(self):
+        """What no clause reaches, what is misplaced for private clauses, and what for public ones."""
+        return [[it.short for it in items] for items in trust.misplaced(self.shelf).values()]
 
     def test_what_a_text_binds_is_not_cited(self):
         scope = {it: f"a.M.{it}" for it in ["size", "count", "kept"]}
@@ -309,231 +303,137 @@ class Reading(unittest.TestCase):
         self.assertEqual(definitions.cited("s.size ≡ count s.kept", scope, set()), {"a.M.count"})
 
     def test_a_call_is_read_behind_what_its_clauses_cite(self):
-        names = [it.name for it in self.shelf.read_for({"a::put": frozenset()})]
-        definitions_first = ["a.Sizes.IsThing", "a.Sizes.count", "a::PLACES", "a.Sizes.IsFull"]
-        of_shelf = [
-            "a::inside::Thing",
-            "a::inside::Shelf",
-            "a::inside::Shelf as Model::Value",
-            "a::inside::Shelf as Model::view",
-        ]
-        self.assertEqual(names, [*definitions_first, *of_shelf, "a::put"])
+        wanted = ["a.Sizes.IsThing", "a.Sizes.count", "a::PLACES", "a.Sizes.IsFull", "a::inside::Thing"]
+        wanted += [f"a::inside::Shelf{it}" for it in ("", " as Model::Value", " as Model::view")]
+        self.assertEqual(list(self.read("a::put")), [*wanted, "a::put"])
 
     def test_of_a_call_those_clauses_are_read_that_are_asked_for(self):
-        read = {
-            it.name: [line.strip() for _, line in it.lines]
-            for it in self.shelf.read_for({"a::put": frozenset({"size"})})
-        }
-        self.assertEqual(read["a::put"], ["requires { size < PLACES }", "ensures size { shelf.new.size ≡ size }"])
-        self.assertNotIn("a.Sizes.IsFull", read)
+        read = self.read("a::put", "size")
+        wanted = ["    requires { size < PLACES }", "    ensures size { shelf.new.size ≡ size }"]
+        self.assertEqual((read["a::put"], "a.Sizes.IsFull" in read), (wanted, False))
 
     def test_what_no_clause_and_what_private_ones_alone_reach(self):
-        found = [[it.name for it in items] for items in trust.misplaced(self.shelf).values()]
-        self.assertEqual(found, [["a.Sizes.size", "a.Sizes.stray"], [], []])
+        self.assertEqual(self.misplaced(), [["size", "stray"], [], []])
         path = self.shelf.items["a.Other.size"].path
-        path.write_text(path.read_text().replace(trust.PRIVATE, "-- Other sizes."))
-        self.assertEqual([it.name for it in list(trust.misplaced(self.shelf).values())[1]], ["a.Other.size"])
+        path.write_text(path.read_text().replace(definitions.PRIVATE, "-- Others."))
+        # (of a private function, of what a type keeps of its own fields, and of a private type)
+        self.assertEqual(self.misplaced()[1], ["size", "AreLight", "in_ounces"])
 
-    def test_each_definition_stands_where_a_reader_is_sent(self):
-        found = trust.misplaced(reading.whole())
-        self.assertEqual({fault: [it.name for it in items] for fault, items in found.items() if items}, {})
-
-    def test_what_a_type_keeps_of_its_own_fields_is_private(self):
-        path = self.shelf.items["a.Keeps.AreLight"].path
-        path.write_text(path.read_text().replace(trust.PRIVATE, "-- Weights."))
-        self.assertEqual([it.name for it in list(trust.misplaced(self.shelf).values())[1]], ["a.Keeps.AreLight"])
-
-    def test_of_a_type_without_a_model_no_field_is_read_that_nothing_reads(self):
-        label = self.shelf.items["a::inside::Label"]
-        self.assertEqual(
-            ([line for _, line in label.lines], label.cites),
-            (["pub struct Label {", "    text: u64,", "}"], frozenset()),
-        )
+    def test_of_a_type_no_field_is_read_that_nothing_reads_nor_its_model(self):
+        label, shelf = self.shelf.items["a::inside::Label"], self.shelf.items["a::inside::Shelf"]
+        said = [[line for _, line in it] for it in (label.lines, shelf.lines, shelf.beside)]
+        self.assertEqual(said[0], ["pub struct Label {", "    text: u64,", "}"])
+        self.assertEqual(said[1:], [["pub struct Shelf {", "    things: Vec<Thing>,", "}"], ["/// What stands on it."]])
+        self.assertEqual(label.cites, frozenset())
 
     def test_a_trait_is_read_with_what_public_types_have_of_it(self):
-        names = [it.name for it in self.shelf.read_for({"a::inside::Scale::weigh": frozenset()})]
+        names = self.read("a::inside::Scale::weigh")
         self.assertEqual([it for it in names if " as Scale" in it], ["a::inside::Shelf as Scale"])
-        self.assertNotIn("a.Scales.in_ounces", names)
+        self.assertNotIn("a.Other.in_ounces", names)
 
     def test_types_are_counted_beside(self):
-        items = self.shelf.read_for({"a::put": frozenset()})
+        items = self.shelf.read_for([("a::put", ())])
         counted = sum(len(it.lines) for it in items if it.kind not in trust.BESIDE)
         self.assertEqual((trust.count(items), trust.count(items, trust.BESIDE)), (counted, 5))
 
-    def test_of_a_type_with_a_model_no_field_is_read_that_the_model_does_not_read(self):
-        shelf = self.shelf.items["a::inside::Shelf"]
-        self.assertEqual([line for _, line in shelf.lines], ["pub struct Shelf {", "    things: Vec<Thing>,", "}"])
-        self.assertEqual([line for _, line in shelf.beside], ["/// What stands on it."])
+    def test_each_definition_stands_where_a_reader_is_sent(self):
+        found = trust.misplaced(promises.whole())
+        self.assertEqual({fault: [it.name for it in items] for fault, items in found.items() if items}, {})
 
     def test_each_promise_names_its_calls(self):
-        promises = reading.roots_in((crates.TOP / "docs" / "PROOFS.md").read_text())
-        whole = reading.whole()
-        self.assertIn(reading.HEADLINE, promises)
-        for roots in promises.values():
-            items = whole.read_for(roots)
+        asked = promises.roots_in(read("docs/PROOFS.md"))
+        whole = promises.whole()
+        self.assertIn(promises.HEADLINE, asked)
+        for items in map(whole.read_for, asked.values()):
             place = {it.name: at for at, it in enumerate(items)}
-            late = (
-                (it, name)
-                for it in items
-                for name in it.cites
-                if place.get(name, 0) > place[it.name] and not name.startswith(f"{it.name} as ")
-            )
+            pairs = [(it, name) for it in items for name in it.cites if place.get(name, 0) > place[it.name]]
+            late = [(it, name) for it, name in pairs if not name.startswith(f"{it.name} as ")]
             # (of items that cite each other, as the model of a recursive type and its contents do, one must come first)
             behind = [it for it, name in late if it.name not in whole.reached([whole.items[name]])]
             self.assertEqual((len(place), behind), (len(items), []))
 
 
-class Lanes(unittest.TestCase):
-    def test_each_task_runs_once_and_behind_those_it_waits_for(self):
-        ran = []
-        waits = {"a": [], "b": ["a"], "c": ["a"], "d": ["b", "c"]}
-        tasks = {key: lanes.Task(it, 1, 1, lambda jobs, key=key: ran.append(key)) for key, it in waits.items()}
-        self.assertEqual(sorted(key for key, _ in lanes.run(tasks)), ["a", "b", "c", "d"])
-        self.assertEqual((len(ran), ran[0], ran[-1]), (4, "a", "d"))
-
-    def test_no_task_is_begun_once_it_is_over(self):
-        tasks = {key: lanes.Task([], 1, 1, lambda jobs: None) for key in "ab"}
-        self.assertEqual(list(lanes.run(tasks, lambda: True)), [])
-
-    def test_the_longest_chain_goes_first(self):
-        waits, begun = {**{it: [] for it in "uvw"}, "a": [], "b": ["a"], "c": ["b"]}, []
-        tasks = {key: lanes.Task(it, 1, 1, lambda jobs, key=key: begun.append(key)) for key, it in waits.items()}
-        with unittest.mock.patch.object(lanes, "processors", return_value=1):
-            self.assertEqual(len(list(lanes.run(tasks))), 6)
-        self.assertEqual(begun[:2], ["a", "b"])
-
-    def test_a_task_gets_the_processors_that_are_idle_but_no_more_than_it_gains_from(self):
-        with unittest.mock.patch.object(lanes, "processors", return_value=4):
-            for most_jobs in 1, 3, 4:
-                tasks = {"a": lanes.Task([], 1, 1, lambda jobs: jobs, most_jobs)}
-                self.assertEqual(list(lanes.run(tasks)), [("a", most_jobs)])
-
-
 class Numbers(unittest.TestCase):
-    def test_numbers_of_the_documents_are_the_constants_of_the_code(self):
-        self.assertEqual(numbers_held.mismatches(), [])
+    def test_limits_in_documents_are_the_constants_of_the_code(self):
+        self.assertEqual(numbers_held.limit_faults(), [])
 
-    def test_figures_of_readme_are_those_of_the_benchmarks(self):
-        self.assertEqual(numbers_held.figure_mismatches(), [])
+    def test_figures_are_those_of_the_benchmarks(self):
+        self.assertEqual(numbers_held.figure_faults(), [])
 
-    def test_figures_in_sentences_are_those_of_the_benchmarks(self):
-        self.assertEqual(numbers_held.sentence_mismatches(), [])
-        self.assertEqual(numbers_held.memory_mismatches(), [])
+    def test_a_limit_that_differs_or_is_gone_is_found(self):
+        page = {"page.md": "It has 4,096\nplaces, and 4097 names.\n"}
+        top = folder_with(self, {**page, "crates/a/src/lib.rt": "pub const PLACES: u64 = 4096;\n"})
+        limits = [("a", "PLACES", 2, ["has {} places", "and {} names"]), ("a", "PLACES", 1, ["of {} places"])]
+        wanted = ["page.md says 'and 4097 names'", "PLACES is written 0 times, not 1: ['of {} places']"]
+        wanted.append("a has 0 values of NAMES")
+        self.assertEqual(numbers_held.limit_faults([*limits, ("a", "NAMES", 1, ["has {}"])], top), wanted)
+        differing = [("", "places", 2, ["It has {}", "and {} names"])]
+        self.assertEqual(numbers_held.limit_faults(differing, top), wanted[:1])
 
-    def test_documents_say_the_same_minutes(self):
-        found = numbers_held.minutes()
-        self.assertEqual(sorted(found), ["edits", "run", "test"])
-        self.assertEqual([name for name, said in found.items() if len(said) > 1], [])
-
-    def test_a_number_that_differs_is_found(self):
-        with tempfile.TemporaryDirectory() as room:
-            top = pathlib.Path(room)
-            (top / "crates" / "a" / "src").mkdir(parents=True)
-            (top / "crates" / "a" / "src" / "lib.rt").write_text("pub const PLACES: u64 = 4096;\n", encoding="utf-8")
-            (top / "page.md").write_text("It has 4,096\nplaces, and 4097 names.\n", encoding="utf-8")
-            lines = [
-                ("page.md", text, "a", name)
-                for text, name in [("has {} places", "PLACES"), ("and {} names", "PLACES"), ("has {}", "NAMES")]
-            ]
-            self.assertEqual(
-                numbers_held.mismatches(lines, top), ["page.md doesn't say 'and 4096 names'", "a has 0 values of NAMES"]
-            )
+    def test_a_number_has_as_many_digits_as_its_page_needs(self):
+        found = [numbers_held.is_said(*it) for it in (("1,048,576", 2**20), ("0.09", 0.0932), ("0.094", 0.0932))]
+        self.assertEqual((found, numbers_held.is_said("18446744073709551615", 2**64 - 1)), ([True, True, False], True))
 
 
 class Documents(unittest.TestCase):
-    def test_lines_of_rattle_have_120_columns_at_most(self):
-        # (an attribute can't be broken)
-        wide = [
-            f"{path.relative_to(crates.TOP)}:{number}"
-            for path in sorted((crates.TOP / "crates").glob("*/src/**/*.rt"))
-            for number, line in enumerate(path.read_text(encoding="utf-8").splitlines(), 1)
-            if len(line) > 120 and not line.lstrip().startswith("#[")
-        ]
+    def test_lines_of_code_have_120_columns_at_most(self):
+        # (an attribute can't be broken, and bench/report.py has the text of a page, whose lines are as long as pages')
+        kinds = ["crates/*/src/**/*.rt", "*/*.py", "tools/*/*.py", "python/*/**/*.py", "bench/peers/*.rs"]
+        kinds += ["acceptance/c/*.c", "include/*.h", "examples/*.sh", "Makefile"]
+        files = {it for kind in kinds for it in crates.TOP.glob(kind) if it.name != "report.py"}
+        lines = [(path, line) for path in files for line in path.read_text(encoding="utf-8").splitlines()]
+        wide = [(path.name, it) for path, it in lines if len(it) > 120 and not it.lstrip().startswith("#[")]
         self.assertEqual(wide, [])
-
-    def test_lines_of_other_code_have_120_columns_at_most(self):
-        # (bench/report.py has the text of a page, whose lines are as long as those of other pages)
-        kinds = ["*/*.py", "python/*/**/*.py", "bench/peers/*.rs", "acceptance/*.c", "include/*.h", "examples/*.sh"]
-        wide = [
-            f"{path.relative_to(crates.TOP)}:{number}"
-            for path in sorted(path for it in [*kinds, "Makefile"] for path in crates.TOP.glob(it))
-            if path.name != "report.py"
-            for number, line in enumerate(path.read_text(encoding="utf-8").splitlines(), 1)
-            if len(line) > 120
-        ]
-        self.assertEqual(wide, [])
-
-    def test_readme_has_120_lines_at_most(self):
-        self.assertLessEqual(len((crates.TOP / "README.md").read_text(encoding="utf-8").splitlines()), 120)
 
     def test_pages_that_are_written_by_hand_stay_short(self):
-        pages = [
-            it
-            for it in [*crates.TOP.glob("*.md"), *crates.TOP.glob("docs/*.md")]
-            if it.name not in ("DEFINITIONS.md", "BENCHMARKS.md")
-        ]
-        self.assertLessEqual(sum(len(it.read_text(encoding="utf-8").split()) for it in pages), 32_130)
+        pages = [*crates.TOP.glob("*.md"), *crates.TOP.glob("docs/*.md")]
+        pages = [it.read_text(encoding="utf-8") for it in pages if it.name not in ("DEFINITIONS.md", "BENCHMARKS.md")]
+        self.assertLessEqual(sum(len(it.split()) for it in pages), 30_000)
+        self.assertLessEqual(len(read("README.md").splitlines()), 120)
 
     def test_definitions_are_the_comments_of_specs(self):
-        self.assertEqual(defined.main(["--check"]), 0, "python3 tools/defined.py writes docs/DEFINITIONS.md anew")
+        is_same = crates.read(defined.PAGE) == defined.page()
+        self.assertTrue(is_same, "python3 tools/defined.py writes docs/DEFINITIONS.md anew")
         self.assertEqual(defined.uncommented(), [])
 
-    def test_tests_that_proofs_name_are_where_their_links_lead(self):
-        self.assertEqual(tested.main(["--check"]), 0, "python3 tools/tested.py has them lead there")
+    def test_the_guide_has_each_refusal_and_each_statement(self):
+        guide, rules = read("docs/GUIDE.md"), read("docs/SPECIFICATION.md")
+        asked = [it for row in numbers_held.table(guide, ["No.", "Cause"]) for it in re.findall(r"\d+", row)]
+        self.assertEqual(asked, list(numbers_held.table(rules, ["No.", "Comes where"])))
+        tables = [numbers_held.table(text, ["Statement"]) for text in (guide, rules)]
+        self.assertEqual(*({row.strip("`").split(" ")[0] for row in it} for it in tables))
 
-    def test_names_that_proofs_cite_stand_in_their_crates(self):
-        page = (crates.TOP / "docs" / "PROOFS.md").read_text(encoding="utf-8")
-        self.assertEqual(cited.strangers(page), [])
+    def test_rules_have_cases_and_names_and_links_lead_somewhere(self):
+        self.assertEqual(documents.faults(), [])
+
+    def test_a_name_that_is_not_in_its_crate_is_found(self):
         section = "## crack_row\n\n- A range (`KeyRange::contains`: `no_such_clause`).\n\n## Next\n"
-        self.assertEqual(cited.strangers(section), ["crack_row: no_such_clause"])
+        self.assertEqual(documents.strangers(section), ["crack_row: no_such_clause"])
 
     def test_a_test_that_is_not_there_is_found(self):
-        page = f"{tested.HEADING}\nseen by `no_such_test` and `no_file.py`\n\n## Next\n"
-        self.assertEqual(tested.linked(page), (page, ["no_such_test", "no_file.py"]))
-
-    def test_the_guide_has_each_refusal_and_each_statement(self):
-        guide, rules = (
-            (crates.TOP / "docs" / it).read_text(encoding="utf-8") for it in ("GUIDE.md", "SPECIFICATION.md")
-        )
-        asked = [re.findall(r"\d+", row) for row in numbers_held.table(guide, ["No.", "Cause"])]
-        self.assertEqual(sum(asked, []), list(numbers_held.table(rules, ["No.", "Comes where"])))
-        named = [
-            {row.strip("`").split(" ")[0] for row in numbers_held.table(text, ["Statement"])} for text in (guide, rules)
-        ]
-        self.assertEqual(*named)
-
-    def test_each_rule_has_a_case(self):
-        self.assertEqual(rules.faults(), [])
+        top = folder_with(self, {"tests/one.rt": "fn a_test() {}\n"})
+        links = "[`a_test`](../tests/one.rt), [`no_such_test`](../tests/one.rt), [`one.rt`](../tests/one.rt)"
+        page = f"{documents.TESTED}\nseen by {links} and `no_file.py`\n\n## Next\n"
+        wanted = [f"{it} isn't a link to a test" for it in ("no_such_test", "no_file.py")]
+        self.assertEqual(documents.lost_tests(page, top), wanted)
 
     def test_a_rule_without_a_case_is_found(self):
-        with tempfile.TemporaryDirectory() as room:
-            top = pathlib.Path(room)
-            (top / "docs").mkdir()
-            (top / "acceptance" / "cases").mkdir(parents=True)
-            (top / "acceptance" / "cases" / "rows.cases").write_text("== a-row-comes\n$ script\n", encoding="utf-8")
-            rows = "| No. | Where |\n|---|---|\n| 1 | gone §a-row-goes |\n| 2 | none |\n"
-            (top / rules.PAGE).write_text(
-                f"Words.\n\n- It comes. §a-row\n- It goes,\n  and comes.\n\n{rows}", encoding="utf-8"
-            )
-            wanted = [
-                "4: this rule has no mark: - It goes,\n  and comes.",
-                "10: this rule has no mark: | 2 | none |",
-                "9: no case's name has a-row-goes",
-            ]
-            self.assertEqual(rules.faults(top), [f"{rules.PAGE}:{it}" for it in wanted])
-
-    def test_links_lead_somewhere(self):
-        self.assertEqual(links.broken(), [])
+        rows = "| No. | Where |\n|---|---|\n| 1 | gone §a-row-goes |\n| 2 | none |\n"
+        page = f"Words.\n\n- It comes. §a-row\n- It goes,\n  and comes.\n\n{rows}"
+        top = folder_with(self, {documents.RULES: page, "acceptance/cases/rows.cases": "== a-row-comes\n$ script\n"})
+        wanted = ["4: this rule has no mark: - It goes,\n  and comes.", "10: this rule has no mark: | 2 | none |"]
+        wanted.append("9: no case's name has a-row-goes")
+        self.assertEqual(documents.rule_faults(top), [f"{documents.RULES}:{it}" for it in wanted])
 
     def test_a_link_that_leads_nowhere_is_found(self):
-        with tempfile.TemporaryDirectory() as room:
-            top = pathlib.Path(room)
-            (top / "page.md").write_text("# A page\n\n## The `end`, at last\n", encoding="utf-8")
-            (top / "other.md").write_text(
-                "[a](page.md#the-end-at-last) [b](page.md#begin) [c](none.md) [d](https://e.org)\n", encoding="utf-8"
-            )
-            self.assertEqual(links.broken(top), ["other.md leads to page.md#begin", "other.md leads to none.md"])
+        links = "[a](page.md#the-end-at-last) [b](page.md#begin) [c](none.md) [d](https://e.org)\n"
+        top = folder_with(self, {"page.md": "# A page\n\n## The `end`, at last\n", "other.md": links})
+        wanted = ["other.md leads to page.md#begin", "other.md leads to none.md"]
+        self.assertEqual(documents.broken_links(top), wanted)
 
 
 if __name__ == "__main__":
-    unittest.main()
+    ran = unittest.main(exit=False).result
+    wrong = len(ran.failures) + len(ran.errors)
+    print(f"{ran.testsRun - wrong} passed, {wrong} failed")
+    sys.exit(1 if wrong else 0)

@@ -12,10 +12,8 @@ import dataclasses
 import re
 import sys
 
-import contracts
 import crates
-import definitions
-import sources
+from reading import contracts, definitions, sources
 
 # the crates that tests use, and those for measurements: like the tests themselves they promise nothing
 LEFT_OUT = {"crack_failing", "crack_bench"}
@@ -23,9 +21,9 @@ HEADLINE = "headline"
 CALLS = re.compile(r"`([\w:]+)::(\w+|\{[\w, ]+\})`(?: \(((?:`\w+`(?:, )?)+)\))?")
 
 
-def is_left_out(crate):
-    """Whether a crate promises nothing."""
-    return crate in LEFT_OUT or crate.endswith("_tests")
+def is_promised(item):
+    """Whether an item is what a crate promises to others."""
+    return item.is_public and item.crate not in LEFT_OUT and not item.crate.endswith("_tests")
 
 
 class Reading:
@@ -35,16 +33,13 @@ class Reading:
     def __init__(self, items, order):
         self.items = {it.name: it for it in items}
         self.rank = {crate: at for at, crate in enumerate(order)}
-        self.had = collections.defaultdict(set)
-        traits = {it.name for it in items if it.kind == "trait"}
-        for it in items:
-            if it.kind == "ghost" and it.is_public and not is_left_out(it.crate):
-                for trait in it.cites & traits:
-                    self.had[trait].add(it.name)
+        # the ghost members that public types have of traits
+        self.had = [it for it in items if it.kind == "ghost" and is_promised(it)]
 
     def cited(self, item):
         """The names of the items that this one leads to."""
-        return {it for it in item.cites if it in self.items} | self.had[item.name]
+        had = {it.name for it in self.had if item.kind == "trait" and item.name in it.cites}
+        return {it for it in item.cites if it in self.items} | had
 
     def reached(self, items):
         """The names of the items that these lead to, in turn."""
@@ -86,15 +81,18 @@ class Reading:
     def call(self, path):
         """The call with a path, with or without modules."""
         crate, *rest = path.split("::")
-        found = [it for it in self.items.values() if it.kind == "call" and it.crate == crate and it.is_called(rest)]
+        calls = [it for it in self.items.values() if it.kind == "call" and it.crate == crate]
+        found = [it for it in calls if path == it.name or tuple(rest) == it.called]
         if len(found) != 1:
             sys.exit(f"docs/PROOFS.md: {path} is the path of {len(found)} calls with clauses")
         return found[0]
 
     def read_for(self, roots):
-        """What must be read for these calls, each with the names of the requested clauses or nothing, in reading
-        order."""
-        calls = [narrowed(self.call(path), names) for path, names in roots.items()]
+        """What must be read for these calls, each with the names of clauses, none meaning all, in reading order."""
+        asked = collections.defaultdict(list)
+        for path, names in roots:
+            asked[path].append(names)
+        calls = [narrowed(self.call(path), set().union(*of) if all(of) else ()) for path, of in asked.items()]
         named = {it.name for it in calls}
         return self.ordered([*calls, *(self.items[it] for it in self.reached(calls) - named)])
 
@@ -113,7 +111,7 @@ def narrowed(call, names):
 def roots_in(text):
     """The calls of each promise that a text's tables name, the headline's under a name of its own: each with the names
     of clauses, none meaning all."""
-    promises, first = {}, ""
+    promises, first = collections.defaultdict(list), ""
     for line in text.splitlines():
         cells = [it.strip() for it in line.strip().strip("|").split("|")] if line.startswith("|") else []
         if not cells:
@@ -123,28 +121,15 @@ def roots_in(text):
         elif first:
             name = cells[0] if first == "Promise" else HEADLINE
             for path, calls, clauses in CALLS.findall(cells[-1]):
-                more = {f"{path}::{call}": frozenset(re.findall(r"\w+", clauses)) for call in re.findall(r"\w+", calls)}
-                promises[name] = joined([promises.get(name, {}), more])
+                names = set(re.findall(r"\w+", clauses))
+                promises[name] += [(f"{path}::{call}", names) for call in re.findall(r"\w+", calls)]
     return promises
-
-
-def joined(many):
-    """The calls of several promises. If each asks for some clauses of a call, all of these are read; if one asks for
-    the whole call, the whole is."""
-    found = {}
-    for calls in many:
-        for path, names in calls.items():
-            before = found.get(path, names)
-            found[path] = before | names if before and names else frozenset()
-    return found
 
 
 def all_items(folders):
     """The items of the crates in these folders."""
     names = sources.Names()
-    files = [it for folder in folders for it in sources.read(folder, names)]
-    for source in files:
-        sources.fill_scope(source, names)
+    files = [it for folder in folders for it in names.read(folder)]
     found = [it for folder in folders for it in definitions.definitions_of(folder)]
     return [*found, *contracts.items_of(files, names, found)]
 

@@ -1,7 +1,6 @@
 """The definitions of specs/ as items, with what each of them cites, and the names that a text cites.
 
-The contents of the crates are read into items: definitions here, and types, ghost members and calls in contracts.py.
-Each has a name: `crack_part.Parts.IsSound` is a definition, `crack_part::partition::Partition` a type. Names are
+Each item has a name: `crack_part.Parts.IsSound` is a definition, `crack_part::partition::Partition` a type. Names are
 resolved by the file's own definitions and its `use` lines; names that a text binds itself, and fields after a full
 stop, aren't items. Nothing outside the repository's crates is an item.
 """
@@ -9,7 +8,10 @@ stop, aren't items. Nothing outside the repository's crates is an item.
 import dataclasses
 import pathlib
 import re
+import typing
 
+# The first line of a module of definitions that nobody has to read to know what is promised.
+PRIVATE = "-- What private clauses alone cite."
 NAME = r"[^\s(){}\[\];,.]+"
 WORD = re.compile(rf"(\.?)({NAME})")
 USE = re.compile(r"^\s*(?:ghost )?use Rattle\.([\w.]+?)(?:\.\{([^}]*)\})?(?: as (\S+?))?;?\s*$")
@@ -26,10 +28,20 @@ PASSED_OVER = re.compile(r'(?m)"(?:\\.|[^"\\\n])*"|(?:--|//).*$')
 ASSIGNED = re.compile(r"(?m)(?:[{;]|^)\s*(\w+) =(?=\s)")
 
 
+class Clause(typing.NamedTuple):
+    """A clause of a call: whether callers must fulfil it, its name, its lines, and what it cites."""
+
+    is_required: bool
+    name: str
+    lines: tuple
+    cites: frozenset
+
+
 @dataclasses.dataclass(frozen=True, eq=False)
 class Item:
     """What a crate defines under one name. Its numbered lines are those that count; comments, and the first lines of a
-    function, are kept separately. It cites other items by their names."""
+    function, are kept separately. It cites other items by their names. A call has its path after its crate, without
+    modules, what its signature cites, and its clauses."""
 
     name: str
     kind: str
@@ -39,11 +51,24 @@ class Item:
     beside: tuple = ()
     cites: frozenset = frozenset()
     is_public: bool = False
+    called: tuple = ()
+    signature: frozenset = frozenset()
+    clauses: tuple = ()
 
     @property
     def first(self):
         """The number of the first line that isn't a comment."""
         return min(number for number, line in (*self.lines, *self.beside) if not line.lstrip().startswith(("--", "//")))
+
+    @property
+    def short(self):
+        """The last part of its name."""
+        return self.name.rpartition(".")[2]
+
+
+def is_private(path):
+    """Whether a module of definitions says in its first line that only private clauses cite it."""
+    return path.read_text(encoding="utf-8").startswith(PRIVATE + "\n")
 
 
 def named_by(crate, module, name=""):
@@ -52,8 +77,7 @@ def named_by(crate, module, name=""):
     first, *parts = module.split(".")
     if first != "declared":
         return f"{crate}.{module}.{name}"
-    parts = [name if it == "TheConstants" else it for it in parts if it != "TheVariants"]
-    return "::".join([crate, *parts])
+    return "::".join([crate, *(name if it == "TheConstants" else it for it in parts if it != "TheVariants")])
 
 
 def used(line):
@@ -80,9 +104,7 @@ def bound_in(text):
     names = {*FIELD.findall(text), *LET.findall(text), *ASSIGNED.findall(text)}
     for binders in BINDERS.findall(text):
         names.update(re.sub(r"\(([^():]*)(?::[^()]*)?\)", r"\1", binders).split())
-    for binders in TYPED.findall(text):
-        names.update(binders.split())
-    return names
+    return names.union(*(it.split() for it in TYPED.findall(text)))
 
 
 def arguments_of(name, lines):
@@ -134,24 +156,19 @@ def constructors_of(lines):
 
 def definitions_in(path, crate, module):
     """The definitions of a file of specs/."""
-    text = path.read_text()
+    text = path.read_text(encoding="utf-8")
     own = pieces(text)
     scope = {name: item for line in text.splitlines() for name, item in used(line).items()}
     scope.update({it: f"{crate}.{module}.{name}" for name, lines, _ in own for it in (name, *constructors_of(lines))})
-    found = []
     for name, lines, comments in own:
         said = "\n".join(line for _, line in lines)
         cites = cited(said, scope, bound_in(said) | arguments_of(name, lines)) - {scope[name]}
-        found.append(Item(f"{crate}.{module}.{name}", "definition", crate, path, tuple(lines), tuple(comments), cites))
-    return found
+        yield Item(f"{crate}.{module}.{name}", "definition", crate, path, tuple(lines), tuple(comments), cites)
 
 
 def definitions_of(folder):
     """The definitions of a crate."""
     specs = folder / "specs"
     files = [it for it in sorted(specs.rglob("*.antt")) if it.name != "Lib.antt"]
-    return [
-        it
-        for path in files
-        for it in definitions_in(path, folder.name, ".".join(path.relative_to(specs).with_suffix("").parts))
-    ]
+    modules = [(it, ".".join(it.relative_to(specs).with_suffix("").parts)) for it in files]
+    return [it for path, module in modules for it in definitions_in(path, folder.name, module)]

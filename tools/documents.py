@@ -1,0 +1,117 @@
+#!/usr/bin/env python3
+"""Lists what is wrong with the documents.
+
+- A rule of docs/SPECIFICATION.md that no case shows. A word after a § marks the rule that it follows, and is part of
+  the name of a case of acceptance/cases, of a section of a page of acceptance/pages, or of a test of acceptance/ or of
+  the crates of tests, where it has underscores, or of a `name:` in a table of a test. Each item of a list and each row
+  of a table of rules must have a mark.
+- A name in backquotes in PROOFS' section 'What is only tested' that isn't a link to a file of this name, or to one that
+  has this test.
+- A name of code in a crate's section of PROOFS that is neither in the crate's texts nor a function or type elsewhere.
+- A link to a file that isn't there, or to a heading that a page doesn't have.
+"""
+
+import re
+import sys
+
+import crates
+from crates import TOP, read
+
+RULES = "docs/SPECIFICATION.md"
+MARK = re.compile(r"§([\w-]+)")
+# where names that show rules are
+TEST, NAMED = r"^\s*def test_(\w+)", r"^\s*(?:#\[test\]\s*fn |name: \")(\w[\w ]*)"
+SHOWN = {
+    "acceptance/cases/*.cases": r"^== (\S+)",
+    "acceptance/pages/*.txt": r"^## (.+)",
+    "acceptance/test_*.py": TEST,
+    "crates/*_tests/src/**/*.rt": NAMED,
+}
+# the first cells of the tables whose rows are rules
+TABLES = ("No.", "Statement", "Exit", "Step")
+ITEM = re.compile(r"(?:- |\d+\. )")
+TESTED = "## What is only tested\n"
+LINKED = re.compile(r"\[`([\w.]+)`\]\(\.\./([^)]*)\)|`(\w*[_.][\w.]*)`")
+SECTION = re.compile(r"^## (crackd?_\w+)\n(.*?)(?=^## )", re.MULTILINE | re.DOTALL)
+QUOTED = re.compile(r"`([^`]+)`")
+NAME = re.compile(r"[A-Za-z_][\w-]*")
+DEFINED = re.compile(r"\b(?:fn|pub struct|pub enum|pub trait) (\w+)")
+# what occurs in sections and isn't a name of code: words of statements and of policies, and a crate of the toolchain
+PLAIN = {"quit", "policy", "auto", "csv"}
+LINK = re.compile(r"\]\(([^)\s]+)\)")
+HEADING = re.compile(r"^#+ (.*)$", re.MULTILINE)
+
+
+def rules(text):
+    """The items of lists and the rows of tables that are rules, each with the number of its first line."""
+    found, table, before = [], False, ""
+    for number, line in enumerate(text.splitlines(), 1):
+        cell = line.strip("|").split("|")[0].strip()
+        if line.startswith("|") and not before.startswith("|"):
+            table = cell in TABLES
+        elif ITEM.match(line) or (table and line.startswith("|") and cell.strip("-")):
+            found.append((number, line))
+        elif line.startswith("  ") and before:
+            found[-1] = (found[-1][0], f"{found[-1][1]}\n{line}")
+        before = line
+    return found
+
+
+def rule_faults(top=TOP):
+    """The rules without a mark, and the marks that no case has."""
+    text = read(top / RULES)
+    shown = [re.findall(it, read(path), re.MULTILINE) for pattern, it in SHOWN.items() for path in top.glob(pattern)]
+    known = {re.sub("[ _]", "-", it) for names in shown for it in names}
+    wrong = [(number, f"this rule has no mark: {it[:60]}") for number, it in rules(text) if not MARK.search(it)]
+    marks = [(number, it) for number, line in enumerate(text.splitlines(), 1) for it in MARK.findall(line)]
+    wrong += [(number, f"no case's name has {it}") for number, it in marks if not any(it in name for name in known)]
+    return [f"{RULES}:{number}: {why}" for number, why in wrong]
+
+
+def lost_tests(text, top=TOP):
+    """The names of tests in a page that aren't links to a file of this name, or to one that has this test."""
+    section, wrong = text.partition(TESTED)[2].partition("\n## ")[0], []
+    for name, path, bare in LINKED.findall(section):
+        is_there = path and (path.endswith(f"/{name}") or re.search(rf"\b(?:fn|def) {name}\b", read(top / path)))
+        wrong += [] if is_there else [f"{name or bare} isn't a link to a test"]
+    return wrong
+
+
+def strangers(text):
+    """The names in crates' sections of a page that don't exist, each with its crate."""
+    known = PLAIN.union(*(DEFINED.findall(read(it)) for it in TOP.glob("crates/*/src/**/*.rt")))
+    wrong = []
+    for crate, section in SECTION.findall(text):
+        own = set().union(*(NAME.findall(read(it)) for it in crates.listed()[crate].sources()))
+        named = {name for quoted in QUOTED.findall(section) for name in NAME.findall(quoted)}
+        wrong += [f"{crate}: {it}" for it in sorted(named - own - known)]
+    return wrong
+
+
+def anchors(text):
+    """The anchors of a page's headings."""
+    return {re.sub(r"[^\w\- ]", "", heading.lower()).replace(" ", "-") for heading in HEADING.findall(text)}
+
+
+def broken_links(top=TOP):
+    """The links that lead nowhere, each with the page that has it."""
+    wrong = []
+    for page in [*sorted(top.glob("*.md")), *sorted(top.glob("docs/*.md"))]:
+        for link in (it for it in LINK.findall(read(page)) if "://" not in it):
+            path, _, anchor = link.partition("#")
+            target = (page.parent / path).resolve() if path else page
+            if not target.exists() or (anchor and anchor not in anchors(read(target))):
+                wrong.append(f"{page.relative_to(top)} leads to {link}")
+    return wrong
+
+
+def faults():
+    """All that is wrong, a line each."""
+    proofs = read(TOP / "docs" / "PROOFS.md")
+    return [*rule_faults(), *lost_tests(proofs), *strangers(proofs), *broken_links()]
+
+
+if __name__ == "__main__":
+    found = faults()
+    print("\n".join(found) or "each rule has a case, and each name and link leads somewhere")
+    sys.exit(1 if found else 0)
