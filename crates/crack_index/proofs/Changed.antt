@@ -71,7 +71,7 @@ start-adjusted key change (e ∷ es) = elim (cases_lt key e.0) [
 ]
 
 -- a later sum that is known is the sum, which was known, and the change
-later-known : (change sum : ℤ) → IsKnown (later change sum) → IsKnown sum × (later change sum ≡ sum +ℤ change)
+pub later-known : (change sum : ℤ) → IsKnown (later change sum) → IsKnown sum × (later change sum ≡ sum +ℤ change)
 later-known change sum known = elim (cases_Bool (int_eq sum UNKNOWN || not (fits (sum +ℤ change)))) [
   | inl beyond ↦ absurd (known (rw beyond refl))
   | inr none ↦ (λ is. let one : int_eq sum UNKNOWN ≡ true = rw is (refl) in absurd (let two : (int_eq sum UNKNOWN || not (fits (sum +ℤ change))) ≡ true = rw one refl in cc), rw none refl)

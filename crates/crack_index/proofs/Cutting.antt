@@ -1,5 +1,5 @@
 -- The pieces after a cut, and after a sum that was asked of the source.
-use Rattle.std.proofs.Common.{◌≡◌, ◌≢◌, ℕ, ◌+◌, ◌<◌, ◌≤◌, List, Some, None, refl, ◌∙◌, arith}
+use Rattle.std.proofs.Common.{◌≡◌, ◌≢◌, ℕ, ◌+◌, ◌<◌, List, Some, None, refl, ◌∙◌, arith}
 use Rattle.std.specs.Prelude.{ℤ, Bool, true, false, IsTrue}
 use Rattle.std.proofs.lemmas.Int.{ints}
 use Rattle.crack_row.specs.Ranges.{Range}
@@ -7,7 +7,7 @@ use Rattle.crack_row.specs.declared.TheConstants.{GREATEST_BOUND}
 use Rattle.crack_index.specs.declared.sums.TheConstants.{UNKNOWN}
 use Rattle.crack_index.specs.Sums.{IsKnown, IsAdditive, AreTold, IsEnd, Extends}
 use Rattle.crack_index.specs.Cuts.{Rises, IsRest, piece_at, next_at, put, given, span}
-use Rattle.crack_index.proofs.Pieces.{end-above, none_below, next_above, next_most, piece-is, piece-above, IsEnd-put, IsEnd-given, AreRight-given, AreRight-split, AreRight-begin}
+use Rattle.crack_index.proofs.Pieces.{end-above, none_below, next_above, piece-is, piece-above, IsEnd-put, IsEnd-given, AreRight-given, AreRight-split, AreRight-begin}
 
 pub by_bool : (b : Bool) (P : Type 0) → (IsTrue b → P) → ((IsTrue b → ⊥) → P) → P
 by_bool true P p q = p refl
@@ -20,31 +20,35 @@ piece-own key es p rises few found is =
     let below = (piece-is key es p rises few found).below in
     omega arith
 
+-- no piece begins at a key if the piece that has it begins elsewhere
+pub end-apart : (key : ℕ) (es : List (ℕ × ℤ)) (p : ℕ × ℤ) → Rises es → key < GREATEST_BOUND → piece_at key es ≡ Some p → p.0 ≢ key → IsEnd key es → ⊥
+end-apart key es p rises few found apart is = apart (piece-own key es p rises few found is)
+
 pub end-has : (key : ℕ) (es : List (ℕ × ℤ)) → Rises es → key < GREATEST_BOUND → piece_at key es ≡ None → IsEnd key es → ⊥
 end-has key es rises few none is =
     let below = none_below key es rises few none in
     let above = end-above key es rises is in
     omega arith
 
-module _ (says : ℕ → ℕ → ℤ → Type 0) (range : Range) where
-  pub Extends-same : (es : List (ℕ × ℤ)) → Extends says range es es
+module _ (says : ℕ → ℕ → ℤ → Type 0) where
+  pub Extends-same : (es : List (ℕ × ℤ)) → Extends says es es
   Extends-same es = record { right = λ m adds told right. right; ends = λ bound is. is }
 
-  pub Extends-chain : (xs ys zs : List (ℕ × ℤ)) → Extends says range xs ys → Extends says range ys zs → Extends says range xs zs
+  pub Extends-chain : (xs ys zs : List (ℕ × ℤ)) → Extends says xs ys → Extends says ys zs → Extends says xs zs
   Extends-chain xs ys zs one two = record {
     right = λ m adds told right. two.right m adds told (one.right m adds told right);
     ends = λ bound is. two.ends bound (one.ends bound is);
   }
 
-  pub Extends-begin : (key : ℕ) (es : List (ℕ × ℤ)) → Rises es → key < GREATEST_BOUND → piece_at key es ≡ None → Extends says range es (put key UNKNOWN es)
+  pub Extends-begin : (key : ℕ) (es : List (ℕ × ℤ)) → Rises es → key < GREATEST_BOUND → piece_at key es ≡ None → Extends says es (put key UNKNOWN es)
   Extends-begin key es rises few none = record {
     right = λ m adds told right. AreRight-begin m key es (none_below key es rises few none) right;
     ends = λ bound is. IsEnd-put bound key UNKNOWN es is;
   }
 
   Extends-split : (key : ℕ) (p : ℕ × ℤ) (lower upper : ℤ) (es : List (ℕ × ℤ)) → Rises es → key < GREATEST_BOUND → piece_at key es ≡ Some p → p.0 ≢ key
-      → ((m : ℕ → ℕ → ℤ) → IsAdditive m → AreTold says range m → (IsKnown p.1 → p.1 ≡ m p.0 (next_at key es)) → (IsKnown lower → lower ≡ m p.0 key) × (IsKnown upper → upper ≡ m key (next_at key es)))
-      → Extends says range es (given p.0 lower (put key upper es))
+      → ((m : ℕ → ℕ → ℤ) → IsAdditive m → AreTold says m → (IsKnown p.1 → p.1 ≡ m p.0 (next_at key es)) → (IsKnown lower → lower ≡ m p.0 key) × (IsKnown upper → upper ≡ m key (next_at key es)))
+      → Extends says es (given p.0 lower (put key upper es))
   Extends-split key p lower upper es rises few found apart sums =
       let piece = piece-is key es p rises few found in
       record {
@@ -55,17 +59,17 @@ module _ (says : ℕ → ℕ → ℤ → Type 0) (range : Range) where
       }
 
   -- neither part's sum is known
-  pub Extends-blind : (key : ℕ) (p : ℕ × ℤ) (es : List (ℕ × ℤ)) → Rises es → key < GREATEST_BOUND → piece_at key es ≡ Some p → p.0 ≢ key → Extends says range es (given p.0 UNKNOWN (put key UNKNOWN es))
+  pub Extends-blind : (key : ℕ) (p : ℕ × ℤ) (es : List (ℕ × ℤ)) → Rises es → key < GREATEST_BOUND → piece_at key es ≡ Some p → p.0 ≢ key → Extends says es (given p.0 UNKNOWN (put key UNKNOWN es))
   Extends-blind key p es rises few found apart =
       Extends-split key p UNKNOWN UNKNOWN es rises few found apart (λ m adds told whole. (λ known. absurd (known refl), λ known. absurd (known refl)))
 
   -- the source was asked for the upper part
-  pub Extends-upper : (key : ℕ) (p : ℕ × ℤ) (lower upper : ℤ) (es : List (ℕ × ℤ)) → Rises es → key < GREATEST_BOUND → piece_at key es ≡ Some p → p.0 ≢ key → range.low ≤ key → next_at key es ≤ range.high
-      → (IsKnown upper → says key (next_at key es) upper) → IsRest p.1 upper lower → Extends says range es (given p.0 lower (put key upper es))
-  Extends-upper key p lower upper es rises few found apart low high said rest =
+  pub Extends-upper : (key : ℕ) (p : ℕ × ℤ) (lower upper : ℤ) (es : List (ℕ × ℤ)) → Rises es → key < GREATEST_BOUND → piece_at key es ≡ Some p → p.0 ≢ key
+      → (IsKnown upper → says key (next_at key es) upper) → IsRest p.1 upper lower → Extends says es (given p.0 lower (put key upper es))
+  Extends-upper key p lower upper es rises few found apart said rest =
       let piece = piece-is key es p rises few found in
       Extends-split key p lower upper es rises few found apart (λ m adds told whole.
-      let is_upper : IsKnown upper → upper ≡ m key (next_at key es) = λ known. told key (next_at key es) upper low piece.above high (said known) in (
+      let is_upper : IsKnown upper → upper ≡ m key (next_at key es) = λ known. told key (next_at key es) upper piece.above (said known) in (
         λ known.
             let parts = rest known in
             let one = whole parts.0 in
@@ -77,12 +81,12 @@ module _ (says : ℕ → ℕ → ℤ → Type 0) (range : Range) where
       ))
 
   -- the source was asked for the lower part
-  pub Extends-lower : (key : ℕ) (p : ℕ × ℤ) (lower upper : ℤ) (es : List (ℕ × ℤ)) → Rises es → key < GREATEST_BOUND → piece_at key es ≡ Some p → p.0 ≢ key → range.low ≤ p.0 → key ≤ range.high
-      → (IsKnown lower → says p.0 key lower) → IsRest p.1 lower upper → Extends says range es (given p.0 lower (put key upper es))
-  Extends-lower key p lower upper es rises few found apart low high said rest =
+  pub Extends-lower : (key : ℕ) (p : ℕ × ℤ) (lower upper : ℤ) (es : List (ℕ × ℤ)) → Rises es → key < GREATEST_BOUND → piece_at key es ≡ Some p → p.0 ≢ key
+      → (IsKnown lower → says p.0 key lower) → IsRest p.1 lower upper → Extends says es (given p.0 lower (put key upper es))
+  Extends-lower key p lower upper es rises few found apart said rest =
       let piece = piece-is key es p rises few found in
       Extends-split key p lower upper es rises few found apart (λ m adds told whole.
-      let is_lower : IsKnown lower → lower ≡ m p.0 key = λ known. told p.0 key lower low (omega (arith, piece.below)) high (said known) in (
+      let is_lower : IsKnown lower → lower ≡ m p.0 key = λ known. told p.0 key lower (omega (arith, piece.below)) (said known) in (
         is_lower,
         λ known.
             let parts = rest known in
@@ -94,18 +98,11 @@ module _ (says : ℕ → ℕ → ℤ → Type 0) (range : Range) where
       ))
 
   -- the source was asked for a piece
-  pub Extends-given : (start : ℕ) (sum : ℤ) (es : List (ℕ × ℤ)) → Rises es → start < GREATEST_BOUND → range.low ≤ start → start < range.high → IsEnd range.high es → (IsKnown sum → says start (next_at start es) sum) → Extends says range es (given start sum es)
-  Extends-given start sum es rises few low high is said = record {
-    right = λ m adds told right. AreRight-given m start sum es rises (λ known. told start (next_at start es) sum low (next_above start es few) (next_most start range.high es rises is high) (said known)) right;
+  pub Extends-given : (start : ℕ) (sum : ℤ) (es : List (ℕ × ℤ)) → Rises es → start < GREATEST_BOUND → (IsKnown sum → says start (next_at start es) sum) → Extends says es (given start sum es)
+  Extends-given start sum es rises few said = record {
+    right = λ m adds told right. AreRight-given m start sum es rises (λ known. told start (next_at start es) sum (next_above start es few) (said known)) right;
     ends = λ bound there. IsEnd-given bound start sum es there;
   }
-
--- pieces that extend others for a range extend them for a wider range
-pub Extends-wide : (says : ℕ → ℕ → ℤ → Type 0) (wide narrow : Range) (xs ys : List (ℕ × ℤ)) → wide.low ≤ narrow.low → narrow.high ≤ wide.high → Extends says narrow xs ys → Extends says wide xs ys
-Extends-wide says wide narrow xs ys low high is = record {
-  right = λ m adds told right. is.right m adds (λ l h sum a b c said. told l h sum (omega arith) b (omega arith) said) right;
-  ends = is.ends;
-}
 
 -- the keys from the first to the last of a range are the range
 pub span-is : (first last key end : ℕ) (range : Range) → first ≡ key → last ≡ end → key ≡ range.low → end + 1 ≡ range.high → span first last ≡ range

@@ -1,5 +1,5 @@
 -- Pieces whose keys rise: which one has a key, where they begin, and what stays true when one is cut or gets a sum.
-use Rattle.std.proofs.Common.{◌≡◌, ◌≢◌, ℕ, ◌<◌, ◌≤◌, List, [], ◌∷◌, leb, ltb, Some, None, refl, sym, ap, ◌∙◌, inl, inr, arith}
+use Rattle.std.proofs.Common.{◌≡◌, ◌≢◌, ℕ, ◌+◌, ◌<◌, ◌≤◌, List, [], ◌∷◌, length, leb, ltb, Some, None, refl, sym, ap, ◌∙◌, inl, inr, arith}
 use Rattle.std.specs.Prelude.{ℤ, true, false}
 use Rattle.std.proofs.lemmas.Bool.{cases_eq, cases_lt, lt-ltb, le-ltb, lt-leb, le-leb, eq-eqb, ne_eqb, and_right}
 use Rattle.crack_row.specs.Ranges.{is_in}
@@ -167,6 +167,16 @@ Rises-put key sum (e ∷ es) few rises = elim (cases_lt key e.0) [
           | inr k ↦ rw (start-put key sum es few k) rises.0
         ] in
         rw (put_later key sum e es (omega arith)) (after, Rises-put key sum es few rises.1)
+  ]
+]
+
+pub length-put : (key : ℕ) (sum : ℤ) (es : List (ℕ × ℤ)) → (IsEnd key es → ⊥) → length (put key sum es) ≡ length es + 1
+length-put key sum [] none = refl
+length-put key sum (e ∷ es) none = elim (cases_lt key e.0) [
+  | inl l ↦ rw (put_below key sum (e ∷ es) l) (omega arith)
+  | inr l ↦ elim (cases_eq key e.0) [
+    | inl same ↦ absurd (none (inl same))
+    | inr apart ↦ rw (put_later key sum e es (omega arith)) (omega (arith, length-put key sum es (λ is. none (inr is))))
   ]
 ]
 

@@ -208,7 +208,7 @@ tall_left a b h left right = record { least = omega (arith, left.least, right.le
 tall_right : (a b h : ℕ) → IsTall a h → IsTall b (suc h) → IsTall (a + (1 + b)) (suc (suc h))
 tall_right a b h left right = record { least = omega (arith, left.least, right.least); most = omega (arith, left.most, right.most) }
 
-tall_sides : (a b hl hr h : ℕ) → IsTall a hl → IsTall b hr → DifferByAtMost 1 hl hr → h ≡ max hl hr + 1 → IsTall (a + (1 + b)) h
+pub tall_sides : (a b hl hr h : ℕ) → IsTall a hl → IsTall b hr → DifferByAtMost 1 hl hr → h ≡ max hl hr + 1 → IsTall (a + (1 + b)) h
 tall_sides a b hl hr h left right even is = elim (cases_lt hl hr) [
   | inl l ↦
       let up : hr ≡ suc hl = omega (arith, even.right) in
@@ -246,7 +246,7 @@ least-upto a (suc b) =
     let next : suc b + a ≡ suc (b + a) = omega arith in
     rw next (omega (arith, least-upto a b, least_more (b + a)))
 
-pub height_fits : (marks height : ℕ) → IsTall marks height → marks < 2 ^ 64 → height < 2 ^ 31
+pub height_fits : (marks height : ℕ) → IsTall marks height → marks ≤ 2 ^ 64 → height < 2 ^ 31
 height_fits marks height tall few = elim (cases_lt height 130) [
   | inl l ↦ omega arith
   | inr g ↦

@@ -1,164 +1,142 @@
--- A walk over the pieces of a range: the pieces that are left, and the sum so far.
-use Rattle.std.proofs.Common.{◌≡◌, ℕ, ◌+◌, ◌<◌, ◌≤◌, List, [], ◌∷◌, refl, ap, inl, inr, arith, nat_cmp}
-use Rattle.std.specs.Prelude.{⊤, ℤ, pos, negsuc, ◌+ℤ◌, neg_ℤ, ◌≤ℤ◌, ◌^◌, unsigned_abs, FitsSigned, true, false}
-use Rattle.std.specs.Int.{w128}
-use Rattle.std.specs.Ordering.{is_le, is_lt}
-use Rattle.std.specs.declared.ops.Bound.TheVariants.{Included}
-use Rattle.std.specs.BTreeMap.Range.{entries_between}
-use Rattle.std.proofs.lemmas.Bool.{cases_eq, cases_lt, lt-ltb, le-ltb, eq-eqb, ne_eqb}
+-- Where a walk over the pieces of a range ends: at their total, or at the first whose sum isn't known.
+use Rattle.std.proofs.Common.{◌≡◌, ℕ, ◌+◌, ◌<◌, ◌≤◌, List, [], ◌∷◌, Some, None, refl, sym, ap, ◌∙◌, inl, inr, arith}
+use Rattle.std.specs.Prelude.{ℤ, pos, negsuc, ◌+ℤ◌, neg_ℤ, ◌≤ℤ◌, ◌^◌, unsigned_abs, true, false}
+use Rattle.std.specs.Ordering.{int_eq}
+use Rattle.std.proofs.lemmas.Bool.{cases_lt, cases_Bool, lt-leb, le-leb}
+use Rattle.std.proofs.lemmas.Bool.Decides.{Decides-int_eq}
 use Rattle.std.proofs.lemmas.Int.{ints}
-use Rattle.crack_row.specs.Ranges.{Range, IsIn}
+use Rattle.crack_row.specs.Ranges.{IsIn}
 use Rattle.crack_index.specs.declared.sums.TheConstants.{UNKNOWN}
-use Rattle.crack_index.specs.Sums.{IsKnown, AreKnown, total_in, distance_in}
-use Rattle.crack_index.specs.Cuts.{span}
+use Rattle.crack_index.specs.Sums.{start_of, IsKnown, AreKnown, total_in, distance_in}
+use Rattle.crack_index.specs.Cuts.{Rises, span}
+use Rattle.crack_index.specs.SumKeeps.{IsTotal, AllKnown, total_of, distance_of, inside, unknown_from}
 use Rattle.crack_index.proofs.Pieces.{in_yes, in_below, in_above}
-
-abbrev pub total_of : List (ℕ × ℤ) → ℤ
-total_of [] = pos 0
-total_of (e ∷ es) = e.1 +ℤ total_of es
-
-abbrev pub distance_of : List (ℕ × ℤ) → ℕ
-distance_of [] = 0
-distance_of (e ∷ es) = unsigned_abs e.1 + distance_of es
 
 -- the number is at most this far from 0
 abbrev pub IsNear : ℤ → ℕ → Type 0
 IsNear number distance = (number ≤ℤ pos distance) × (neg_ℤ (pos distance) ≤ℤ number)
 
-near_itself : (number : ℤ) → IsNear number (unsigned_abs number)
+pub near_itself : (number : ℤ) → IsNear number (unsigned_abs number)
 near_itself (pos n) = (omega (arith, ints), omega (arith, ints))
 near_itself (negsuc n) = (omega (arith, ints), omega (arith, ints))
 
-near_sum : (a b : ℤ) (m n : ℕ) → IsNear a m → IsNear b n → IsNear (a +ℤ b) (m + n)
+pub near_sum : (a b : ℤ) (m n : ℕ) → IsNear a m → IsNear b n → IsNear (a +ℤ b) (m + n)
 near_sum a b m n is_a is_b = (let one = is_a.0 in let two = is_b.0 in omega (arith, ints), let one = is_a.1 in let two = is_b.1 in omega (arith, ints))
 
-near-wider : (a : ℤ) (m n : ℕ) → IsNear a m → m ≤ n → IsNear a n
-near-wider a m n is h = (let one = is.0 in omega (arith, ints), let one = is.1 in omega (arith, ints))
+-- The pieces in a range
 
--- a number that is near enough to 0 fits into 128 bits
-near-fits : (number : ℤ) (n : ℕ) → IsNear number n → n < 2 ^ 127 → FitsSigned w128 number
-near-fits (pos k) n is h = record { sfits = let one = is.0 in omega (arith, ints) }
-near-fits (negsuc k) n is h = record { sfits = let one = is.1 in omega (arith, ints) }
-
-abbrev pub AllKnown : List (ℕ × ℤ) → Type 0
-AllKnown [] = ⊤
-AllKnown (e ∷ es) = IsKnown e.1 × AllKnown es
-
-abbrev pub AllIn : Range → List (ℕ × ℤ) → Type 0
-AllIn range [] = ⊤
-AllIn range (e ∷ es) = IsIn range e.0 × AllIn range es
-
--- this sum has been added up, and these pieces are left
-pub record IsLeft (range : Range) (es : List (ℕ × ℤ)) (sum : ℤ) (left : List (ℕ × ℤ)) : Type 0 where
-  pub total : sum +ℤ total_of left ≡ total_in range es
-  pub passed : ℕ
-  pub near : IsNear sum passed
-  pub distance : passed + distance_of left ≡ distance_in range es
-  pub known : AllKnown left → AreKnown range es
-  pub back : AreKnown range es → AllKnown left
-  pub inside : AllIn range left
-
-pub left_step : (range : Range) (es : List (ℕ × ℤ)) (total : ℤ) (e : ℕ × ℤ) (left : List (ℕ × ℤ)) → IsLeft range es total (e ∷ left) → IsKnown e.1 → IsLeft range es (total +ℤ e.1) left
-left_step range es total e left is known = record {
-  total = let whole = is.total in omega (arith, ints);
-  passed = is.passed + unsigned_abs e.1;
-  near = near_sum total e.1 is.passed (unsigned_abs e.1) is.near (near_itself e.1);
-  distance = let whole = is.distance in omega arith;
-  known = λ rest. is.known (known, rest);
-  back = λ all. (is.back all).1;
-  inside = is.inside.1;
-}
-
-pub left_end : (range : Range) (es : List (ℕ × ℤ)) (total : ℤ) → IsLeft range es total [] → (total ≡ total_in range es) × AreKnown range es
-left_end range es total is = (let whole = is.total in omega (arith, ints), is.known tt)
-
-pub left_stop : (range : Range) (es : List (ℕ × ℤ)) (total : ℤ) (e : ℕ × ℤ) (left : List (ℕ × ℤ)) → IsLeft range es total (e ∷ left) → e.1 ≡ UNKNOWN → IsIn range e.0 × (AreKnown range es → ⊥)
-left_stop range es total e left is unknown = (is.inside.0, λ all. (is.back all).0 unknown)
-
--- the sum with the next piece doesn't fit, so the sums of the range are too far from 0 in total
-pub left_far : (range : Range) (es : List (ℕ × ℤ)) (total : ℤ) (e : ℕ × ℤ) (left : List (ℕ × ℤ)) → IsLeft range es total (e ∷ left) → (FitsSigned w128 (total +ℤ e.1) → ⊥) → distance_in range es < 2 ^ 127 → ⊥
-left_far range es total e left is far few =
-    let whole = is.distance in
-    far (near-fits (total +ℤ e.1) (is.passed + unsigned_abs e.1) (near_sum total e.1 is.passed (unsigned_abs e.1) is.near (near_itself e.1)) (omega arith))
-
-le_yes : (a b : ℕ) → a ≤ b → is_le (nat_cmp a b) ≡ true
-le_yes a b h = elim (cases_eq a b) [
-  | inl same ↦ rw (le-ltb a b (omega arith), eq-eqb a b same) refl
-  | inr ne ↦ rw (lt-ltb a b (omega arith)) refl
+in_total : (low high : ℕ) (es : List (ℕ × ℤ)) → total_of (inside (record { low = low; high = high }) es) ≡ total_in (record { low = low; high = high }) es
+in_total low high [] = refl
+in_total low high (e ∷ es) = elim (cases_lt e.0 low) [
+  | inl l ↦ rw (in_below low high e.0 l) (in_total low high es)
+  | inr l ↦ elim (cases_lt e.0 high) [
+    | inl k ↦ rw (in_yes low high e.0 l k) (ap (λ t. e.1 +ℤ t) (in_total low high es))
+    | inr k ↦ rw (in_above low high e.0 k) (in_total low high es)
+  ]
 ]
 
-le_no : (a b : ℕ) → b < a → is_le (nat_cmp a b) ≡ false
-le_no a b h = rw (le-ltb a b (omega arith), ne_eqb a b (λ s. absurd (omega arith))) refl
-
-lt_yes : (a b : ℕ) → a < b → is_lt (nat_cmp a b) ≡ true
-lt_yes a b h = rw (lt-ltb a b h) refl
-
-lt_no : (a b : ℕ) → b ≤ a → is_lt (nat_cmp a b) ≡ false
-lt_no a b h = elim (cases_eq a b) [
-  | inl same ↦ rw (le-ltb a b h, eq-eqb a b same) refl
-  | inr ne ↦ rw (le-ltb a b h, ne_eqb a b ne) refl
+in_distance : (low high : ℕ) (es : List (ℕ × ℤ)) → distance_of (inside (record { low = low; high = high }) es) ≡ distance_in (record { low = low; high = high }) es
+in_distance low high [] = refl
+in_distance low high (e ∷ es) = elim (cases_lt e.0 low) [
+  | inl l ↦ rw (in_below low high e.0 l) (in_distance low high es)
+  | inr l ↦ elim (cases_lt e.0 high) [
+    | inl k ↦ rw (in_yes low high e.0 l k) (ap (λ d. unsigned_abs e.1 + d) (in_distance low high es))
+    | inr k ↦ rw (in_above low high e.0 k) (in_distance low high es)
+  ]
 ]
 
--- the pieces that begin from the first key to the last
-abbrev pub between : ℕ → ℕ → List (ℕ × ℤ) → List (ℕ × ℤ)
-between first last es = entries_between nat_cmp (Included first) (Included last) es
+in_known : (low high : ℕ) (es : List (ℕ × ℤ)) → AllKnown (inside (record { low = low; high = high }) es) → AreKnown (record { low = low; high = high }) es
+in_known low high [] all = tt
+in_known low high (e ∷ es) all = elim (cases_lt e.0 low) [
+  | inl l ↦ (λ h k. absurd (omega arith), in_known low high es (rw (in_below low high e.0 l) at all))
+  | inr l ↦ elim (cases_lt e.0 high) [
+    | inl k ↦ let both = rw (in_yes low high e.0 l k) at all in (λ h j. both.0, in_known low high es both.1)
+    | inr k ↦ (λ h j. absurd (omega arith), in_known low high es (rw (in_above low high e.0 k) at all))
+  ]
+]
 
-between_yes : (first last : ℕ) (e : ℕ × ℤ) (es : List (ℕ × ℤ)) → first ≤ e.0 → e.0 < last + 1 → between first last (e ∷ es) ≡ e ∷ between first last es
-between_yes first last e es h k = rw (le_yes first e.0 h, lt_no last e.0 (omega arith)) refl
+known_in : (low high : ℕ) (es : List (ℕ × ℤ)) → AreKnown (record { low = low; high = high }) es → AllKnown (inside (record { low = low; high = high }) es)
+known_in low high [] all = tt
+known_in low high (e ∷ es) all = elim (cases_lt e.0 low) [
+  | inl l ↦ rw (in_below low high e.0 l) (known_in low high es all.1)
+  | inr l ↦ elim (cases_lt e.0 high) [
+    | inl k ↦ rw (in_yes low high e.0 l k) (all.0 l k, known_in low high es all.1)
+    | inr k ↦ rw (in_above low high e.0 k) (known_in low high es all.1)
+  ]
+]
 
-between_below : (first last : ℕ) (e : ℕ × ℤ) (es : List (ℕ × ℤ)) → e.0 < first → between first last (e ∷ es) ≡ between first last es
-between_below first last e es h = rw (le_no first e.0 h) refl
+-- The first unknown sum
 
-between_above : (first last : ℕ) (e : ℕ × ℤ) (es : List (ℕ × ℤ)) → first ≤ e.0 → last + 1 ≤ e.0 → between first last (e ∷ es) ≡ between first last es
-between_above first last e es h k = rw (le_yes first e.0 h, lt_yes last e.0 (omega arith)) refl
+known_by : (sum : ℤ) → int_eq sum UNKNOWN ≡ false → IsKnown sum
+known_by sum apart = λ is. (let one : int_eq sum UNKNOWN ≡ true = rw is refl in absurd (cc))
 
-record IsBetween (range : Range) (es left : List (ℕ × ℤ)) : Type 0 where
-  total : total_of left ≡ total_in range es
-  distance : distance_of left ≡ distance_in range es
-  known : AllKnown left → AreKnown range es
-  back : AreKnown range es → AllKnown left
-  inside : AllIn range left
+known_none : (first high : ℕ) (es : List (ℕ × ℤ)) → unknown_from first es ≡ None → AreKnown (record { low = first; high = high }) es
+known_none first high [] none = tt
+known_none first high (e ∷ es) none = elim (cases_lt e.0 first) [
+  | inl l ↦ (λ h k. absurd (omega arith), known_none first high es (rw (lt-leb first e.0 l) at none))
+  | inr l ↦ elim (cases_Bool (int_eq e.1 UNKNOWN)) [
+    | inl is ↦ let one : Some e.0 ≡ None = rw (le-leb first e.0 l, is) at none in absurd (cc)
+    | inr apart ↦ (λ h k. known_by e.1 apart, known_none first high es (rw (le-leb first e.0 l, apart) at none))
+  ]
+]
 
-between-is : (first last : ℕ) (es : List (ℕ × ℤ)) → IsBetween (span first last) es (between first last es)
-between-is first last [] = record { total = refl; distance = refl; known = λ k. tt; back = λ k. tt; inside = tt }
-between-is first last (e ∷ es) =
-    let rest = between-is first last es in
-    elim (cases_lt e.0 first) [
-      | inl l ↦ rw (between_below first last e es l) (record {
-        total = rw (in_below first (last + 1) e.0 l) rest.total;
-        distance = rw (in_below first (last + 1) e.0 l) rest.distance;
-        known = λ k. (λ h j. absurd (omega arith), rest.known k);
-        back = λ k. rest.back k.1;
-        inside = rest.inside;
-      })
-      | inr l ↦ elim (cases_lt e.0 (last + 1)) [
-        | inl k ↦ rw (between_yes first last e es l k) (record {
-          total = rw (in_yes first (last + 1) e.0 l k) (ap (λ t. e.1 +ℤ t) rest.total);
-          distance = rw (in_yes first (last + 1) e.0 l k) (ap (λ d. unsigned_abs e.1 + d) rest.distance);
-          known = λ all. (λ h j. all.0, rest.known all.1);
-          back = λ all. (all.0 l k, rest.back all.1);
-          inside = ((l, k), rest.inside);
-        })
-        | inr k ↦ rw (between_above first last e es l k) (record {
-          total = rw (in_above first (last + 1) e.0 k) rest.total;
-          distance = rw (in_above first (last + 1) e.0 k) rest.distance;
-          known = λ all. (λ h j. absurd (omega arith), rest.known all);
-          back = λ all. rest.back all.1;
-          inside = rest.inside;
-        })
-      ]
-    ]
+known_above : (first high : ℕ) (es : List (ℕ × ℤ)) → Rises es → high ≤ start_of es → AreKnown (record { low = first; high = high }) es
+known_above first high [] rises h = tt
+known_above first high (e ∷ es) rises h = (λ j k. absurd (omega arith), known_above first high es rises.1 (omega (arith, rises.0)))
 
--- before the walk, all pieces between are left
-pub left_first : (first last : ℕ) (es left : List (ℕ × ℤ)) → left ≡ between first last es → IsLeft (span first last) es (pos 0) left
-left_first first last es left is =
-    let all = between-is first last es in
-    rw is (record {
-      total = let whole = all.total in omega (arith, ints);
-      passed = 0;
-      near = near_itself (pos 0);
-      distance = let whole = all.distance in omega arith;
-      known = all.known;
-      back = all.back;
-      inside = all.inside;
-    })
+known_beyond : (first high start : ℕ) (es : List (ℕ × ℤ)) → Rises es → unknown_from first es ≡ Some start → high ≤ start → AreKnown (record { low = first; high = high }) es
+known_beyond first high start [] rises found h = tt
+known_beyond first high start (e ∷ es) rises found h = elim (cases_lt e.0 first) [
+  | inl l ↦ (λ j k. absurd (omega arith), known_beyond first high start es rises.1 (rw (lt-leb first e.0 l) at found) h)
+  | inr l ↦ elim (cases_Bool (int_eq e.1 UNKNOWN)) [
+    | inl is ↦
+        let one : Some e.0 ≡ Some start = rw (le-leb first e.0 l, is) at found in
+        let same : e.0 ≡ start = cc in
+        known_above first high (e ∷ es) rises (omega arith)
+    | inr apart ↦ (λ j k. known_by e.1 apart, known_beyond first high start es rises.1 (rw (le-leb first e.0 l, apart) at found) h)
+  ]
+]
+
+record IsFirst (first start : ℕ) (es : List (ℕ × ℤ)) : Type 0 where
+  above : first ≤ start
+  unknown : (high : ℕ) → start < high → AreKnown (record { low = first; high = high }) es → ⊥
+
+unknown-is : (first start : ℕ) (es : List (ℕ × ℤ)) → unknown_from first es ≡ Some start → IsFirst first start es
+unknown-is first start [] found = absurd (cc)
+unknown-is first start (e ∷ es) found = elim (cases_lt e.0 first) [
+  | inl l ↦
+      let rest = unknown-is first start es (rw (lt-leb first e.0 l) at found) in
+      record { above = rest.above; unknown = λ high k all. rest.unknown high k all.1 }
+  | inr l ↦ elim (cases_Bool (int_eq e.1 UNKNOWN)) [
+    | inl is ↦
+        let one : Some e.0 ≡ Some start = rw (le-leb first e.0 l, is) at found in
+        let same : e.0 ≡ start = cc in
+        record { above = omega arith; unknown = λ high k all. all.0 l (omega arith) ((Decides-int_eq e.1 UNKNOWN).0 is) }
+    | inr apart ↦
+        let rest = unknown-is first start es (rw (le-leb first e.0 l, apart) at found) in
+        record { above = rest.above; unknown = λ high k all. rest.unknown high k all.1 }
+  ]
+]
+
+-- Where a walk ends
+
+pub walk-whole : (first last : ℕ) (es : List (ℕ × ℤ)) (total : ℤ) → Rises es → IsTotal (inside (span first last) es) total → IsKnown total → (total ≡ total_in (span first last) es) × AreKnown (span first last) es × Rises es
+walk-whole first last es total rises is known =
+    let both = is.right known in
+    (both.1 ∙ in_total first (last + 1) es, in_known first (last + 1) es both.0, rises)
+
+pub walk-unknown : (first last start : ℕ) (es : List (ℕ × ℤ)) → Some start ≡ unknown_from first es → start ≤ last → IsIn (span first last) start × (AreKnown (span first last) es → ⊥)
+walk-unknown first last start es found h =
+    let is = unknown-is first start es (sym found) in
+    ((is.above, omega arith), is.unknown (last + 1) (omega arith))
+
+far : (first last : ℕ) (es : List (ℕ × ℤ)) (total : ℤ) → IsTotal (inside (span first last) es) total → total ≡ UNKNOWN → AreKnown (span first last) es → distance_in (span first last) es < 2 ^ 127 → ⊥
+far first last es total is unknown known few =
+    let whole = in_distance first (last + 1) es in
+    is.found (known_in first (last + 1) es known) (omega arith) unknown
+
+pub walk-none : (first last : ℕ) (es : List (ℕ × ℤ)) (total : ℤ) → IsTotal (inside (span first last) es) total → total ≡ UNKNOWN → None ≡ unknown_from first es → distance_in (span first last) es < 2 ^ 127 → ⊥
+walk-none first last es total is unknown none = far first last es total is unknown (known_none first (last + 1) es (sym none))
+
+pub walk-beyond : (first last start : ℕ) (es : List (ℕ × ℤ)) (total : ℤ) → Rises es → IsTotal (inside (span first last) es) total → total ≡ UNKNOWN → Some start ≡ unknown_from first es → last < start → distance_in (span first last) es < 2 ^ 127 → ⊥
+walk-beyond first last start es total rises is unknown found h = far first last es total is unknown (known_beyond first (last + 1) start es rises (sym found) (omega arith))

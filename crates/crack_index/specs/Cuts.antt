@@ -40,10 +40,6 @@ dropped key (e ∷ es) = cond (key == e.0) es (e ∷ dropped key es)
 abbrev pub IsRest : ℤ → ℤ → ℤ → Type 0
 IsRest whole part rest = IsKnown rest → IsKnown whole × IsKnown part × (whole ≡ part +ℤ rest)
 
--- the sum of a piece, by those of its two parts
-abbrev pub IsWhole : ℤ → ℤ → ℤ → Type 0
-IsWhole lower upper whole = IsKnown whole → IsKnown lower × IsKnown upper × (whole ≡ lower +ℤ upper)
-
 -- the keys from the first to the last
 abbrev pub span : ℕ → ℕ → Range
 span first last = record { low = first; high = last + 1 }

@@ -1,5 +1,5 @@
 -- The sums of pieces. A piece is an entry: the key where it begins, up to the next entry's, and its sum.
-use Rattle.std.specs.Prelude.{◌≡◌, ⊤, ◌⊎◌, ℕ, ℤ, pos, ◌+◌, ◌+ℤ◌, unsigned_abs, ◌^◌, ◌<◌, ◌≤◌, ◌&&◌, ◌||◌, not, int_le, int_lt, Bool, cond, List, [], ◌∷◌}
+use Rattle.std.specs.Prelude.{◌≡◌, ⊤, ◌⊎◌, ℕ, ℤ, pos, ◌+◌, ◌+ℤ◌, unsigned_abs, ◌^◌, ◌<◌, ◌≤◌, ◌&&◌, ◌||◌, ◌==◌, not, int_le, int_lt, Bool, cond, List, [], ◌∷◌}
 use Rattle.std.specs.Ordering.{int_eq}
 use Rattle.crack_row.specs.Ranges.{Range, is_in}
 use Rattle.crack_row.specs.declared.TheConstants.{GREATEST_BOUND}
@@ -36,14 +36,24 @@ fits sum = int_le UNKNOWN sum && int_lt sum (pos (2 ^ 127))
 abbrev pub later : ℤ → ℤ → ℤ
 later change sum = cond (int_eq sum UNKNOWN || not (fits (sum +ℤ change))) UNKNOWN (sum +ℤ change)
 
+-- the sum of two pieces as one: UNKNOWN if one of theirs isn't known, or it would be too far from 0
+abbrev pub both : ℤ → ℤ → ℤ
+both lower upper = cond (int_eq upper UNKNOWN) UNKNOWN (later upper lower)
+
 -- the pieces after a change at the key: the one that has the key gets its later sum
 abbrev pub adjusted : ℕ → ℤ → List (ℕ × ℤ) → List (ℕ × ℤ)
 adjusted key change [] = []
 adjusted key change (e ∷ es) = cond (is_in (record { low = e.0; high = start_of es }) key) ((e.0, later change e.1) ∷ es) (e ∷ adjusted key change es)
 
--- what is reported of parts of the range that have keys is their measure
-abbrev pub AreTold : (ℕ → ℕ → ℤ → Type 0) → Range → (ℕ → ℕ → ℤ) → Type 0
-AreTold says range m = (low high : ℕ) (sum : ℤ) → range.low ≤ low → low < high → high ≤ range.high → says low high sum → sum ≡ m low high
+-- the pieces after the one that begins at the key became one with the piece below it, if there is one: all others stay as they are
+abbrev pub joined : ℕ → List (ℕ × ℤ) → List (ℕ × ℤ)
+joined key [] = []
+joined key (e ∷ []) = e ∷ []
+joined key (e ∷ f ∷ fs) = cond (key == f.0) ((e.0, both e.1 f.1) ∷ fs) (e ∷ joined key (f ∷ fs))
+
+-- what is reported of ranges that have keys is their measure
+abbrev pub AreTold : (ℕ → ℕ → ℤ → Type 0) → (ℕ → ℕ → ℤ) → Type 0
+AreTold says m = (low high : ℕ) (sum : ℤ) → low < high → says low high sum → sum ≡ m low high
 
 -- a piece begins at the bound, or it is the one past all keys
 abbrev pub IsEnd : ℕ → List (ℕ × ℤ) → Type 0
@@ -65,7 +75,7 @@ abbrev pub distance_in : Range → List (ℕ × ℤ) → ℕ
 distance_in range [] = 0
 distance_in range (e ∷ es) = cond (is_in range e.0) (unsigned_abs e.1 + distance_in range es) (distance_in range es)
 
--- the second pieces are the first ones after cuts, and after sums that were reported for parts of the range: true sums stay true, and each bound stays
-pub record Extends (says : ℕ → ℕ → ℤ → Type 0) (range : Range) (old new : List (ℕ × ℤ)) : Type 0 where
-  pub right : (m : ℕ → ℕ → ℤ) → IsAdditive m → AreTold says range m → AreRight m old → AreRight m new
+-- the second pieces are the first ones after cuts, and after sums that were reported: true sums stay true, and each bound stays
+pub record Extends (says : ℕ → ℕ → ℤ → Type 0) (old new : List (ℕ × ℤ)) : Type 0 where
+  pub right : (m : ℕ → ℕ → ℤ) → IsAdditive m → AreTold says m → AreRight m old → AreRight m new
   pub ends : (bound : ℕ) → IsEnd bound old → IsEnd bound new

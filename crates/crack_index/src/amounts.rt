@@ -1,12 +1,12 @@
 //! Sums that are known, or not.
-ghost use Rattle.std.specs.Prelude.{◌≡◌, ◌<◌, ◌≤◌};
+ghost use Rattle.std.specs.Prelude.{◌≡◌, ◌-◌, ◌*◌, ◌<◌, ◌≤◌, IsTrue};
 ghost use Rattle.crack_row.specs.declared.TheConstants.{GREATEST_BOUND};
-ghost use Rattle.crack_index.specs.Sums.{IsKnown, later};
-ghost use Rattle.crack_index.specs.Cuts.{IsRest, IsWhole};
+ghost use Rattle.crack_index.specs.Sums.{IsKnown, both, later};
+ghost use Rattle.crack_index.specs.Cuts.{IsRest};
 
 use crate::source::Source;
 use crate::sums::UNKNOWN;
-use crack_row::{BoundNumber, KeyRange};
+use crack_row::{BoundNumber, KeyNumber, KeyRange};
 
 /// The sum after a change by this amount.
 #[inline]
@@ -36,8 +36,9 @@ pub(crate) fn rest(whole: i128, part: i128) -> i128
 }
 
 /// The sum of a piece, by those of its two parts.
+#[inline]
 pub(crate) fn whole(lower: i128, upper: i128) -> i128
-    ensures { IsWhole lower upper result }
+    ensures { result ≡ both lower upper }
 {
     if lower == UNKNOWN || upper == UNKNOWN {
         return UNKNOWN;
@@ -59,4 +60,27 @@ pub(crate) fn asked<S: Source>(source: &S, low: BoundNumber, high: BoundNumber) 
         Some(sum) => sum,
         None => UNKNOWN,
     }
+}
+
+/// Whether the part of a piece between `low` and `high` has more than three quarters of the keys of the piece, which
+/// begins at `start`, up to `next`, and the source prefers the rest of the piece.
+pub(crate) fn prefers_rest<S: Source>(
+    source: &S,
+    low: BoundNumber,
+    high: BoundNumber,
+    start: KeyNumber,
+    next: BoundNumber,
+) -> bool
+    ensures { IsTrue result → 3 * (next - start) < 4 * (high - low) }
+{
+    let Ok(part) = KeyRange::new(low, high) else {
+        return false;
+    };
+    let Ok(whole) = KeyRange::new(start as BoundNumber, next) else {
+        return false;
+    };
+    if 3 * (next - start as BoundNumber) >= 4 * (high - low) {
+        return false;
+    }
+    source.prefers_rest(part, whole)
 }

@@ -9,6 +9,7 @@ ghost use Rattle.crack_index.specs.Places.{Places};
 ghost use Rattle.crack_index.specs.Marks.{Rising, Fits, HasBound, position_of, next_mark, last_mark, first_behind};
 ghost use Rattle.crack_index.specs.Marks.{last_before, added, removed, raised, lowered, lowered_at, piece_at};
 ghost use Rattle.crack_index.specs.Marks.{pieces_from};
+ghost use Rattle.crack_index.specs.Passes.{pass_above, next_few};
 
 use crate::tree::{self, Link, Node};
 use crate::{Mark, Pass, Placer, Raiser, Visitor, lowering, raising, walk};
@@ -136,7 +137,9 @@ impl CrackerIndex {
 
     /// A pass over at most `bounds` of the bounds above a key, the lowest first. It finds those whose two pieces hold
     /// at most `rows` rows together. O(log bounds).
-    pub fn pass_after(&self, key: Key, rows: usize, bounds: usize) -> Pass {
+    pub fn pass_after(&self, key: Key, rows: usize, bounds: usize) -> Pass
+        ensures { result ≡ pass_above key.0 rows bounds self.now.marks }
+    {
         let from = self.bound_below(key).map_or(0, |mark| mark.position);
         Pass::new(key, from, rows, bounds)
     }
@@ -144,6 +147,7 @@ impl CrackerIndex {
     /// Removes the next bound that a pass finds, and returns it, in a column of `len` rows; `None` at the end of the
     /// pass. Takes no memory. O(log bounds) and a step for each bound that the pass meets.
     pub fn remove_few(&mut self, pass: &mut Pass, len: usize) -> Option<InnerBound>
+        ensures found { (result, pass.new) ≡ next_few len pass.old self.old.marks }
         ensures there { IfSome result (λ b. HasBound self.old.marks b.0) }
         ensures marks { IfSome result (λ b. self.new.marks ≡ removed b.0 self.old.marks) }
         ensures none { IfNone result (self.new.marks ≡ self.old.marks) }
@@ -159,6 +163,7 @@ impl CrackerIndex {
 
     /// The next bound that a pass finds, in a column of `len` rows.
     fn find_few(&self, pass: &mut Pass, len: usize) -> Option<InnerBound>
+        ensures found { (result, pass.new) ≡ next_few len pass.old self.now.marks }
         ensures there { IfSome result (λ b. HasBound self.now.marks b.0) }
         ensures rising { Rising self.now.marks }
     {

@@ -9,6 +9,7 @@ pub mod mark;
 pub mod pass;
 mod raising;
 pub mod source;
+mod sum_tree;
 pub mod sums;
 mod tree;
 pub mod visitor;

@@ -1,11 +1,16 @@
 //! Passes over the bounds of an index, in search of those whose two pieces hold few rows together.
-ghost use Rattle.std.specs.Prelude.{◌≡◌, List, All, Contains, IfSome};
+ghost use Rattle.std.specs.Prelude.{◌≡◌, ℕ, ◌<◌, ◌≤◌, ◌-◌, ◌↔◌, List, ◌∷◌, ◌++◌, All, IsTrue};
+ghost use Rattle.std.specs.Option.{option_map};
+ghost use Rattle.crack_row.specs.declared.Key.{Key};
+ghost use Rattle.crack_index.specs.Finds.{AreAhead, found_from, found_or};
+ghost use Rattle.crack_index.specs.Passes.{next_few, stopped_at};
 ghost use Rattle.crack_index.specs.Trees.{marks_of};
 ghost use Rattle.crack_index.specs.declared.mark.Mark.{Mark};
 
 use crate::Mark;
 use crate::tree::{Link, Node};
 use crack_row::{InnerBound, Key, KeyNumber};
+use std::marker::Model;
 
 /// A pass over the bounds of an index, the lowest first. It finds each bound whose two pieces hold few rows together.
 #[derive(Drop)]
@@ -20,9 +25,19 @@ pub struct Pass {
     bounds: usize,
 }
 
+impl Model for Pass {
+    ghost use Rattle.crack_index.specs.Passes.{Progress};
+
+    ghost Value = { Progress };
+
+    ghost view = { λ p. record { after = p.after; from = p.from; rows = p.rows; bounds = p.bounds } };
+}
+
 impl Pass {
     /// A pass over this many of the bounds above a key, where the piece below them begins at this place.
-    pub(crate) fn new(after: Key, from: usize, rows: usize, bounds: usize) -> Pass {
+    pub(crate) fn new(after: Key, from: usize, rows: usize, bounds: usize) -> Pass
+        ensures { result ≡ record { after = after.0; from = from; rows = rows; bounds = bounds } }
+    {
         Pass {
             after: after.number(),
             from,
@@ -31,8 +46,10 @@ impl Pass {
         }
     }
 
-    /// The key above which the bounds are that it didn't meet, if it has stopped before the last one.
-    pub fn stopped(&self) -> Option<Key> {
+    /// The key above which the bounds are that it didn't meet, if it meets no more.
+    pub fn stopped(&self) -> Option<Key>
+        ensures { option_map (λ (k : Key). k.0) result ≡ stopped_at self.now }
+    {
         if self.bounds == 0 {
             Some(Key::from_number(self.after))
         } else {
@@ -43,41 +60,53 @@ impl Pass {
     /// The next bound whose two pieces hold few rows together, in a column of `len` rows: who goes on with the pass has
     /// removed it. O(log marks) and a step for each bound that it meets.
     pub(crate) fn next_few(&mut self, link: &Link, len: usize) -> Option<InnerBound>
-        ensures { IfSome result (λ b. (m : Mark) × Contains (marks_of link.now) m × (m.bound.0 ≡ b.0)) }
+        ensures { (result, self.new) ≡ next_few len self.old (marks_of link.now) }
     {
         let mut last = None;
         let has_halted = meet_all(link, self, &mut last);
-        match last {
-            Some(mark) if has_halted || self.are_few(len) => {
-                self.after = mark.bound.number();
-                Some(mark.bound)
-            }
-            _ => None,
+        let Some(mark) = last else {
+            return None;
+        };
+        if has_halted || self.are_few(len) {
+            return Some(mark.bound);
         }
+        self.from = mark.position;
+        None
     }
 
     /// Whether there are few rows from the piece below the next bound up to this place.
-    fn are_few(&self, to: usize) -> bool {
+    fn are_few(&self, to: usize) -> bool
+        ensures { IsTrue result ↔ (to - self.now.from ≤ self.now.rows) }
+    {
         to.saturating_sub(self.from) <= self.rows
     }
 
-    /// Meets a bound after the last one, where the piece above that one ends. Returns whether it halts: the two pieces
-    /// of the last one hold few rows, or it meets no more bounds.
+    /// Whether it hasn't met the bound of this mark.
+    fn is_before(&self, mark: Mark) -> bool
+        ensures { IsTrue result ↔ (self.now.after < mark.bound.0) }
+    {
+        self.after < mark.bound.number()
+    }
+
+    /// Comes to a bound after the last one that it met, where the piece above that one ends. Returns whether it halts:
+    /// the two pieces of the last one hold few rows, or it meets no more bounds.
     fn meet(&mut self, last: &mut Option<Mark>, mark: Mark) -> bool
-        ensures { (all : List Mark) → Contains all mark → IfSome last.old (λ m. Contains all m) →
-            IfSome last.new (λ m. Contains all m) }
+        requires { self.old.after < mark.bound.0 }
+        ensures found { (len : ℕ) (ms : List Mark)
+            → found_from len last.old self.old (mark ∷ ms) ≡ found_or result len last.new self.new ms }
+        ensures after { self.new.after ≤ mark.bound.0 }
     {
         if let Some(before) = *last {
             if self.are_few(mark.position) {
                 return true;
             }
             self.from = before.position;
-            self.after = before.bound.number();
         }
         if self.bounds == 0 {
             *last = None;
             return true;
         }
+        self.after = mark.bound.number();
         self.bounds -= 1;
         *last = Some(mark);
         false
@@ -86,8 +115,10 @@ impl Pass {
 
 /// The part of a pass that is in this tree; `last` is the bound that it met last. Returns whether it halts there.
 fn meet_all(link: &Link, pass: &mut Pass, last: &mut Option<Mark>) -> bool
-    ensures { (all : List Mark) → All (λ m. Contains all m) (marks_of link.now) →
-        IfSome last.old (λ m. Contains all m) → IfSome last.new (λ m. Contains all m) }
+    ensures found { (len : ℕ) (ms : List Mark) → AreAhead last.old pass.old (marks_of link.now)
+        → found_from len last.old pass.old (marks_of link.now ++ ms) ≡ found_or result len last.new pass.new ms }
+    ensures after { (bound : ℕ) → pass.old.after < bound → All (λ m. m.bound.0 < bound) (marks_of link.now)
+        → pass.new.after < bound }
 {
     let Some(node) = link else {
         return false;
@@ -98,7 +129,7 @@ fn meet_all(link: &Link, pass: &mut Pass, last: &mut Option<Mark>) -> bool
         right,
         ..
     } = &**node;
-    if pass.after < mark.bound.number() {
+    if pass.is_before(*mark) {
         if meet_all(left, pass, last) {
             return true;
         }

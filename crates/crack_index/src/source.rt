@@ -11,4 +11,7 @@ pub trait Source {
     /// The sum of the range; none if it has none to give.
     fn sum(&self, range: KeyRange) -> Option<i128>
         ensures { IfSome result (λ sum. says self.now range.low range.high sum) };
+
+    /// Whether it can sum the rest of a whole range with less work than a part of it.
+    fn prefers_rest(&self, part: KeyRange, whole: KeyRange) -> bool;
 }

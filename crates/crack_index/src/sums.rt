@@ -1,18 +1,17 @@
 //! The sums of the pieces that bounds divide the keys of a partition into.
-ghost use Rattle.std.specs.Prelude.{◌≡◌, ℕ, ℤ, ◌<◌, ◌≤◌, ◌^◌, ◌↔◌, [], length, IsTrue, IsSome, IfSome, OnSome};
+ghost use Rattle.std.specs.Prelude.{◌≡◌, ℕ, ℤ, ◌+◌, ◌<◌, ◌≤◌, ◌^◌, ◌↔◌, [], length, IsTrue, IsSome, IfSome, OnSome};
 ghost use Rattle.std.specs.Map.{keys_of};
 ghost use Rattle.crack_row.specs.declared.TheConstants.{GREATEST_BOUND};
 ghost use Rattle.crack_index.specs.Sums.{AreRight, AreKnown, AreTold, IsAdditive, IsEnd, Changes, Extends};
-ghost use Rattle.crack_index.specs.Sums.{adjusted, total_in, distance_in};
+ghost use Rattle.crack_index.specs.Sums.{adjusted, joined, total_in, distance_in};
 ghost use Rattle.crack_index.specs.Cuts.{Rises, Walks, piece_at, next_at, put, given, dropped, span};
 
 use crate::amounts;
 use crate::source::Source;
-use crack_row::{BoundNumber, GREATEST_BOUND, GREATEST_KEY, Key, KeyNumber, KeyRange};
+use crate::sum_tree::{self, Entry, Link, Node};
+use crack_row::{BoundNumber, GREATEST_KEY, Key, KeyNumber, KeyRange};
 use std::alloc::Global;
-use std::collections::BTreeMap;
 use std::marker::Model;
-use std::ops::Bound;
 
 /// The value for a sum that isn't known. No sum of rows is as low.
 pub const UNKNOWN: i128 = -170141183460469231731687303715884105728;
@@ -22,18 +21,21 @@ pub const UNKNOWN: i128 = -170141183460469231731687303715884105728;
 /// its sum or `UNKNOWN`.
 #[derive(Drop)]
 pub struct PieceSums {
-    sums: BTreeMap<KeyNumber, i128>,
+    root: Link,
+    len: usize,
+    alloc: Global,
 }
 
 impl Model for PieceSums {
     ghost use Rattle.std.specs.Prelude.{List, ℕ, ℤ};
-    ghost use Rattle.crack_index.specs.Cuts.{Rises};
+    ghost use Rattle.crack_index.specs.SumTrees.{entries_of};
+    ghost use Rattle.crack_index.specs.SumKeeps.{AreKept};
 
     ghost Value = { List (ℕ × ℤ) };
 
-    ghost view = { λ s. s.sums.entries };
+    ghost view = { λ s. entries_of s.root };
 
-    ghost invariant = { λ s. Rises s.sums.entries };
+    ghost invariant = { λ s. AreKept (entries_of s.root) s.len };
 }
 
 /// Where a walk over pieces ended.
@@ -53,7 +55,9 @@ impl PieceSums {
         ensures { result ≡ [] }
     {
         PieceSums {
-            sums: BTreeMap::new(alloc),
+            root: None,
+            len: 0,
+            alloc,
         }
     }
 
@@ -61,21 +65,22 @@ impl PieceSums {
     pub fn len(&self) -> usize
         ensures { result ≡ length self.now }
     {
-        self.sums.len()
+        self.len
     }
 
     /// Whether there are no pieces.
     pub fn is_empty(&self) -> bool
         ensures { IsTrue result ↔ (self.now ≡ []) }
     {
-        self.sums.is_empty()
+        self.len == 0
     }
 
     /// Forgets all pieces, and frees their memory.
     pub fn clear(&mut self)
         ensures { self.new ≡ [] }
     {
-        self.sums.clear();
+        self.root = None;
+        self.len = 0;
     }
 
     /// Notes that the sum of the rows at the key has changed by this amount. Takes no memory. O(log pieces).
@@ -90,51 +95,52 @@ impl PieceSums {
         self.give(start, amounts::later(sum, change));
     }
 
-    /// Joins the piece that begins at the key to the one below it, if both sums are known. Takes no memory.
-    /// O(log pieces).
+    /// Joins the piece that begins at the key to the one below it, if there are two such pieces. Their sum is known if
+    /// both sums are. Takes no memory. O(log pieces).
     pub fn join(&mut self, key: Key)
-        ensures { (m : ℕ → ℕ → ℤ) → IsAdditive m → AreRight m self.old → AreRight m self.new }
+        ensures value { self.new ≡ joined key.0 self.old }
+        ensures right { (m : ℕ → ℕ → ℤ) → IsAdditive m → AreRight m self.old → AreRight m self.new }
     {
         let key = key.number();
-        if key == 0 {
-            return;
-        }
-        let Some((low, lower)) = self.piece_at(key - 1) else {
-            return;
-        };
         let Some((start, upper)) = self.piece_at(key) else {
             return;
         };
         if start != key {
             return;
         }
-        let whole = amounts::whole(lower, upper);
-        if whole != UNKNOWN {
-            self.drop_at(key);
-            self.give(low, whole);
+        if key == 0 {
+            return;
         }
+        let Some((low, lower)) = self.piece_at(key - 1) else {
+            return;
+        };
+        self.drop_at(key);
+        self.give(low, amounts::whole(lower, upper));
     }
 
     /// Drops the piece that begins at the key: its keys are the piece's below it.
     fn drop_at(&mut self, key: KeyNumber)
+        requires { IsEnd key self.old }
         ensures value { self.new ≡ dropped key self.old }
         ensures rises { Rises self.old }
     {
-        let _ = self.sums.remove(&key);
+        let root = self.root.take();
+        self.root = sum_tree::remove(root, key);
+        self.len -= 1;
     }
 
     /// The sum of a range, by the pieces in it. The pieces in which its ends lie are cut there, and the source is asked
-    /// for sums that aren't known, only of parts of the range. None if it finds no memory, the source has no sum, or
-    /// 128 bits aren't enough; the known sums stay right. O(log pieces) besides what the source does, and a step for
-    /// each piece in the range.
+    /// for sums that aren't known: of parts of the range, or, where it prefers that, of the rest of a piece in which an
+    /// end lies. None if it finds no memory, the source has no sum, or 128 bits aren't enough; the known sums stay
+    /// right. O(log pieces), and that for each sum that is asked for, besides what the source does.
     pub fn sum<S: Source>(&mut self, range: KeyRange, source: &S) -> Option<i128>
         requires { range.low < range.high }
-        ensures right { (m : ℕ → ℕ → ℤ) → IsAdditive m → AreTold (S.says source.now) range m → AreRight m self.old
+        ensures right { (m : ℕ → ℕ → ℤ) → IsAdditive m → AreTold (S.says source.now) m → AreRight m self.old
             → IfSome result (λ sum. sum ≡ m range.low range.high) × AreRight m self.new }
         ensures value { IfSome result (λ sum. sum ≡ total_in range self.new) }
         ensures known { OnSome result (AreKnown range self.new) }
         ensures ends { OnSome result (IsEnd range.low self.new × IsEnd range.high self.new) }
-        ensures more { Extends (S.says source.now) range self.old self.new }
+        ensures more { Extends (S.says source.now) self.old self.new }
         ensures same { IsEnd range.low self.old → IsEnd range.high self.old → AreKnown range self.old
             → self.new ≡ self.old }
         ensures found { IsEnd range.low self.old → IsEnd range.high self.old → AreKnown range self.old
@@ -144,7 +150,7 @@ impl PieceSums {
             return None;
         };
         let (first, last) = (first.number(), last.number());
-        if !self.cut_low(first, last, source) || !self.cut_high(first, last, source) {
+        if !self.cut_low(first, last, source) || !self.cut_high(last, source) {
             return None;
         }
         match self.walk(first, last) {
@@ -156,8 +162,7 @@ impl PieceSums {
 
     /// Cuts the piece that has the key `first` there. False if memory for one more piece isn't found.
     fn cut_low<S: Source>(&mut self, first: KeyNumber, last: KeyNumber, source: &S) -> bool
-        requires { first ≤ last }
-        ensures more { Extends (S.says source.now) (span first last) self.old self.new }
+        ensures more { Extends (S.says source.now) self.old self.new }
         ensures cut { IsTrue result → IsEnd first self.new }
         ensures same { IsEnd first self.old → self.new ≡ self.old }
         ensures done { IsEnd first self.old → IsTrue result }
@@ -168,22 +173,26 @@ impl PieceSums {
         if start == first {
             return true;
         }
-        let next = self.next_at(first);
-        if sum == UNKNOWN || next > last as BoundNumber + 1 {
+        if sum == UNKNOWN {
             return self.split(start, first, UNKNOWN, UNKNOWN);
         }
-        let upper = amounts::asked(source, first as BoundNumber, next);
-        self.split(start, first, amounts::rest(sum, upper), upper)
+        let next = self.next_at(first);
+        let past = last as BoundNumber + 1;
+        if amounts::prefers_rest(source, first as BoundNumber, next.min(past), start, next) {
+            return self.split_below(start, first, sum, source);
+        }
+        if past < next {
+            return self.split(start, first, UNKNOWN, UNKNOWN);
+        }
+        self.split_above(start, first, sum, source)
     }
 
     /// Cuts the piece that has the key `last` after it. False if memory for one more piece isn't found.
-    fn cut_high<S: Source>(&mut self, first: KeyNumber, last: KeyNumber, source: &S) -> bool
-        requires order { first ≤ last }
-        requires cut { IsEnd first self.old }
-        ensures more { Extends (S.says source.now) (span first last) self.old self.new }
-        ensures cut { IsTrue result → IsEnd (span first last).high self.new }
-        ensures same { IsEnd (span first last).high self.old → self.new ≡ self.old }
-        ensures done { IsEnd (span first last).high self.old → IsTrue result }
+    fn cut_high<S: Source>(&mut self, last: KeyNumber, source: &S) -> bool
+        ensures more { Extends (S.says source.now) self.old self.new }
+        ensures cut { IsTrue result → IsEnd (last + 1) self.new }
+        ensures same { IsEnd (last + 1) self.old → self.new ≡ self.old }
+        ensures done { IsEnd (last + 1) self.old → IsTrue result }
     {
         if last == GREATEST_KEY {
             return true;
@@ -198,8 +207,52 @@ impl PieceSums {
         if sum == UNKNOWN {
             return self.split(start, high, UNKNOWN, UNKNOWN);
         }
-        let lower = amounts::asked(source, start as BoundNumber, high as BoundNumber);
-        self.split(start, high, lower, amounts::rest(sum, lower))
+        let next = self.next_at(high);
+        if amounts::prefers_rest(
+            source,
+            start as BoundNumber,
+            high as BoundNumber,
+            start,
+            next,
+        ) {
+            return self.split_above(start, high, sum, source);
+        }
+        self.split_below(start, high, sum, source)
+    }
+
+    /// Cuts the piece that begins at `start` at the key `at`, where none begins. The source is asked for the sum of the
+    /// lower part; the upper one has the rest of the piece's sum. False if memory for one more piece isn't found.
+    fn split_below<S: Source>(
+        &mut self,
+        start: KeyNumber,
+        at: KeyNumber,
+        sum: i128,
+        source: &S,
+    ) -> bool
+        requires found { piece_at at self.old ≡ Some (start, sum) }
+        requires apart { IsEnd at self.old → ⊥ }
+        ensures more { Extends (S.says source.now) self.old self.new }
+        ensures cut { IsTrue result → IsEnd at self.new }
+    {
+        let lower = amounts::asked(source, start as BoundNumber, at as BoundNumber);
+        self.split(start, at, lower, amounts::rest(sum, lower))
+    }
+
+    /// The same, if the source is asked for the sum of the upper part.
+    fn split_above<S: Source>(
+        &mut self,
+        start: KeyNumber,
+        at: KeyNumber,
+        sum: i128,
+        source: &S,
+    ) -> bool
+        requires found { piece_at at self.old ≡ Some (start, sum) }
+        requires apart { IsEnd at self.old → ⊥ }
+        ensures more { Extends (S.says source.now) self.old self.new }
+        ensures cut { IsTrue result → IsEnd at self.new }
+    {
+        let upper = amounts::asked(source, at as BoundNumber, self.next_at(at));
+        self.split(start, at, amounts::rest(sum, upper), upper)
     }
 
     /// The sum of the keys from `first` to `last`, once the source was asked for the sums that aren't known from the
@@ -211,9 +264,8 @@ impl PieceSums {
         last: KeyNumber,
         source: &S,
     ) -> Option<i128>
-        requires order { (first ≤ start) × (start ≤ last) }
-        requires ends { IsEnd first self.old × IsEnd (span first last).high self.old }
-        ensures more { Extends (S.says source.now) (span first last) self.old self.new }
+        requires { (first ≤ start) × (start ≤ last) }
+        ensures more { Extends (S.says source.now) self.old self.new }
         ensures value { IfSome result (λ sum. sum ≡ total_in (span first last) self.new) }
         ensures known { OnSome result (AreKnown (span first last) self.new) }
         ensures rises { OnSome result (Rises self.new) }
@@ -230,9 +282,8 @@ impl PieceSums {
     /// Asks the source for each sum that isn't known, of the pieces that begin at `first` to `last`. False if it has
     /// none for one of them.
     fn learn<S: Source>(&mut self, first: KeyNumber, last: KeyNumber, source: &S) -> bool
-        requires order { first ≤ last }
-        requires cut { IsEnd (span first last).high self.old }
-        ensures { Extends (S.says source.now) (span first last) self.old self.new }
+        requires { first ≤ last }
+        ensures { Extends (S.says source.now) self.old self.new }
     {
         let mut from = first;
         'pieces: while let Walked::Unknown(start) = self.walk(from, last) {
@@ -249,33 +300,30 @@ impl PieceSums {
         true
     }
 
-    /// Adds up the pieces that begin at `first` to `last`, as far as they are known.
+    /// The total of the pieces that begin at `first` to `last`, or the first whose sum isn't known.
     fn walk(&self, first: KeyNumber, last: KeyNumber) -> Walked
         requires { first ≤ last }
         ensures { Walks (span first last) self.now result }
     {
-        let mut total: i128 = 0;
-        'pieces: for (start, sum) in self.sums.range(first..=last) {
-            if *sum == UNKNOWN {
-                return Walked::Unknown(*start);
-            }
-            match total.checked_add(*sum) {
-                Some(more) => total = more,
-                None => return Walked::TooFar,
-            }
+        let total = sum_tree::total_between(&self.root, first, last);
+        if total != UNKNOWN {
+            return Walked::Whole(total);
         }
-        Walked::Whole(total)
+        let Some(start) = sum_tree::first_unknown(&self.root, first) else {
+            return Walked::TooFar;
+        };
+        if last < start {
+            return Walked::TooFar;
+        }
+        Walked::Unknown(start)
     }
 
     /// The piece that has the key: where it begins, and its sum.
-    fn piece_at(&self, key: KeyNumber) -> Option<(KeyNumber, i128)>
+    fn piece_at(&self, key: KeyNumber) -> Option<Entry>
         ensures value { result ≡ piece_at key self.now }
         ensures rises { Rises self.now }
     {
-        match self.sums.range(..=key).next_back() {
-            Some((start, sum)) => Some((*start, *sum)),
-            None => None,
-        }
+        sum_tree::last_at(&self.root, key)
     }
 
     /// Where the first piece begins that begins above the key; past all keys if there is none.
@@ -283,19 +331,13 @@ impl PieceSums {
         ensures value { result ≡ next_at key self.now }
         ensures rises { Rises self.now }
     {
-        match self
-            .sums
-            .range((Bound::Excluded(key), Bound::Unbounded))
-            .next()
-        {
-            Some((start, _)) => *start as BoundNumber,
-            None => GREATEST_BOUND,
-        }
+        sum_tree::next_above(&self.root, key)
     }
 
-    /// Cuts the piece that begins at `start` at the key `at`: its lower part and its upper part have these sums. False
-    /// if memory for one more piece isn't found; then nothing has changed.
+    /// Cuts the piece that begins at `start` at the key `at`, where none begins: its lower part and its upper part have
+    /// these sums. False if memory for one more piece isn't found; then nothing has changed.
     fn split(&mut self, start: KeyNumber, at: KeyNumber, lower: i128, upper: i128) -> bool
+        requires { IsEnd at self.old → ⊥ }
         ensures ok { IsTrue result → self.new ≡ given start lower (put at upper self.old) }
         ensures err { (IsTrue result → ⊥) → self.new ≡ self.old }
         ensures rises { Rises self.old }
@@ -307,14 +349,24 @@ impl PieceSums {
         true
     }
 
-    /// Adds a piece that begins at the key, or gives the one that is there this sum. False if memory isn't found; then
-    /// nothing has changed.
+    /// Adds a piece that begins at the key, where none begins. False if memory isn't found; then nothing has changed.
     fn put(&mut self, key: KeyNumber, sum: i128) -> bool
+        requires { IsEnd key self.old → ⊥ }
         ensures ok { IsTrue result → self.new ≡ put key sum self.old }
         ensures err { (IsTrue result → ⊥) → self.new ≡ self.old }
         ensures rises { Rises self.old }
     {
-        self.sums.insert(key, sum).is_ok()
+        if self.len == usize::MAX {
+            return false;
+        }
+        let entry = (key, sum);
+        let Ok(node) = Box::new(self.alloc, Node::leaf(entry)) else {
+            return false;
+        };
+        let root = self.root.take();
+        self.root = Some(sum_tree::insert(root, entry, node));
+        self.len += 1;
+        true
     }
 
     /// Gives the piece that begins at the key this sum.
@@ -322,8 +374,6 @@ impl PieceSums {
         ensures value { self.new ≡ given key sum self.old }
         ensures rises { Rises self.old }
     {
-        if let Some(place) = self.sums.get_mut(&key) {
-            *place = sum;
-        }
+        sum_tree::give(&mut self.root, key, sum);
     }
 }

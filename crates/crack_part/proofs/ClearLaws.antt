@@ -10,6 +10,7 @@ use Rattle.crack_row.specs.declared.command.Command.{Command}
 use Rattle.crack_row.specs.declared.command.Policy.{Policy}
 use Rattle.crack_row.specs.declared.command.Policy.TheVariants.{Complete}
 use Rattle.crack_row.specs.declared.limit.Limits.{Limits}
+use Rattle.crack_plain.proofs.OrderLaws.{IsPermutation-by_serial}
 use Rattle.crack_arena.specs.Arena.{Handle}
 use Rattle.crack_state.specs.State.{State, Reads, IsIntact, live_rows}
 use Rattle.crack_state.proofs.Words.{HaveKeysIn}
@@ -111,7 +112,7 @@ spared-upkept p q policy command t r same readies done =
     let keys : p.keys ≡ q.keys = sym (ap (λ (x : Part). x.keys) same) in
     on_err_weaker r (λ spared. inr (record { ready = q.store; readies = readies; does = rw keys spared })) done
 
--- keys, limits and past alone determine what refuses a command apart from the lack of a cell
+-- keys, limits and counts alone determine what refuses a command apart from the lack of a cell
 pub refused-upkept : (p q : Part) (command : Command) → q ≡ record p { store = q.store } → early_refusal_of q command ≡ early_refusal_of p command
 refused-upkept p q command same = ap (λ (x : Part). early_refusal_of x command) same
 
@@ -151,5 +152,5 @@ full-of-rows p change sound automatic without =
     let none = and_parts (length s.free == 0) takes many.1 in
     let free : length s.free ≡ 0 = eqb-true (length s.free) 0 none.0 in
     let waits : length s.pending_out ≡ 0 = eqb-true (length s.pending_out) 0 (none-waits (is_automatic p.limits.upkeep) (length s.pending_out == 0) automatic both.1) in
-    let rows : length (live_rows s) ≡ length (state_of p).rows = sym (length_permutation (live_rows s) (state_of p).rows sound.faithful.rows) in
+    let rows : length (live_rows s) ≡ length (state_of p).rows = sym (length_permutation (live_rows s) (state_of p).rows (IsPermutation-by_serial (live_rows s))) in
     omega (arith, leb-true p.limits.cells (length s.cells) many.0, free, waits, rows, cells-intact s [] sound.intact, rows-intact s [] sound.intact)

@@ -1,5 +1,5 @@
 -- What a read of a range within a partition's keys implies for the plain rows.
-use Rattle.std.proofs.Common.{◌≡◌, ℕ, ◌<◌, ◌≤◌, ◌-◌, List, [], ◌∷◌, get_or, inl, inr, Bool, false, cond, Some, None, Result, Ok, Err, IfOk, arith, refl, sym, ap, ◌∙◌}
+use Rattle.std.proofs.Common.{◌≡◌, ℕ, ◌<◌, ◌≤◌, ◌-◌, List, [], ◌∷◌, Bool, false, cond, Some, None, Result, Ok, Err, IfOk, arith, refl, sym, ap, ◌∙◌}
 use Rattle.std.specs.List.{All, count_by}
 use Rattle.std.specs.List.Sorted.{IsPermutation, IsNonDecreasingBy}
 use Rattle.std.proofs.lemmas.Bool.Decides.{nat_tests}
@@ -11,11 +11,10 @@ use Rattle.crack_row.specs.Rows.{sum_of}
 use Rattle.crack_row.specs.declared.Row.{Row}
 use Rattle.crack_plain.specs.Plain.{PlainState, IsNumbered, rows_in}
 use Rattle.crack_state.specs.State.{State, live_rows, IsIntact}
-use Rattle.crack_arena.specs.Arena.{Handle}
-use Rattle.crack_state.specs.Merge.{IsSettled, IsCracked, ReadsOutside, edge}
+use Rattle.crack_state.specs.Merge.{IsSettled, edge}
 use Rattle.crack_state.specs.Stretch.{stretch_rows, serial_of}
 use Rattle.crack_part.specs.Inside.{IsCommon}
-use Rattle.crack_state.proofs.SettledLaws.{count-settled, IsSettled-of}
+use Rattle.crack_state.proofs.SettledLaws.{count-settled}
 use Rattle.crack_state.proofs.StretchLaws.{sum-settled, rows-settled}
 use Rattle.crack_state.proofs.LiveLaws.{live_rows-within}
 
@@ -86,16 +85,6 @@ rows-places s r common plain listed is intact settled numbered same holds rising
 pub rows-answered : {V E : Type 0} (items : V → List Row) (told : Result V E) (s : State) (common : Range) → IsIntact s [] → IsSettled s common → IfOk told (λ v. IsPermutation (stretch_rows s common) (items v)) → IfOk told (λ v. IsNonDecreasingBy serial_of (items v)) → IfOk told (λ v. (r : Range) → IsCommon r s.keys (Some common) → (plain : PlainState) → IsNumbered plain → IsPermutation (live_rows s) plain.rows → items v ≡ rows_in r plain.rows)
 rows-answered items (Ok v) s common intact settled holds rising = λ r is plain numbered same. rows-places s r common plain (items v) is intact settled numbered same holds rising
 rows-answered items (Err e) s common intact settled holds rising = tt
-
--- a part of a settled range by whose ends the column was cracked is settled, and has the plain rows' sum
-pub sum-part : (s : State) (range part : Range) (plain : List Row) → IsIntact s [] → IsSettled s range → s.keys.low ≤ range.low → range.high ≤ s.keys.high → range.low ≤ part.low → part.low ≤ part.high → part.high ≤ range.high → IsCracked s part → IsPermutation (live_rows s) plain → sum_of (stretch_rows s part) ≡ sum_of (rows_in part plain)
-sum-part s range part plain intact settled low high first order last cracked same =
-    let outside : (h : Handle) → ReadsOutside s.cells range h → ReadsOutside s.cells part h = λ h apart. elim apart [
-      | inl below ↦ inl (omega (arith, below, first))
-      | inr above ↦ inr (omega (arith, above, last))
-    ] in
-    let inner = IsSettled-of s part order (omega (arith, low, first)) (omega (arith, high, last)) cracked (λ k d h. outside (get_or s.pending_in k d) (settled.pending k d h)) (λ k d h. outside (get_or s.pending_out k d) (settled.doomed k d h)) intact in
-    sum-settled s part plain inner same
 
 -- the intersection of a range with keys lies in them
 pub within-clipped : (r keys common : Range) → common ≡ clipped r keys → common.low < common.high → (keys.low ≤ common.low) × (common.high ≤ keys.high)

@@ -2,14 +2,12 @@
 use denote.Param.Send.{IsSend, struct_send, sendable}
 use denote.Struct.Declared.{shape}
 use Rattle.std.proofs.Crossing.{crosses}
-use Rattle.std.proofs.MapsCrossing.{BTreeMap-send}
 use Rattle.crack_row.specs.contracts.command.Command as Command
-use Rattle.crack_row.specs.contracts.command.Entry as Entry
 use Rattle.crack_row.specs.contracts.command.Reply as Reply
-use Rattle.crack_index.specs.contracts.sums.PieceSums as PieceSums
 use Rattle.crack_store.proofs.Crosses.{index-send}
 use Rattle.crack_store.specs.contracts.inside.Inside as Inside
 use Rattle.crack_store.specs.contracts.store.Store as Store
+use Rattle.crack_part.proofs.SumCrosses.{pieces-send}
 use Rattle.crack_part.specs.contracts.known.KnownSums as KnownSums
 use Rattle.crack_part.specs.contracts.partition.Partition as Partition
 use Rattle.crack_part.specs.contracts.partition.Partition.TheInside as part
@@ -45,21 +43,13 @@ command-send = search (sendable, crosses) depth 30
 pub reply-send : IsSend Reply.the_field.row
 reply-send = search (sendable, crosses) depth 30
 
--- worker, command, reply
-entry-send : IsSend Entry.the_field.row
-entry-send = struct_send (shape Entry.the_type) (search sendable depth 30, (command-send, (reply-send, tt)))
-
-pieces-send : IsSend PieceSums.the_row
-pieces-send = search (sendable, crosses, BTreeMap-send) depth 30
-
 known-send : IsSend KnownSums.the_field.row
 known-send = let p = pieces-send in search (sendable, crosses) depth 30
 
--- alloc, keys, limits, next, store, known, base, history
+-- alloc, keys, limits, next, folded, since, store, passes, known
 part-send : IsSend part.the_field.row
 part-send =
-    let e = entry-send in
-    struct_send (shape part.the_type) (search (sendable, crosses) depth 30, (search (sendable, crosses) depth 30, (search (sendable, crosses) depth 30, (search (sendable, crosses) depth 30, (store-send, (known-send, (search (sendable, crosses) depth 30, (search (sendable, crosses) depth 30, tt))))))))
+    struct_send (shape part.the_type) (search (sendable, crosses) depth 30, (search (sendable, crosses) depth 30, (search (sendable, crosses) depth 30, (search (sendable, crosses) depth 30, (search (sendable, crosses) depth 30, (search (sendable, crosses) depth 30, (store-send, (search (sendable, crosses) depth 30, (known-send, tt)))))))))
 
 pub partition-send : IsSend Partition.the_row
 partition-send = let p = part-send in search (sendable, crosses) depth 30

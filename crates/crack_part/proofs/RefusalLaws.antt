@@ -1,5 +1,5 @@
 -- What follows if a partition refuses no command, or one for a cause.
-use Rattle.std.specs.Prelude.{◌≡◌, ◌<◌, Bool, true, false, Option, None, Some, IfSome, length, ◌&&◌, not, nat_le, nat_lt, if◌then◌else◌}
+use Rattle.std.specs.Prelude.{◌≡◌, ◌+◌, ◌<◌, Bool, true, false, Option, None, Some, IfSome, ◌&&◌, not, nat_le, nat_lt, if◌then◌else◌}
 use Rattle.std.specs.Option.{option_or}
 use Rattle.std.proofs.Common.{refl, ap, ◌∙◌}
 use Rattle.std.proofs.lemmas.Bool.{and_parts, leb-true, leb-false, ltb-true}
@@ -9,10 +9,9 @@ use Rattle.crack_row.specs.declared.Key.{Key}
 use Rattle.crack_row.specs.declared.command.Command.{Command}
 use Rattle.crack_row.specs.declared.refusal.Refusal.{Refusal}
 use Rattle.crack_row.specs.declared.refusal.Refusal.TheVariants.{KeyOutside, HistoryFull, NoCell, LifeOver}
-use Rattle.crack_plain.specs.Past.{accepted_in}
 use Rattle.crack_plain.proofs.Words.{IsWithin}
-use Rattle.crack_part.specs.Parts.{Part}
-use Rattle.crack_part.specs.Refusals.{is_key_in, table_of, stopped_by, refusal_of}
+use Rattle.crack_part.specs.Parts.{Part, table_of}
+use Rattle.crack_part.specs.Refusals.{is_key_in, stopped_by, refusal_of}
 use Rattle.crack_part.specs.Inside.{early_refusal_of}
 use Rattle.crack_part.specs.Cells.{lacks_cell, may_clear, is_without_cell}
 use Rattle.crack_part.specs.Upkeep.{is_full}
@@ -27,19 +26,19 @@ within-true keys (Some key) is =
 -- what holds if a partition refuses a command for no cause
 pub record MayKeep (p : Part) (command : Command) : Type 0 where
   pub within : IsWithin p.keys command
-  pub goes_on : is_full p.limits (length p.past.tail) ≡ false
-  pub lives : accepted_in p.past < p.limits.life
+  pub goes_on : is_full p.limits p.since ≡ false
+  pub lives : p.folded + p.since < p.limits.life
 
 pub may-keep : (p : Part) (command : Command) → early_refusal_of p command ≡ None → MayKeep p command
 may-keep p command none =
     let own = is_key_in p.keys (key_of command) in
-    let full = is_full p.limits (length p.past.tail) in
-    let over = nat_le p.limits.life (accepted_in p.past) in
+    let full = is_full p.limits p.since in
+    let over = nat_le p.limits.life (p.folded + p.since) in
     let tests = passed own full over none in
     record {
       within = within-true p.keys (key_of command) tests.0;
       goes_on = tests.1;
-      lives = leb-false p.limits.life (accepted_in p.past) tests.2;
+      lives = leb-false p.limits.life (p.folded + p.since) tests.2;
     }
   where
     passed : (own full over : Bool) → ◌≡◌ {A = Option Refusal} (if own then option_or (if full then Some (HistoryFull p.limits.history) else (if over then Some LifeOver else None)) None else Some KeyOutside) None → (own ≡ true) × (full ≡ false) × (over ≡ false)
@@ -59,7 +58,7 @@ cause-early true None lacks e is = cc is
 cause-early false stop lacks e is = is
 
 pub refused-early : (p : Part) (command : Command) (e : Refusal) → early_refusal_of p command ≡ Some e → refusal_of p command ≡ Some e
-refused-early p command e is = cause-early (is_key_in p.keys (key_of command)) (stopped_by p.limits (table_of p.past)) (is_without_cell p.limits p.store (change_of command)) e is
+refused-early p command e is = cause-early (is_key_in p.keys (key_of command)) (stopped_by p.limits (table_of p)) (is_without_cell p.limits p.store (change_of command)) e is
 
 -- if nothing else refuses it, it is refused exactly if it lacks a cell
 cause-late : (own : Bool) (stop : Option Refusal) (lacks : Bool) → cause own stop false ≡ None → cause own stop lacks ≡ (if lacks then Some NoCell else None)
@@ -68,14 +67,14 @@ cause-late true None lacks none = refl
 cause-late false stop lacks none = cc none
 
 pub refused-late-none : (p : Part) (command : Command) → early_refusal_of p command ≡ None → is_without_cell p.limits p.store (change_of command) ≡ false → refusal_of p command ≡ None
-refused-late-none p command none has = cause-late (is_key_in p.keys (key_of command)) (stopped_by p.limits (table_of p.past)) (is_without_cell p.limits p.store (change_of command)) none ∙ ap (λ (b : Bool). if b then Some NoCell else None) has
+refused-late-none p command none has = cause-late (is_key_in p.keys (key_of command)) (stopped_by p.limits (table_of p)) (is_without_cell p.limits p.store (change_of command)) none ∙ ap (λ (b : Bool). if b then Some NoCell else None) has
 
 pub refused-late-cell : (p : Part) (command : Command) → early_refusal_of p command ≡ None → is_without_cell p.limits p.store (change_of command) ≡ true → refusal_of p command ≡ Some NoCell
-refused-late-cell p command none lacks = cause-late (is_key_in p.keys (key_of command)) (stopped_by p.limits (table_of p.past)) (is_without_cell p.limits p.store (change_of command)) none ∙ ap (λ (b : Bool). if b then Some NoCell else None) lacks
+refused-late-cell p command none lacks = cause-late (is_key_in p.keys (key_of command)) (stopped_by p.limits (table_of p)) (is_without_cell p.limits p.store (change_of command)) none ∙ ap (λ (b : Bool). if b then Some NoCell else None) lacks
 
 -- if no cell is missing, no other cause is tested
 pub refused-with_cell : (p : Part) (command : Command) → lacks_cell p.limits.cells p.store (change_of command) ≡ false → refusal_of p command ≡ early_refusal_of p command
-refused-with_cell p command has = ap (λ (b : Bool). cause (is_key_in p.keys (key_of command)) (stopped_by p.limits (table_of p.past)) (b && not (may_clear p.limits p.store))) has
+refused-with_cell p command has = ap (λ (b : Bool). cause (is_key_in p.keys (key_of command)) (stopped_by p.limits (table_of p)) (b && not (may_clear p.limits p.store))) has
 
 -- what follows from a refusal, if there is one
 pub if_refused : (o : Option Refusal) (P Q : Refusal → Type 0) → ((e : Refusal) → P e → Q e) → IfSome o P → IfSome o Q

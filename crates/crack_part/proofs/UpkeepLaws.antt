@@ -1,59 +1,69 @@
 -- What follows from a checkpoint that is made when it is due.
-use Rattle.std.specs.Prelude.{◌≡◌, ◌<◌, ◌≤◌, Bool, true, false, cond, ◌&&◌, not, List, [], ◌∷◌, length, nat_le, if◌then◌else◌}
-use Rattle.std.proofs.Common.{arith, ap, refl, sym, ◌∙◌}
-use Rattle.std.proofs.lemmas.Bool.{true≢false, le-leb, lt-leb}
+use Rattle.std.specs.Prelude.{◌≡◌, ℕ, ◌+◌, ◌≤◌, Bool, true, false, ◌&&◌, not, nat_le, if◌then◌else◌}
+use Rattle.std.proofs.Common.{arith, refl}
+use Rattle.std.proofs.lemmas.Bool.{leb-false}
+use Rattle.crack_row.specs.declared.command.Command.{Command}
 use Rattle.crack_row.specs.declared.limit.Limits.{Limits}
-use Rattle.crack_row.specs.declared.command.Entry.{Entry}
-use Rattle.crack_plain.specs.Past.{Base, Past, base_after, folded, with_entry, state_after, accepted_in}
-use Rattle.crack_plain.specs.Plain.{PlainView, after, checkpointed}
-use Rattle.crack_plain.proofs.PastLaws.{state_after-push}
-use Rattle.crack_part.specs.Refusals.{table_of}
-use Rattle.crack_part.specs.Upkeep.{is_automatic, is_full, is_due, upkept}
+use Rattle.crack_plain.specs.Plain.{PlainState, PlainView, accepted_of, after, checkpointed}
+use Rattle.crack_part.specs.Upkeep.{is_automatic, is_full, is_due, upkept, answered}
 
--- the plain table to which the next command is added: checkpointed, if a checkpoint is due
-abbrev pub upkept_table : Limits → PlainView → PlainView
-upkept_table limits table = if is_due limits table.since then checkpointed table else table
-
--- if there is room, none is due
-pub upkept-room : (limits : Limits) (past : Past) → length past.tail < limits.history → upkept limits past ≡ past
-upkept-room limits past room = ap (λ (b : Bool). cond (b && is_automatic limits.upkeep) (folded past) past) (lt-leb limits.history (length past.tail) room)
-
--- if there is none, and nothing is refused, one is due
-due-tested : (full automatic : Bool) → full ≡ true → (full && not automatic) ≡ false → (full && automatic) ≡ true
-due-tested true true is unshut = refl
-due-tested true false is unshut = absurd (true≢false unshut)
-due-tested false automatic is unshut = absurd (true≢false (sym is))
-
-pub upkept-full : (limits : Limits) (past : Past) → limits.history ≤ length past.tail → is_full limits (length past.tail) ≡ false → upkept limits past ≡ folded past
-upkept-full limits past full unshut =
-    let due = due-tested (nat_le limits.history (length past.tail)) (is_automatic limits.upkeep) (le-leb limits.history (length past.tail) full) unshut in
-    ap (λ (b : Bool). cond b (folded past) past) due
-
--- a history that begins again, from the base of a past
-pub past-anew : (past : Past) (base : Base) (tail : List Entry) (e : Entry) → base ≡ base_after past → tail ≡ e ∷ [] → record { base = base; tail = tail } ≡ with_entry (folded past) e
-past-anew past base tail e from alone = rw (from, alone) refl
-
-pub state_after-anew : (past : Past) (base : Base) (tail : List Entry) (e : Entry) → base ≡ base_after past → tail ≡ e ∷ [] → state_after (record { base = base; tail = tail }) ≡ after (state_after past) e.command
-state_after-anew past base tail e from alone = ap state_after (past-anew past base tail e from alone) ∙ state_after-push (folded past) e
-
--- upkeep does the same to a past and to its table, and changes neither the plain rows nor the number of commands
-pub table_of-upkept : (limits : Limits) (past : Past) → table_of (upkept limits past) ≡ upkept_table limits (table_of past)
-table_of-upkept limits past = by_test (is_due limits (length past.tail))
+-- the counts of a plain table that answers a command
+folded-upkept : (limits : Limits) (table : PlainView) → (upkept limits table).folded ≡ (if is_due limits table.since then table.folded + table.since else table.folded)
+folded-upkept limits table = by_test (is_due limits table.since)
   where
-    by_test : (b : Bool) → table_of (cond b (folded past) past) ≡ cond b (table_of (folded past)) (table_of past)
+    by_test : (b : Bool) → (if b then checkpointed table else table).folded ≡ (if b then table.folded + table.since else table.folded)
     by_test true = refl
     by_test false = refl
 
-pub state_after-upkept : (limits : Limits) (past : Past) → state_after (upkept limits past) ≡ state_after past
-state_after-upkept limits past = by_test (is_due limits (length past.tail))
+since-upkept : (limits : Limits) (table : PlainView) → (upkept limits table).since ≡ (if is_due limits table.since then 0 else table.since)
+since-upkept limits table = by_test (is_due limits table.since)
   where
-    by_test : (b : Bool) → state_after (cond b (folded past) past) ≡ state_after past
+    by_test : (b : Bool) → (if b then checkpointed table else table).since ≡ (if b then 0 else table.since)
     by_test true = refl
     by_test false = refl
 
-pub accepted_in-upkept : (limits : Limits) (past : Past) → accepted_in (upkept limits past) ≡ accepted_in past
-accepted_in-upkept limits past = by_test (is_due limits (length past.tail))
+-- upkeep changes neither the plain rows nor the number of commands
+pub state-upkept : (limits : Limits) (table : PlainView) → (upkept limits table).state ≡ table.state
+state-upkept limits table = by_test (is_due limits table.since)
   where
-    by_test : (b : Bool) → accepted_in (cond b (folded past) past) ≡ accepted_in past
+    by_test : (b : Bool) → (if b then checkpointed table else table).state ≡ table.state
+    by_test true = refl
+    by_test false = refl
+
+pub accepted-upkept : (limits : Limits) (table : PlainView) → accepted_of (upkept limits table) ≡ accepted_of table
+accepted-upkept limits table = by_test (is_due limits table.since)
+  where
+    by_test : (b : Bool) → accepted_of (if b then checkpointed table else table) ≡ accepted_of table
     by_test true = omega arith
     by_test false = refl
+
+-- the table after a command, by its fields
+same_table : (state after : PlainState) (folded kept since more : ℕ) → state ≡ after → folded ≡ kept → since ≡ more → ◌≡◌ {A = PlainView} (record { state = state; folded = folded; since = since }) (record { state = after; folded = kept; since = more })
+same_table state after folded kept since more a b c = rw (a, b, c) refl
+
+pub table-answered : (limits : Limits) (table : PlainView) (command : Command) (state : PlainState) (folded since : ℕ) → state ≡ after table.state command → folded ≡ (if is_due limits table.since then table.folded + table.since else table.folded) → since ≡ (if is_due limits table.since then 0 else table.since) + 1 → record { state = state; folded = folded; since = since } ≡ answered limits table command
+table-answered limits table command state folded since said counted more =
+    same_table state (after table.state command) folded (upkept limits table).folded since ((upkept limits table).since + 1) said (rw (folded-upkept limits table) counted) (rw (since-upkept limits table) more)
+
+-- the counts after one more command: one more, and no more since the last checkpoint than a history may have
+pub counts-one : (limits : Limits) (table : PlainView) (folded since : ℕ) → folded ≡ (if is_due limits table.since then table.folded + table.since else table.folded) → since ≡ (if is_due limits table.since then 0 else table.since) + 1 → folded + since ≡ table.folded + table.since + 1
+counts-one limits table folded since counted more = by_test (is_due limits table.since) counted more
+  where
+    by_test : (b : Bool) → folded ≡ (if b then table.folded + table.since else table.folded) → since ≡ (if b then 0 else table.since) + 1 → folded + since ≡ table.folded + table.since + 1
+    by_test true a b = omega (arith, a, b)
+    by_test false a b = omega (arith, a, b)
+
+-- if no checkpoint is due, and the next command isn't refused, there is room for it
+room-left : (full automatic : Bool) → (full && not automatic) ≡ false → (full && automatic) ≡ false → full ≡ false
+room-left true true unshut undue = undue
+room-left true false unshut undue = unshut
+room-left false automatic unshut undue = refl
+
+pub since-le-history : (limits : Limits) (since more : ℕ) → 1 ≤ limits.history → is_full limits since ≡ false → more ≡ (if is_due limits since then 0 else since) + 1 → more ≤ limits.history
+since-le-history limits since more some unshut is = by_test (is_due limits since) refl is
+  where
+    by_test : (b : Bool) → is_due limits since ≡ b → more ≡ (if b then 0 else since) + 1 → more ≤ limits.history
+    by_test true due e = omega (arith, e, some)
+    by_test false undue e =
+        let room = leb-false limits.history since (room-left (nat_le limits.history since) (is_automatic limits.upkeep) unshut undue) in
+        omega (arith, e, room)

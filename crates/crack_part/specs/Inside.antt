@@ -1,5 +1,5 @@
 -- What private clauses alone cite.
-use Rattle.std.specs.Prelude.{◌≡◌, ◌⊎◌, ℕ, ◌<◌, ◌≤◌, Bool, true, false, List, Option, Some, None, Result, Err, IfOk, IfErr, IfSome, OnOk, OnErr}
+use Rattle.std.specs.Prelude.{◌≡◌, ◌⊎◌, ℕ, ◌<◌, ◌≤◌, Bool, true, false, Option, Some, None, Result, Err, IfOk, IfErr, IfSome, OnOk, OnErr}
 use Rattle.crack_row.specs.Commands.{change_of}
 use Rattle.crack_row.specs.Ranges.{Range, IsIn, clipped}
 use Rattle.crack_row.specs.Rows.{row_with}
@@ -14,15 +14,14 @@ use Rattle.crack_row.specs.declared.command.Policy.TheVariants.{Complete}
 use Rattle.crack_row.specs.declared.command.Reply.{Reply}
 use Rattle.crack_row.specs.declared.refusal.Refusal.{Refusal}
 use Rattle.crack_row.specs.declared.refusal.Refusal.TheVariants.{OutOfMemory, NoCell}
-use Rattle.crack_plain.specs.Past.{Base, with_entry}
 use Rattle.crack_plain.specs.Plain.{IsSmall, reply_to, after}
 use Rattle.crack_state.specs.State.{State}
 use Rattle.crack_state.specs.Steps.{IsAdmissible}
 use Rattle.crack_state.specs.Points.{MayFree, IsRenewable}
-use Rattle.crack_part.specs.Parts.{Part, state_of, StopsAt, CracksAndMerges, Serves, Spares}
+use Rattle.crack_part.specs.Parts.{Part, state_of, table_of, StopsAt, CracksAndMerges, Serves, Spares}
 use Rattle.crack_part.specs.Cells.{lacks_cell, is_without_cell, is_cleared_first}
-use Rattle.crack_part.specs.Refusals.{table_of, stopped_by, first_cause, refusal_of}
-use Rattle.crack_part.specs.Upkeep.{upkept}
+use Rattle.crack_part.specs.Refusals.{stopped_by, first_cause, refusal_of}
+use Rattle.crack_part.specs.Upkeep.{answered}
 
 -- the row that a change places
 abbrev pub placed : ℕ → Key → Payload → Row
@@ -49,13 +48,9 @@ MayPerform next (Some (Place key payload)) s = IsAdmissible (placed next key pay
 MayPerform next (Some (Remove serial)) s = MayFree s
 MayPerform next (Some (Rewrite serial key payload)) s = IsIn s.keys key.0 × IsRenewable s
 
--- a base by its fields
-abbrev pub base_of : List Row → ℕ → ℕ → ℕ → Base
-base_of rows folded placed gone = record { state = record { rows = rows; next = placed }; folded = folded; placed = placed; gone = gone }
-
 -- the refusal of a command by a partition, if any, whatever cells there are
 abbrev pub early_refusal_of : Part → Command → Option Refusal
-early_refusal_of part command = first_cause part.keys (stopped_by part.limits (table_of part.past)) false command
+early_refusal_of part command = first_cause part.keys (stopped_by part.limits (table_of part)) false command
 
 -- cells are freed if that is due, so that a command lacks none
 abbrev pub Frees : Part → Command → Part → Type 0
@@ -65,20 +60,20 @@ Frees p command q = (lacks_cell q.limits.cells q.store (change_of command) ≡ f
 abbrev pub FreesNone : Part → Command → Refusal → Part → Type 0
 FreesNone p command e q = ((e ≡ NoCell) × (is_without_cell p.limits p.store (change_of command) ≡ true) × (q ≡ p)) ⊎ ((e ≡ OutOfMemory) × (is_cleared_first p.limits p.store (change_of command) ≡ true) × StopsAt Complete p.store q.store p.store.keys)
 
--- The outcome of a worker's command at a partition that refuses it for this cause, if any, and changes or leaves its store in this way: the reply of
--- its plain rows, and one more entry; or a refusal, which leaves its past unchanged.
-pub record AppliesBy (worker : ℕ) (command : Command) (cause : Option Refusal) (Served Spared : State → Type 0) (old : Part) (result : Result (Reply × Reply) Refusal) (new : Part) : Type 0 where
-  pub replies : IfOk result (λ replies. (replies.0 ≡ reply_to (state_of old) command) × (replies.1 ≡ replies.0))
-  pub small : IfOk result (λ replies. IsSmall replies.0)
-  pub kept : IfOk result (λ replies. new.past ≡ with_entry (upkept old.limits old.past) (record { worker = worker; command = command; reply = replies.0 }))
+-- The outcome of a command at a partition that refuses it for this cause, if any, and changes or leaves its store in this way: the reply of its plain
+-- rows, and one more command; or a refusal, which leaves its plain table unchanged.
+pub record AppliesBy (command : Command) (cause : Option Refusal) (Served Spared : State → Type 0) (old : Part) (result : Result Reply Refusal) (new : Part) : Type 0 where
+  pub reply : IfOk result (λ reply. reply ≡ reply_to (state_of old) command)
+  pub small : IfOk result IsSmall
+  pub table : OnOk result (table_of new ≡ answered old.limits (table_of old) command)
   pub state : OnOk result (state_of new ≡ after (state_of old) command)
   pub store : OnOk result (Served new.store)
   pub opened : (new.keys ≡ old.keys) × (new.limits ≡ old.limits)
-  pub err : OnErr result (new.past ≡ old.past)
+  pub err : OnErr result (table_of new ≡ table_of old)
   pub spared : OnErr result (Spared new.store)
   pub refused : IfSome cause (λ e. (result ≡ Err e) × (new ≡ old))
   pub memory : cause ≡ None → IfErr result (λ e. e ≡ OutOfMemory)
 
 -- the whole outcome
-abbrev pub Applies : Policy → ℕ → Command → Part → Result (Reply × Reply) Refusal → Part → Type 0
-Applies policy worker command old result new = AppliesBy worker command (refusal_of old command) (Serves policy old command) (Spares policy old command) old result new
+abbrev pub Applies : Policy → Command → Part → Result Reply Refusal → Part → Type 0
+Applies policy command old result new = AppliesBy command (refusal_of old command) (Serves policy old command) (Spares policy old command) old result new

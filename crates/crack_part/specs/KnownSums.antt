@@ -1,6 +1,6 @@
 -- What private clauses alone cite.
 -- The sums of the payloads of rows by ranges of keys, of the rows that were placed before a serial.
-use Rattle.std.specs.Prelude.{◌≡◌, ℕ, ℤ, pos, ◌+◌, ◌+ℤ◌, ◌-◌, ◌≤◌, nat_lt, cond, List, [], Option, Some, None, Result, Ok, Err}
+use Rattle.std.specs.Prelude.{◌≡◌, ℕ, ℤ, pos, ◌+◌, ◌+ℤ◌, ◌-◌, ◌*◌, ◌<◌, ◌≤◌, nat_lt, cond, List, [], Option, Some, None, Result, Ok, Err}
 use Rattle.std.specs.List.Sorted.{IsPermutation}
 use Rattle.crack_row.specs.Ranges.{Range, in_range}
 use Rattle.crack_row.specs.Rows.{amount, total_by, sum_of}
@@ -11,7 +11,7 @@ use Rattle.crack_row.specs.declared.refusal.Refusal.{Refusal}
 use Rattle.crack_plain.specs.Plain.{PlainState, rows_in, after}
 use Rattle.crack_index.specs.Sums.{AreRight}
 use Rattle.crack_state.specs.State.{State, live_rows}
-use Rattle.crack_state.specs.Merge.{IsSettled}
+use Rattle.crack_state.specs.Merge.{IsCracked, IsSettled, edge}
 use Rattle.crack_part.specs.declared.known.TheConstants.{MOST_PLACED}
 use Rattle.crack_part.specs.Parts.{Part, IsSound, state_of}
 
@@ -50,9 +50,19 @@ IsFresh next known = next ≤ known.since + MOST_PLACED
 abbrev pub left : ℕ → Known → Known
 left next known = cond (nat_lt MOST_PLACED (next - known.since)) (record known { pieces = [] }) known
 
--- the sum that a store that is settled for a range reports of a part of it: that of any list of the live rows
+-- a store that is settled for a range of its keys is settled for another one too
+abbrev pub SettlesToo : State → Range → Range → Type 0
+SettlesToo s range other = IsSettled s range → s.keys.low ≤ range.low → range.high ≤ s.keys.high → IsSettled s other
+
+-- the sum that a store that is settled for a range of its keys reports of any range: that of any list of the live rows
 abbrev pub SaysSettled : State → Range → ℕ → ℕ → ℤ → Type 0
-SaysSettled s range low high sum = IsSettled s range → s.keys.low ≤ range.low → range.high ≤ s.keys.high → range.low ≤ low → low ≤ high → high ≤ range.high → (plain : List Row) → IsPermutation (live_rows s) plain → sum ≡ sum_of (rows_in (record { low = low; high = high }) plain)
+SaysSettled s range low high sum = IsSettled s range → s.keys.low ≤ range.low → range.high ≤ s.keys.high → (plain : List Row) → IsPermutation (live_rows s) plain → sum ≡ sum_of (rows_in (record { low = low; high = high }) plain)
+
+-- the column was cracked at the ends of a range and of a part of it, and more than half of the range's rows are between those of the part
+pub record HasMost (s : State) (part whole : Range) : Type 0 where
+  pub in_part : IsCracked s part
+  pub in_whole : IsCracked s whole
+  pub rows : edge s whole.high - edge s whole.low < 2 * (edge s part.high - edge s part.low)
 
 -- after an answer the known sums are those of the plain rows after it
 abbrev pub KnowsThen : Known → PlainState → Command → Result Reply Refusal → Type 0

@@ -12,9 +12,7 @@ use Rattle.crack_row.specs.declared.command.Policy.{Policy}
 use Rattle.crack_row.specs.declared.command.Policy.TheVariants.{Complete, Ripple, Auto}
 use Rattle.crack_row.specs.Limits.{AreLimits}
 use Rattle.crack_row.specs.declared.limit.Limits.{Limits}
-use Rattle.crack_plain.specs.Past.{Past, folded, state_after, IsLegal}
-use Rattle.crack_plain.specs.Plain.{PlainState}
-use Rattle.crack_plain.specs.Totals.{inserted, deleted, updated}
+use Rattle.crack_plain.specs.Plain.{PlainState, PlainView, IsNumbered, by_serial, accepted_of}
 use Rattle.crack_state.specs.State.{State, IsIntact, live_rows, freed_of}
 use Rattle.crack_state.specs.Steps.{admitted, SameButRoom}
 use Rattle.crack_state.specs.Points.{pending_by, Removes, Rewrites}
@@ -24,17 +22,22 @@ use Rattle.crack_merge.specs.Merges.{Stops}
 use Rattle.crack_merge.specs.Near.{MergesNear}
 use Rattle.crack_part.specs.Cells.{is_cleared_first}
 
--- its keys, its limits, its past, the serial of the next row, and the store of its rows
+-- its keys, its limits, the serial of the next row, how many commands it accepted up to its last checkpoint, how many since, and the store of its rows
 pub record Part : Type 0 where
   pub keys : Range
   pub limits : Limits
-  pub past : Past
   pub next : ℕ
+  pub folded : ℕ
+  pub since : ℕ
   pub store : State
 
--- the plain rows that it represents
+-- the plain rows that it represents: the live rows of its store, by rising serial
 abbrev pub state_of : Part → PlainState
-state_of part = state_after part.past
+state_of part = record { rows = by_serial (live_rows part.store); next = part.next }
+
+-- the plain table that it represents
+abbrev pub table_of : Part → PlainView
+table_of part = record { state = state_of part; folded = part.folded; since = part.since }
 
 -- a history may be limited to this many entries
 abbrev pub IsLimit : ℕ → Type 0
@@ -45,22 +48,24 @@ pub record IsFaithful (store : State) (next : ℕ) (plain : PlainState) : Type 0
   pub rows : IsPermutation (live_rows store) plain.rows
   pub serial : next ≡ plain.next
 
--- the partition's invariant: each kept reply is that of the plain rows, every cell is in one place and every bound is obeyed, the live rows
--- are the plain rows, and there are no more cells than their limit, nor than commands checkpointed and rows placed and changed since, nor more
--- freed or doomed than commands checkpointed and rows removed and changed since
+-- the partition's invariant: every cell is in one place and every bound is obeyed, the serials of the live rows differ and are below the next, and
+-- there are no more cells than their limit, nor than commands accepted, nor more freed or doomed, nor more rows placed; and no more commands were
+-- accepted since the last checkpoint than the history's limit, nor since the opening than the life
 pub record IsSound (part : Part) : Type 0 where
   pub limited : AreLimits part.limits
-  pub legal : IsLegal part.keys part.limits part.past
+  pub numbered : IsNumbered (state_of part)
   pub ends : part.store.keys ≡ part.keys
   pub intact : IsIntact part.store []
-  pub faithful : IsFaithful part.store part.next (state_of part)
   pub cells : length part.store.cells ≤ part.limits.cells
-  pub few_cells : length part.store.cells ≤ part.past.base.folded + inserted part.past.tail + updated part.past.tail
-  pub few_freed : freed_of part.store.cells + length part.store.pending_out ≤ part.past.base.folded + deleted part.past.tail + updated part.past.tail
+  pub few_cells : length part.store.cells ≤ accepted_of (table_of part)
+  pub few_freed : freed_of part.store.cells + length part.store.pending_out ≤ accepted_of (table_of part)
+  pub few_placed : part.next ≤ accepted_of (table_of part)
+  pub few_since : part.since ≤ part.limits.history
+  pub lived : accepted_of (table_of part) ≤ part.limits.life
 
--- a partition whose history is moved into its base, and of which nothing else is changed
+-- a partition after a checkpoint: the commands since the last one are counted with those before it, and nothing else is changed
 abbrev pub folded_part : Part → Part
-folded_part part = record part { past = folded part.past }
+folded_part part = record part { folded = accepted_of (table_of part); since = 0 }
 
 -- whether all pending rows are merged before a range is read: under auto, if 64 times the pending insertions are at least the column's rows times its
 -- pieces, which always holds if the column is empty

@@ -1,5 +1,5 @@
 -- Why a partition refuses a command, whatever memory there is.
-use Rattle.std.specs.Prelude.{Bool, true, length, Option, None, Some, nat_le, if◌then◌else◌}
+use Rattle.std.specs.Prelude.{Bool, true, Option, None, Some, nat_le, if◌then◌else◌}
 use Rattle.std.specs.Option.{option_or}
 use Rattle.crack_row.specs.Commands.{change_of, key_of}
 use Rattle.crack_row.specs.Ranges.{Range, is_in}
@@ -8,22 +8,17 @@ use Rattle.crack_row.specs.declared.command.Command.{Command}
 use Rattle.crack_row.specs.declared.limit.Limits.{Limits}
 use Rattle.crack_row.specs.declared.refusal.Refusal.{Refusal}
 use Rattle.crack_row.specs.declared.refusal.Refusal.TheVariants.{KeyOutside, HistoryFull, NoCell, LifeOver}
-use Rattle.crack_plain.specs.Past.{Past, state_after}
 use Rattle.crack_plain.specs.Plain.{PlainView, accepted_of}
-use Rattle.crack_part.specs.Parts.{Part}
+use Rattle.crack_part.specs.Parts.{Part, table_of}
 use Rattle.crack_part.specs.Upkeep.{is_full}
 use Rattle.crack_part.specs.Cells.{is_without_cell}
-
--- the plain rows after a past, how many commands its base counts, and how many entries its history has
-abbrev pub table_of : Past → PlainView
-table_of past = record { state = state_after past; folded = past.base.folded; since = length past.tail }
 
 -- whether a key, if there is one, is one of these
 abbrev pub is_key_in : Range → Option Key → Bool
 is_key_in keys None = true
 is_key_in keys (Some key) = is_in keys key.0
 
--- why a partition with these limits accepts no more commands: as many were accepted since its last checkpoint as its history may have, and it makes
+-- why a partition with these limits accepts no more commands: as many were accepted since its last checkpoint as its limit allows, and it makes
 -- no checkpoint by itself, or as many since its opening as it may accept in total
 abbrev pub stopped_by : Limits → PlainView → Option Refusal
 stopped_by limits table = if is_full limits table.since then Some (HistoryFull limits.history) else (if nat_le limits.life (accepted_of table) then Some LifeOver else None)
@@ -34,4 +29,4 @@ first_cause keys stop lacks command = if is_key_in keys (key_of command) then op
 
 -- why a partition refuses a command, if it does
 abbrev pub refusal_of : Part → Command → Option Refusal
-refusal_of part command = first_cause part.keys (stopped_by part.limits (table_of part.past)) (is_without_cell part.limits part.store (change_of command)) command
+refusal_of part command = first_cause part.keys (stopped_by part.limits (table_of part)) (is_without_cell part.limits part.store (change_of command)) command

@@ -1,11 +1,11 @@
 //! Bounds that a partition forgets under `Policy::Auto`.
-ghost use Rattle.std.specs.Prelude.{◌≡◌};
+ghost use Rattle.std.specs.Prelude.{◌≡◌, Some};
 ghost use Rattle.crack_plain.specs.Plain.{PlainState};
-ghost use Rattle.crack_state.specs.Merge.{Coarsens};
+ghost use Rattle.crack_part.specs.Forgetting.{coarsened, due_by, noted};
 ghost use Rattle.crack_part.specs.KnownSums.{Knows};
-ghost use Rattle.crack_part.specs.Parts.{MayCoarsen};
 
 use crate::known::KnownSums;
+use crate::passes::Passes;
 use crack_row::{Key, Policy};
 use crack_store::Store;
 
@@ -17,14 +17,15 @@ const MOST_BOUNDS: usize = 2048;
 
 /// Forgets bounds under `Policy::Auto`, if a pass over them is due. No row moves. Takes no memory.
 #[inline(always)]
-pub(crate) fn coarsen(store: &mut Store, known: &mut KnownSums, policy: Policy)
-    ensures coarse { MayCoarsen policy store.old store.new }
+pub(crate) fn coarsen(store: &mut Store, passes: &mut Passes, known: &mut KnownSums, policy: Policy)
+    ensures coarse { store.new ≡ coarsened (due_by policy passes.old store.old) store.old }
+    ensures noted { passes.new ≡ noted (due_by policy passes.old store.old) store.old passes.old }
     ensures knows { (plain : PlainState) → Knows known.old plain → Knows known.new plain }
 {
     match policy {
         Policy::Auto => {
-            if let Some(key) = known.passes.due(store) {
-                forget_after(store, known, key);
+            if let Some(key) = passes.due(store) {
+                forget_after(store, passes, known, key);
             }
         }
         _ => {}
@@ -33,13 +34,14 @@ pub(crate) fn coarsen(store: &mut Store, known: &mut KnownSums, policy: Policy)
 
 /// Makes a pass over the bounds above a key.
 #[inline(never)]
-fn forget_after(store: &mut Store, known: &mut KnownSums, key: Key)
-    ensures coarse { Coarsens store.old store.new }
+fn forget_after(store: &mut Store, passes: &mut Passes, known: &mut KnownSums, key: Key)
+    ensures coarse { store.new ≡ coarsened (Some key) store.old }
+    ensures noted { passes.new ≡ noted (Some key) store.old passes.old }
     ensures knows { (plain : PlainState) → Knows known.old plain → Knows known.new plain }
 {
     let mut pass = store.pass_after(key, FEW_ROWS, MOST_BOUNDS);
     'bounds: while let Some(bound) = store.forget_few(&mut pass) {
         known.join(bound);
     }
-    known.passes.note(store, pass.stopped());
+    passes.note(store, pass.stopped());
 }

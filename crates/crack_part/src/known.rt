@@ -1,14 +1,14 @@
 //! The known sums of pieces of a partition.
-ghost use Rattle.std.specs.Prelude.{◌≡◌, ℕ, ℤ, ◌<◌, ◌≤◌, ◌^◌, [], IfSome, IsSome, OnSome};
+ghost use Rattle.std.specs.Prelude.{◌≡◌, ℕ, ℤ, ◌<◌, ◌≤◌, ◌^◌, ◌↔◌, [], IsTrue, IfSome, IsSome, OnSome};
 ghost use Rattle.std.specs.Map.{keys_of};
 ghost use Rattle.crack_row.specs.Rows.{sum_of};
 ghost use Rattle.crack_plain.specs.Plain.{PlainState, IsNumbered, row_in, rows_in, after};
 ghost use Rattle.crack_index.specs.Sums.{AreRight, AreKnown, IsEnd, distance_in};
 ghost use Rattle.crack_state.specs.Merge.{IsCracked, IsSettled};
 ghost use Rattle.crack_part.specs.Parts.{IsFaithful};
-ghost use Rattle.crack_part.specs.KnownSums.{Knows, IsFresh, SaysSettled, left, sum_before, with_row};
+ghost use Rattle.crack_part.specs.KnownSums.{Knows, IsFresh, SettlesToo, SaysSettled, HasMost};
+ghost use Rattle.crack_part.specs.KnownSums.{left, sum_before, with_row};
 
-use crate::passes::Passes;
 use crack_index::{PieceSums, Source};
 use crack_row::{Command, InnerBound, KeyRange, Row, Serial};
 use crack_store::Store;
@@ -19,13 +19,15 @@ use std::marker::Model;
 /// take longer than summing again.
 const MOST_PLACED: u64 = 256;
 
+/// A part of so few rows is summed, whatever the rest of its piece.
+const FEW_ROWS: u64 = 512;
+
 /// The known sums of pieces, of the rows that were placed before a serial. They are sums of plain rows, by key, so
 /// cracks and merges don't change them.
 #[derive(Drop)]
 pub(crate) struct KnownSums {
     pieces: PieceSums,
     since: u64,
-    pub(crate) passes: Passes,
 }
 
 impl Model for KnownSums {
@@ -44,7 +46,6 @@ impl KnownSums {
         KnownSums {
             pieces: PieceSums::new(alloc),
             since: 0,
-            passes: Passes::new(),
         }
     }
 
@@ -79,7 +80,7 @@ impl KnownSums {
         }
     }
 
-    /// Joins the two pieces between which a bound was forgotten, if both sums are known. O(log pieces).
+    /// Joins the two pieces between which a bound was forgotten: their sum is known if both sums are. O(log pieces).
     pub(crate) fn join(&mut self, bound: InnerBound)
         ensures { (plain : PlainState) → Knows self.old plain → Knows self.new plain }
     {
@@ -152,11 +153,54 @@ fn add(pieces: &mut PieceSums, row: Option<Row>)
     }
 }
 
-/// A store that is settled for a range, as the source of the sums of parts of the range.
+/// A store that is settled for a range of its keys, as the source of the sums of all ranges for which it is settled.
 #[derive(Clone, Copy)]
 struct Settled<'a> {
     store: &'a Store,
     range: KeyRange,
+}
+
+impl Settled<'_> {
+    /// Whether the store is cracked at the ends of a range, and settled for it: it is a part of its range, or no row in
+    /// it is pending. O(log bounds), and the pending rows unless it is a part.
+    #[inline]
+    fn is_settled(&self, range: KeyRange) -> bool
+        ensures cracked { IsTrue result → IsCracked self.now.store.now range }
+        ensures settled { IsTrue result → SettlesToo self.now.store.now self.now.range range }
+        ensures part { self.now.range.low ≤ range.low → range.high ≤ self.now.range.high →
+            IsCracked self.now.store.now range → IsTrue result }
+    {
+        self.store.facts();
+        let (low, high) = (range.low(), range.high());
+        if !self.store.is_cracked(range) {
+            return false;
+        }
+        if self.is_part(range) {
+            return true;
+        }
+        let keys = self.store.keys();
+        if low < keys.low() {
+            return false;
+        }
+        if keys.high() < high {
+            return false;
+        }
+        if self.store.first_in(range).is_some() {
+            return false;
+        }
+        if self.store.first_out(range).is_some() {
+            return false;
+        }
+        true
+    }
+
+    /// Whether a range is a part of its range.
+    #[inline]
+    fn is_part(&self, range: KeyRange) -> bool
+        ensures { IsTrue result ↔ (self.now.range.low ≤ range.low) × (range.high ≤ self.now.range.high) }
+    {
+        self.range.low() <= range.low() && range.high() <= self.range.high()
+    }
 }
 
 impl Source for Settled<'_> {
@@ -169,13 +213,25 @@ impl Source for Settled<'_> {
         ensures told { self.now.range.low ≤ range.low → range.high ≤ self.now.range.high →
             IsCracked self.now.store.now range → IsSome result }
     {
-        self.store.facts();
-        if range.low() < self.range.low()
-            || self.range.high() < range.high()
-            || !self.store.is_cracked(range)
-        {
+        if !self.is_settled(range) {
             return None;
         }
         Some(self.store.sum_between(range))
+    }
+
+    fn prefers_rest(&self, part: KeyRange, whole: KeyRange) -> bool
+        ensures { IsTrue result → HasMost self.now.store.now part whole }
+    {
+        if !self.store.is_cracked(part) {
+            return false;
+        }
+        let rows = self.store.count_between(part);
+        if rows <= FEW_ROWS {
+            return false;
+        }
+        if !self.is_settled(whole) {
+            return false;
+        }
+        self.store.count_between(whole) / 2 < rows
     }
 }

@@ -1,9 +1,8 @@
-//! A partition: the rows of a range of keys, and the history of its commands.
+//! A partition: the rows of a range of keys, which answer commands.
 #![tactic(auto)]
 
 mod changes;
 mod coarsening;
-mod history;
 mod known;
 pub mod partition;
 mod passes;
@@ -13,3 +12,4 @@ mod settling;
 pub mod totals;
 
 pub use partition::Partition;
+pub use replies::Copies;

@@ -1,50 +1,50 @@
-//! Commands and their history.
-ghost use Rattle.std.specs.Prelude.{◌≡◌, ◌⊎◌, None, Some, ◌+◌, ◌<◌, ◌≤◌, ◌^◌, [], length, vec_capacity};
-ghost use Rattle.std.specs.Prelude.{true, false, IsTrue, IsFalse, ◌↔◌, IsOk, IfOk, IfErr, IfSome, OnErr, OnOk, Err};
+//! Commands and their replies.
+ghost use Rattle.std.specs.Prelude.{◌≡◌, ◌⊎◌, None, Some, ◌+◌, ◌<◌, ◌^◌, [], length, nat_le, if◌then◌else◌};
+ghost use Rattle.std.specs.Prelude.{true, false, IsFalse, IsOk, IfOk, IfErr, IfSome, OnErr, OnOk, Err};
 ghost use Rattle.crack_row.specs.Commands.{change_of, key_of, range_of};
 ghost use Rattle.crack_row.specs.Replies.{IsFlat};
 ghost use Rattle.crack_row.specs.Layouts.{IsLayout};
 ghost use Rattle.crack_row.specs.Limits.{AreLimits, of_history};
 ghost use Rattle.crack_plain.specs.Plain.{PlainState, IsNumbered, reply_to, after, IsSmall};
-ghost use Rattle.crack_plain.specs.Past.{no_past, with_entry, accepted_in, base_after, IsLegal};
-ghost use Rattle.crack_state.specs.State.{State, IsIntact, live_rows};
+ghost use Rattle.crack_state.specs.State.{State, IsIntact};
 ghost use Rattle.crack_state.specs.Steps.{SameButRoom};
 ghost use Rattle.crack_state.specs.Merge.{IsSettled};
 ghost use Rattle.crack_store.specs.Inside.{no_cells, IsLayoutOf};
-ghost use Rattle.crack_part.specs.Parts.{state_of, folded_part, IsLimit, IsSound, IsFaithful, CracksAndMerges, StopsAt};
+ghost use Rattle.crack_part.specs.Parts.{state_of, table_of, folded_part, IsLimit, IsSound, IsFaithful};
+ghost use Rattle.crack_part.specs.Parts.{CracksAndMerges, StopsAt};
 ghost use Rattle.crack_part.specs.Parts.{Serves, ServesCleared, Spares, SparesCleared, Prepares, Performs};
+ghost use Rattle.crack_part.specs.Forgetting.{PreparesBy, SparesBy, ServesBy, StopsBy};
 ghost use Rattle.crack_part.specs.Refusals.{is_key_in, refusal_of};
 ghost use Rattle.crack_part.specs.KnownSums.{Knows, KnowsThen};
 ghost use Rattle.crack_part.specs.Cells.{takes_cell, lacks_cell, may_clear};
-ghost use Rattle.crack_part.specs.Upkeep.{is_automatic, is_full, upkept};
-ghost use Rattle.crack_part.specs.Inside.{AreCommon, MayPerform, base_of, early_refusal_of, Frees, FreesNone, Applies};
+ghost use Rattle.crack_part.specs.Upkeep.{is_automatic, is_full, is_due, answered};
+ghost use Rattle.crack_part.specs.Inside.{AreCommon, MayPerform, early_refusal_of, Frees, FreesNone, Applies};
 
 use crate::changes::{place, remove, rewrite};
-use crate::history::{Base, Fold, begin_anew, fresh_list, make_room, push_reserved};
 use crate::known::KnownSums;
+use crate::passes::Passes;
 use crate::reads::{count, select, sum};
-use crate::replies::copied;
+use crate::replies::{Copies, copied};
 use crate::settling::{crack_and_merge, settle};
 use crack_row::{
-    Command, Entry, GREATEST_LIMIT, KeyRange, Layout, Limits, Policy, Refusal, Reply, Row, RowList,
-    Upkeep,
+    Command, GREATEST_LIMIT, KeyRange, Layout, Limits, Policy, Refusal, Reply, Row, RowList, Upkeep,
 };
 use crack_store::{MergeReport, Store};
 use std::alloc::Global;
 use std::marker::Model;
 
-/// The rows whose keys lie in one range, with a base, which is the effect of the commands up to the last checkpoint,
-/// and a history: every command answered since, with its worker and its reply. Contracts also see the layout of the
-/// store of its rows; the plain rows are those after the history, from the base on.
+/// The rows whose keys lie in one range, and how many commands it accepted. Contracts see the layout of the store of
+/// its rows, and the plain table that it represents: the live rows by rising serial, and the counts.
 pub struct Partition {
     alloc: Global,
     keys: KeyRange,
     limits: Limits,
     pub(crate) next: u64,
+    pub(crate) folded: u64,
+    pub(crate) since: u64,
     pub(crate) store: Store,
+    passes: Passes,
     known: KnownSums,
-    base: Base,
-    history: Vec<Entry>,
 }
 
 // (Written out, so that the crates above call this function, and prove nothing about the fields.)
@@ -55,15 +55,14 @@ impl Drop for Partition {
             keys: _,
             limits: _,
             next: _,
+            folded: _,
+            since: _,
             store,
+            passes: _,
             known,
-            base,
-            history,
         } = self;
         drop(store);
         drop(known);
-        drop(base);
-        drop(history);
     }
 }
 
@@ -76,41 +75,29 @@ impl Model for Partition {
     ghost view = { λ p. record {
       keys = p.keys;
       limits = p.limits;
-      past = record {
-        base = record {
-          state = record { rows = p.base.rows.items; next = p.base.placed };
-          folded = p.base.folded;
-          placed = p.base.placed;
-          gone = p.base.gone;
-        };
-        tail = p.history.items;
-      };
       next = p.next;
+      folded = p.folded;
+      since = p.since;
       store = p.store;
     } };
 
     ghost invariant = { λ p. let part : Part = record {
       keys = p.keys;
       limits = p.limits;
-      past = record {
-        base = record {
-          state = record { rows = p.base.rows.items; next = p.base.placed };
-          folded = p.base.folded;
-          placed = p.base.placed;
-          gone = p.base.gone;
-        };
-        tail = p.history.items;
-      };
       next = p.next;
+      folded = p.folded;
+      since = p.since;
       store = p.store;
     } in KnowsPart p.known part };
 }
 
 impl Partition {
-    /// A partition without rows, for these keys and a history of at most `limit` entries. Takes no memory.
+    /// A partition without rows, for these keys, that accepts at most `limit` commands after each checkpoint. Takes no
+    /// memory.
     /// Refused with 14 if the limit isn't 1 to `GREATEST_LIMIT`.
     pub fn open(alloc: Global, keys: KeyRange, limit: u64) -> Result<Partition, Refusal>
-        ensures ok { IfOk result (λ p. (p.keys ≡ keys) × (p.limits ≡ of_history limit) × (p.past ≡ no_past)) }
+        ensures ok { IfOk result (λ p. (p.keys ≡ keys) × (p.limits ≡ of_history limit)) }
+        ensures new { IfOk result (λ p. (p.next ≡ 0) × (p.folded ≡ 0) × (p.since ≡ 0)) }
         ensures empty { IfOk result (λ p. p.store ≡ no_cells keys p.store.column_room p.store.in_room) }
         ensures opens { IsLimit limit → IsOk result }
         ensures bad_limit { (IsLimit limit → ⊥) → result ≡ Err Refusal.BadLimit }
@@ -124,7 +111,8 @@ impl Partition {
     /// A partition without rows, for these keys, within these limits. Takes no memory.
     /// Refused with 14 if a limit isn't 1 to the greatest of its kind.
     pub fn open_with(alloc: Global, keys: KeyRange, limits: Limits) -> Result<Partition, Refusal>
-        ensures ok { IfOk result (λ p. (p.keys ≡ keys) × (p.limits ≡ limits) × (p.past ≡ no_past)) }
+        ensures ok { IfOk result (λ p. (p.keys ≡ keys) × (p.limits ≡ limits)) }
+        ensures new { IfOk result (λ p. (p.next ≡ 0) × (p.folded ≡ 0) × (p.since ≡ 0)) }
         ensures empty { IfOk result (λ p. p.store ≡ no_cells keys p.store.column_room p.store.in_room) }
         ensures opens { AreLimits limits → IsOk result }
         ensures bad_limit { (AreLimits limits → ⊥) → result ≡ Err Refusal.BadLimit }
@@ -139,15 +127,11 @@ impl Partition {
             keys,
             limits,
             next: 0,
+            folded: 0,
+            since: 0,
             store,
+            passes: Passes::new(),
             known: KnownSums::new(alloc),
-            base: Base {
-                rows: Vec::new(alloc),
-                folded: 0,
-                placed: 0,
-                gone: 0,
-            },
-            history: Vec::new(alloc),
         })
     }
 
@@ -158,89 +142,26 @@ impl Partition {
         let _ = &self.store;
     }
 
-    /// Every command that was answered since the last checkpoint, in order, including reads and commands that found no
-    /// row.
-    pub fn history(&self) -> &[Entry]
-        ensures value { result.now ≡ self.now.past.tail }
-        ensures legal { IsLegal self.now.keys self.now.limits self.now.past }
-    {
-        self.history.as_slice()
-    }
-
-    /// The rows at the last checkpoint, by rising serial.
-    pub fn base_rows(&self) -> &[Row]
-        ensures { result.now ≡ self.now.past.base.state.rows }
-    {
-        self.base.rows.as_slice()
-    }
-
-    /// How many commands it accepted up to the last checkpoint.
-    pub fn folded(&self) -> u64
-        ensures { result ≡ self.now.past.base.folded }
-    {
-        self.base.folded
-    }
-
-    /// How many rows were placed up to the last checkpoint.
-    pub fn folded_insertions(&self) -> u64
-        ensures { result ≡ self.now.past.base.placed }
-    {
-        self.base.placed
-    }
-
-    /// How many rows were removed up to the last checkpoint.
-    pub fn folded_deletions(&self) -> u64
-        ensures { result ≡ self.now.past.base.gone }
-    {
-        self.base.gone
-    }
-
-    /// How many commands it accepted since it was opened.
-    pub fn accepted(&self) -> u64
-        ensures value { result ≡ accepted_in self.now.past }
-        ensures lived { result ≤ self.now.limits.life }
-    {
-        self.base.folded + self.history.len() as u64
-    }
-
-    /// Makes its rows the base, and empties its history; returns how many entries it had. It cracks and merges nothing,
-    /// and changes no later reply. Refused with 8 if it finds no memory; then nothing has changed. Like
-    /// `Store::live_rows` it is O(cells), and O(n log n) for n rows if serials don't rise with the cells; the history's
-    /// memory is freed, except the room of `KEPT_ENTRIES` entries.
-    pub fn checkpoint(&mut self) -> Result<u64, Refusal>
-        ensures ok { IfOk result (λ count. count ≡ length self.old.past.tail) }
-        ensures folded { OnOk result (self.new ≡ folded_part self.old) }
+    /// Its rows, by rising serial. It cracks and merges nothing. O(cells) if serials rise with the cells, else
+    /// O(n log n) for n rows. Refused with 8 if it finds no memory.
+    pub fn rows_in_order(&self) -> Result<Vec<Row>, Refusal>
+        ensures ok { IfOk result (λ rows. rows.items ≡ (state_of self.now).rows) }
         ensures err { IfErr result (λ e. e ≡ Refusal.OutOfMemory) }
-        ensures same { OnErr result (self.new ≡ self.old) }
     {
-        let count = self.history.len() as u64;
-        let fold = self.fold()?;
+        self.store.live_rows()
+    }
+
+    /// Counts the commands since the last checkpoint with those before it; returns how many there were. It cracks and
+    /// merges nothing, changes no row and no later reply, and can't fail. The pending lists' unused memory is freed.
+    pub fn checkpoint(&mut self) -> u64
+        ensures since { result ≡ self.old.since }
+        ensures folded { self.new ≡ folded_part self.old }
+    {
+        let since = self.since;
         self.store.shrink_pending();
-        begin_anew(&mut self.base, &mut self.history, fold);
-        Ok(count)
-    }
-
-    /// Allocates what a checkpoint needs: the new base, and the list of the history that starts again.
-    fn fold(&self) -> Result<Fold, Refusal>
-        ensures base { IfOk result (λ fold. base_of fold.base.rows.items fold.base.folded fold.base.placed
-            fold.base.gone ≡ base_after self.now.past) }
-        ensures fresh { IfOk result (λ fold. IfSome fold.fresh (λ list. (list.items ≡ []) × (0 < vec_capacity list))) }
-        ensures err { IfErr result (λ e. e ≡ Refusal.OutOfMemory) }
-    {
-        let rows = self.store.live_rows()?;
-        let fresh = fresh_list(&self.history, self.alloc)?;
-        let folded = self.accepted();
-        let placed = self.next;
-        let gone = placed - rows.len() as u64;
-        Ok(Fold {
-            base: Base {
-                rows,
-                folded,
-                placed,
-                gone,
-            },
-            fresh,
-        })
+        self.folded += since;
+        self.since = 0;
+        since
     }
 
     /// The keys that its rows may have.
@@ -250,7 +171,7 @@ impl Partition {
         self.keys
     }
 
-    /// How many entries its history may have.
+    /// How many commands it accepts after each checkpoint.
     pub fn limit(&self) -> u64
         ensures value { result ≡ self.now.limits.history }
         ensures limited { IsLimit self.now.limits.history }
@@ -273,8 +194,8 @@ impl Partition {
         self.store.tally()
     }
 
-    /// The layout, as numbers, and the pieces of the column. It cracks and merges nothing, and isn't kept in the
-    /// history. Refused with 8 if it finds no memory. O(pieces).
+    /// The layout, as numbers, and the pieces of the column. It cracks and merges nothing, and isn't counted as a
+    /// command. Refused with 8 if it finds no memory. O(pieces).
     pub fn layout(&self) -> Result<Layout, Refusal>
         ensures ok { IfOk result (λ layout. IsLayoutOf self.now.store layout) }
         ensures equations { IfOk result (λ layout. IsLayout self.now.keys layout) }
@@ -284,77 +205,112 @@ impl Partition {
         self.store.layout()
     }
 
-    /// Answers one command of a worker and keeps it in the history. The second reply is a copy, for a receipt. If
-    /// upkeep is automatic, it makes a checkpoint first, as `checkpoint` does, if the history is full; and if an
-    /// insert, or an update of a row of the column, finds no free cell and as many cells as their limit, while doomed
-    /// rows wait, it merges all pending rows first, as a count of all keys does under `Policy::Complete`. Refused, in
-    /// this order: with 4 if the command has a key that isn't the partition's, with 6 if the history is full and upkeep
-    /// is on request, with 10 if it has accepted as many commands as its life, with 9 if no cell is free and upkeep
-    /// frees none, with 8 if no memory is found. After 4, 6, 10 and 9 nothing has changed. After 8 no checkpoint is
-    /// made, but that merge may be made in part or as a whole; a command that reads no range has changed nothing else,
-    /// and one that reads a range has at most cracked the column at its ends and merged in part or as a whole. An
-    /// insert is O(1), amortised, a delete and an update O(log pieces), without upkeep. A command that reads a range
-    /// cracks the pieces in which its ends fall and merges by the policy what its range needs; a count is then O(log
-    /// pieces), a sum as well, with a step for each piece in the range whose sum is known, and for each row of the
-    /// others, and a select O(m log m) for m rows in the range.
+    /// Why it refuses a command, if it does, whatever memory there is: what `apply` reports then. O(1).
+    pub fn refusal(&self, command: &Command) -> Option<Refusal>
+        ensures { result ≡ refusal_of self.now command.now }
+    {
+        if let Err(refusal) = self.may_keep(command) {
+            return Some(refusal);
+        }
+        if self.wants_cell(command) && !self.may_clear() {
+            return Some(Refusal::NoCell);
+        }
+        None
+    }
+
+    /// Whether the next command that it answers makes a checkpoint first.
+    pub fn is_due(&self) -> bool
+        ensures { result ≡ is_due self.now.limits self.now.since }
+    {
+        self.is_at_limit() && is_automatic(self.limits.upkeep)
+    }
+
+    /// Answers one command, and counts it. If upkeep is automatic, it makes a checkpoint first, as `checkpoint` does,
+    /// if it has accepted as many commands as its limit since the last one; and if an insert, or an update of a row of
+    /// the column, finds no free cell and as many cells as their limit, while doomed rows wait, it merges all pending
+    /// rows first, as a count of all keys does under `Policy::Complete`. Refused, in this order: with 4 if the command
+    /// has a key that isn't the partition's, with 6 if that many commands were accepted and upkeep is on request, with
+    /// 10 if it has accepted as many commands as its life, with 9 if no cell is free and upkeep frees none, with 8 if
+    /// no memory is found. After 4, 6, 10 and 9 nothing has changed. After 8 no checkpoint is made, but that merge may
+    /// be made in part or as a whole; a command that reads no range has changed nothing else, and one that reads a
+    /// range has at most cracked the column at its ends and merged in part or as a whole. An insert is O(1), amortised,
+    /// a delete and an update O(log pieces), without upkeep. A command that reads a range cracks the pieces in which
+    /// its ends fall and merges by the policy what its range needs; a count is then O(log pieces), a sum as well, with
+    /// a step for each row of the pieces whose sum isn't known, and a select O(m log m) for m rows in the range.
     #[inline(always)]
-    pub fn apply(
-        &mut self,
-        worker: u32,
-        command: Command,
-        policy: Policy,
-    ) -> Result<(Reply, Reply), Refusal>
-        ensures replies { IfOk result (λ replies. (replies.0 ≡ reply_to (state_of self.old) command) ×
-            (replies.1 ≡ replies.0)) }
-        ensures small { IfOk result (λ replies. IsSmall replies.0) }
-        ensures kept { IfOk result (λ replies. self.new.past ≡ with_entry (upkept self.old.limits self.old.past)
-            (record { worker = worker; command = command; reply = replies.0 })) }
+    pub fn apply(&mut self, command: Command, policy: Policy) -> Result<Reply, Refusal>
+        ensures reply { IfOk result (λ reply. reply ≡ reply_to (state_of self.old) command) }
+        ensures small { IfOk result IsSmall }
+        ensures table { OnOk result (table_of self.new ≡ answered self.old.limits (table_of self.old) command) }
         ensures state { OnOk result (state_of self.new ≡ after (state_of self.old) command) }
         ensures store { OnOk result (Serves policy self.old command self.new.store) }
         ensures opened { (self.new.keys ≡ self.old.keys) × (self.new.limits ≡ self.old.limits) }
 
-        ensures err { OnErr result (self.new.past ≡ self.old.past) }
+        ensures err { OnErr result (table_of self.new ≡ table_of self.old) }
         ensures spared { OnErr result (Spares policy self.old command self.new.store) }
         ensures refused { IfSome (refusal_of self.old command) (λ e. (result ≡ Err e) × (self.new ≡ self.old)) }
         ensures memory { refusal_of self.old command ≡ None → IfErr result (λ e. e ≡ Refusal.OutOfMemory) }
     {
         if self.may_need_upkeep(&command) {
             let asked = command;
-            return self.apply_apart(worker, asked, policy);
+            return self.apply_apart(asked, policy);
         }
-        self.apply_with_room(worker, command, policy)
+        self.apply_with_cell(command, policy)
     }
 
-    /// Answers a command if the history has room and no cell is missing, as `apply` does.
+    /// Answers one command, as `apply` does, with two copies of the reply. A list is copied, which may be refused with
+    /// 8 as well.
     #[inline(always)]
-    fn apply_with_room(
-        &mut self,
-        worker: u32,
-        command: Command,
-        policy: Policy,
-    ) -> Result<(Reply, Reply), Refusal>
-        requires room { length self.old.past.tail < self.old.limits.history }
+    pub fn apply_copied(&mut self, command: Command, policy: Policy) -> Result<Copies, Refusal>
+        ensures reply { IfOk result (λ copies. copies.reply ≡ reply_to (state_of self.old) command) }
+        ensures receipt { IfOk result (λ copies. copies.receipt ≡ reply_to (state_of self.old) command) }
+        ensures kept { IfOk result (λ copies. copies.kept ≡ reply_to (state_of self.old) command) }
+        ensures small { IfOk result (λ copies. IsSmall copies.reply) }
+        ensures table { OnOk result (table_of self.new ≡ answered self.old.limits (table_of self.old) command) }
+        ensures state { OnOk result (state_of self.new ≡ after (state_of self.old) command) }
+        ensures store { OnOk result (Serves policy self.old command self.new.store) }
+        ensures opened { (self.new.keys ≡ self.old.keys) × (self.new.limits ≡ self.old.limits) }
+
+        ensures err { OnErr result (table_of self.new ≡ table_of self.old) }
+        ensures spared { OnErr result (Spares policy self.old command self.new.store) }
+        ensures refused { IfSome (refusal_of self.old command) (λ e. (result ≡ Err e) × (self.new ≡ self.old)) }
+        ensures memory { refusal_of self.old command ≡ None → IfErr result (λ e. e ≡ Refusal.OutOfMemory) }
+    {
+        let (folded, since) = (self.folded, self.since);
+        let reply = self.apply(command, policy)?;
+        match copied(reply, self.alloc) {
+            Ok(copies) => Ok(copies),
+            Err(refusal) => {
+                // only a list may find no memory here, and a command whose reply is a list makes no change
+                self.folded = folded;
+                self.since = since;
+                Err(refusal)
+            }
+        }
+    }
+
+    /// Answers a command if no cell is missing, as `apply` does.
+    #[inline(always)]
+    fn apply_with_cell(&mut self, command: Command, policy: Policy) -> Result<Reply, Refusal>
         requires cell { lacks_cell self.old.limits.cells self.old.store (change_of command) ≡ false }
-        ensures replies { IfOk result (λ replies. (replies.0 ≡ reply_to (state_of self.old) command) ×
-            (replies.1 ≡ replies.0)) }
-        ensures small { IfOk result (λ replies. IsSmall replies.0) }
-        ensures kept { IfOk result (λ replies. self.new.past ≡ with_entry (upkept self.old.limits self.old.past)
-            (record { worker = worker; command = command; reply = replies.0 })) }
+        ensures reply { IfOk result (λ reply. reply ≡ reply_to (state_of self.old) command) }
+        ensures small { IfOk result IsSmall }
+        ensures table { OnOk result (table_of self.new ≡ answered self.old.limits (table_of self.old) command) }
         ensures state { OnOk result (state_of self.new ≡ after (state_of self.old) command) }
         ensures store { OnOk result (ServesCleared policy self.old.keys self.old.next command self.old.store
             self.new.store) }
         ensures opened { (self.new.keys ≡ self.old.keys) × (self.new.limits ≡ self.old.limits) }
 
-        ensures err { OnErr result (self.new.past ≡ self.old.past) }
+        ensures err { OnErr result (table_of self.new ≡ table_of self.old) }
         ensures spared { OnErr result (SparesCleared policy self.old.keys (range_of command) self.old.store
             self.new.store) }
         ensures refused { IfSome (early_refusal_of self.old command) (λ e. (result ≡ Err e) × (self.new ≡ self.old)) }
         ensures memory { early_refusal_of self.old command ≡ None → IfErr result (λ e. e ≡ Refusal.OutOfMemory) }
     {
         self.may_keep(&command)?;
-        make_room(&mut self.history)?;
         let reply = answer(
             &mut self.store,
+            &mut self.passes,
             &mut self.known,
             &mut self.next,
             self.alloc,
@@ -362,115 +318,53 @@ impl Partition {
             &command,
             policy,
         )?;
-        // only a list may find no memory here, and a command whose reply is a list makes no change
-        let copies = copied(reply, self.alloc)?;
-        let entry = Entry {
-            worker,
-            command,
-            reply: copies.kept,
-        };
-        push_reserved(&mut self.history, entry);
-        Ok((copies.reply, copies.receipt))
+        count_command(&mut self.folded, &mut self.since, self.limits);
+        Ok(reply)
     }
 
     /// Answers a command that may need upkeep. Its outcome has its place in memory here, so that `apply` doesn't clear
     /// one for it at its beginning.
     #[inline(always)]
-    fn apply_apart(
-        &mut self,
-        worker: u32,
-        command: Command,
-        policy: Policy,
-    ) -> Result<(Reply, Reply), Refusal>
-        ensures applies { Applies policy worker command self.old result self.new }
+    fn apply_apart(&mut self, command: Command, policy: Policy) -> Result<Reply, Refusal>
+        ensures applies { Applies policy command self.old result self.new }
     {
-        handed_on(self.apply_with_upkeep(worker, command, policy))
+        handed_on(self.apply_with_upkeep(command, policy))
     }
 
     /// Answers a command that may need upkeep, as `apply` does.
     #[inline(never)]
-    fn apply_with_upkeep(
-        &mut self,
-        worker: u32,
-        command: Command,
-        policy: Policy,
-    ) -> Result<(Reply, Reply), Refusal>
-        ensures applies { Applies policy worker command self.old result self.new }
+    fn apply_with_upkeep(&mut self, command: Command, policy: Policy) -> Result<Reply, Refusal>
+        ensures applies { Applies policy command self.old result self.new }
     {
         self.may_keep(&command)?;
         self.make_cell(&command)?;
-        if self.is_at_limit() {
-            return self.apply_when_full(worker, command, policy);
-        }
-        self.apply_with_room(worker, command, policy)
+        self.shrink_if_due();
+        self.apply_with_cell(command, policy)
     }
 
-    /// Answers a command if the history is full, as `apply` does. The memory that a checkpoint needs is taken before
-    /// the command is answered.
-    #[inline(never)]
-    fn apply_when_full(
-        &mut self,
-        worker: u32,
-        command: Command,
-        policy: Policy,
-    ) -> Result<(Reply, Reply), Refusal>
-        requires full { self.old.limits.history ≤ length self.old.past.tail }
-        requires cell { lacks_cell self.old.limits.cells self.old.store (change_of command) ≡ false }
-        ensures replies { IfOk result (λ replies. (replies.0 ≡ reply_to (state_of self.old) command) ×
-            (replies.1 ≡ replies.0)) }
-        ensures small { IfOk result (λ replies. IsSmall replies.0) }
-        ensures kept { IfOk result (λ replies. self.new.past ≡ with_entry (upkept self.old.limits self.old.past)
-            (record { worker = worker; command = command; reply = replies.0 })) }
-        ensures state { OnOk result (state_of self.new ≡ after (state_of self.old) command) }
-        ensures store { OnOk result (ServesCleared policy self.old.keys self.old.next command self.old.store
-            self.new.store) }
-        ensures opened { (self.new.keys ≡ self.old.keys) × (self.new.limits ≡ self.old.limits) }
-
-        ensures err { OnErr result (self.new.past ≡ self.old.past) }
-        ensures spared { OnErr result (SparesCleared policy self.old.keys (range_of command) self.old.store
-            self.new.store) }
-        ensures refused { IfSome (early_refusal_of self.old command) (λ e. (result ≡ Err e) × (self.new ≡ self.old)) }
-        ensures memory { early_refusal_of self.old command ≡ None → IfErr result (λ e. e ≡ Refusal.OutOfMemory) }
+    /// Frees the pending lists' unused memory if a checkpoint is due.
+    fn shrink_if_due(&mut self)
+        ensures { self.new ≡ self.old }
     {
-        self.may_keep(&command)?;
-        let ready = self.fold()?;
-        let reply = answer(
-            &mut self.store,
-            &mut self.known,
-            &mut self.next,
-            self.alloc,
-            self.keys,
-            &command,
-            policy,
-        )?;
-        let copies = copied(reply, self.alloc)?;
-        let kept = copies.kept;
-        let first = Entry {
-            worker,
-            command,
-            reply: kept,
-        };
-        self.store.shrink_pending();
-        begin_anew(&mut self.base, &mut self.history, ready);
-        push_reserved(&mut self.history, first);
-        Ok((copies.reply, copies.receipt))
+        if self.is_due() {
+            self.store.shrink_pending();
+        }
     }
 
-    /// Whether the history has as many entries as it may have, or a command lacks a cell.
+    /// Whether it has accepted as many commands as its limit since the last checkpoint, or a command lacks a cell.
     #[inline(always)]
     fn may_need_upkeep(&self, command: &Command) -> bool
-        ensures { IsFalse result → (length self.now.past.tail < self.now.limits.history) ×
-            (lacks_cell self.now.limits.cells self.now.store (change_of command.now) ≡ false) }
+        ensures { IsFalse result → lacks_cell self.now.limits.cells self.now.store (change_of command.now) ≡ false }
     {
         self.is_at_limit() || self.wants_cell(command)
     }
 
-    /// Whether the history has as many entries as it may have.
+    /// Whether it has accepted as many commands as its limit since the last checkpoint.
     #[inline(always)]
     fn is_at_limit(&self) -> bool
-        ensures { IsTrue result ↔ self.now.limits.history ≤ length self.now.past.tail }
+        ensures { result ≡ nat_le self.now.limits.history self.now.since }
     {
-        self.history.len() as u64 >= self.limits.history
+        self.since >= self.limits.history
     }
 
     /// Whether a command needs a cell while none is free and there are as many as there may be. O(1).
@@ -523,12 +417,12 @@ impl Partition {
         )
     }
 
-    /// Whether the history is full, and upkeep is on request.
+    /// Whether it has accepted as many commands as its limit since the last checkpoint, and upkeep is on request.
     #[inline(always)]
     fn is_full(&self) -> bool
-        ensures { result ≡ is_full self.now.limits (length self.now.past.tail) }
+        ensures { result ≡ is_full self.now.limits self.now.since }
     {
-        self.history.len() as u64 >= self.limits.history && !is_automatic(self.limits.upkeep)
+        self.is_at_limit() && !is_automatic(self.limits.upkeep)
     }
 
     /// Refuses a command for the first cause except lack of a cell, before any memory is allocated.
@@ -598,6 +492,7 @@ fn allows(keys: KeyRange, command: &Command) -> bool
 #[inline(always)]
 fn answer(
     store: &mut Store,
+    passes: &mut Passes,
     known: &mut KnownSums,
     next: &mut u64,
     alloc: Global,
@@ -619,14 +514,16 @@ fn answer(
     ensures knows { (plain : PlainState) → IsNumbered plain → IsFaithful store.old next.old plain →
         Knows known.old plain → KnowsThen known.new plain command.now result }
     ensures served { OnOk result (ServesCleared policy keys next.old command.now store.old store.new) }
+    ensures passed { OnOk result (ServesBy policy keys next.old command.now passes.old store.old passes.new store.new) }
     ensures faithful { OnOk result ((plain : PlainState) → IsFaithful store.old next.old plain →
         IsFaithful store.new next.new (after plain command.now)) }
     ensures intact { OnOk result (IsIntact store.new []) }
     ensures spared { OnErr result (SparesCleared policy keys (range_of command.now) store.old store.new ×
         (next.new ≡ next.old)) }
+    ensures stopped { OnErr result (StopsBy policy keys command.now passes.old store.old passes.new store.new) }
     ensures err { IfErr result (λ e. e ≡ Refusal.OutOfMemory) }
 {
-    let common = prepare(store, known, alloc, keys, command.range(), policy)?;
+    let common = prepare(store, passes, known, alloc, keys, command.range(), policy)?;
     carry_out(store, known, next, alloc, command, common)
 }
 
@@ -635,6 +532,7 @@ fn answer(
 #[inline(always)]
 fn prepare(
     store: &mut Store,
+    passes: &mut Passes,
     known: &mut KnownSums,
     alloc: Global,
     keys: KeyRange,
@@ -643,10 +541,12 @@ fn prepare(
 ) -> Result<Option<KeyRange>, Refusal>
     requires ends { store.old.keys ≡ keys }
     ensures prepared { OnOk result (Prepares policy keys range store.old store.new) }
+    ensures passed { OnOk result (PreparesBy policy keys range passes.old store.old passes.new store.new) }
     ensures common { IfOk result (λ common. AreCommon range keys common) }
     ensures settled { IfOk result (λ common. IfSome common (λ r. IsSettled store.new r)) }
     ensures knows { (plain : PlainState) → Knows known.old plain → Knows known.new plain }
     ensures spared { OnErr result (SparesCleared policy keys range store.old store.new) }
+    ensures stopped { OnErr result (SparesBy policy keys range passes.old store.old passes.new store.new) }
     ensures err { IfErr result (λ e. e ≡ Refusal.OutOfMemory) }
 {
     match range {
@@ -655,7 +555,7 @@ fn prepare(
             if common.is_empty() {
                 return Ok(None);
             }
-            settle(store, known, alloc, keys, common, policy)?;
+            settle(store, passes, known, alloc, keys, common, policy)?;
             Ok(Some(common))
         }
         None => Ok(None),
@@ -720,13 +620,27 @@ fn carry_out(
     }
 }
 
+/// Counts one more command since the last checkpoint, and before that makes one if it is due.
+#[inline(always)]
+fn count_command(folded: &mut u64, since: &mut u64, limits: Limits)
+    requires { folded.old + since.old + 1 < 2 ^ 64 }
+    ensures folded { folded.new ≡ (if is_due limits since.old then folded.old + since.old else folded.old) }
+    ensures since { since.new ≡ (if is_due limits since.old then 0 else since.old) + 1 }
+{
+    if *since >= limits.history && is_automatic(limits.upkeep) {
+        *folded += *since;
+        *since = 0;
+    }
+    *since += 1;
+}
+
 /// The outcome of a command, part by part: a part that isn't used isn't stored in memory.
 #[inline(always)]
-fn handed_on(answered: Result<(Reply, Reply), Refusal>) -> Result<(Reply, Reply), Refusal>
+fn handed_on(answered: Result<Reply, Refusal>) -> Result<Reply, Refusal>
     ensures { result ≡ answered }
 {
     match answered {
-        Ok((reply, receipt)) => Ok((reply, receipt)),
+        Ok(reply) => Ok(reply),
         Err(refusal) => Err(refusal),
     }
 }

@@ -9,13 +9,13 @@ use std::alloc::Global;
 
 /// A reply with its copies.
 #[derive(Drop)]
-pub(crate) struct Copies {
+pub struct Copies {
     /// For the asking worker.
-    pub(crate) reply: Reply,
+    pub reply: Reply,
     /// For the worker's receipt.
-    pub(crate) receipt: Reply,
+    pub receipt: Reply,
     /// For the history.
-    pub(crate) kept: Reply,
+    pub kept: Reply,
 }
 
 /// The reply to a delete if this is the row with its serial.

@@ -4,13 +4,15 @@ ghost use Rattle.crack_plain.specs.Plain.{PlainState};
 ghost use Rattle.crack_state.specs.Steps.{SameButRoom};
 ghost use Rattle.crack_state.specs.Merge.{IsCracked, Merges, Tallies};
 ghost use Rattle.crack_merge.specs.Merges.{Stops};
-ghost use Rattle.crack_part.specs.Parts.{is_merged_first, read_by, CracksAndMerges, Settles};
+ghost use Rattle.crack_part.specs.Parts.{is_merged_first, read_by, CracksAndMerges};
+ghost use Rattle.crack_part.specs.Forgetting.{SettlesBy, StopsReadBy};
 ghost use Rattle.crack_part.specs.Inside.{Readies};
 ghost use Rattle.crack_part.specs.KnownSums.{Knows};
-ghost use Rattle.crack_part.specs.Parts.{CracksBy, LeavesNear, StopsAt, StopsRead};
+ghost use Rattle.crack_part.specs.Parts.{CracksBy, LeavesNear, StopsAt};
 
 use crate::coarsening::coarsen;
 use crate::known::KnownSums;
+use crate::passes::Passes;
 use crack_merge::{merge_complete, merge_gradual, merge_ripple};
 use crack_row::{KeyRange, Policy, Refusal};
 use crack_store::{MergeReport, Store};
@@ -23,6 +25,7 @@ use std::mem;
 #[inline(never)]
 pub(crate) fn settle(
     store: &mut Store,
+    passes: &mut Passes,
     known: &mut KnownSums,
     alloc: Global,
     keys: KeyRange,
@@ -33,13 +36,13 @@ pub(crate) fn settle(
     requires filled { range.low < range.high }
     requires low { keys.low ≤ range.low }
     requires high { range.high ≤ keys.high }
-    ensures settled { OnOk result (Settles policy store.old store.new range) }
-    ensures stopped { OnErr result (StopsRead policy store.old store.new range) }
+    ensures settled { OnOk result (SettlesBy policy passes.old store.old passes.new store.new range) }
+    ensures stopped { OnErr result (StopsReadBy policy passes.old store.old passes.new store.new range) }
     ensures knows { (plain : PlainState) → Knows known.old plain → Knows known.new plain }
     ensures err { IfErr result (λ e. e ≡ Refusal.OutOfMemory) }
 {
     make_ready(store, alloc, keys, policy)?;
-    coarsen(store, known, policy);
+    coarsen(store, passes, known, policy);
     crack_and_merge(store, alloc, keys, range, policy)
 }
 

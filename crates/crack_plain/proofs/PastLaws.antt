@@ -11,9 +11,9 @@ use Rattle.crack_row.specs.declared.limit.Limits.{Limits}
 use Rattle.crack_plain.specs.Plain.{IsNumbered, reply_to, after, AreReplies}
 use Rattle.crack_plain.proofs.Words.{StandWithin, IsWithin}
 use Rattle.crack_plain.specs.Past.{IsBase, no_base, Past, no_past, with_entry, state_after, accepted_in, inserted_in, deleted_in, base_after, folded, IsLegal}
-use Rattle.crack_plain.specs.Totals.{is_placed, is_gone, is_changed, inserted, deleted, updated}
+use Rattle.crack_plain.specs.Totals.{is_placed, is_gone, inserted, deleted}
 use Rattle.crack_plain.proofs.Laws.{replay_from-push, AreReplies-push, BringWithin-push, IsNumbered-no_rows, IsNumbered-replay_from, next-replay_from, length_rows-replay_from}
-use Rattle.crack_plain.proofs.TotalLaws.{inserted-cons, deleted-cons, updated-cons, inserted-le-accepted}
+use Rattle.crack_plain.proofs.TotalLaws.{inserted-cons, deleted-cons, inserted-le-accepted}
 
 pub IsBase-no_base : IsBase no_base
 IsBase-no_base = record { numbered = IsNumbered-no_rows; serial = refl; held = refl; few = omega arith }
@@ -57,19 +57,19 @@ held-after_past past base replies =
     let gone : ℕ = deleted_in past in
     sym (ap (λ (n : ℕ). pos n -ℤ pos gone) (sym (length_rows-after_past past base replies)) ∙ +ℤ-neg_ℤ_cancel (pos left) (pos gone))
 
--- a command does at most one of these: place a row, remove one, change one
-pub changes-le-accepted : (es : List Entry) → inserted es + deleted es + updated es ≤ length es
+-- a command doesn't both place a row and remove one
+pub changes-le-accepted : (es : List Entry) → inserted es + deleted es ≤ length es
 changes-le-accepted [] = omega arith
-changes-le-accepted (e ∷ es) = by_reply e.reply (inserted-cons e es) (deleted-cons e es) (updated-cons e es) (changes-le-accepted es)
+changes-le-accepted (e ∷ es) = by_reply e.reply (inserted-cons e es) (deleted-cons e es) (changes-le-accepted es)
   where
-    by_reply : (reply : Reply) → inserted (e ∷ es) ≡ (if is_placed reply then 1 else 0) + inserted es → deleted (e ∷ es) ≡ (if is_gone reply then 1 else 0) + deleted es → updated (e ∷ es) ≡ (if is_changed reply then 1 else 0) + updated es → inserted es + deleted es + updated es ≤ length es → inserted (e ∷ es) + deleted (e ∷ es) + updated (e ∷ es) ≤ length (e ∷ es)
-    by_reply (Placed serial) placed gone changed later = omega (arith, placed, gone, changed, later)
-    by_reply (Gone row) placed gone changed later = omega (arith, placed, gone, changed, later)
-    by_reply Changed placed gone changed later = omega (arith, placed, gone, changed, later)
-    by_reply NoRow placed gone changed later = omega (arith, placed, gone, changed, later)
-    by_reply (Counted count) placed gone changed later = omega (arith, placed, gone, changed, later)
-    by_reply (Summed sum) placed gone changed later = omega (arith, placed, gone, changed, later)
-    by_reply (Rows rows) placed gone changed later = omega (arith, placed, gone, changed, later)
+    by_reply : (reply : Reply) → inserted (e ∷ es) ≡ (if is_placed reply then 1 else 0) + inserted es → deleted (e ∷ es) ≡ (if is_gone reply then 1 else 0) + deleted es → inserted es + deleted es ≤ length es → inserted (e ∷ es) + deleted (e ∷ es) ≤ length (e ∷ es)
+    by_reply (Placed serial) placed gone later = omega (arith, placed, gone, later)
+    by_reply (Gone row) placed gone later = omega (arith, placed, gone, later)
+    by_reply Changed placed gone later = omega (arith, placed, gone, later)
+    by_reply NoRow placed gone later = omega (arith, placed, gone, later)
+    by_reply (Counted count) placed gone later = omega (arith, placed, gone, later)
+    by_reply (Summed sum) placed gone later = omega (arith, placed, gone, later)
+    by_reply (Rows rows) placed gone later = omega (arith, placed, gone, later)
 
 -- the plain rows and totals of a past are a base, and the past with this base and an empty history is legal
 pub IsBase-after : (past : Past) → IsBase past.base → AreReplies past.base.state past.tail → IsBase (base_after past)

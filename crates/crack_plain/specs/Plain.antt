@@ -1,5 +1,5 @@
 -- The plain table: rows changed by commands and filtered by ranges, without pieces, handles, pending rows, policies or locks.
-use Rattle.std.specs.Prelude.{◌≡◌, ℕ, pos, neg_ℤ, ◌<ℤ◌, ◌+◌, ◌<◌, ◌^◌, List, [], ◌∷◌, ◌++◌, length, map, filter, find, count_by, unwrap_or, option_map, All, AllPairs, Option, Some, None, Bool, true, false}
+use Rattle.std.specs.Prelude.{◌≡◌, ℕ, pos, neg_ℤ, ◌<ℤ◌, ◌+◌, ◌<◌, ◌^◌, nat_lt, if◌then◌else◌, List, [], ◌∷◌, ◌++◌, length, map, filter, find, count_by, unwrap_or, option_map, All, AllPairs, Option, Some, None, Bool, true, false}
 use Rattle.crack_row.specs.Ranges.{Range, in_range}
 use Rattle.crack_row.specs.Commands.{change_of}
 use Rattle.crack_row.specs.Replies.{IsFlat}
@@ -29,6 +29,16 @@ no_rows = record { rows = []; next = 0 }
 pub record IsNumbered (s : PlainState) : Type 0 where
   pub rising : AllPairs (λ (earlier later : Row). earlier.serial.0 < later.serial.0) s.rows
   pub below : All (λ (row : Row). row.serial.0 < s.next) s.rows
+
+-- rows by rising serial, with one more row at its place
+abbrev pub put_by_serial : Row → List Row → List Row
+put_by_serial row [] = row ∷ []
+put_by_serial row (r ∷ rows) = if nat_lt row.serial.0 r.serial.0 then row ∷ r ∷ rows else r ∷ put_by_serial row rows
+
+-- rows, by rising serial
+abbrev pub by_serial : List Row → List Row
+by_serial [] = []
+by_serial (row ∷ rows) = put_by_serial row (by_serial rows)
 
 -- the row with a serial, if there is one
 abbrev pub row_in : List Row → Serial → Option Row

@@ -1,7 +1,7 @@
--- How many insertions, deletions and updates a history has.
+-- How many insertions and deletions a history has.
 use Rattle.std.specs.Prelude.{ℕ, Bool, true, false, List, count_by}
 use Rattle.crack_row.specs.declared.command.Reply.{Reply}
-use Rattle.crack_row.specs.declared.command.Reply.TheVariants.{Placed, Gone, Changed}
+use Rattle.crack_row.specs.declared.command.Reply.TheVariants.{Placed, Gone}
 use Rattle.crack_row.specs.declared.command.Entry.{Entry}
 
 -- whether a row was placed
@@ -14,11 +14,6 @@ abbrev pub is_gone : Reply → Bool
 is_gone (Gone row) = true
 is_gone _ = false
 
--- whether a row was changed
-abbrev pub is_changed : Reply → Bool
-is_changed Changed = true
-is_changed _ = false
-
 -- how many rows were placed
 abbrev pub inserted : List Entry → ℕ
 inserted es = count_by (λ (e : Entry). is_placed e.reply) es
@@ -26,7 +21,3 @@ inserted es = count_by (λ (e : Entry). is_placed e.reply) es
 -- how many rows were removed
 abbrev pub deleted : List Entry → ℕ
 deleted es = count_by (λ (e : Entry). is_gone e.reply) es
-
--- how often a row was changed
-abbrev pub updated : List Entry → ℕ
-updated es = count_by (λ (e : Entry). is_changed e.reply) es

@@ -35,7 +35,7 @@ pub const GREATEST_PAYLOAD: PayloadNumber = 9223372036854775807;
 pub const GREATEST_LIMIT: u64 = 1000000;
 
 /// The greatest number of cells that a partition's rows may be limited to.
-pub const GREATEST_CELLS: u64 = 1048576;
+pub const GREATEST_CELLS: u64 = 16777215;
 
 /// The greatest number of commands that a partition may be limited to accept in total.
 pub const GREATEST_LIFE: u64 = 1099511627776;

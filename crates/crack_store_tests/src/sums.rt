@@ -28,6 +28,15 @@ impl Source for Rows {
         let keys = range.high().number() - range.low().number();
         (keys as i128).checked_mul(self.payload)
     }
+
+    fn prefers_rest(&self, part: KeyRange, whole: KeyRange) -> bool {
+        keys_in(whole).saturating_sub(keys_in(part)) < keys_in(part)
+    }
+}
+
+/// How many keys a range has.
+fn keys_in(range: KeyRange) -> BoundNumber {
+    range.high().number() - range.low().number()
 }
 
 /// A step of a test on the sums of rows.
@@ -73,6 +82,23 @@ const SCRIPTS: &[Script] = &[
             Step::Clear,
             Step::Pieces(0),
             Step::Sum(0, GREATEST_BOUND, Some(55340232221128654848), 4),
+        ],
+    },
+    Script {
+        name: "the rest of a piece is asked if that is less",
+        steps: &[
+            Step::Sum(0, 100, Some(300), 1),
+            Step::Sum(0, 90, Some(270), 2),
+            Step::Sum(90, 100, Some(30), 2),
+            Step::Sum(20, 90, Some(210), 3),
+            Step::Sum(0, 20, Some(60), 3),
+            // both ends in one piece: its rest is two parts
+            Step::Sum(25, 80, Some(165), 5),
+            Step::Sum(20, 90, Some(210), 5),
+            Step::Sum(80, 90, Some(30), 5),
+            // and the part, if that is less
+            Step::Sum(40, 50, Some(30), 6),
+            Step::Sum(25, 80, Some(165), 8),
         ],
     },
     Script {

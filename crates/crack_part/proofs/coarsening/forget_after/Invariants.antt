@@ -1,12 +1,12 @@
 use Rattle.std.proofs.Common.{length}
 use Rattle.crack_plain.specs.Plain.{PlainState}
-use Rattle.crack_state.specs.Merge.{Coarsens}
 use Rattle.crack_part.specs.KnownSums.{Knows}
+use Rattle.crack_part.proofs.ForgetLaws.{IsOnWay}
 use Rattle.crack_part.proofs.coarsening.forget_after.Given as goal
 
 abbrev pub invariant-bounds : goal.invariant-bounds
 invariant-bounds l = record {
-  coarse : Coarsens l.fn.store l.store;
+  on : IsOnWay l.fn.key l.fn.store l.pass l.store;
   knows : (plain : PlainState) → Knows l.fn.known plain → Knows l.known plain;
 }
 

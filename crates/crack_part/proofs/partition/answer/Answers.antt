@@ -59,3 +59,13 @@ returns-clause-knows c = λ plain numbered faithful knows.
     let prepared = rw c.range.ensures at c.in_ok-common.ensures.prepared in
     let keeps = Keeps-prepared c.args.policy c.args.keys _ c.args.store.now c.prepare.new.store prepared in
     c.carry_out.ensures.knows plain numbered (IsFaithful-kept c.args.store.now c.prepare.new.store c.args.next.now plain keeps faithful) (c.in_ok-common.ensures.knows plain knows)
+
+pub returns-clause-passed : goal.returns-clause-passed
+returns-clause-passed c = on_ok_weaker c.carry_out.result (λ performed. record {
+  ready = c.prepare.new.store;
+  prepared = rw c.range.ensures at c.in_ok-common.ensures.passed;
+  performed = performed;
+}) c.carry_out.ensures.performed
+
+pub returns-clause-stopped : goal.returns-clause-stopped
+returns-clause-stopped c = on_err_weaker c.carry_out.result (λ same. inr (c.prepare.new.store, rw c.range.ensures at c.in_ok-common.ensures.passed, same.0)) c.carry_out.ensures.same

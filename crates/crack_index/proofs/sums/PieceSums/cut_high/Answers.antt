@@ -1,11 +1,9 @@
-use Rattle.std.proofs.Common.{◌≡◌, ◌+◌, ◌<◌, None, sym, ◌∙◌, arith, rules}
-use Rattle.std.specs.Int.{w128}
-use Rattle.std.proofs.lemmas.Int.{to_z-of_z}
+use Rattle.std.proofs.Common.{◌≡◌, ◌+◌, None, sym, ◌∙◌, arith}
 use Rattle.crack_row.specs.declared.TheConstants.{GREATEST_BOUND}
 use Rattle.crack_index.specs.declared.sums.TheConstants.{UNKNOWN}
-use Rattle.crack_index.specs.Cuts.{IsRest, piece_at, put, span}
-use Rattle.crack_index.proofs.Pieces.{IsEnd-new, IsEnd-given, piece-is, piece-above, end-past}
-use Rattle.crack_index.proofs.Cutting.{by_bool, piece-own, end-has, Extends-same, Extends-begin, Extends-blind, Extends-lower}
+use Rattle.crack_index.specs.Cuts.{piece_at, put}
+use Rattle.crack_index.proofs.Pieces.{IsEnd-new, IsEnd-given, piece-is, end-past}
+use Rattle.crack_index.proofs.Cutting.{by_bool, piece-own, end-apart, end-has, Extends-same, Extends-begin, Extends-blind}
 use Rattle.crack_index.proofs.sums.PieceSums.cut_high.Goals as goal
 
 pub returns-then-last-eq-GREATEST_KEY-clause-cut : goal.returns-then-last-eq-GREATEST_KEY-clause-cut
@@ -18,8 +16,8 @@ returns-in_default-clause-more g c =
     let es = c.args.self.now in
     let none : piece_at (c.args.last + 1) es ≡ None = sym c.piece_at.ensures.value ∙ c.in_default.is in
     by_bool c.put.result _
-    (λ done. rw (c.put.ensures.ok done) (Extends-begin (g.S.Source.says c.args.source.now) (span c.args.first c.args.last) (c.args.last + 1) es c.piece_at.ensures.rises (omega (arith, c.ranges.last.fits, c.if-last-eq-GREATEST_KEY.false)) none))
-    (λ short. rw (c.put.ensures.err short) (Extends-same (g.S.Source.says c.args.source.now) (span c.args.first c.args.last) es))
+    (λ done. rw (c.put.ensures.ok done) (Extends-begin (g.S.Source.says c.args.source.now) (c.args.last + 1) es c.piece_at.ensures.rises (omega (arith, c.ranges.last.fits, c.if-last-eq-GREATEST_KEY.false)) none))
+    (λ short. rw (c.put.ensures.err short) (Extends-same (g.S.Source.says c.args.source.now) es))
 
 pub returns-in_default-clause-cut : goal.returns-in_default-clause-cut
 returns-in_default-clause-cut g c = λ done. rw (c.put.ensures.ok done) (IsEnd-new (c.args.last + 1) UNKNOWN c.args.self.now)
@@ -38,8 +36,8 @@ returns-then-sum-clause-more g c =
     let es = c.args.self.now in
     let found = sym c.piece_at.ensures.value ∙ c.in-Some.is in
     by_bool c.split.result _
-    (λ done. rw (c.split.ensures.ok done) (Extends-blind (g.S.Source.says c.args.source.now) (span c.args.first c.args.last) (c.args.last + 1) (c.in-Some.start, c.in-Some.sum) es c.piece_at.ensures.rises (omega (arith, c.ranges.last.fits, c.if-last-eq-GREATEST_KEY.false)) found c.if-start-high.false))
-    (λ short. rw (c.split.ensures.err short) (Extends-same (g.S.Source.says c.args.source.now) (span c.args.first c.args.last) es))
+    (λ done. rw (c.split.ensures.ok done) (Extends-blind (g.S.Source.says c.args.source.now) (c.args.last + 1) (c.in-Some.start, c.in-Some.sum) es c.piece_at.ensures.rises (omega (arith, c.ranges.last.fits, c.if-last-eq-GREATEST_KEY.false)) found c.if-start-high.false))
+    (λ short. rw (c.split.ensures.err short) (Extends-same (g.S.Source.says c.args.source.now) es))
 
 pub returns-then-sum-clause-cut : goal.returns-then-sum-clause-cut
 returns-then-sum-clause-cut g c = λ done.
@@ -47,32 +45,6 @@ returns-then-sum-clause-cut g c = λ done.
 
 pub returns-then-sum-clause-same : goal.returns-then-sum-clause-same
 returns-then-sum-clause-same g c = λ is.
-    let found = sym c.piece_at.ensures.value ∙ c.in-Some.is in
-    absurd (c.if-start-high.false (piece-own (c.args.last + 1) c.args.self.now (c.in-Some.start, c.in-Some.sum) c.piece_at.ensures.rises (omega (arith, c.ranges.last.fits, c.if-last-eq-GREATEST_KEY.false)) found is))
-
-pub returns-clause-more : goal.returns-clause-more
-returns-clause-more g c =
-    let es = c.args.self.now in
-    let few : c.args.last + 1 < GREATEST_BOUND = omega (arith, c.ranges.last.fits, c.if-last-eq-GREATEST_KEY.false) in
-    let found = sym c.piece_at.ensures.value ∙ c.in-Some.is in
-    let above = piece-above c.args.first (c.args.last + 1) es (c.in-Some.start, c.in-Some.sum) c.piece_at.ensures.rises few found c.requires.cut (omega (arith, c.requires.order)) in
-    let sum = to_z-of_z w128 c.in-Some.sum (search rules) in
-    let lower = to_z-of_z w128 c.asked-lower.result (search rules) in
-    let upper = to_z-of_z w128 c.rest.result (search rules) in
-    let rest : IsRest c.in-Some.sum c.asked-lower.result c.rest.result = rw (sum, lower) at c.rest.ensures in
-    by_bool c.split-2.result _
-    (λ done. rw (c.split-2.ensures.ok done, lower, upper) (Extends-lower (g.S.Source.says c.args.source.now) (span c.args.first c.args.last) (c.args.last + 1) (c.in-Some.start, c.in-Some.sum) c.asked-lower.result c.rest.result es
-    c.piece_at.ensures.rises few found c.if-start-high.false above (omega arith) c.asked-lower.ensures rest))
-    (λ short. rw (c.split-2.ensures.err short) (Extends-same (g.S.Source.says c.args.source.now) (span c.args.first c.args.last) es))
-
-pub returns-clause-cut : goal.returns-clause-cut
-returns-clause-cut g c = λ done.
-    let lower = to_z-of_z w128 c.asked-lower.result (search rules) in
-    let upper = to_z-of_z w128 c.rest.result (search rules) in
-    rw (c.split-2.ensures.ok done, lower, upper) (IsEnd-given (c.args.last + 1) c.in-Some.start c.asked-lower.result (put (c.args.last + 1) c.rest.result c.args.self.now) (IsEnd-new (c.args.last + 1) c.rest.result c.args.self.now))
-
-pub returns-clause-same : goal.returns-clause-same
-returns-clause-same g c = λ is.
     let found = sym c.piece_at.ensures.value ∙ c.in-Some.is in
     absurd (c.if-start-high.false (piece-own (c.args.last + 1) c.args.self.now (c.in-Some.start, c.in-Some.sum) c.piece_at.ensures.rises (omega (arith, c.ranges.last.fits, c.if-last-eq-GREATEST_KEY.false)) found is))
 
@@ -84,7 +56,26 @@ returns-then-sum-clause-done g c = λ is.
     let found = sym c.piece_at.ensures.value ∙ c.in-Some.is in
     absurd (c.if-start-high.false (piece-own (c.args.last + 1) c.args.self.now (c.in-Some.start, c.in-Some.sum) c.piece_at.ensures.rises (omega (arith, c.ranges.last.fits, c.if-last-eq-GREATEST_KEY.false)) found is))
 
+pub put-requires : goal.put-requires
+put-requires g c = end-has (c.args.last + 1) c.args.self.now c.piece_at.ensures.rises (omega (arith, c.ranges.last.fits, c.if-last-eq-GREATEST_KEY.false)) (sym c.piece_at.ensures.value ∙ c.in_default.is)
+
+pub split-requires : goal.split-requires
+split-requires g c = λ is. c.if-start-high.false (piece-own (c.args.last + 1) c.args.self.now (c.in-Some.start, c.in-Some.sum) c.piece_at.ensures.rises (omega (arith, c.ranges.last.fits, c.if-last-eq-GREATEST_KEY.false)) (sym c.piece_at.ensures.value ∙ c.in-Some.is) is)
+
+pub split_above-requires-clause-apart : goal.split_above-requires-clause-apart
+split_above-requires-clause-apart g c = end-apart (c.args.last + 1) c.args.self.now (c.in-Some.start, c.in-Some.sum) c.piece_at.ensures.rises (omega (arith, c.ranges.last.fits, c.if-last-eq-GREATEST_KEY.false)) (sym c.piece_at.ensures.value ∙ c.in-Some.is) c.if-start-high.false
+
+pub returns-then-prefers_rest-clause-same : goal.returns-then-prefers_rest-clause-same
+returns-then-prefers_rest-clause-same g c = λ is. absurd (end-apart (c.args.last + 1) c.args.self.now (c.in-Some.start, c.in-Some.sum) c.piece_at.ensures.rises (omega (arith, c.ranges.last.fits, c.if-last-eq-GREATEST_KEY.false)) (sym c.piece_at.ensures.value ∙ c.in-Some.is) c.if-start-high.false is)
+
+pub returns-then-prefers_rest-clause-done : goal.returns-then-prefers_rest-clause-done
+returns-then-prefers_rest-clause-done g c = λ is. absurd (end-apart (c.args.last + 1) c.args.self.now (c.in-Some.start, c.in-Some.sum) c.piece_at.ensures.rises (omega (arith, c.ranges.last.fits, c.if-last-eq-GREATEST_KEY.false)) (sym c.piece_at.ensures.value ∙ c.in-Some.is) c.if-start-high.false is)
+
+pub split_below-requires-clause-apart : goal.split_below-requires-clause-apart
+split_below-requires-clause-apart g c = end-apart (c.args.last + 1) c.args.self.now (c.in-Some.start, c.in-Some.sum) c.piece_at.ensures.rises (omega (arith, c.ranges.last.fits, c.if-last-eq-GREATEST_KEY.false)) (sym c.piece_at.ensures.value ∙ c.in-Some.is) c.if-start-high.false
+
+pub returns-clause-same : goal.returns-clause-same
+returns-clause-same g c = λ is. absurd (end-apart (c.args.last + 1) c.args.self.now (c.in-Some.start, c.in-Some.sum) c.piece_at.ensures.rises (omega (arith, c.ranges.last.fits, c.if-last-eq-GREATEST_KEY.false)) (sym c.piece_at.ensures.value ∙ c.in-Some.is) c.if-start-high.false is)
+
 pub returns-clause-done : goal.returns-clause-done
-returns-clause-done g c = λ is.
-    let found = sym c.piece_at.ensures.value ∙ c.in-Some.is in
-    absurd (c.if-start-high.false (piece-own (c.args.last + 1) c.args.self.now (c.in-Some.start, c.in-Some.sum) c.piece_at.ensures.rises (omega (arith, c.ranges.last.fits, c.if-last-eq-GREATEST_KEY.false)) found is))
+returns-clause-done g c = λ is. absurd (end-apart (c.args.last + 1) c.args.self.now (c.in-Some.start, c.in-Some.sum) c.piece_at.ensures.rises (omega (arith, c.ranges.last.fits, c.if-last-eq-GREATEST_KEY.false)) (sym c.piece_at.ensures.value ∙ c.in-Some.is) c.if-start-high.false is)

@@ -1,10 +1,8 @@
-use Rattle.std.proofs.Common.{◌≡◌, None, sym, ◌∙◌, arith, rules}
-use Rattle.std.specs.Int.{w128}
-use Rattle.std.proofs.lemmas.Int.{to_z-of_z}
+use Rattle.std.proofs.Common.{◌≡◌, None, sym, ◌∙◌, arith}
 use Rattle.crack_index.specs.declared.sums.TheConstants.{UNKNOWN}
-use Rattle.crack_index.specs.Cuts.{IsRest, piece_at, put, span}
+use Rattle.crack_index.specs.Cuts.{piece_at, put}
 use Rattle.crack_index.proofs.Pieces.{IsEnd-new, IsEnd-given, piece-is}
-use Rattle.crack_index.proofs.Cutting.{by_bool, piece-own, end-has, Extends-same, Extends-begin, Extends-blind, Extends-upper}
+use Rattle.crack_index.proofs.Cutting.{by_bool, piece-own, end-apart, end-has, Extends-same, Extends-begin, Extends-blind}
 use Rattle.crack_index.proofs.sums.PieceSums.cut_low.Goals as goal
 
 pub returns-in_default-clause-more : goal.returns-in_default-clause-more
@@ -12,8 +10,8 @@ returns-in_default-clause-more g c =
     let es = c.args.self.now in
     let none : piece_at c.args.first es ≡ None = sym c.piece_at.ensures.value ∙ c.in_default.is in
     by_bool c.put.result _
-    (λ done. rw (c.put.ensures.ok done) (Extends-begin (g.S.Source.says c.args.source.now) (span c.args.first c.args.last) c.args.first es c.piece_at.ensures.rises (omega (arith, c.ranges.first.fits)) none))
-    (λ short. rw (c.put.ensures.err short) (Extends-same (g.S.Source.says c.args.source.now) (span c.args.first c.args.last) es))
+    (λ done. rw (c.put.ensures.ok done) (Extends-begin (g.S.Source.says c.args.source.now) c.args.first es c.piece_at.ensures.rises (omega (arith, c.ranges.first.fits)) none))
+    (λ short. rw (c.put.ensures.err short) (Extends-same (g.S.Source.says c.args.source.now) es))
 
 pub returns-in_default-clause-cut : goal.returns-in_default-clause-cut
 returns-in_default-clause-cut g c = λ done. rw (c.put.ensures.ok done) (IsEnd-new c.args.first UNKNOWN c.args.self.now)
@@ -32,8 +30,8 @@ returns-then-sum-clause-more g c =
     let es = c.args.self.now in
     let found = sym c.piece_at.ensures.value ∙ c.in-Some.is in
     by_bool c.split.result _
-    (λ done. rw (c.split.ensures.ok done) (Extends-blind (g.S.Source.says c.args.source.now) (span c.args.first c.args.last) c.args.first (c.in-Some.start, c.in-Some.sum) es c.piece_at.ensures.rises (omega (arith, c.ranges.first.fits)) found c.if-start-first.false))
-    (λ short. rw (c.split.ensures.err short) (Extends-same (g.S.Source.says c.args.source.now) (span c.args.first c.args.last) es))
+    (λ done. rw (c.split.ensures.ok done) (Extends-blind (g.S.Source.says c.args.source.now) c.args.first (c.in-Some.start, c.in-Some.sum) es c.piece_at.ensures.rises (omega (arith, c.ranges.first.fits)) found c.if-start-first.false))
+    (λ short. rw (c.split.ensures.err short) (Extends-same (g.S.Source.says c.args.source.now) es))
 
 pub returns-then-sum-clause-cut : goal.returns-then-sum-clause-cut
 returns-then-sum-clause-cut g c = λ done.
@@ -41,31 +39,6 @@ returns-then-sum-clause-cut g c = λ done.
 
 pub returns-then-sum-clause-same : goal.returns-then-sum-clause-same
 returns-then-sum-clause-same g c = λ is.
-    let found = sym c.piece_at.ensures.value ∙ c.in-Some.is in
-    absurd (c.if-start-first.false (piece-own c.args.first c.args.self.now (c.in-Some.start, c.in-Some.sum) c.piece_at.ensures.rises (omega (arith, c.ranges.first.fits)) found is))
-
-pub returns-clause-more : goal.returns-clause-more
-returns-clause-more g c =
-    let es = c.args.self.now in
-    let found = sym c.piece_at.ensures.value ∙ c.in-Some.is in
-    let sum = to_z-of_z w128 c.in-Some.sum (search rules) in
-    let upper = to_z-of_z w128 c.asked-upper.result (search rules) in
-    let lower = to_z-of_z w128 c.rest.result (search rules) in
-    let rest : IsRest c.in-Some.sum c.asked-upper.result c.rest.result = rw (sum, upper) at c.rest.ensures in
-    let said = rw c.next_at-next.ensures.value at c.asked-upper.ensures in
-    by_bool c.split-2.result _
-    (λ done. rw (c.split-2.ensures.ok done, lower, upper) (Extends-upper (g.S.Source.says c.args.source.now) (span c.args.first c.args.last) c.args.first (c.in-Some.start, c.in-Some.sum) c.rest.result c.asked-upper.result es
-    c.piece_at.ensures.rises (omega (arith, c.ranges.first.fits)) found c.if-start-first.false (omega arith) (omega (arith, c.if-next-last.false, c.next_at-next.ensures.value)) said rest))
-    (λ short. rw (c.split-2.ensures.err short) (Extends-same (g.S.Source.says c.args.source.now) (span c.args.first c.args.last) es))
-
-pub returns-clause-cut : goal.returns-clause-cut
-returns-clause-cut g c = λ done.
-    let upper = to_z-of_z w128 c.asked-upper.result (search rules) in
-    let lower = to_z-of_z w128 c.rest.result (search rules) in
-    rw (c.split-2.ensures.ok done, lower, upper) (IsEnd-given c.args.first c.in-Some.start c.rest.result (put c.args.first c.asked-upper.result c.args.self.now) (IsEnd-new c.args.first c.asked-upper.result c.args.self.now))
-
-pub returns-clause-same : goal.returns-clause-same
-returns-clause-same g c = λ is.
     let found = sym c.piece_at.ensures.value ∙ c.in-Some.is in
     absurd (c.if-start-first.false (piece-own c.args.first c.args.self.now (c.in-Some.start, c.in-Some.sum) c.piece_at.ensures.rises (omega (arith, c.ranges.first.fits)) found is))
 
@@ -77,7 +50,47 @@ returns-then-sum-clause-done g c = λ is.
     let found = sym c.piece_at.ensures.value ∙ c.in-Some.is in
     absurd (c.if-start-first.false (piece-own c.args.first c.args.self.now (c.in-Some.start, c.in-Some.sum) c.piece_at.ensures.rises (omega (arith, c.ranges.first.fits)) found is))
 
+pub put-requires : goal.put-requires
+put-requires g c = end-has c.args.first c.args.self.now c.piece_at.ensures.rises (omega (arith, c.ranges.first.fits)) (sym c.piece_at.ensures.value ∙ c.in_default.is)
+
+pub split-requires : goal.split-requires
+split-requires g c = λ is. c.if-start-first.false (piece-own c.args.first c.args.self.now (c.in-Some.start, c.in-Some.sum) c.piece_at.ensures.rises (omega (arith, c.ranges.first.fits)) (sym c.piece_at.ensures.value ∙ c.in-Some.is) is)
+
+pub split_below-requires-clause-apart : goal.split_below-requires-clause-apart
+split_below-requires-clause-apart g c = end-apart c.args.first c.args.self.now (c.in-Some.start, c.in-Some.sum) c.piece_at.ensures.rises (omega (arith, c.ranges.first.fits)) (sym c.piece_at.ensures.value ∙ c.in-Some.is) c.if-start-first.false
+
+pub returns-then-prefers_rest-clause-same : goal.returns-then-prefers_rest-clause-same
+returns-then-prefers_rest-clause-same g c = λ is. absurd (end-apart c.args.first c.args.self.now (c.in-Some.start, c.in-Some.sum) c.piece_at.ensures.rises (omega (arith, c.ranges.first.fits)) (sym c.piece_at.ensures.value ∙ c.in-Some.is) c.if-start-first.false is)
+
+pub returns-then-prefers_rest-clause-done : goal.returns-then-prefers_rest-clause-done
+returns-then-prefers_rest-clause-done g c = λ is. absurd (end-apart c.args.first c.args.self.now (c.in-Some.start, c.in-Some.sum) c.piece_at.ensures.rises (omega (arith, c.ranges.first.fits)) (sym c.piece_at.ensures.value ∙ c.in-Some.is) c.if-start-first.false is)
+
+pub split-requires-then-past-next : goal.split-requires-then-past-next
+split-requires-then-past-next g c = end-apart c.args.first c.args.self.now (c.in-Some.start, c.in-Some.sum) c.piece_at.ensures.rises (omega (arith, c.ranges.first.fits)) (sym c.piece_at.ensures.value ∙ c.in-Some.is) c.if-start-first.false
+
+pub returns-then-past-next-clause-same : goal.returns-then-past-next-clause-same
+returns-then-past-next-clause-same g c = λ is. absurd (end-apart c.args.first c.args.self.now (c.in-Some.start, c.in-Some.sum) c.piece_at.ensures.rises (omega (arith, c.ranges.first.fits)) (sym c.piece_at.ensures.value ∙ c.in-Some.is) c.if-start-first.false is)
+
+pub returns-then-past-next-clause-done : goal.returns-then-past-next-clause-done
+returns-then-past-next-clause-done g c = λ is. absurd (end-apart c.args.first c.args.self.now (c.in-Some.start, c.in-Some.sum) c.piece_at.ensures.rises (omega (arith, c.ranges.first.fits)) (sym c.piece_at.ensures.value ∙ c.in-Some.is) c.if-start-first.false is)
+
+pub split_above-requires-clause-apart : goal.split_above-requires-clause-apart
+split_above-requires-clause-apart g c = end-apart c.args.first c.args.self.now (c.in-Some.start, c.in-Some.sum) c.piece_at.ensures.rises (omega (arith, c.ranges.first.fits)) (sym c.piece_at.ensures.value ∙ c.in-Some.is) c.if-start-first.false
+
+pub returns-clause-same : goal.returns-clause-same
+returns-clause-same g c = λ is. absurd (end-apart c.args.first c.args.self.now (c.in-Some.start, c.in-Some.sum) c.piece_at.ensures.rises (omega (arith, c.ranges.first.fits)) (sym c.piece_at.ensures.value ∙ c.in-Some.is) c.if-start-first.false is)
+
 pub returns-clause-done : goal.returns-clause-done
-returns-clause-done g c = λ is.
+returns-clause-done g c = λ is. absurd (end-apart c.args.first c.args.self.now (c.in-Some.start, c.in-Some.sum) c.piece_at.ensures.rises (omega (arith, c.ranges.first.fits)) (sym c.piece_at.ensures.value ∙ c.in-Some.is) c.if-start-first.false is)
+
+pub returns-then-past-next-clause-more : goal.returns-then-past-next-clause-more
+returns-then-past-next-clause-more g c =
+    let es = c.args.self.now in
     let found = sym c.piece_at.ensures.value ∙ c.in-Some.is in
-    absurd (c.if-start-first.false (piece-own c.args.first c.args.self.now (c.in-Some.start, c.in-Some.sum) c.piece_at.ensures.rises (omega (arith, c.ranges.first.fits)) found is))
+    by_bool c.split-then-past-next.result _
+    (λ done. rw (c.split-then-past-next.ensures.ok done) (Extends-blind (g.S.Source.says c.args.source.now) c.args.first (c.in-Some.start, c.in-Some.sum) es c.piece_at.ensures.rises (omega (arith, c.ranges.first.fits)) found c.if-start-first.false))
+    (λ short. rw (c.split-then-past-next.ensures.err short) (Extends-same (g.S.Source.says c.args.source.now) es))
+
+pub returns-then-past-next-clause-cut : goal.returns-then-past-next-clause-cut
+returns-then-past-next-clause-cut g c = λ done.
+    rw (c.split-then-past-next.ensures.ok done) (IsEnd-given c.args.first c.in-Some.start UNKNOWN (put c.args.first UNKNOWN c.args.self.now) (IsEnd-new c.args.first UNKNOWN c.args.self.now))

@@ -10,4 +10,4 @@ returns c = λ plain now.
     let since = c.self.inside.since in
     let m = sum_before since plain.rows in
     let additive : IsAdditive m = record { parts = sum-parts since plain.rows; none = sum-nothing since plain.rows } in
-    record { past = knows.past; right = c.join.ensures m additive knows.right }
+    record { past = knows.past; right = c.join.ensures.right m additive knows.right }

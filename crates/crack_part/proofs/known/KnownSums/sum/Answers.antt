@@ -1,4 +1,4 @@
-use Rattle.std.proofs.Common.{◌≡◌, ◌<◌, ℕ, arith, ap, sym, subst, ◌∙◌}
+use Rattle.std.proofs.Common.{◌≡◌, ◌<◌, ℕ, ap, sym, subst, ◌∙◌}
 use Rattle.std.specs.List.{All}
 use Rattle.std.proofs.lemmas.Option.{IfSome_then}
 use Rattle.crack_row.specs.declared.Row.{Row}
@@ -16,5 +16,5 @@ returns-clause-right c = λ low high plain numbered faithful now.
     let below = subst (λ (n : ℕ). All (λ (row : Row). row.serial.0 < n) plain.rows) (sym last) numbered.below in
     let m = sum_before since plain.rows in
     let additive : IsAdditive m = record { parts = sum-parts since plain.rows; none = sum-nothing since plain.rows } in
-    let right = c.sum.ensures.right m additive (λ from to sum first filled end said. said c.requires.settled low high first (omega (arith, filled)) end plain.rows faithful.rows ∙ sym (sum-all since (record { low = from; high = to }) plain.rows below)) knows.right in
+    let right = c.sum.ensures.right m additive (λ from to sum filled said. said c.requires.settled low high plain.rows faithful.rows ∙ sym (sum-all since (record { low = from; high = to }) plain.rows below)) knows.right in
     (IfSome_then c.sum.result right.0 (λ sum is. is ∙ sum-all since c.args.range plain.rows below), record { past = knows.past; right = right.1 })

@@ -4,7 +4,8 @@ use Rattle.std.proofs.lemmas.Result.{on_ok_weaker}
 use Rattle.crack_row.specs.Ranges.{Range}
 use Rattle.crack_row.specs.declared.command.Policy.TheVariants.{Complete}
 use Rattle.crack_part.specs.Parts.{CracksAndMerges, StopsAt}
-use Rattle.crack_part.proofs.ClearLaws.{filled, has-free, IsSound-cleared}
+use Rattle.crack_part.proofs.ClearLaws.{filled, has-free}
+use Rattle.crack_part.proofs.PartLaws.{KnowsPart-cleared}
 use Rattle.crack_part.proofs.partition.Partition.clear.Goals as goal
 
 pub crack_and_merge-requires-clause-filled : goal.crack_and_merge-requires-clause-filled
@@ -18,10 +19,8 @@ pub crack_and_merge-requires-clause-high : goal.crack_and_merge-requires-clause-
 crack_and_merge-requires-clause-high c = omega (arith, ap (λ (r : Range). r.high) c.self.invariant.sound.ends)
 
 pub invariant_of-self : goal.invariant_of-self
-invariant_of-self c = record {
-  sound = IsSound-cleared _ c.crack_and_merge.new.store c.crack_and_merge.result c.self.invariant.sound c.crack_and_merge.ensures.settled c.crack_and_merge.ensures.stopped;
-  knows = c.self.invariant.knows;
-}
+invariant_of-self c =
+    KnowsPart-cleared c.self.inside.known _ c.crack_and_merge.new.store c.crack_and_merge.result c.self.invariant.sound c.crack_and_merge.ensures.settled c.crack_and_merge.ensures.stopped c.self.invariant.knows
 
 pub returns-clause-cleared : goal.returns-clause-cleared
 returns-clause-cleared c =

@@ -1,0 +1,14 @@
+-- What contracts see of a tree of pieces with their sums.
+use Rattle.std.specs.Prelude.{ℕ, ℤ, List, [], Option, Some, None}
+use Rattle.std.specs.declared.alloc.Global.{Global}
+use Rattle.std.proofs.Common.{Box}
+
+-- what contracts see of a tree: its pieces in order, and its height
+pub record Summed : Type 0 where
+  pub entries : List (ℕ × ℤ)
+  pub height : ℕ
+
+-- the pieces of a side, which may be empty
+abbrev pub entries_of : Option (Box Summed Global) → List (ℕ × ℤ)
+entries_of None = []
+entries_of (Some n) = n.value.entries

@@ -1,0 +1,466 @@
+//! An AVL tree of pieces in rising order. Each node also holds the total of its subtree, so that the total of a range
+//! takes a step per level.
+ghost use Rattle.std.specs.Prelude.{◌≡◌, ◌+◌, ◌^◌, ◌<◌, ◌≤◌, max, length, [], ◌∷◌, ◌++◌, ℕ};
+ghost use Rattle.crack_row.specs.declared.TheConstants.{GREATEST_BOUND};
+ghost use Rattle.crack_index.specs.Sums.{IsEnd};
+ghost use Rattle.crack_index.specs.Cuts.{Rises, piece_at, next_at, put, given, dropped, span};
+ghost use Rattle.crack_index.specs.Keeps.{IsTall, DifferByAtMost};
+ghost use Rattle.crack_index.specs.SumTrees.{Summed, entries_of};
+ghost use Rattle.crack_index.specs.SumKeeps.{IsTotal, IsSummed, levels_of, inside, unknown_from};
+ghost use Rattle.crack_index.specs.Rotations.{IsHeightOver};
+
+use crate::amounts;
+use crate::sums::UNKNOWN;
+use crack_row::{BoundNumber, GREATEST_BOUND, KeyNumber};
+use std::marker::Model;
+use std::mem;
+
+/// Where a piece begins, and its sum.
+pub(crate) type Entry = (KeyNumber, i128);
+
+/// A tree of pieces; none if there are no pieces.
+pub(crate) type Link = Option<Box<Node>>;
+
+/// A piece between the trees of those below and above it, and the total of all of them. Contracts see all pieces in
+/// order, and the height.
+#[derive(Drop)]
+pub(crate) struct Node {
+    entry: Entry,
+    total: i128,
+    height: u32,
+    left: Link,
+    right: Link,
+}
+
+impl Model for Node {
+    ghost use Rattle.std.specs.Prelude.{◌∷◌, ◌++◌, length};
+    ghost use Rattle.crack_index.specs.SumTrees.{Summed, entries_of};
+    ghost use Rattle.crack_index.specs.SumKeeps.{IsSummed};
+    ghost use Rattle.std.proofs.Common.{arith, length-append};
+
+    ghost Value = { Summed };
+
+    ghost view = { λ n. record { entries = entries_of n.left ++ n.entry ∷ entries_of n.right; height = n.height } };
+
+    ghost invariant = { λ n. IsSummed n.left n.entry n.right n.total n.height };
+
+    ghost size = { λ s. length s.entries };
+
+    ghost size_decreases = { λ n h. Prim.grind (arith, length-append) };
+}
+
+/// The parts of a node.
+#[derive(Drop)]
+struct Parts {
+    left: Link,
+    entry: Entry,
+    right: Link,
+}
+
+impl Node {
+    /// The tree of one piece.
+    pub(crate) fn leaf(entry: Entry) -> Node
+        ensures entries { result.entries ≡ entry ∷ [] }
+        ensures height { result.height ≡ 1 }
+    {
+        Node {
+            entry,
+            total: entry.1,
+            height: 1,
+            left: None,
+            right: None,
+        }
+    }
+
+    /// Takes the node apart: it is left without sides.
+    fn open(&mut self) -> Parts
+        ensures entries { self.old.entries ≡ entries_of result.left ++ result.entry ∷ entries_of result.right }
+        ensures high { self.old.height ≡ max (levels_of result.left) (levels_of result.right) + 1 }
+        ensures even { DifferByAtMost 1 (levels_of result.left) (levels_of result.right) }
+        ensures tall { IsTall (length self.old.entries) self.old.height }
+    {
+        let kept = self.entry;
+        let Node {
+            entry,
+            left,
+            right,
+            ..
+        } = mem::replace(self, Node::leaf(kept));
+        Parts { left, entry, right }
+    }
+}
+
+/// The height of a tree: 0 if there are no pieces. O(1).
+fn height(link: &Link) -> u32
+    ensures value { result ≡ levels_of link.now }
+    ensures tall { IsTall (length (entries_of link.now)) (levels_of link.now) }
+{
+    match link {
+        None => 0,
+        Some(node) => node.height,
+    }
+}
+
+/// The total of a tree: 0 if there are no pieces. O(1).
+#[inline]
+fn total(link: &Link) -> i128
+    ensures { IsTotal (entries_of link.now) result }
+{
+    match link {
+        None => 0,
+        Some(node) => node.total,
+    }
+}
+
+/// The total of both sides and the piece between them. O(1).
+#[inline]
+fn total_over(left: &Link, sum: i128, right: &Link) -> i128
+    ensures { (start : ℕ) → IsTotal (entries_of left.now ++ (start, sum) ∷ entries_of right.now) result }
+{
+    amounts::whole(amounts::whole(total(left), sum), total(right))
+}
+
+/// The piece that has the key. O(log pieces), one comparison per level.
+pub(crate) fn last_at(link: &Link, key: KeyNumber) -> Option<Entry>
+    requires { Rises (entries_of link.now) }
+    ensures { result ≡ piece_at key (entries_of link.now) }
+{
+    let mut found = None;
+    let mut here = link;
+    'down: while let Some(node) = here {
+        let Node {
+            entry,
+            left,
+            right,
+            ..
+        } = &**node;
+        if entry.0 <= key {
+            found = Some(*entry);
+            here = right;
+        } else {
+            here = left;
+        }
+    }
+    found
+}
+
+/// Where the first piece begins that begins above the key; past all keys if there is none. O(log pieces), one
+/// comparison per level.
+pub(crate) fn next_above(link: &Link, key: KeyNumber) -> BoundNumber
+    requires { Rises (entries_of link.now) }
+    ensures { result ≡ next_at key (entries_of link.now) }
+{
+    let mut found = GREATEST_BOUND;
+    let mut here = link;
+    'down: while let Some(node) = here {
+        let Node {
+            entry,
+            left,
+            right,
+            ..
+        } = &**node;
+        if entry.0 <= key {
+            here = right;
+        } else {
+            found = entry.0 as BoundNumber;
+            here = left;
+        }
+    }
+    found
+}
+
+/// The total of the pieces that begin at `first` to `last`. O(log pieces), one step per level.
+pub(crate) fn total_between(link: &Link, first: KeyNumber, last: KeyNumber) -> i128
+    requires { Rises (entries_of link.now) }
+    ensures { IsTotal (inside (span first last) (entries_of link.now)) result }
+{
+    let mut here = link;
+    'down: while let Some(node) = here {
+        let Node {
+            entry,
+            left,
+            right,
+            ..
+        } = &**node;
+        if entry.0 < first {
+            here = right;
+        } else if last < entry.0 {
+            here = left;
+        } else {
+            let lower = amounts::whole(total_from(left, first), entry.1);
+            return amounts::whole(lower, total_to(right, last));
+        }
+    }
+    0
+}
+
+/// The total of the pieces that begin at `first` or above it. O(log pieces), one step per level.
+fn total_from(link: &Link, first: KeyNumber) -> i128
+    requires { Rises (entries_of link.now) }
+    ensures { IsTotal (inside (record { low = first; high = GREATEST_BOUND }) (entries_of link.now)) result }
+{
+    let mut sum = 0;
+    let mut here = link;
+    'down: while let Some(node) = here {
+        let Node {
+            entry,
+            left,
+            right,
+            ..
+        } = &**node;
+        if entry.0 < first {
+            here = right;
+        } else {
+            sum = amounts::whole(amounts::whole(entry.1, total(right)), sum);
+            here = left;
+        }
+    }
+    sum
+}
+
+/// The total of the pieces that begin at `last` or below it. O(log pieces), one step per level.
+fn total_to(link: &Link, last: KeyNumber) -> i128
+    requires { Rises (entries_of link.now) }
+    ensures { IsTotal (inside (span 0 last) (entries_of link.now)) result }
+{
+    let mut sum = 0;
+    let mut here = link;
+    'down: while let Some(node) = here {
+        let Node {
+            entry,
+            left,
+            right,
+            ..
+        } = &**node;
+        if last < entry.0 {
+            here = left;
+        } else {
+            sum = amounts::whole(amounts::whole(sum, total(left)), entry.1);
+            here = right;
+        }
+    }
+    sum
+}
+
+/// Where the first piece begins that begins at `first` or above it, and whose sum isn't known. O(log pieces): a tree
+/// whose total is known isn't searched.
+pub(crate) fn first_unknown(link: &Link, first: KeyNumber) -> Option<KeyNumber>
+    requires { Rises (entries_of link.now) }
+    ensures { result ≡ unknown_from first (entries_of link.now) }
+{
+    let Some(node) = link else {
+        return None;
+    };
+    let Node {
+        entry,
+        total,
+        left,
+        right,
+        ..
+    } = &**node;
+    if *total != UNKNOWN {
+        return None;
+    }
+    if entry.0 < first {
+        return first_unknown(right, first);
+    }
+    if let Some(start) = first_unknown(left, first) {
+        return Some(start);
+    }
+    if entry.1 == UNKNOWN {
+        return Some(entry.0);
+    }
+    first_unknown(right, first)
+}
+
+/// The tree with one more piece, which begins at a key where none begins, in the node that is passed in. O(log pieces),
+/// takes no memory.
+pub(crate) fn insert(link: Link, entry: Entry, mut node: Box<Node>) -> Box<Node>
+    requires rises { Rises (entries_of link) }
+    requires apart { IsEnd entry.0 (entries_of link) → ⊥ }
+    requires few { length (entries_of link) < 2 ^ 64 }
+    ensures entries { result.value.entries ≡ put entry.0 entry.1 (entries_of link) }
+    ensures not_lower { levels_of link ≤ result.value.height }
+    ensures one_higher { result.value.height ≤ levels_of link + 1 }
+{
+    let Some(mut here) = link else {
+        *node = Node::leaf(entry);
+        return node;
+    };
+    let parts = here.open();
+    if entry.0 < parts.entry.0 {
+        let left = insert(parts.left, entry, node);
+        join(Some(left), parts.entry, parts.right, here)
+    } else {
+        let right = insert(parts.right, entry, node);
+        join(parts.left, parts.entry, Some(right), here)
+    }
+}
+
+/// Gives the piece that begins at the key this sum. O(log pieces), takes no memory.
+pub(crate) fn give(link: &mut Link, key: KeyNumber, sum: i128)
+    requires { Rises (entries_of link.old) }
+    ensures entries { entries_of link.new ≡ given key sum (entries_of link.old) }
+    ensures height { levels_of link.new ≡ levels_of link.old }
+{
+    let Some(node) = link else {
+        return;
+    };
+    let Node {
+        entry,
+        total,
+        left,
+        right,
+        ..
+    } = &mut **node;
+    if key < entry.0 {
+        give(left, key, sum);
+    } else if entry.0 < key {
+        give(right, key, sum);
+    } else {
+        entry.1 = sum;
+    }
+    *total = total_over(left, entry.1, right);
+}
+
+/// The tree of both sides and the piece between them, in this node. One side may be two levels higher than the other:
+/// then it is rotated. O(1).
+fn join(left: Link, entry: Entry, right: Link, node: Box<Node>) -> Box<Node>
+    requires near { DifferByAtMost 2 (levels_of left) (levels_of right) }
+    requires fits { max (levels_of left) (levels_of right) ≤ 2 ^ 31 }
+    ensures entries { result.value.entries ≡ entries_of left ++ entry ∷ entries_of right }
+    ensures height { IsHeightOver (levels_of left) (levels_of right) result.value.height }
+{
+    let (high, low) = (height(&left), height(&right));
+    match (left, right) {
+        (Some(top), right) if high > low + 1 => lean_left(top, entry, right, node),
+        (left, Some(top)) if low > high + 1 => lean_right(left, entry, top, node),
+        (left, right) => with_children(left, entry, right, node),
+    }
+}
+
+/// The tree of both sides and the piece between them, in this node, if neither side is more than a level higher.
+/// O(1).
+fn with_children(left: Link, entry: Entry, right: Link, mut node: Box<Node>) -> Box<Node>
+    requires even { DifferByAtMost 1 (levels_of left) (levels_of right) }
+    requires fits { max (levels_of left) (levels_of right) + 1 < 2 ^ 32 }
+    ensures entries { result.value.entries ≡ entries_of left ++ entry ∷ entries_of right }
+    ensures height { result.value.height ≡ max (levels_of left) (levels_of right) + 1 }
+{
+    let height = height(&left).max(height(&right)) + 1;
+    let total = total_over(&left, entry.1, &right);
+    *node = Node {
+        entry,
+        total,
+        height,
+        left,
+        right,
+    };
+    node
+}
+
+/// Rotates if the left side is two levels higher: `spare` becomes a node below the top.
+fn lean_left(mut top: Box<Node>, entry: Entry, right: Link, spare: Box<Node>) -> Box<Node>
+    requires two_higher { top.value.height ≡ levels_of right + 2 }
+    requires fits { top.value.height ≤ 2 ^ 31 }
+    ensures entries { result.value.entries ≡ top.value.entries ++ entry ∷ entries_of right }
+    ensures not_lower { top.value.height ≤ result.value.height }
+    ensures one_higher { result.value.height ≤ top.value.height + 1 }
+{
+    let Parts {
+        left: outer,
+        entry: between,
+        right: inner,
+    } = top.open();
+    if height(&outer) >= height(&inner) {
+        let behind = with_children(inner, entry, right, spare);
+        return with_children(outer, between, Some(behind), top);
+    }
+    let Some(mut middle) = inner else {
+        unreachable!()
+    };
+    let parts = middle.open();
+    let before = with_children(outer, between, parts.left, top);
+    let behind = with_children(parts.right, entry, right, spare);
+    with_children(Some(before), parts.entry, Some(behind), middle)
+}
+
+/// Rotates if the right side is two levels higher: `spare` becomes a node below the top.
+fn lean_right(left: Link, entry: Entry, mut top: Box<Node>, spare: Box<Node>) -> Box<Node>
+    requires two_higher { top.value.height ≡ levels_of left + 2 }
+    requires fits { top.value.height ≤ 2 ^ 31 }
+    ensures entries { result.value.entries ≡ entries_of left ++ entry ∷ top.value.entries }
+    ensures not_lower { top.value.height ≤ result.value.height }
+    ensures one_higher { result.value.height ≤ top.value.height + 1 }
+{
+    let Parts {
+        left: inner,
+        entry: between,
+        right: outer,
+    } = top.open();
+    if height(&outer) >= height(&inner) {
+        let before = with_children(left, entry, inner, spare);
+        return with_children(Some(before), between, outer, top);
+    }
+    let Some(mut middle) = inner else {
+        unreachable!()
+    };
+    let parts = middle.open();
+    let before = with_children(left, entry, parts.left, spare);
+    let behind = with_children(parts.right, between, outer, top);
+    with_children(Some(before), parts.entry, Some(behind), middle)
+}
+
+/// The first piece of a tree, and the tree of the others.
+#[derive(Drop)]
+struct First {
+    entry: Entry,
+    rest: Link,
+}
+
+/// Takes the first piece out of a tree, and frees its node. O(log pieces), takes no memory.
+fn take_first(mut node: Box<Node>) -> First
+    requires few { length node.value.entries ≤ 2 ^ 64 }
+    ensures entries { node.value.entries ≡ result.entry ∷ entries_of result.rest }
+    ensures not_higher { levels_of result.rest ≤ node.value.height }
+    ensures one_lower { node.value.height ≤ levels_of result.rest + 1 }
+{
+    let Parts { left, entry, right } = node.open();
+    let Some(left) = left else {
+        return First { entry, rest: right };
+    };
+    let first = take_first(left);
+    let joined = join(first.rest, entry, right, node);
+    First {
+        entry: first.entry,
+        rest: Some(joined),
+    }
+}
+
+/// The tree without the piece that begins at the key, if there is one, whose node is freed. O(log pieces), takes no
+/// memory.
+pub(crate) fn remove(link: Link, key: KeyNumber) -> Link
+    requires rises { Rises (entries_of link) }
+    requires few { length (entries_of link) ≤ 2 ^ 64 }
+    ensures entries { entries_of result ≡ dropped key (entries_of link) }
+    ensures not_higher { levels_of result ≤ levels_of link }
+    ensures one_lower { levels_of link ≤ levels_of result + 1 }
+{
+    let Some(mut here) = link else {
+        return None;
+    };
+    let Parts { left, entry, right } = here.open();
+    if key < entry.0 {
+        let rest = remove(left, key);
+        return Some(join(rest, entry, right, here));
+    }
+    if entry.0 < key {
+        let rest = remove(right, key);
+        return Some(join(left, entry, rest, here));
+    }
+    let Some(right) = right else {
+        return left;
+    };
+    let first = take_first(right);
+    Some(join(left, first.entry, first.rest, here))
+}

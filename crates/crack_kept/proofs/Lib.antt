@@ -1,0 +1,5 @@
+pub mod ApplyLaws
+pub mod Crosses
+pub mod KeepingLaws
+pub mod SoundLaws
+pub mod UpkeepLaws

@@ -1,0 +1,5 @@
+pub mod Inside
+pub mod Parts
+pub mod Receipts
+pub mod Refusals
+pub mod Upkeep

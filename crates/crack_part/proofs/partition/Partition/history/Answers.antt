@@ -1,8 +1,0 @@
-use Rattle.std.proofs.Common.{rules}
-use Rattle.crack_part.proofs.partition.Partition.history.Goals as goal
-
-pub returns-clause-value : goal.returns-clause-value
-returns-clause-value c = search rules
-
-pub returns-clause-legal : goal.returns-clause-legal
-returns-clause-legal c = search rules
