@@ -80,30 +80,9 @@ pub record EndsLine (bytes : List ℕ) (number : ℤ) (len : ℕ) : Type 0 where
   pub printed : list_all (nat_lt 32) (take count bytes) ≡ true
   pub says : whole_number_of (take count bytes) ≡ Some number
 
--- a row that was placed
-abbrev pub placed_text : ℕ → Serial → List ℕ
-placed_text part serial = codes "row " ++ decimal part ++ codes "." ++ decimal serial.0 ++ codes "\n"
-
--- a row that was removed
-abbrev pub gone_text : Row → List ℕ
-gone_text row = codes "gone " ++ decimal row.key.0 ++ codes " " ++ signed_decimal row.payload.0 ++ codes "\n"
-
 -- rows of a partition: how many there are, and then each of them
 abbrev pub rows_text : ℕ → List Row → List ℕ
 rows_text part rows = line_text (codes "rows ") (decimal (length rows)) ++ flat_map (row_text part) rows
-
--- two names, each with its number after it
-abbrev pub two_fields : List ℕ → ℕ → List ℕ → ℕ → List ℕ
-two_fields first m second n = first ++ decimal m ++ second ++ decimal n
-
--- the first line of a layout
-abbrev pub layout_head : ℕ → Layout → List ℕ
-layout_head part layout =
-    two_fields (codes "layout ") part (codes " rows ") layout.rows
-    ++ two_fields (codes " column ") layout.column (codes " out ") layout.pending_out
-    ++ two_fields (codes " in ") layout.pending_in (codes " cells ") layout.cells
-    ++ two_fields (codes " free ") layout.free (codes " pieces ") (length layout.pieces)
-    ++ codes "\n"
 
 -- whether the bit with this number is set
 abbrev pub has_bit : ℕ → ℕ → Bool

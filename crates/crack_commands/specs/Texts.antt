@@ -5,6 +5,7 @@ use Rattle.std.specs.Int.{bit_at}
 use Rattle.std.specs.Fmt.{signed_decimal}
 use Rattle.std.specs.Io.KnownBytes.{Appends}
 use Rattle.crack_row.specs.declared.Row.{Row}
+use Rattle.crack_row.specs.declared.Serial.{Serial}
 use Rattle.crack_row.specs.declared.command.Policy.{Policy}
 use Rattle.crack_row.specs.declared.command.Policy.TheVariants.{Complete, Gradual, Ripple, Auto}
 use Rattle.crack_row.specs.declared.command.Reply.{Reply}
@@ -47,6 +48,27 @@ layout_text part layout = (
     ++ (codes " in " ++ decimal layout.pending_in ++ codes " cells " ++ decimal layout.cells)
     ++ (codes " free " ++ decimal layout.free ++ codes " pieces " ++ decimal (length layout.pieces)) ++ codes "\n"
     ) ++ flat_map piece_text layout.pieces
+
+-- a row that was placed
+abbrev pub placed_text : ℕ → Serial → List ℕ
+placed_text part serial = codes "row " ++ decimal part ++ codes "." ++ decimal serial.0 ++ codes "\n"
+
+-- a row that was removed
+abbrev pub gone_text : Row → List ℕ
+gone_text row = codes "gone " ++ decimal row.key.0 ++ codes " " ++ signed_decimal row.payload.0 ++ codes "\n"
+
+-- two names, each with its number after it
+abbrev pub two_fields : List ℕ → ℕ → List ℕ → ℕ → List ℕ
+two_fields first m second n = first ++ decimal m ++ second ++ decimal n
+
+-- the first line of a layout
+abbrev pub layout_head : ℕ → Layout → List ℕ
+layout_head part layout =
+    two_fields (codes "layout ") part (codes " rows ") layout.rows
+    ++ two_fields (codes " column ") layout.column (codes " out ") layout.pending_out
+    ++ two_fields (codes " in ") layout.pending_in (codes " cells ") layout.cells
+    ++ two_fields (codes " free ") layout.free (codes " pieces ") (length layout.pieces)
+    ++ codes "\n"
 
 -- the answer to `policy NAME`
 abbrev pub policy_text : Policy → List ℕ

@@ -11,7 +11,9 @@ pub use leading::{LeadingInsert, leading_insert};
 pub use output::send;
 pub use statement::{Ending, Statement, parse_long, parse_statement};
 pub use text::{
-    policy_line, write_count, write_each_row, write_folded, write_head, write_layout,
-    write_refusal, write_reply, write_row, write_sum, write_text,
+    LONGEST_TEXT, TEXT_BYTES, policy_line, push, push_count, push_folded, push_gone, push_head,
+    push_layout_head, push_piece, push_placed, push_refusal, push_row, push_sum, write_count,
+    write_each_row, write_folded, write_head, write_layout, write_refusal, write_reply, write_row,
+    write_sum, write_text,
 };
 pub use words::{read_key, read_number_up_to, read_payload};

@@ -4,7 +4,8 @@ ghost use Rattle.std.specs.List.{flat_map};
 ghost use Rattle.std.specs.Fmt.{signed_decimal};
 ghost use Rattle.crack_commands.specs.Texts.{line_text, reply_text, row_text, layout_text, piece_text, policy_text};
 ghost use Rattle.crack_commands.specs.Texts.{refusal_text, field_text, bits_text, Writes};
-ghost use Rattle.crack_commands.specs.Inside.{placed_text, gone_text, rows_text, layout_head, two_fields, refused_text};
+ghost use Rattle.crack_commands.specs.Inside.{rows_text, refused_text};
+ghost use Rattle.crack_commands.specs.Texts.{placed_text, gone_text, layout_head, two_fields};
 ghost use Rattle.crack_commands.specs.Inside.{has_bit, bit_text};
 
 use crate::output::send;
@@ -16,7 +17,10 @@ use std::io::Write;
 
 /// Room for a line of text, or a part of one. The longest is a piece's: a word, two bounds of up to 40 digits, a size
 /// of 20, and four more bytes.
-const TEXT_BYTES: usize = 112;
+pub const TEXT_BYTES: usize = 112;
+
+/// Room for any line, even if a refusal names all workers or a layout has the greatest numbers.
+pub const LONGEST_TEXT: usize = 2048;
 
 /// A line of text under construction.
 type Text = ArrayVec<u8, TEXT_BYTES>;
@@ -54,19 +58,28 @@ pub fn write_reply<W: Write>(
 fn write_placed<W: Write>(part: u32, serial: Serial, writer: &mut Watched<W>) -> Result<(), Refusal>
     ensures { Writes W.contents (placed_text part serial) result writer.old writer.new }
 {
-    let mut text = ArrayVec::new();
-    push_part(&mut text, part);
-    push_number(&mut text, serial.0);
-    push(&mut text, b"\n");
+    let mut text: ArrayVec<u8, PLACED_BYTES> = ArrayVec::new();
+    push_placed(&mut text, part, serial);
     send(writer, text.as_slice())
+}
+
+/// Adds the line of a row that was placed.
+#[inline(always)]
+pub fn push_placed<const ROOM: usize>(text: &mut ArrayVec<u8, ROOM>, part: u32, serial: Serial)
+    requires { length text.old.items + PLACED_BYTES ≤ ROOM }
+    ensures { text.new.items ≡ text.old.items ++ placed_text part serial }
+{
+    push_part(text, part);
+    push_number(text, serial.0);
+    push(text, b"\n");
 }
 
 /// Adds the beginning of a placed row's line, through the full stop after the partition's number: in one step if that
 /// has one digit.
 #[inline(always)]
 #[tactic(auto, using(std::proofs::lemmas::Fmt::decimal_digit))]
-fn push_part(text: &mut ArrayVec<u8, PLACED_BYTES>, part: u32)
-    requires { length text.old.items + 25 ≤ PLACED_BYTES }
+fn push_part<const ROOM: usize>(text: &mut ArrayVec<u8, ROOM>, part: u32)
+    requires { length text.old.items + 25 ≤ ROOM }
     ensures begin { text.new.items ≡ text.old.items ++ codes "row " ++ decimal part ++ codes "." }
     ensures few { length text.new.items ≤ length text.old.items + 25 }
 {
@@ -84,12 +97,20 @@ fn write_gone<W: Write>(row: &Row, writer: &mut Watched<W>) -> Result<(), Refusa
     ensures { Writes W.contents (gone_text row.now) result writer.old writer.new }
 {
     let mut text = Text::new();
-    push(&mut text, b"gone ");
-    push_key(&mut text, row.key);
-    push(&mut text, b" ");
-    push_payload(&mut text, row.payload);
-    push(&mut text, b"\n");
+    push_gone(&mut text, row);
     send(writer, text.as_slice())
+}
+
+/// Adds the line of a row that was removed.
+pub fn push_gone<const ROOM: usize>(text: &mut ArrayVec<u8, ROOM>, row: &Row)
+    requires { length text.old.items + TEXT_BYTES ≤ ROOM }
+    ensures { text.new.items ≡ text.old.items ++ gone_text row.now }
+{
+    push(text, b"gone ");
+    push_key(text, row.key);
+    push(text, b" ");
+    push_payload(text, row.payload);
+    push(text, b"\n");
 }
 
 /// Writes the line of a count.
@@ -97,10 +118,18 @@ pub fn write_count<W: Write>(count: u64, writer: &mut Watched<W>) -> Result<(), 
     ensures { Writes W.contents (line_text (codes "count ") (decimal count)) result writer.old writer.new }
 {
     let mut text = Text::new();
-    push(&mut text, b"count ");
-    push_number(&mut text, count);
-    push(&mut text, b"\n");
+    push_count(&mut text, count);
     send(writer, text.as_slice())
+}
+
+/// Adds the line of a count.
+pub fn push_count<const ROOM: usize>(text: &mut ArrayVec<u8, ROOM>, count: u64)
+    requires { length text.old.items + TEXT_BYTES ≤ ROOM }
+    ensures { text.new.items ≡ text.old.items ++ line_text (codes "count ") (decimal count) }
+{
+    push(text, b"count ");
+    push_number(text, count);
+    push(text, b"\n");
 }
 
 /// Writes the line of a sum.
@@ -108,10 +137,18 @@ pub fn write_sum<W: Write>(sum: i128, writer: &mut Watched<W>) -> Result<(), Ref
     ensures { Writes W.contents (line_text (codes "sum ") (signed_decimal sum)) result writer.old writer.new }
 {
     let mut text = Text::new();
-    push(&mut text, b"sum ");
-    push_whole(&mut text, sum);
-    push(&mut text, b"\n");
+    push_sum(&mut text, sum);
     send(writer, text.as_slice())
+}
+
+/// Adds the line of a sum.
+pub fn push_sum<const ROOM: usize>(text: &mut ArrayVec<u8, ROOM>, sum: i128)
+    requires { length text.old.items + TEXT_BYTES ≤ ROOM }
+    ensures { text.new.items ≡ text.old.items ++ line_text (codes "sum ") (signed_decimal sum) }
+{
+    push(text, b"sum ");
+    push_whole(text, sum);
+    push(text, b"\n");
 }
 
 /// Writes the line of a checkpoint, with the number of entries.
@@ -119,10 +156,18 @@ pub fn write_folded<W: Write>(folded: u64, writer: &mut Watched<W>) -> Result<()
     ensures { Writes W.contents (line_text (codes "folded ") (decimal folded)) result writer.old writer.new }
 {
     let mut text = Text::new();
-    push(&mut text, b"folded ");
-    push_number(&mut text, folded);
-    push(&mut text, b"\n");
+    push_folded(&mut text, folded);
     send(writer, text.as_slice())
+}
+
+/// Adds the line of a checkpoint, with the number of entries.
+pub fn push_folded<const ROOM: usize>(text: &mut ArrayVec<u8, ROOM>, folded: u64)
+    requires { length text.old.items + TEXT_BYTES ≤ ROOM }
+    ensures { text.new.items ≡ text.old.items ++ line_text (codes "folded ") (decimal folded) }
+{
+    push(text, b"folded ");
+    push_number(text, folded);
+    push(text, b"\n");
 }
 
 /// Writes the lines of rows: how many there are, and then each.
@@ -152,10 +197,18 @@ pub fn write_head<W: Write>(total: u64, writer: &mut Watched<W>) -> Result<(), R
     ensures { Writes W.contents (line_text (codes "rows ") (decimal total)) result writer.old writer.new }
 {
     let mut text = Text::new();
-    push(&mut text, b"rows ");
-    push_number(&mut text, total);
-    push(&mut text, b"\n");
+    push_head(&mut text, total);
     send(writer, text.as_slice())
+}
+
+/// Adds the line above rows, with their number.
+pub fn push_head<const ROOM: usize>(text: &mut ArrayVec<u8, ROOM>, total: u64)
+    requires { length text.old.items + TEXT_BYTES ≤ ROOM }
+    ensures { text.new.items ≡ text.old.items ++ line_text (codes "rows ") (decimal total) }
+{
+    push(text, b"rows ");
+    push_number(text, total);
+    push(text, b"\n");
 }
 
 /// Writes the line of a partition's row.
@@ -163,15 +216,23 @@ pub fn write_row<W: Write>(part: u32, row: &Row, writer: &mut Watched<W>) -> Res
     ensures { Writes W.contents (row_text part row.now) result writer.old writer.new }
 {
     let mut text = Text::new();
-    push_number(&mut text, part as u64);
-    push(&mut text, b".");
-    push_number(&mut text, row.serial.0);
-    push(&mut text, b" ");
-    push_key(&mut text, row.key);
-    push(&mut text, b" ");
-    push_payload(&mut text, row.payload);
-    push(&mut text, b"\n");
+    push_row(&mut text, part, row);
     send(writer, text.as_slice())
+}
+
+/// Adds the line of a partition's row.
+pub fn push_row<const ROOM: usize>(text: &mut ArrayVec<u8, ROOM>, part: u32, row: &Row)
+    requires { length text.old.items + TEXT_BYTES ≤ ROOM }
+    ensures { text.new.items ≡ text.old.items ++ row_text part row.now }
+{
+    push_number(text, part as u64);
+    push(text, b".");
+    push_number(text, row.serial.0);
+    push(text, b" ");
+    push_key(text, row.key);
+    push(text, b" ");
+    push_payload(text, row.payload);
+    push(text, b"\n");
 }
 
 /// Writes the lines of a partition's layout, a piece at a time.
@@ -194,37 +255,51 @@ fn write_layout_head<W: Write>(
 ) -> Result<(), Refusal>
     ensures { Writes W.contents (layout_head part layout.now) result writer.old writer.new }
 {
-    write_fields(b"layout ", part as u64, b" rows ", layout.rows, writer)?;
-    write_fields(
-        b" column ",
-        layout.column,
-        b" out ",
-        layout.pending_out,
-        writer,
-    )?;
-    write_fields(b" in ", layout.pending_in, b" cells ", layout.cells, writer)?;
-    let pieces = layout.pieces.as_slice().len() as u64;
-    write_fields(b" free ", layout.free, b" pieces ", pieces, writer)?;
-    send(writer, b"\n")
+    let mut text: ArrayVec<u8, LONGEST_TEXT> = ArrayVec::new();
+    push_layout_head(&mut text, part, layout);
+    send(writer, text.as_slice())
 }
 
-/// Writes two names of at most 10 bytes, each with its number after it.
-fn write_fields<W: Write>(
+/// Adds two names of at most 10 bytes, each with its number after it.
+fn push_two_fields<const ROOM: usize>(
+    text: &mut ArrayVec<u8, ROOM>,
     first: &[u8],
     number: u64,
     second: &[u8],
     other: u64,
-    writer: &mut Watched<W>,
-) -> Result<(), Refusal>
-    requires { (length first.now ≤ 10) × (length second.now ≤ 10) }
-    ensures { Writes W.contents (two_fields first.now number second.now other) result writer.old writer.new }
+)
+    requires short { (length first.now ≤ 10) × (length second.now ≤ 10) }
+    requires room { length text.old.items + 60 ≤ ROOM }
+    ensures value { text.new.items ≡ text.old.items ++ two_fields first.now number second.now other }
+    ensures few { length text.new.items ≤ length text.old.items + 60 }
 {
-    let mut text = Text::new();
-    push(&mut text, first);
-    push_number(&mut text, number);
-    push(&mut text, second);
-    push_number(&mut text, other);
-    send(writer, text.as_slice())
+    push(text, first);
+    push_number(text, number);
+    push(text, second);
+    push_number(text, other);
+}
+
+/// Adds the first line of a layout.
+pub fn push_layout_head<const ROOM: usize>(
+    text: &mut ArrayVec<u8, ROOM>,
+    part: u32,
+    layout: &Layout,
+)
+    requires { length text.old.items + LONGEST_TEXT ≤ ROOM }
+    ensures { text.new.items ≡ text.old.items ++ layout_head part layout.now }
+{
+    push_two_fields(text, b"layout ", part as u64, b" rows ", layout.rows);
+    push_two_fields(
+        text,
+        b" column ",
+        layout.column,
+        b" out ",
+        layout.pending_out,
+    );
+    push_two_fields(text, b" in ", layout.pending_in, b" cells ", layout.cells);
+    let pieces = layout.pieces.as_slice().len() as u64;
+    push_two_fields(text, b" free ", layout.free, b" pieces ", pieces);
+    push(text, b"\n");
 }
 
 /// Writes the lines of pieces.
@@ -242,89 +317,94 @@ fn write_piece<W: Write>(piece: &PieceSize, writer: &mut Watched<W>) -> Result<(
     ensures { Writes W.contents (piece_text piece.now) result writer.old writer.new }
 {
     let mut text = Text::new();
-    push(&mut text, b"piece ");
-    push_bound(&mut text, piece.low);
-    push(&mut text, b" ");
-    push_bound(&mut text, piece.high);
-    push(&mut text, b" ");
-    push_number(&mut text, piece.size);
-    push(&mut text, b"\n");
+    push_piece(&mut text, piece);
     send(writer, text.as_slice())
+}
+
+/// Adds the line of a piece.
+pub fn push_piece<const ROOM: usize>(text: &mut ArrayVec<u8, ROOM>, piece: &PieceSize)
+    requires { length text.old.items + TEXT_BYTES ≤ ROOM }
+    ensures { text.new.items ≡ text.old.items ++ piece_text piece.now }
+{
+    push(text, b"piece ");
+    push_bound(text, piece.low);
+    push(text, b" ");
+    push_bound(text, piece.high);
+    push(text, b" ");
+    push_number(text, piece.size);
+    push(text, b"\n");
 }
 
 /// Writes the line of a refusal.
 pub fn write_refusal<W: Write>(refusal: &Refusal, writer: &mut Watched<W>) -> Result<(), Refusal>
     ensures { Writes W.contents (refusal_text refusal.now) result writer.old writer.new }
 {
+    let mut text: ArrayVec<u8, LONGEST_TEXT> = ArrayVec::new();
+    push_refusal(&mut text, refusal);
+    send(writer, text.as_slice())
+}
+
+/// Adds the line of a refusal.
+pub fn push_refusal<const ROOM: usize>(text: &mut ArrayVec<u8, ROOM>, refusal: &Refusal)
+    requires { length text.old.items + LONGEST_TEXT ≤ ROOM }
+    ensures { text.new.items ≡ text.old.items ++ refusal_text refusal.now }
+{
     let code = refusal.code();
     match refusal {
-        Refusal::HistoryFull { length } => write_refused(code, &[*length], writer),
-        Refusal::BadRecord { number } => write_refused(code, &[*number], writer),
-        Refusal::WorkersMissing { missing } => write_missing(code, *missing, writer),
+        Refusal::HistoryFull { length } => push_refused(text, code, &[*length]),
+        Refusal::BadRecord { number } => push_refused(text, code, &[*number]),
+        Refusal::WorkersMissing { missing } => push_missing(text, code, *missing),
         Refusal::StrangeReceipt { part, position } => {
-            write_refused(code, &[*part as u64, *position], writer)
+            push_refused(text, code, &[*part as u64, *position])
         }
-        _ => write_refused(code, &[], writer),
+        _ => push_refused(text, code, &[]),
     }
 }
 
-/// Writes the line of a refusal that carries these numbers, at most two.
-fn write_refused<W: Write>(
-    code: u32,
-    numbers: &[u64],
-    writer: &mut Watched<W>,
-) -> Result<(), Refusal>
-    requires { length numbers.now ≤ 2 }
-    ensures { Writes W.contents (refused_text code (flat_map field_text numbers.now)) result writer.old writer.new }
+/// Adds the line of a refusal that carries these numbers, at most two.
+fn push_refused<const ROOM: usize>(text: &mut ArrayVec<u8, ROOM>, code: u32, numbers: &[u64])
+    requires few { length numbers.now ≤ 2 }
+    requires room { length text.old.items + LONGEST_TEXT ≤ ROOM }
+    ensures { text.new.items ≡ text.old.items ++ refused_text code (flat_map field_text numbers.now) }
 {
-    let mut text = Text::new();
-    push(&mut text, b"refused ");
-    push_number(&mut text, code as u64);
-    push_fields(&mut text, numbers);
-    push(&mut text, b"\n");
-    send(writer, text.as_slice())
+    push(text, b"refused ");
+    push_number(text, code as u64);
+    push_fields(text, numbers);
+    push(text, b"\n");
 }
 
-/// Writes the line of a refusal that carries the numbers of missing workers, one number at a time, since all of them
-/// don't fit into a text.
-fn write_missing<W: Write>(code: u32, missing: u64, writer: &mut Watched<W>) -> Result<(), Refusal>
-    ensures { Writes W.contents (refused_text code (bits_text missing 64)) result writer.old writer.new }
+/// Adds the line of a refusal that carries the numbers of missing workers.
+fn push_missing<const ROOM: usize>(text: &mut ArrayVec<u8, ROOM>, code: u32, missing: u64)
+    requires { length text.old.items + LONGEST_TEXT ≤ ROOM }
+    ensures { text.new.items ≡ text.old.items ++ refused_text code (bits_text missing 64) }
 {
-    write_code(code, writer)?;
-    write_bits(missing, writer)?;
-    send(writer, b"\n")
+    push(text, b"refused ");
+    push_number(text, code as u64);
+    push_bits(text, missing);
+    push(text, b"\n");
 }
 
-/// Writes the beginning of a refusal's line.
-fn write_code<W: Write>(code: u32, writer: &mut Watched<W>) -> Result<(), Refusal>
-    ensures { Writes W.contents (codes "refused " ++ decimal code) result writer.old writer.new }
-{
-    let mut text = Text::new();
-    push(&mut text, b"refused ");
-    push_number(&mut text, code as u64);
-    send(writer, text.as_slice())
-}
-
-/// Writes the numbers of the bits that are set.
-fn write_bits<W: Write>(bits: u64, writer: &mut Watched<W>) -> Result<(), Refusal>
-    ensures { Writes W.contents (bits_text bits 64) result writer.old writer.new }
+/// Adds the numbers of the bits that are set.
+fn push_bits<const ROOM: usize>(text: &mut ArrayVec<u8, ROOM>, bits: u64)
+    requires { length text.old.items + 1344 ≤ ROOM }
+    ensures value { text.new.items ≡ text.old.items ++ bits_text bits 64 }
+    ensures few { length text.new.items ≤ length text.old.items + 1344 }
 {
     'numbers: for number in 0..64u32 {
-        write_bit(bits, number, writer)?;
+        push_bit(text, bits, number);
     }
-    Ok(())
 }
 
-/// Writes the number of a bit, if it is set.
-fn write_bit<W: Write>(bits: u64, number: u32, writer: &mut Watched<W>) -> Result<(), Refusal>
-    requires { number < 64 }
-    ensures { Writes W.contents (bit_text bits number) result writer.old writer.new }
+/// Adds the number of a bit, if it is set.
+fn push_bit<const ROOM: usize>(text: &mut ArrayVec<u8, ROOM>, bits: u64, number: u32)
+    requires known { number < 64 }
+    requires room { length text.old.items + 21 ≤ ROOM }
+    ensures value { text.new.items ≡ text.old.items ++ bit_text bits number }
+    ensures few { length text.new.items ≤ length text.old.items + 21 }
 {
-    let mut text = Text::new();
     if has_bit(bits, number) {
-        push_field(&mut text, number as u64);
+        push_field(text, number as u64);
     }
-    send(writer, text.as_slice())
 }
 
 /// Whether the bit with this number is set.
@@ -357,9 +437,9 @@ pub fn policy_line(policy: Policy) -> &'static [u8]
 }
 
 /// Adds at most two numbers, each after a space.
-fn push_fields(text: &mut Text, numbers: &[u64])
+fn push_fields<const ROOM: usize>(text: &mut ArrayVec<u8, ROOM>, numbers: &[u64])
     requires few { length numbers.now ≤ 2 }
-    requires room { length text.old.items + 42 ≤ TEXT_BYTES }
+    requires room { length text.old.items + 42 ≤ ROOM }
     ensures value { text.new.items ≡ text.old.items ++ flat_map field_text numbers.now }
     ensures within { length text.new.items ≤ length text.old.items + 42 }
 {
@@ -369,8 +449,8 @@ fn push_fields(text: &mut Text, numbers: &[u64])
 }
 
 /// Adds a number after a space.
-fn push_field(text: &mut Text, number: u64)
-    requires { length text.old.items + 21 ≤ TEXT_BYTES }
+fn push_field<const ROOM: usize>(text: &mut ArrayVec<u8, ROOM>, number: u64)
+    requires { length text.old.items + 21 ≤ ROOM }
     ensures digits { text.new.items ≡ text.old.items ++ field_text number }
     ensures few { length text.new.items ≤ length text.old.items + 21 }
 {
@@ -380,8 +460,8 @@ fn push_field(text: &mut Text, number: u64)
 
 /// Adds a key in decimal.
 #[inline(always)]
-fn push_key(text: &mut Text, key: Key)
-    requires { length text.old.items + 20 ≤ TEXT_BYTES }
+fn push_key<const ROOM: usize>(text: &mut ArrayVec<u8, ROOM>, key: Key)
+    requires { length text.old.items + 20 ≤ ROOM }
     ensures digits { text.new.items ≡ text.old.items ++ decimal key.0 }
     ensures few { length text.new.items ≤ length text.old.items + 20 }
 {
@@ -390,8 +470,8 @@ fn push_key(text: &mut Text, key: Key)
 
 /// Adds a payload in decimal: at most 19 digits and a minus sign.
 #[inline(always)]
-fn push_payload(text: &mut Text, payload: Payload)
-    requires { length text.old.items + 20 ≤ TEXT_BYTES }
+fn push_payload<const ROOM: usize>(text: &mut ArrayVec<u8, ROOM>, payload: Payload)
+    requires { length text.old.items + 20 ≤ ROOM }
     ensures digits { text.new.items ≡ text.old.items ++ signed_decimal payload.0 }
     ensures few { length text.new.items ≤ length text.old.items + 20 }
 {
@@ -400,8 +480,8 @@ fn push_payload(text: &mut Text, payload: Payload)
 }
 
 /// Adds the end of a range in decimal: usually one that fits 64 bits.
-fn push_bound(text: &mut Text, bound: Bound)
-    requires { length text.old.items + 40 ≤ TEXT_BYTES }
+fn push_bound<const ROOM: usize>(text: &mut ArrayVec<u8, ROOM>, bound: Bound)
+    requires { length text.old.items + 40 ≤ ROOM }
     ensures digits { text.new.items ≡ text.old.items ++ decimal bound.0 }
     ensures few { length text.new.items ≤ length text.old.items + 40 }
 {
@@ -413,8 +493,8 @@ fn push_bound(text: &mut Text, bound: Bound)
 
 /// Adds an integer in decimal, with a minus sign before it if it is below 0: at most 40 bytes.
 #[inline(always)]
-fn push_whole(text: &mut Text, number: i128)
-    requires { length text.old.items + 40 ≤ TEXT_BYTES }
+fn push_whole<const ROOM: usize>(text: &mut ArrayVec<u8, ROOM>, number: i128)
+    requires { length text.old.items + 40 ≤ ROOM }
     ensures digits { text.new.items ≡ text.old.items ++ signed_decimal number }
     ensures few { length text.new.items ≤ length text.old.items + 40 }
 {
@@ -444,8 +524,8 @@ fn push_number<const ROOM: usize>(text: &mut ArrayVec<u8, ROOM>, number: u64)
 }
 
 /// Adds a number of up to 128 bits in decimal: at most 40 digits.
-fn push_wide_number(text: &mut Text, number: u128)
-    requires { length text.old.items + 40 ≤ TEXT_BYTES }
+fn push_wide_number<const ROOM: usize>(text: &mut ArrayVec<u8, ROOM>, number: u128)
+    requires { length text.old.items + 40 ≤ ROOM }
     ensures digits { text.new.items ≡ text.old.items ++ decimal number }
     ensures few { length text.new.items ≤ length text.old.items + 40 }
 {
@@ -454,7 +534,7 @@ fn push_wide_number(text: &mut Text, number: u128)
 }
 
 /// Adds bytes, for which there is room.
-fn push<const ROOM: usize>(text: &mut ArrayVec<u8, ROOM>, bytes: &[u8])
+pub fn push<const ROOM: usize>(text: &mut ArrayVec<u8, ROOM>, bytes: &[u8])
     requires { length text.old.items + length bytes.now ≤ ROOM }
     ensures { text.new.items ≡ text.old.items ++ bytes.now }
 {

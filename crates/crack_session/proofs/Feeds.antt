@@ -1,7 +1,8 @@
 -- Line feeds and lines.
-use Rattle.std.proofs.Common.{◌≡◌, ℕ, ◌+◌, ◌<◌, ◌≤◌, true, false, eqb, Some, None, List, [], ◌∷◌, ◌++◌, length, take, drop, get_or, refl, sym, ap, ◌∙◌, arith, ⊎_elim, add-one, drop-cons, suc, zero, append-nil}
+use Rattle.std.proofs.Common.{◌≡◌, ℕ, ◌+◌, ◌<◌, ◌≤◌, true, false, eqb, Some, None, List, [], ◌∷◌, ◌++◌, length, take, drop, get_or, refl, sym, ap, ◌∙◌, arith, ⊎_elim, add-one, drop-cons, suc, zero, append-nil, append_assoc, length-append, length-take}
 use Rattle.std.proofs.lemmas.Bool.{or_parts, cases_Bool, ne_eqb, eq-eqb, eqb-true, false≢true}
 use Rattle.std.proofs.lemmas.List.{take_more, take-append-drop, take_all}
+use Rattle.std.proofs.Math.Seq.{take-append_seam}
 use Rattle.memchr.specs.Find.{Nowhere, Passes, IsFirstByte, is_byte}
 use Rattle.crack_session.specs.Lines.{lines}
 use Rattle.crack_session.specs.Input.{has_feed, first_line, after_line}
@@ -119,3 +120,27 @@ pub take-take-append : (n : ℕ) (xs ys : List ℕ) → take n (take n xs ++ ys)
 take-take-append zero xs ys = refl
 take-take-append (suc n) [] ys = refl
 take-take-append (suc n) (x ∷ xs) ys = ap (λ z. x ∷ z) (take-take-append n xs ys)
+
+-- the first line has no feed, and one follows it
+pub first_line-none : (u : List ℕ) → has_feed (first_line u) ≡ false
+first_line-none [] = refl
+first_line-none (b ∷ bs) = ⊎_elim
+    (λ (e : eqb b 10 ≡ true). rw e refl)
+    (λ (e : eqb b 10 ≡ false). rw e (rw (e, first_line-none bs) refl))
+    (cases_Bool (eqb b 10))
+
+pub split_line : (u : List ℕ) → has_feed u ≡ true → u ≡ first_line u ++ 10 ∷ after_line u
+split_line [] h = absurd (false≢true h)
+split_line (b ∷ bs) h = ⊎_elim
+    (λ (e : eqb b 10 ≡ true). rw e (let ten = eqb-true b 10 e in ap (λ z. z ∷ bs) ten))
+    (λ (e : eqb b 10 ≡ false). let more : has_feed bs ≡ true = rw e at h in rw e (ap (λ z. b ∷ z) (split_line bs more)))
+    (cases_Bool (eqb b 10))
+
+-- the bytes of a line and its feed
+pub taken_line : (bytes : List ℕ) (n : ℕ) → n < length bytes → take n bytes ≡ first_line bytes → has_feed bytes ≡ true → take (n + 1) bytes ≡ first_line bytes ++ 10 ∷ []
+taken_line bytes n below front h =
+    let long : length (first_line bytes) ≡ n = ap length (sym front) ∙ length-take n bytes ∙ (omega (arith, below)) in
+    let all : n + 1 ≡ length (first_line bytes ++ 10 ∷ []) = (let l = length-append (first_line bytes) (10 ∷ []) in omega (arith, l, long)) in
+    ap (take (n + 1)) (split_line bytes h ∙ sym (append_assoc (first_line bytes) (10 ∷ []) (after_line bytes)))
+    ∙ ap (λ k. take k ((first_line bytes ++ 10 ∷ []) ++ after_line bytes)) all
+    ∙ take-append_seam (first_line bytes ++ 10 ∷ []) (after_line bytes)

@@ -1,10 +1,10 @@
 -- The statements of some bytes, line by line.
-use Rattle.std.proofs.Common.{◌≡◌, ℕ, ◌+◌, ◌-◌, ◌<◌, ◌≤◌, Bool, true, false, cond, Some, None, Err, List, [], ◌∷◌, length, take, get_or, refl, sym, ap, ◌∙◌, inl, inr, ⊎_elim, arith, eqb, ltb, length-take}
+use Rattle.std.proofs.Common.{◌≡◌, ℕ, ◌+◌, ◌-◌, ◌<◌, ◌≤◌, Bool, true, false, cond, Some, None, List, [], ◌∷◌, length, take, get_or, refl, sym, ap, ◌∙◌, inl, inr, ⊎_elim, arith, eqb, ltb, length-take}
 use Rattle.std.proofs.lemmas.Bool.{cond_both, lt-ltb, cases_lt}
 use Rattle.std.proofs.lemmas.List.{take_all, take-take}
 use Rattle.std.specs.List.{filter_map}
-use Rattle.crack_session.specs.Lines.{without_return}
-use Rattle.crack_session.specs.Input.{first_line, after_line, kept_of}
+use Rattle.crack_session.specs.Lines.{without_return, kept_of}
+use Rattle.crack_session.specs.Input.{first_line, after_line}
 use Rattle.crack_session.specs.Readings.{statements, until_last, reading_of, is_last}
 use Rattle.crack_commands.specs.Grammar.{Reading, long_of}
 use Rattle.crack_session.proofs.Feeds.{lines-first}
@@ -22,7 +22,7 @@ too_long : (xs : List ℕ) → 201 < length xs → reading_of xs ≡ Some (long_
 unfolding reading_of
 too_long xs l = let more = shorter_by_one xs in let test : ltb 200 (length (without_return xs)) ≡ true = lt-ltb _ _ (omega (arith, more)) in rw (test, same_front xs l) refl
 
-reading_kept : (raw : List ℕ) → reading_of (kept_of raw) ≡ reading_of raw
+pub reading_kept : (raw : List ℕ) → reading_of (kept_of raw) ≡ reading_of raw
 reading_kept raw = ⊎_elim
     (λ (l : length raw ≤ 202). ap reading_of (take_all 202 raw l))
     (λ (l : 202 < length raw). let cut = length-take 202 raw in too_long (take 202 raw) (omega (arith, cut)) ∙ ap (λ front. Some (long_of front)) (take-take 200 202 raw (omega arith)) ∙ sym (too_long raw (omega arith)))

@@ -18,7 +18,8 @@ use Rattle.crack_session.specs.declared.session.How.{How}
 use Rattle.crack_session.specs.declared.session.How.TheVariants.{Quit, InputEnded}
 use Rattle.crack_commands.specs.Grammar.{Reading}
 use Rattle.crack_session.specs.Readings.{statements, is_last, reading_of}
-use Rattle.crack_session.specs.Input.{first_line, after_line, kept_of}
+use Rattle.crack_session.specs.Input.{first_line, after_line}
+use Rattle.crack_session.specs.Lines.{kept_of}
 use Rattle.crack_session.specs.Answers.{IsAnswer, is_short_answer, answer_text}
 use Rattle.crack_session.specs.Telling.{Tells, marked}
 use Rattle.crack_session.specs.Sessions.{AreAnswers, first_short}

@@ -1,4 +1,6 @@
+pub mod Appending
 pub mod Asking
+pub mod ByLines
 pub mod Calling
 pub mod Feeds
 pub mod Finishing
@@ -7,7 +9,9 @@ pub mod Going
 pub mod Joining
 pub mod Making
 pub mod Passing
+pub mod Pieces
 pub mod Plainly
 pub mod Ranges
 pub mod Reading
+pub mod Whole
 pub mod WholeLines

@@ -17,7 +17,8 @@ use Rattle.crack_session.specs.declared.session.How.{How}
 use Rattle.crack_session.specs.declared.session.Progress.{Progress}
 use Rattle.crack_session.specs.Answers.{is_short_answer, answer_text}
 use Rattle.crack_session.specs.Calls.{Call, Calls, IsReadingMadeOf, policy_after, AreMadeOf, AreAnswersOf}
-use Rattle.crack_session.specs.Input.{first_line, after_line, kept_of}
+use Rattle.crack_session.specs.Input.{first_line, after_line}
+use Rattle.crack_session.specs.Lines.{kept_of}
 use Rattle.crack_session.specs.Readings.{statements, is_last, reading_of}
 use Rattle.crack_session.specs.Sessions.{first_short}
 use Rattle.crack_session.specs.Telling.{Tells, marked}
@@ -33,12 +34,12 @@ abbrev pub policy_then : Policy → List Answer → Policy
 policy_then policy [] = policy
 policy_then policy (answer ∷ answers) = policy_then (policy_after policy answer) answers
 
-policy_then-push : (policy : Policy) (answers : List Answer) (a : Answer) → policy_then policy (answers ++ a ∷ []) ≡ policy_after (policy_then policy answers) a
+pub policy_then-push : (policy : Policy) (answers : List Answer) (a : Answer) → policy_then policy (answers ++ a ∷ []) ≡ policy_after (policy_then policy answers) a
 policy_then-push policy [] a = refl
 policy_then-push policy (b ∷ answers) a = policy_then-push (policy_after policy b) answers a
 
 -- one more statement, its answer and its calls
-AreMadeOf-push : (splits : List Bound) (policy : Policy) (rs : List Reading) (answers : List Answer) (calls : List Call) (r : Reading) (a : Answer) (here : List Call) → AreMadeOf splits policy rs answers calls → IsReadingMadeOf splits (policy_then policy answers) r a here → AreMadeOf splits policy (rs ++ r ∷ []) (answers ++ a ∷ []) (calls ++ here)
+pub AreMadeOf-push : (splits : List Bound) (policy : Policy) (rs : List Reading) (answers : List Answer) (calls : List Call) (r : Reading) (a : Answer) (here : List Call) → AreMadeOf splits policy rs answers calls → IsReadingMadeOf splits (policy_then policy answers) r a here → AreMadeOf splits policy (rs ++ r ∷ []) (answers ++ a ∷ []) (calls ++ here)
 AreMadeOf-push splits policy [] [] calls r a here are made = (here, [], rw are (sym (append-nil here)), made, refl)
 AreMadeOf-push splits policy [] (b ∷ answers) calls r a here are made = absurd are
 AreMadeOf-push splits policy (q ∷ rs) [] calls r a here are made = absurd are

@@ -6,7 +6,7 @@ use Rattle.std.proofs.lemmas.List.Edits.{take-paste}
 use Rattle.std.proofs.lemmas.Slice.{between_is, between-put_mid, take-put_mid_below}
 use borrow.Rule.Slice.PartMut.{put_mid}
 use Rattle.std.specs.List.{slice_range, copy_within}
-use Rattle.crack_session.specs.Input.{kept_of}
+use Rattle.crack_session.specs.Lines.{kept_of}
 use Rattle.crack_commands.proofs.Sending.{take_on}
 
 -- two ranges, one after another

@@ -4,7 +4,8 @@ use Rattle.std.proofs.lemmas.Bool.{cases_Bool, false≢true}
 use Rattle.std.specs.Result.{IfOk, OnOk, IsErr}
 use Rattle.std.specs.Io.KnownBytes.{prepend_known, Keeps, Consumes}
 use Rattle.crack_session.specs.declared.TheConstants.{MOST_READS}
-use Rattle.crack_session.specs.Input.{has_feed, first_line, after_line, kept_of, Input, IsNextLine, IsBegun, IsPaid}
+use Rattle.crack_session.specs.Input.{has_feed, first_line, after_line, Input, IsNextLine, IsBegun, IsPaid}
+use Rattle.crack_session.specs.Lines.{kept_of}
 use Rattle.crack_session.proofs.Feeds.{first_line-append, after_line-append, has_feed-append, first_line-in, after_line-in, has_feed-in, all_first_line, none_after, take-take-append}
 
 -- the bytes ahead are those that aren't used yet, and those that the reader has

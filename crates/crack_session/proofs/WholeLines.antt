@@ -1,29 +1,16 @@
 -- The whole lines of a session's bytes: those that end in a line feed.
 use Rattle.std.proofs.Common.{◌≡◌, ℕ, ◌+◌, ◌<◌, Bool, true, false, cond, Option, Some, None, List, [], ◌∷◌, ◌++◌, length, eqb, refl, sym, ap, ◌∙◌, ⊎_elim, arith, append_assoc, append-nil, length-append}
-use Rattle.std.proofs.lemmas.Bool.{cases_Bool, eqb-true, false≢true}
+use Rattle.std.proofs.lemmas.Bool.{cases_Bool, false≢true}
 use Rattle.std.proofs.lemmas.List.{append_cancel_right}
-use Rattle.crack_session.specs.Input.{has_feed, first_line, after_line, kept_of, IsBegun}
+use Rattle.crack_session.specs.Input.{has_feed, first_line, after_line, IsBegun}
+use Rattle.crack_session.specs.Lines.{kept_of}
 use Rattle.crack_session.specs.Readings.{statements, reading_of, is_last}
 use Rattle.crack_session.specs.Sessions.{whole_lines}
 use Rattle.crack_commands.specs.Grammar.{Reading}
-use Rattle.crack_session.proofs.Feeds.{first_line-append, after_line-append}
+use Rattle.crack_session.proofs.Feeds.{first_line-append, after_line-append, first_line-none, split_line}
 use Rattle.crack_session.proofs.Following.{next_blank, next_some}
 
 -- a line with its feed, and what follows it
-first_line-none : (u : List ℕ) → has_feed (first_line u) ≡ false
-first_line-none [] = refl
-first_line-none (b ∷ bs) = ⊎_elim
-    (λ (e : eqb b 10 ≡ true). rw e refl)
-    (λ (e : eqb b 10 ≡ false). rw e (rw (e, first_line-none bs) refl))
-    (cases_Bool (eqb b 10))
-
-split_line : (u : List ℕ) → has_feed u ≡ true → u ≡ first_line u ++ 10 ∷ after_line u
-split_line [] h = absurd (false≢true h)
-split_line (b ∷ bs) h = ⊎_elim
-    (λ (e : eqb b 10 ≡ true). rw e (let ten = eqb-true b 10 e in ap (λ z. z ∷ bs) ten))
-    (λ (e : eqb b 10 ≡ false). let more : has_feed bs ≡ true = rw e at h in rw e (ap (λ z. b ∷ z) (split_line bs more)))
-    (cases_Bool (eqb b 10))
-
 line_of : (u ys : List ℕ) → first_line (first_line u ++ 10 ∷ ys) ≡ first_line u
 line_of u ys = first_line-append (first_line u) (10 ∷ ys) (first_line-none u) ∙ append-nil (first_line u)
 

@@ -1,11 +1,12 @@
 -- What private clauses alone cite.
-use Rattle.std.specs.Prelude.{◌≡◌, ℕ, ◌+◌, ◌*◌, ◌<◌, ◌≤◌, Bool, true, false, List, [], ◌∷◌, ◌++◌, length, take, Option, Some, Ok, ◌==◌, if◌then◌else◌, ⊤}
+use Rattle.std.specs.Prelude.{◌≡◌, ℕ, ◌+◌, ◌*◌, ◌<◌, ◌≤◌, Bool, true, false, List, [], ◌∷◌, ◌++◌, length, Option, Some, Ok, ◌==◌, if◌then◌else◌, ⊤}
 use Rattle.std.specs.Io.KnownBytes.{prepend_known}
-use Rattle.crack_session.specs.declared.input.TheConstants.{READ_BYTES, KEPT_BYTES}
+use Rattle.crack_session.specs.declared.input.TheConstants.{READ_BYTES}
 use Rattle.std.specs.List.{list_any}
 use Rattle.crack_commands.specs.declared.statement.Statement.TheVariants.{Insert}
 use Rattle.crack_session.specs.declared.input.NextLine.{NextLine}
 use Rattle.crack_session.specs.declared.input.NextLine.TheVariants.{Insert as InsertFound, Ended}
+use Rattle.crack_session.specs.Lines.{kept_of}
 use Rattle.crack_session.specs.Readings.{reading_of}
 
 -- whether there is a line feed
@@ -21,10 +22,6 @@ first_line (b ∷ bs) = if b == 10 then [] else b ∷ first_line bs
 abbrev pub after_line : List ℕ → List ℕ
 after_line [] = []
 after_line (b ∷ bs) = if b == 10 then bs else after_line bs
-
--- a line's bytes as far as a session keeps them: more make it too long however many there are
-abbrev pub kept_of : List ℕ → List ℕ
-kept_of line = take KEPT_BYTES line
 
 -- the line that was found last, or as much of the next one as is read; whether the bytes not yet used are right after it; the bytes that are read and
 -- not yet used; how many more reads there may be; whether a read returned nothing

@@ -1,5 +1,6 @@
 pub mod Answers
 pub mod Calls
+pub mod Feeding
 pub mod Input
 pub mod Leads
 pub mod Lines

@@ -1,6 +1,6 @@
 -- What private clauses alone cite.
 use Rattle.std.specs.List.{flat_map}
-use Rattle.std.specs.Prelude.{◌≡◌, ℕ, ℤ, ◌+◌, ◌⊎◌, ◌++◌, codes, decimal, sum_by, Bool, true, false, List, Option, None, Some, Result, is_ok, if◌then◌else◌}
+use Rattle.std.specs.Prelude.{◌≡◌, ℕ, ℤ, ◌+◌, ◌⊎◌, ◌++◌, codes, decimal, sum_by, Bool, true, false, List, [], ◌∷◌, Option, None, Some, Result, is_ok, if◌then◌else◌}
 use Rattle.crack_row.specs.Rows.{total_by}
 use Rattle.crack_row.specs.declared.Bound.{Bound}
 use Rattle.crack_row.specs.declared.refusal.Refusal.{Refusal}
@@ -69,3 +69,8 @@ lists_text total replies = line_text (codes "rows ") (decimal total) ++ flat_map
 -- Several partitions are asked: in turn, or none of them, if no memory is found for their replies.
 abbrev pub AsksSeveral : Bounds → List Bound → List PlainView → Query → List (ℕ × Range) → Answer → List PlainView → Type 0
 AsksSeveral bounds splits tables query parts answer new = IsJoined bounds splits tables query parts answer new ⊎ ((answer ≡ Refused OutOfMemory) × (new ≡ tables))
+
+-- the meaning of a line, if it has one
+abbrev pub of_option : Option Reading → List Reading
+of_option None = []
+of_option (Some reading) = reading ∷ []

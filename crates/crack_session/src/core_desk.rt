@@ -1,11 +1,9 @@
 //! A core as a desk, asked by worker 0.
-ghost use Rattle.std.specs.Prelude.{◌≡◌, ◌+◌, [], ◌∷◌, is_ok, IfOk, OnOk, slice_get, if◌then◌else◌};
+ghost use Rattle.std.specs.Prelude.{◌≡◌, ◌+◌, is_ok, IfOk, OnOk, slice_get, if◌then◌else◌};
 ghost use Rattle.crack_plain.specs.Plain.{IsSmall, checkpointed};
 ghost use Rattle.crack_core.specs.Steps.{bounds_of, IsOutcomeAt, IsFoldOutcome, tables_of, tables_after, changed_at};
-ghost use Rattle.crack_core.specs.Steps.{mapped, pasts_of, accepted_by};
-ghost use Rattle.crack_core.specs.Jobs.{KeepsJobs, IsFoldedAt};
-ghost use Rattle.crack_core.specs.declared.step.Job.TheVariants.{Perform};
-ghost use Rattle.crack_core.specs.declared.step.Done.TheVariants.{Replied};
+ghost use Rattle.crack_core.specs.Steps.{expected_fold, accepted_by};
+ghost use Rattle.crack_core.specs.Jobs.{IsFoldedAt};
 ghost use Rattle.crack_session.specs.Calls.{Asked, Checkpointed};
 ghost use Rattle.crack_session.specs.Leads.{core_leads};
 
@@ -30,13 +28,6 @@ impl Desk for Core {
 
     #[inline(always)]
     fn ask(&mut self, part: u32, command: Command, policy: Policy) -> Result<Reply, Refusal>
-        // The call is one step of worker 0, whose entry the partition keeps.
-        ensures kept { KeepsJobs self.old.limits (pasts_of self.old.parts) (Perform (record {
-          worker = 0;
-          part = part;
-          command = command;
-          policy = policy;
-        }) ∷ []) (mapped Replied result ∷ []) (pasts_of self.new.parts) }
         ensures outcome { IsOutcomeAt (bounds_of self.old.limits) self.old.splits (tables_of self.old.parts) part
             command result }
         ensures after { tables_of self.new.parts ≡ tables_after (bounds_of self.old.limits) (tables_of self.old.parts)
@@ -57,6 +48,8 @@ impl Desk for Core {
 
     fn checkpoint(&mut self, part: u32) -> Result<u64, Refusal>
         ensures outcome { IsFoldOutcome (slice_get (tables_of self.old.parts) part) result }
+        // It takes no memory, so it is refused with 5 alone.
+        ensures expected { result ≡ expected_fold (slice_get (tables_of self.old.parts) part) }
         ensures after { tables_of self.new.parts ≡ changed_at checkpointed (tables_of self.old.parts) part result }
         // A checkpoint of the named partition is made, and nothing else is changed.
         ensures folds { OnOk result (IsFoldedAt part self.old.parts self.new.parts) }

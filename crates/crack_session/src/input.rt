@@ -4,7 +4,8 @@ ghost use Rattle.std.specs.Prelude.{slice_range, true, false, Some, Ok, MatchBoo
 ghost use Rattle.std.specs.Prelude.{OnOk, OnSome};
 ghost use Rattle.std.specs.Io.KnownBytes.{Keeps};
 ghost use Rattle.crack_row.specs.Devices.{device, has_failed, reads_of};
-ghost use Rattle.crack_session.specs.Input.{has_feed, first_line, after_line, kept_of, ahead, left_of, IsNextLine};
+ghost use Rattle.crack_session.specs.Input.{has_feed, first_line, after_line, ahead, left_of, IsNextLine};
+ghost use Rattle.crack_session.specs.Lines.{kept_of};
 ghost use Rattle.crack_session.specs.Input.{IsBegun, IsPaid, KnowsEnd, is_line, HasRowOf};
 ghost use Rattle.crack_session.specs.Readings.{reading_of};
 
@@ -21,7 +22,7 @@ const READ_BYTES: usize = 4096;
 
 /// How many bytes of a line are kept while the rest of it is read: one that has more is too long,
 /// whatever the rest is.
-const KEPT_BYTES: usize = 202;
+pub const KEPT_BYTES: usize = 202;
 
 /// Room for the bytes of a read, and before them for a line that begins earlier.
 const ROOM_BYTES: usize = KEPT_BYTES + READ_BYTES;
@@ -257,7 +258,7 @@ fn move_back(bytes: &mut [u8; ROOM_BYTES], start: usize, end: usize) -> usize
 }
 
 /// The place of the first line feed, or the length.
-fn feed_at(bytes: &[u8]) -> usize
+pub fn feed_at(bytes: &[u8]) -> usize
     ensures within { result ≤ length bytes.now }
     ensures front { take result bytes.now ≡ first_line bytes.now }
     ensures found { has_feed bytes.now ≡ true → (result < length bytes.now)

@@ -9,7 +9,7 @@ ghost use Rattle.crack_session.specs.Readings.{statements};
 ghost use Rattle.crack_session.specs.Answers.{is_short_answer};
 ghost use Rattle.crack_session.specs.Calls.{policy_after, AreAnswersOf};
 ghost use Rattle.crack_session.specs.Telling.{Responds, Tells, marked};
-ghost use Rattle.crack_session.specs.Written.{AreWritten, AreWrittenThen};
+ghost use Rattle.crack_session.specs.Written.{AreWritten, AreWrittenThen, AsksByLines, AsksByLinesUntil};
 
 use crate::answer::{Answer, answer_statement, part_with_key};
 use crate::desk::Desk;
@@ -54,10 +54,10 @@ pub struct Fault {
 /// The state of a session: the statements answered, the first that was refused for lack of room, and the policy that
 /// it asks by.
 #[derive(Clone, Copy)]
-struct Progress {
-    statements: u64,
-    first_short: Option<u64>,
-    policy: Policy,
+pub(crate) struct Progress {
+    pub(crate) statements: u64,
+    pub(crate) first_short: Option<u64>,
+    pub(crate) policy: Policy,
 }
 
 impl Progress {
@@ -285,6 +285,12 @@ pub fn serve<D: Desk, R: Read, W: Write>(
         Some bytes → W.contents (device writer.old) ≡ Some out →
         AreWrittenThen (AreAnswersOf D.leads (D.splits desk.old) policy desk.old desk.new) bytes out fault
         (W.contents (device writer.new))) }
+    // Whatever the devices are: there are lines for which the desk was asked so, and as many of their statements were
+    // answered as this returns.
+    ensures asked { IfOk result (λ end. AsksByLines D.leads (D.splits desk.old) policy desk.old desk.new end.statements
+        end.first_short) }
+    ensures asked_in_part { IfErr result (λ fault. AsksByLinesUntil D.leads (D.splits desk.old) policy desk.old
+        desk.new fault) }
     // In any case the desk's bounds and splits are unchanged, so another session, or an export, over it continues from
     // there.
     ensures splits { D.splits desk.new ≡ D.splits desk.old }

@@ -1,6 +1,5 @@
 //! A worker's book: a receipt of each answer.
-use crack_core::Book;
-use crack_part::Partition;
+use crack_kept::{Book, Kept as Partition};
 use crack_row::{Command, GREATEST_LIMIT, Key, KeyRange, Payload, Policy, Refusal, Reply, Serial};
 use std::process::Abort;
 

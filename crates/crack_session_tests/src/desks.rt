@@ -2,7 +2,7 @@
 ghost use Rattle.std.specs.Prelude.{◌≡◌, IfOk};
 ghost use Rattle.crack_plain.specs.Plain.{IsSmall};
 
-use crack_part::Partition;
+use crack_kept::Kept as Partition;
 use crack_plain::PlainTable;
 use crack_row::{Bound, Command, Entry, Layout, Policy, Refusal, Reply};
 use crack_session::Desk;

@@ -29,6 +29,8 @@ mod part;
 #[cfg(test)]
 mod partitions;
 #[cfg(test)]
+mod pieces;
+#[cfg(test)]
 mod plain;
 #[cfg(test)]
 mod records;

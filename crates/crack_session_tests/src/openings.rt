@@ -1,7 +1,7 @@
 //! Openings of partitions and of cores that are refused.
 use crate::session::bounds_of;
 use crack_core::Core;
-use crack_part::Partition;
+use crack_kept::Kept as Partition;
 use crack_row::{
     Bound, BoundNumber, GREATEST_BOUND, GREATEST_CELLS, GREATEST_LIFE, GREATEST_LIMIT, KeyRange,
     Limits, Refusal, Upkeep,

@@ -1,7 +1,7 @@
 //! A partition: each call once, with ample memory, and each refusal except the one for lack of memory.
 use crate::desks::Asking;
 use crate::scripts::{Lines, assert_answers};
-use crack_part::Partition;
+use crack_kept::Kept as Partition;
 use crack_row::{
     BoundNumber, GREATEST_BOUND, GREATEST_CELLS, GREATEST_LIFE, GREATEST_LIMIT, KeyRange, Limits,
     Upkeep,

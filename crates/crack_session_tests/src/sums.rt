@@ -1,7 +1,7 @@
 //! Sums of the same ranges, again and again, among changes and checkpoints, compared with a plain list of rows.
 ghost use Rattle.std.specs.Prelude.{◌<◌, ◌≤◌, ◌^◌, ◌-◌};
 
-use crack_part::Partition;
+use crack_kept::Kept as Partition;
 use crack_row::{
     Command, GREATEST_LIMIT, GREATEST_PAYLOAD, Key, KeyRange, LEAST_PAYLOAD, Payload,
     PayloadNumber, Policy, Refusal, Reply, Row, Serial,

@@ -1,6 +1,6 @@
 use Rattle.std.proofs.Common.{refl, rules}
 use Rattle.std.specs.List.{flat_map}
-use Rattle.crack_commands.specs.Inside.{layout_head}
+use Rattle.crack_commands.specs.Texts.{layout_head}
 use Rattle.crack_commands.specs.Texts.{piece_text}
 use Rattle.crack_commands.proofs.Sending.{Appends-then, front_first, front_then, on_err, then_ok, then_err}
 use Rattle.crack_commands.proofs.text.write_layout.Goals as goal

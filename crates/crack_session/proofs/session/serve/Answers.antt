@@ -1,9 +1,11 @@
-use Rattle.std.proofs.Common.{◌≡◌, [], ◌∙◌, ap, sym, arith, None, Ok, refl, length, true, false, rules}
+use Rattle.std.proofs.Common.{◌≡◌, ◌+◌, [], ◌∙◌, ap, sym, inl, inr, arith, None, Ok, refl, length, true, false, rules}
 use Rattle.crack_row.specs.Devices.{device, reads_of}
 use Rattle.crack_session.specs.declared.session.How.TheVariants.{Quit, InputEnded}
 use Rattle.crack_commands.specs.declared.statement.Statement.TheVariants.{Insert}
 use Rattle.crack_session.specs.Input.{after_line, is_line}
 use Rattle.crack_session.specs.Readings.{statements, reading_of, is_last}
+use Rattle.crack_session.specs.Written.{AsksByLines}
+use Rattle.crack_session.proofs.ByLines.{ByLines-start, ByLines-more, AsksByLines-all, AsksByLines-more, finish-asked, finish-asked_in_part}
 use Rattle.crack_session.proofs.Reading.{start_input, IsPaid-then, counted-then}
 use Rattle.crack_session.proofs.Following.{next_blank}
 use Rattle.crack_session.proofs.Finishing.{IsOver, fault-done, fault-short, fault-refusal, finish-counted, finish-served, finish-done, finish-cut_off}
@@ -18,6 +20,7 @@ pub lines-init : goal.lines-init
 lines-init g c = record {
   going = λ bytes e. (bytes, rw (c.new-input.ensures.unread, e) refl, Going-start _ (g.D.Desk.splits c.args.desk.now) (statements bytes) _ _, λ _. AreUsed-start bytes);
   made = λ bytes e. (bytes, rw (c.new-input.ensures.unread, e) refl, Making-start g.D.Desk.leads (g.D.Desk.splits c.args.desk.now) c.args.policy c.args.desk.now (statements bytes) _);
+  asked = ByLines-start g.D.Desk.leads (g.D.Desk.splits c.args.desk.now) c.args.policy c.args.desk.now;
   reader = refl;
   writer = refl;
   splits = refl;
@@ -236,6 +239,11 @@ lines-preserved-else-is_last g c =
           let more = Making-more g.D.Desk.leads (g.D.Desk.splits c.args.desk.now) c.args.policy c.args.desk.now (statements bytes) _ g.W.Write.contents c.in-Some.reading c.in_default-respond.ensures.answer c.lines.progress c.respond.new.progress c.respond.new.desk c.next_line.new.writer c.respond.new.writer _ asks.calls line c.lines.invariant.splits asks.were asks.made c.in_default-respond.ensures.tells in
           let goes : is_last c.in-Some.reading ≡ false = sym c.is_last.ensures ∙ c.if-is_last.false in
           (after_line inv.0, next.2, Making-on g.D.Desk.leads (g.D.Desk.splits c.args.desk.now) c.args.policy c.args.desk.now (statements bytes) _ (statements (after_line inv.0)) (is_last c.in-Some.reading) more goes);
+      asked = let said = ap reading_of (sym c.line.ensures) ∙ sym c.in-Some.ensures in
+          let asks = c.in_default-respond.ensures.asks in
+          let tells = c.in_default-respond.ensures.tells in
+          ByLines-more g.D.Desk.leads (g.D.Desk.splits c.args.desk.now) c.args.policy c.args.desk.now c.lines.progress c.respond.new.progress c.lines.desk c.respond.new.desk c.next_line.new.input.line c.in-Some.reading c.in_default-respond.ensures.answer _ asks.calls
+          c.lines.invariant.asked said (sym c.is_last.ensures ∙ c.if-is_last.false) c.lines.invariant.splits asks.were asks.made tells.count tells.short tells.policy;
       reader = let ok = c.in-Ok-Other.ensures.unfailed in ok.0 ∙ c.lines.invariant.reader;
       writer = let ok = c.in-Ok-Other.ensures.unfailed in c.in_default-respond.ensures.tells.writes.unfailed ∙ ok.1 ∙ c.lines.invariant.writer;
       splits = c.respond.ensures.asks.splits_are ∙ c.lines.invariant.splits;
@@ -272,6 +280,11 @@ lines-preserved-in_default g c =
           let asks = c.in_default.ensures.asks in
           let more = Making-more g.D.Desk.leads (g.D.Desk.splits c.args.desk.now) c.args.policy c.args.desk.now (statements bytes) _ g.W.Write.contents (Ok (Insert c.in-Ok-Insert.key c.in-Ok-Insert.payload)) c.in_default.ensures.answer c.lines.progress c.respond_to_insert.new.progress c.respond_to_insert.new.desk c.next_line.new.writer c.respond_to_insert.new.writer _ asks.calls line c.lines.invariant.splits asks.were asks.made c.in_default.ensures.tells in
           (after_line inv.0, next.2, Making-on g.D.Desk.leads (g.D.Desk.splits c.args.desk.now) c.args.policy c.args.desk.now (statements bytes) _ (statements (after_line inv.0)) (is_last (Ok (Insert c.in-Ok-Insert.key c.in-Ok-Insert.payload))) more refl);
+      asked = let said = rw c.in-Ok-Insert.field-0-is at c.in-Ok-Insert.ensures.row in
+          let asks = c.in_default.ensures.asks in
+          let tells = c.in_default.ensures.tells in
+          ByLines-more g.D.Desk.leads (g.D.Desk.splits c.args.desk.now) c.args.policy c.args.desk.now c.lines.progress c.respond_to_insert.new.progress c.lines.desk c.respond_to_insert.new.desk c.next_line.new.input.line (Ok (Insert c.in-Ok-Insert.key c.in-Ok-Insert.payload)) c.in_default.ensures.answer _ asks.calls
+          c.lines.invariant.asked said refl c.lines.invariant.splits asks.were asks.made tells.count tells.short tells.policy;
       reader = let ok = c.in-Ok-Insert.ensures.unfailed in ok.0 ∙ c.lines.invariant.reader;
       writer = let ok = c.in-Ok-Insert.ensures.unfailed in c.in_default.ensures.tells.writes.unfailed ∙ ok.1 ∙ c.lines.invariant.writer;
       splits = c.respond_to_insert.ensures.asks.splits_are ∙ c.lines.invariant.splits;
@@ -302,6 +315,7 @@ lines-preserved g c = record {
       let next = some inv.0 inv.1 in
       let blank : reading_of c.next_line.new.input.line ≡ None = search rules in
       (after_line inv.0, next.2, Making-left g.D.Desk.leads (g.D.Desk.splits c.args.desk.now) c.args.policy c.args.desk.now (statements bytes) _ _ (Making-kept g.D.Desk.leads (g.D.Desk.splits c.args.desk.now) c.args.policy c.args.desk.now (statements bytes) _ _ _ inv.2 c.next_line.ensures.bytes) (next_blank inv.0 c.next_line.new.input.line next.0 next.1 blank));
+  asked = c.lines.invariant.asked;
   reader = let ok = c.in-Ok-Other.ensures.unfailed in ok.0 ∙ c.lines.invariant.reader;
   writer = let ok = c.in-Ok-Other.ensures.unfailed in ok.1 ∙ c.lines.invariant.writer;
   splits = c.lines.invariant.splits;
@@ -311,6 +325,68 @@ lines-preserved g c = record {
   reads = counted-then (reads_of c.args.reader.now) c.lines.input.reads c.next_line.new.input.reads 1000000000 (reads_of c.lines.reader) _ c.lines.invariant.reads.0 c.lines.invariant.reads.1 c.next_line.ensures.counted.0 c.next_line.ensures.counted.1;
   room = let falls = c.in-Ok-Other.ensures.falls (ap is_line c.in-Ok-Other.field-0-is) in omega (arith, falls, c.lines.invariant.room);
 }
+
+-- whatever the devices are
+pub returns-in-Err-clause-asked_in_part : goal.returns-in-Err-clause-asked_in_part
+returns-in-Err-clause-asked_in_part g c =
+    inl (AsksByLines-all g.D.Desk.leads (g.D.Desk.splits c.args.desk.now) c.args.policy c.args.desk.now c.lines.progress c.lines.desk c.fault.result.done c.fault.result.first_short c.lines.invariant.asked
+    (fault-done c.fault.result c.lines.progress c.in-Err.refusal c.fault.ensures) (fault-short c.fault.result c.lines.progress c.in-Err.refusal c.fault.ensures))
+
+pub returns-in-Ok-Ended-clause-asked : goal.returns-in-Ok-Ended-clause-asked
+returns-in-Ok-Ended-clause-asked g c =
+    finish-asked g.D.Desk.leads (g.D.Desk.splits c.args.desk.now) c.args.policy c.args.desk.now c.finish.result c.lines.progress InputEnded c.lines.desk c.finish.ensures.end
+    (AsksByLines-all g.D.Desk.leads (g.D.Desk.splits c.args.desk.now) c.args.policy c.args.desk.now c.lines.progress c.lines.desk c.lines.progress.statements c.lines.progress.first_short c.lines.invariant.asked refl refl)
+
+pub returns-in-Ok-Ended-clause-asked_in_part : goal.returns-in-Ok-Ended-clause-asked_in_part
+returns-in-Ok-Ended-clause-asked_in_part g c =
+    finish-asked_in_part g.D.Desk.leads (g.D.Desk.splits c.args.desk.now) c.args.policy c.args.desk.now c.finish.result c.lines.progress c.lines.desk c.finish.ensures.fault
+    (AsksByLines-all g.D.Desk.leads (g.D.Desk.splits c.args.desk.now) c.args.policy c.args.desk.now c.lines.progress c.lines.desk c.lines.progress.statements c.lines.progress.first_short c.lines.invariant.asked refl refl)
+
+asked_at_last : (g : Over) (c : After-finish-then-is_last g) → AsksByLines g.D.Desk.leads (g.D.Desk.splits c.args.desk.now) c.args.policy c.args.desk.now c.respond.new.desk c.respond.new.progress.statements c.respond.new.progress.first_short
+asked_at_last g c =
+    let said = ap reading_of (sym c.line.ensures) ∙ sym c.in-Some.ensures in
+    let asks = c.in_default-respond.ensures.asks in
+    let tells = c.in_default-respond.ensures.tells in
+    AsksByLines-more g.D.Desk.leads (g.D.Desk.splits c.args.desk.now) c.args.policy c.args.desk.now c.lines.progress c.lines.desk c.respond.new.desk c.next_line.new.input.line c.in-Some.reading c.in_default-respond.ensures.answer _ asks.calls c.respond.new.progress.statements c.respond.new.progress.first_short
+    c.lines.invariant.asked said c.lines.invariant.splits asks.were asks.made tells.count tells.short
+
+pub returns-then-is_last-clause-asked : goal.returns-then-is_last-clause-asked
+returns-then-is_last-clause-asked g c =
+    finish-asked g.D.Desk.leads (g.D.Desk.splits c.args.desk.now) c.args.policy c.args.desk.now c.finish-then-is_last.result c.respond.new.progress Quit c.respond.new.desk c.finish-then-is_last.ensures.end (asked_at_last g c)
+
+pub returns-then-is_last-clause-asked_in_part : goal.returns-then-is_last-clause-asked_in_part
+returns-then-is_last-clause-asked_in_part g c =
+    finish-asked_in_part g.D.Desk.leads (g.D.Desk.splits c.args.desk.now) c.args.policy c.args.desk.now c.finish-then-is_last.result c.respond.new.progress c.respond.new.desk c.finish-then-is_last.ensures.fault (asked_at_last g c)
+
+pub returns-in-Err-respond-clause-asked_in_part : goal.returns-in-Err-respond-clause-asked_in_part
+returns-in-Err-respond-clause-asked_in_part g c =
+    let said = ap reading_of (sym c.line.ensures) ∙ sym c.in-Some.ensures in
+    let asks = c.in-Err-respond.ensures.asks in
+    let tells = c.in-Err-respond.ensures.tells in
+    let f = c.fault-in-Err-respond.result in
+    let is = c.fault-in-Err-respond.ensures in
+    let e = c.in-Err-respond.refusal in
+    let q = c.respond.new.progress in
+    inr (
+      fault-refusal f q e is ∙ tells.writes.err.0,
+      AsksByLines-more g.D.Desk.leads (g.D.Desk.splits c.args.desk.now) c.args.policy c.args.desk.now c.lines.progress c.lines.desk c.respond.new.desk c.next_line.new.input.line c.in-Some.reading c.in-Err-respond.ensures.answer _ asks.calls (f.done + 1) f.first_short
+          c.lines.invariant.asked said c.lines.invariant.splits asks.were asks.made (ap (λ n. n + 1) (fault-done f q e is ∙ tells.count)) (fault-short f q e is ∙ tells.short),
+    )
+
+pub returns-in-Err-respond_to_insert-clause-asked_in_part : goal.returns-in-Err-respond_to_insert-clause-asked_in_part
+returns-in-Err-respond_to_insert-clause-asked_in_part g c =
+    let said = rw c.in-Ok-Insert.field-0-is at c.in-Ok-Insert.ensures.row in
+    let asks = c.in-Err-respond_to_insert.ensures.asks in
+    let tells = c.in-Err-respond_to_insert.ensures.tells in
+    let f = c.fault-in-Err-respond_to_insert.result in
+    let is = c.fault-in-Err-respond_to_insert.ensures in
+    let e = c.in-Err-respond_to_insert.refusal in
+    let q = c.respond_to_insert.new.progress in
+    inr (
+      fault-refusal f q e is ∙ tells.writes.err.0,
+      AsksByLines-more g.D.Desk.leads (g.D.Desk.splits c.args.desk.now) c.args.policy c.args.desk.now c.lines.progress c.lines.desk c.respond_to_insert.new.desk c.next_line.new.input.line (Ok (Insert c.in-Ok-Insert.key c.in-Ok-Insert.payload)) c.in-Err-respond_to_insert.ensures.answer _ asks.calls (f.done + 1) f.first_short
+          c.lines.invariant.asked said c.lines.invariant.splits asks.were asks.made (ap (λ n. n + 1) (fault-done f q e is ∙ tells.count)) (fault-short f q e is ∙ tells.short),
+    )
 
 -- what an exit with a fault needn't show
 pub returns-in-Err-clause-ends : goal.returns-in-Err-clause-ends
@@ -348,3 +424,12 @@ returns-in-Err-respond_to_insert-clause-written g c = tt
 
 pub returns-in-Err-respond_to_insert-clause-unfailed : goal.returns-in-Err-respond_to_insert-clause-unfailed
 returns-in-Err-respond_to_insert-clause-unfailed g c = tt
+
+pub returns-in-Err-clause-asked : goal.returns-in-Err-clause-asked
+returns-in-Err-clause-asked g c = tt
+
+pub returns-in-Err-respond-clause-asked : goal.returns-in-Err-respond-clause-asked
+returns-in-Err-respond-clause-asked g c = tt
+
+pub returns-in-Err-respond_to_insert-clause-asked : goal.returns-in-Err-respond_to_insert-clause-asked
+returns-in-Err-respond_to_insert-clause-asked g c = tt

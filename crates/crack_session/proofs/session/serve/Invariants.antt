@@ -5,6 +5,7 @@ use Rattle.crack_session.specs.declared.session.How.TheVariants.{InputEnded}
 use Rattle.crack_session.specs.Input.{ahead, left_of, KnowsEnd, IsPaid}
 use Rattle.crack_session.specs.Readings.{statements}
 use Rattle.crack_session.proofs.Reading.{start_input}
+use Rattle.crack_session.proofs.ByLines.{ByLines}
 use Rattle.crack_session.proofs.Going.{Going}
 use Rattle.crack_session.proofs.Making.{Making}
 use Rattle.crack_session.proofs.WholeLines.{AreUsed}
@@ -14,6 +15,7 @@ abbrev pub invariant-lines : goal.invariant-lines
 invariant-lines g l = record {
   going : (bytes : List ℕ) → g.R.Read.remaining (device l.fn.reader) ≡ Some bytes → (u : List ℕ) × (ahead l.input (g.R.Read.remaining (device l.reader)) ≡ Some u) × Going (g.D.Desk.bounds l.fn.desk) (g.D.Desk.splits l.fn.desk) (statements bytes) (statements u) l.progress.statements l.progress.first_short InputEnded (g.D.Desk.tables l.fn.desk) (g.D.Desk.tables l.desk) (g.W.Write.contents (device l.fn.writer)) (g.W.Write.contents (device l.writer)) × (l.input.ended ≡ false → AreUsed bytes u l.progress.statements);
   made : (bytes : List ℕ) → g.R.Read.remaining (device l.fn.reader) ≡ Some bytes → (u : List ℕ) × (ahead l.input (g.R.Read.remaining (device l.reader)) ≡ Some u) × Making g.D.Desk.leads (g.D.Desk.splits l.fn.desk) l.fn.policy l.fn.desk (statements bytes) (statements u) l.progress.statements l.progress.first_short l.progress.policy l.desk (g.W.Write.contents (device l.fn.writer)) (g.W.Write.contents (device l.writer));
+  asked : ByLines g.D.Desk.leads (g.D.Desk.splits l.fn.desk) l.fn.policy l.fn.desk l.progress l.desk;
   reader : has_failed l.reader ≡ has_failed l.fn.reader;
   writer : has_failed l.writer ≡ has_failed l.fn.writer;
   splits : g.D.Desk.splits l.desk ≡ g.D.Desk.splits l.fn.desk;

@@ -1,0 +1,414 @@
+//! Sessions to which bytes are fed, wherever these come from.
+ghost use Rattle.std.specs.Prelude.{◌≡◌, ℕ, List, ◌+◌, ◌-◌, ◌<◌, ◌≤◌, ◌++◌, [], ◌∷◌, None, Some, Ok, IfSome, IfNone};
+ghost use Rattle.std.specs.Prelude.{IsTrue, false, length, take};
+ghost use Rattle.crack_session.specs.Answers.{IsAnswer, answer_text};
+ghost use Rattle.crack_session.specs.Calls.{IsReadingMadeOf};
+ghost use Rattle.crack_session.specs.Telling.{AsksDesk, of_option};
+ghost use Rattle.crack_session.specs.Lines.{kept_of};
+ghost use Rattle.crack_session.specs.Readings.{reading_of, statements, until_last};
+ghost use Rattle.crack_session.specs.Feeding.{AnswersAll, Feeds, StoppedFor, ended_by, fed, noted, unfinished};
+ghost use Rattle.crack_commands.specs.declared.statement.Statement.TheVariants.{Insert};
+ghost use Rattle.crack_commands.specs.Texts.{reply_text};
+ghost use Rattle.crack_session.specs.declared.answer.Answer.TheVariants.{Replied};
+
+use crate::OUTPUT_BYTES;
+use crate::answer::{Answer, answer_statement, part_with_key};
+use crate::desk::Desk;
+use crate::input::{KEPT_BYTES, feed_at};
+use crate::line::read_line;
+use crate::rest::{Output, Rest, append_answer, append_reply, has_room};
+use crate::session::Progress;
+use arrayvec::ArrayVec;
+use crack_commands::{Ending, LONGEST_TEXT, Statement, leading_insert, push};
+use crack_row::{Command, Key, Payload, Policy, Refusal, Reply};
+use std::alloc::Global;
+use std::marker::Model;
+use std::mem;
+
+/// A session between two calls that feed it: the line that is unfinished, its policy and counts, and what is left of
+/// a text that didn't fit into output. It takes no memory.
+#[derive(Drop)]
+pub struct Session {
+    begun: ArrayVec<u8, KEPT_BYTES>,
+    progress: Progress,
+    rest: Rest,
+    ending: Option<Ending>,
+}
+
+/// Why a session stopped taking bytes.
+#[derive(Clone, Copy, PartialEq, Eq, Debug)]
+pub enum Why {
+    /// All bytes are taken, and all texts appended: it goes on with more bytes.
+    Wants,
+    /// Output has too little room: it goes on once output is cleared.
+    Full,
+    /// A line was `quit`: it takes no more bytes.
+    Quit,
+    /// A line was one of an HTTP request, which is refused with 1: it takes no more bytes.
+    Refused,
+}
+
+/// What feeding did.
+#[derive(Clone, Copy, PartialEq, Eq, Debug)]
+pub struct Fed {
+    /// How many of the bytes were taken.
+    pub taken: usize,
+    pub why: Why,
+}
+
+impl Model for Session {
+    ghost use Rattle.crack_session.specs.Feeding.{SessionState, rest_text};
+
+    ghost Value = { SessionState };
+
+    ghost view = { λ s. record {
+      begun = s.begun.items;
+      progress = s.progress;
+      unwritten = rest_text s.rest;
+      ending = s.ending;
+    } };
+}
+
+impl Session {
+    /// A session that begins, with this policy.
+    pub fn new(policy: Policy) -> Session
+        ensures progress { result.progress ≡ record { statements = 0; first_short = None; policy = policy } }
+        ensures begun { result.begun ≡ [] }
+        ensures unwritten { result.unwritten ≡ [] }
+        ensures ending { result.ending ≡ None }
+    {
+        Session {
+            begun: ArrayVec::new(),
+            progress: Progress {
+                statements: 0,
+                first_short: None,
+                policy,
+            },
+            rest: Rest::Nothing,
+            ending: None,
+        }
+    }
+
+    /// How many statements were answered; stops at the greatest number.
+    pub fn statements(&self) -> u64
+        ensures { result ≡ self.now.progress.statements }
+    {
+        self.progress.statements
+    }
+
+    /// The number, from 1, of the first statement that was refused for lack of room (6, 8, 9 or 10).
+    pub fn first_short(&self) -> Option<u64>
+        ensures { result ≡ self.now.progress.first_short }
+    {
+        self.progress.first_short
+    }
+
+    /// Takes bytes as the next ones of its input, answers the statements in the lines that they finish, and appends the
+    /// texts to output. It stops when all are taken, when output has too little room for the next text or for the rest
+    /// of one, or after a line that ends it. An insert, a count or a sum takes no memory but the desk's.
+    pub fn feed<D: Desk>(
+        &mut self,
+        alloc: Global,
+        desk: &mut D,
+        bytes: &[u8],
+        out: &mut Output,
+    ) -> Fed
+        // The bytes that are taken are fed to it, and to nothing else.
+        ensures feeds { Feeds D.bounds D.splits D.tables D.leads self.old (take result.taken bytes.now) desk.old
+            desk.new out.old.items out.new.items self.new }
+        ensures within { result.taken ≤ length bytes.now }
+        ensures why { StoppedFor result.why (length bytes.now - result.taken) out.new.items self.new }
+    {
+        let mut taken = 0;
+        'lines: loop {
+            if let Some(why) = self.stops(bytes.len() - taken, out) {
+                return Fed { taken, why };
+            }
+            taken += self.take_line(alloc, desk, &bytes[taken..], out);
+        }
+    }
+
+    /// Takes the end of its input: an unfinished line is answered, as if a line feed followed.
+    pub fn end<D: Desk>(&mut self, alloc: Global, desk: &mut D, out: &mut Output) -> Fed
+        ensures feeds { Feeds D.bounds D.splits D.tables D.leads self.old (take result.taken (10 ∷ [])) desk.old
+            desk.new out.old.items out.new.items self.new }
+        ensures within { result.taken ≤ 1 }
+        ensures why { StoppedFor result.why (1 - result.taken) out.new.items self.new }
+        // With the line that is answered now, the statements are those of all bytes that were fed.
+        ensures whole { (bytes : List ℕ) → self.old.begun ≡ unfinished [] bytes →
+            until_last (fed [] bytes ++ fed self.old.begun (10 ∷ [])) ≡ statements bytes }
+    {
+        self.feed(alloc, desk, b"\n", out)
+    }
+
+    /// Appends what is left of a text, and returns why no more bytes are taken, if so. This many are left.
+    #[inline(always)]
+    fn stops(&mut self, left: usize, out: &mut Output) -> Option<Why>
+        ensures text { out.new.items ++ self.new.unwritten ≡ out.old.items ++ self.old.unwritten }
+        ensures grows { length out.old.items ≤ length out.new.items }
+        ensures same { self.new ≡ record self.old { unwritten = self.new.unwritten } }
+        ensures stops { IfSome result (λ why. StoppedFor why left out.new.items self.new) }
+        ensures room { IfNone result (length out.new.items + LONGEST_TEXT ≤ OUTPUT_BYTES) }
+        ensures some { IfNone result (0 < left) }
+        ensures written { IfNone result (self.new.unwritten ≡ []) }
+        ensures goes_on { IfNone result (self.new.ending ≡ None) }
+    {
+        if self.rest.is_nothing() {
+            self.stops_between(left, out)
+        } else {
+            self.stops_within(left, out)
+        }
+    }
+
+    /// The same where something is left of a text.
+    #[inline(never)]
+    fn stops_within(&mut self, left: usize, out: &mut Output) -> Option<Why>
+        ensures text { out.new.items ++ self.new.unwritten ≡ out.old.items ++ self.old.unwritten }
+        ensures grows { length out.old.items ≤ length out.new.items }
+        ensures same { self.new ≡ record self.old { unwritten = self.new.unwritten } }
+        ensures stops { IfSome result (λ why. StoppedFor why left out.new.items self.new) }
+        ensures room { IfNone result (length out.new.items + LONGEST_TEXT ≤ OUTPUT_BYTES) }
+        ensures some { IfNone result (0 < left) }
+        ensures written { IfNone result (self.new.unwritten ≡ []) }
+        ensures goes_on { IfNone result (self.new.ending ≡ None) }
+    {
+        if self.append_rest(out) {
+            self.stops_between(left, out)
+        } else {
+            Some(Why::Full)
+        }
+    }
+
+    /// Why no more bytes are taken, if so, where nothing is left of a text.
+    #[inline(always)]
+    fn stops_between(&self, left: usize, out: &Output) -> Option<Why>
+        requires { self.now.unwritten ≡ [] }
+        ensures stops { IfSome result (λ why. StoppedFor why left out.now.items self.now) }
+        ensures room { IfNone result (length out.now.items + LONGEST_TEXT ≤ OUTPUT_BYTES) }
+        ensures some { IfNone result (0 < left) }
+        ensures goes_on { IfNone result (self.now.ending ≡ None) }
+    {
+        match self.ending {
+            Some(Ending::Quit) => Some(Why::Quit),
+            Some(Ending::Http) => Some(Why::Refused),
+            None => {
+                if left == 0 {
+                    Some(Why::Wants)
+                } else if has_room(out, LONGEST_TEXT) {
+                    None
+                } else {
+                    Some(Why::Full)
+                }
+            }
+        }
+    }
+
+    /// Appends what is left of a text as far as there is room, and returns whether nothing is left then.
+    fn append_rest(&mut self, out: &mut Output) -> bool
+        ensures text { out.new.items ++ self.new.unwritten ≡ out.old.items ++ self.old.unwritten }
+        ensures grows { length out.old.items ≤ length out.new.items }
+        ensures same { self.new ≡ record self.old { unwritten = self.new.unwritten } }
+        ensures done { IsTrue result → self.new.unwritten ≡ [] }
+        ensures full { result ≡ false → OUTPUT_BYTES < length out.new.items + LONGEST_TEXT }
+    {
+        let rest = mem::replace(&mut self.rest, Rest::Nothing);
+        self.rest = rest.append(out);
+        self.rest.is_nothing()
+    }
+
+    /// Takes the bytes of the next line, or all bytes if they don't finish one, and returns how many. An insert in the
+    /// usual form is read before the end of its line is searched for.
+    #[inline(always)]
+    fn take_line<D: Desk>(
+        &mut self,
+        alloc: Global,
+        desk: &mut D,
+        bytes: &[u8],
+        out: &mut Output,
+    ) -> usize
+        requires some { 0 < length bytes.now }
+        requires written { self.old.unwritten ≡ [] }
+        requires goes_on { self.old.ending ≡ None }
+        requires room { length out.old.items + LONGEST_TEXT ≤ OUTPUT_BYTES }
+        ensures few { (0 < result) × (result ≤ length bytes.now) }
+        ensures feeds { Feeds D.bounds D.splits D.tables D.leads self.old (take result bytes.now) desk.old desk.new
+            out.old.items out.new.items self.new }
+    {
+        if self.begun.is_empty() {
+            if let Some(found) = leading_insert(bytes) {
+                self.answer_insert(desk, found.key, found.payload, out);
+                return found.len + 1;
+            }
+        }
+        self.take_any_line(alloc, desk, bytes, out)
+    }
+
+    /// The same for any line.
+    #[inline(never)]
+    fn take_any_line<D: Desk>(
+        &mut self,
+        alloc: Global,
+        desk: &mut D,
+        bytes: &[u8],
+        out: &mut Output,
+    ) -> usize
+        requires some { 0 < length bytes.now }
+        requires written { self.old.unwritten ≡ [] }
+        requires goes_on { self.old.ending ≡ None }
+        requires room { length out.old.items + LONGEST_TEXT ≤ OUTPUT_BYTES }
+        ensures few { (0 < result) × (result ≤ length bytes.now) }
+        ensures feeds { Feeds D.bounds D.splits D.tables D.leads self.old (take result bytes.now) desk.old desk.new
+            out.old.items out.new.items self.new }
+    {
+        let place = feed_at(bytes);
+        if place == bytes.len() {
+            self.keep(bytes);
+            return place;
+        }
+        let reading = self.finish(&bytes[..place]);
+        self.respond(alloc, desk, reading, out);
+        place + 1
+    }
+
+    /// Adds bytes to the line that is unfinished, as far as it is kept.
+    fn keep(&mut self, bytes: &[u8])
+        ensures few { length self.old.begun ≤ KEPT_BYTES }
+        ensures kept { self.new ≡ record self.old { begun = kept_of (self.old.begun ++ bytes.now) } }
+    {
+        let room = KEPT_BYTES - self.begun.len();
+        push(&mut self.begun, &bytes[..bytes.len().min(room)]);
+    }
+
+    /// The meaning of the line that is unfinished, with this rest.
+    fn finish(&mut self, rest: &[u8]) -> Option<Result<Statement, Refusal>>
+        ensures few { length self.old.begun ≤ KEPT_BYTES }
+        ensures reading { result ≡ reading_of (self.old.begun ++ rest.now) }
+        ensures same { self.new ≡ record self.old { begun = [] } }
+    {
+        if self.begun.is_empty() {
+            return read_line(rest);
+        }
+        self.keep(rest);
+        let reading = read_line(self.begun.as_slice());
+        self.begun.clear();
+        reading
+    }
+
+    /// Answers the meaning of a line, unless it is blank.
+    fn respond<D: Desk>(
+        &mut self,
+        alloc: Global,
+        desk: &mut D,
+        reading: Option<Result<Statement, Refusal>>,
+        out: &mut Output,
+    )
+        requires written { self.old.unwritten ≡ [] }
+        requires room { length out.old.items + LONGEST_TEXT ≤ OUTPUT_BYTES }
+        ensures answers { AnswersAll D.bounds D.splits D.tables D.leads self.old (of_option reading) desk.old desk.new
+            out.old.items out.new.items self.new }
+        ensures same { self.new.begun ≡ self.old.begun }
+    {
+        match reading {
+            Some(reading) => {
+                let answer = answer_reading(alloc, desk, self.progress.policy, reading);
+                self.ending = ended_by(self.ending, &reading);
+                self.tell(answer, out);
+            }
+            None => (),
+        }
+    }
+
+    /// Answers an insert, the most frequent statement: the desk is asked in place, with a command that is known to be
+    /// an insert, and the reply is appended without becoming an `Answer`.
+    #[inline(always)]
+    fn answer_insert<D: Desk>(&mut self, desk: &mut D, key: Key, payload: Payload, out: &mut Output)
+        requires written { self.old.unwritten ≡ [] }
+        requires room { length out.old.items + LONGEST_TEXT ≤ OUTPUT_BYTES }
+        ensures answers { AnswersAll D.bounds D.splits D.tables D.leads self.old (Ok (Insert key payload) ∷ [])
+            desk.old desk.new out.old.items out.new.items self.new }
+        ensures same { self.new.begun ≡ self.old.begun }
+    {
+        let part = part_with_key(desk, key);
+        match desk.ask(part, Command::Insert { key, payload }, self.progress.policy) {
+            Ok(reply) => self.tell_reply(part, reply, out),
+            Err(refusal) => self.tell_refusal(refusal, out),
+        }
+    }
+
+    /// Notes a reply, which is no lack of room and sets no policy, and appends its text.
+    #[inline(always)]
+    fn tell_reply(&mut self, part: u32, reply: Reply, out: &mut Output)
+        requires { length out.old.items + LONGEST_TEXT ≤ OUTPUT_BYTES }
+        ensures text { out.new.items ++ self.new.unwritten ≡ out.old.items ++ reply_text part reply }
+        ensures grows { length out.old.items ≤ length out.new.items }
+        ensures noted { self.new.progress ≡ noted self.old.progress (Replied part reply) }
+        ensures same { (self.new.begun ≡ self.old.begun) × (self.new.ending ≡ self.old.ending) }
+    {
+        self.progress.statements = self.progress.statements.saturating_add(1);
+        self.rest = append_reply(part, reply, out);
+    }
+
+    /// Notes a refusal, and appends its text. It is a separate function, so that no room for an answer is cleared when
+    /// a reply is appended.
+    #[inline(never)]
+    fn tell_refusal(&mut self, refusal: Refusal, out: &mut Output)
+        requires { length out.old.items + LONGEST_TEXT ≤ OUTPUT_BYTES }
+        ensures text { out.new.items ++ self.new.unwritten ≡ out.old.items ++ answer_text (Answer.Refused refusal) }
+        ensures grows { length out.old.items ≤ length out.new.items }
+        ensures noted { self.new.progress ≡ noted self.old.progress (Answer.Refused refusal) }
+        ensures same { (self.new.begun ≡ self.old.begun) × (self.new.ending ≡ self.old.ending) }
+    {
+        self.tell(Answer::Refused(refusal), out);
+    }
+
+    /// Notes an answer, and appends the beginning of its text.
+    fn tell(&mut self, answer: Answer, out: &mut Output)
+        requires { length out.old.items + LONGEST_TEXT ≤ OUTPUT_BYTES }
+        ensures text { out.new.items ++ self.new.unwritten ≡ out.old.items ++ answer_text answer }
+        ensures grows { length out.old.items ≤ length out.new.items }
+        ensures noted { self.new.progress ≡ noted self.old.progress answer }
+        ensures same { (self.new.begun ≡ self.old.begun) × (self.new.ending ≡ self.old.ending) }
+    {
+        note(&mut self.progress, &answer);
+        self.rest = append_answer(answer, out);
+    }
+}
+
+/// Notes another policy, and the first lack of room, and counts an answer.
+fn note(progress: &mut Progress, answer: &Answer)
+    ensures { progress.new ≡ noted progress.old answer.now }
+{
+    progress.statements = progress.statements.saturating_add(1);
+    if let Answer::Set(policy) = answer {
+        progress.policy = *policy;
+    }
+    if progress.first_short.is_none() && answer.is_short() {
+        progress.first_short = Some(progress.statements);
+    }
+}
+
+/// How a session is ended by a statement, or as before.
+fn ended_by(ending: Option<Ending>, reading: &Result<Statement, Refusal>) -> Option<Ending>
+    ensures { result ≡ ended_by ending reading.now }
+{
+    match reading {
+        Ok(Statement::End(last)) => Some(*last),
+        _ => ending,
+    }
+}
+
+/// The answer to a statement, or to a line that is none.
+fn answer_reading<D: Desk>(
+    alloc: Global,
+    desk: &mut D,
+    policy: Policy,
+    reading: Result<Statement, Refusal>,
+) -> Answer
+    ensures { AsksDesk D.bounds D.splits D.tables D.leads (λ bounds splits tables. IsAnswer bounds splits tables reading
+        result) (λ splits calls. IsReadingMadeOf splits policy reading result calls) desk.old desk.new }
+{
+    match reading {
+        Ok(statement) => answer_statement(alloc, desk, policy, statement),
+        Err(refusal) => Answer::Refused(refusal),
+    }
+}

@@ -1,0 +1,226 @@
+//! The texts of answers, appended to output as far as there is room.
+ghost use Rattle.std.specs.Prelude.{◌≡◌, ◌+◌, ◌<◌, ◌≤◌, ◌++◌, ◌↔◌, IsTrue, false, length, drop};
+ghost use Rattle.std.specs.List.{flat_map};
+ghost use Rattle.crack_commands.specs.Texts.{row_text, piece_text, reply_text};
+ghost use Rattle.crack_session.specs.Answers.{answer_text};
+ghost use Rattle.crack_session.specs.Feeding.{rest_text, lists_from, is_nothing};
+
+use crate::OUTPUT_BYTES;
+use crate::answer::Answer;
+use crate::query::{PartReply, ReplyList};
+use arrayvec::ArrayVec;
+use crack_commands::{
+    LONGEST_TEXT, TEXT_BYTES, policy_line, push, push_count, push_folded, push_gone, push_head,
+    push_layout_head, push_piece, push_placed, push_refusal, push_row, push_sum,
+};
+use crack_row::{Layout, PieceSize, Reply, Row, RowList};
+
+/// Texts on their way to a device: bytes with a bound, for which there is room from the start.
+pub type Output = ArrayVec<u8, OUTPUT_BYTES>;
+
+/// What is left of an answer's text: the lines of rows or pieces from a place on.
+#[derive(Drop)]
+pub enum Rest {
+    /// Nothing.
+    Nothing,
+    /// The rows of a partition, from one of them on.
+    Rows {
+        part: u32,
+        rows: RowList,
+        at: usize,
+    },
+    /// The rows of several partitions, from one of these and one of its rows on.
+    Lists {
+        lists: ReplyList,
+        list: usize,
+        at: usize,
+    },
+    /// The pieces of a layout, from one of them on.
+    Pieces {
+        layout: Layout,
+        at: usize,
+    },
+}
+
+/// Whether there is room for this many more bytes.
+#[inline(always)]
+pub fn has_room(out: &Output, count: usize) -> bool
+    requires { count ≤ OUTPUT_BYTES }
+    ensures { IsTrue result ↔ (length out.now.items + count ≤ OUTPUT_BYTES) }
+{
+    out.len() <= OUTPUT_BYTES - count
+}
+
+impl Rest {
+    /// Whether nothing is left.
+    #[inline(always)]
+    pub fn is_nothing(&self) -> bool
+        ensures { result ≡ is_nothing self.now }
+    {
+        matches!(self, Rest::Nothing)
+    }
+
+    /// Appends as much as there is room for, and returns what is left then. Takes no memory.
+    pub fn append(self, out: &mut Output) -> Rest
+        ensures text { out.new.items ++ rest_text result ≡ out.old.items ++ rest_text self }
+        ensures grows { length out.old.items ≤ length out.new.items }
+        ensures full { is_nothing result ≡ false → OUTPUT_BYTES < length out.new.items + TEXT_BYTES }
+    {
+        match self {
+            Rest::Nothing => Rest::Nothing,
+            Rest::Rows { part, rows, at } => append_rows(part, rows, at, out),
+            Rest::Lists { lists, list, at } => append_lists(lists, list, at, out),
+            Rest::Pieces { layout, at } => append_pieces(layout, at, out),
+        }
+    }
+}
+
+/// Appends the lines of rows from one of them on.
+fn append_rows(part: u32, rows: RowList, at: usize, out: &mut Output) -> Rest
+    ensures text { out.new.items ++ rest_text result ≡ out.old.items ++ flat_map (row_text part) (drop at rows) }
+    ensures grows { length out.old.items ≤ length out.new.items }
+    ensures full { is_nothing result ≡ false → OUTPUT_BYTES < length out.new.items + TEXT_BYTES }
+{
+    let at = push_rows(part, rows.as_slice(), at, out);
+    if at < rows.as_slice().len() {
+        Rest::Rows { part, rows, at }
+    } else {
+        Rest::Nothing
+    }
+}
+
+/// Appends the lines of several partitions' rows, from one of these and one of its rows on.
+fn append_lists(lists: ReplyList, list: usize, at: usize, out: &mut Output) -> Rest
+    ensures text { out.new.items ++ rest_text result ≡ out.old.items ++ lists_from (drop list lists) at }
+    ensures grows { length out.old.items ≤ length out.new.items }
+    ensures full { is_nothing result ≡ false → OUTPUT_BYTES < length out.new.items + TEXT_BYTES }
+{
+    let (list, at) = push_lists(lists.as_slice(), list, at, out);
+    if list < lists.as_slice().len() {
+        Rest::Lists { lists, list, at }
+    } else {
+        Rest::Nothing
+    }
+}
+
+/// Appends the lines of pieces from one of them on.
+fn append_pieces(layout: Layout, at: usize, out: &mut Output) -> Rest
+    ensures text { out.new.items ++ rest_text result ≡ out.old.items ++ flat_map piece_text (drop at layout.pieces) }
+    ensures grows { length out.old.items ≤ length out.new.items }
+    ensures full { is_nothing result ≡ false → OUTPUT_BYTES < length out.new.items + TEXT_BYTES }
+{
+    let at = push_pieces(layout.pieces.as_slice(), at, out);
+    if at < layout.pieces.as_slice().len() {
+        Rest::Pieces { layout, at }
+    } else {
+        Rest::Nothing
+    }
+}
+
+/// Appends the lines of rows from one of them on, while there is room, and returns the place of the first that isn't
+/// appended.
+fn push_rows(part: u32, rows: &[Row], at: usize, out: &mut Output) -> usize
+    ensures text { out.new.items ++ flat_map (row_text part) (drop result rows.now) ≡
+        out.old.items ++ flat_map (row_text part) (drop at rows.now) }
+    ensures grows { length out.old.items ≤ length out.new.items }
+    ensures full { result < length rows.now → OUTPUT_BYTES < length out.new.items + TEXT_BYTES }
+{
+    let mut next = at;
+    'rows: while next < rows.len() && has_room(out, TEXT_BYTES) {
+        push_row(out, part, &rows[next]);
+        next += 1;
+    }
+    next
+}
+
+/// Appends the rows of several partitions, from one of these and one of its rows on, while there is room, and returns
+/// the place of the first that isn't appended.
+fn push_lists(lists: &[PartReply], list: usize, at: usize, out: &mut Output) -> (usize, usize)
+    ensures text { out.new.items ++ lists_from (drop result.0 lists.now) result.1 ≡
+        out.old.items ++ lists_from (drop list lists.now) at }
+    ensures grows { length out.old.items ≤ length out.new.items }
+    ensures full { result.0 < length lists.now → OUTPUT_BYTES < length out.new.items + TEXT_BYTES }
+{
+    let mut list = list;
+    let mut at = at;
+    'lists: while list < lists.len() {
+        let one = &lists[list];
+        at = push_rows(one.part, one.rows(), at, out);
+        if at < one.rows().len() {
+            return (list, at);
+        }
+        list += 1;
+        at = 0;
+    }
+    (list, at)
+}
+
+/// Appends the lines of pieces from one of them on, while there is room, and returns the place of the first that isn't
+/// appended.
+fn push_pieces(pieces: &[PieceSize], at: usize, out: &mut Output) -> usize
+    ensures text { out.new.items ++ flat_map piece_text (drop result pieces.now) ≡
+        out.old.items ++ flat_map piece_text (drop at pieces.now) }
+    ensures grows { length out.old.items ≤ length out.new.items }
+    ensures full { result < length pieces.now → OUTPUT_BYTES < length out.new.items + TEXT_BYTES }
+{
+    let mut next = at;
+    'pieces: while next < pieces.len() && has_room(out, TEXT_BYTES) {
+        push_piece(out, &pieces[next]);
+        next += 1;
+    }
+    next
+}
+
+/// Appends the beginning of an answer's text, all of it unless it has rows or pieces, and returns what is left. Takes
+/// no memory.
+#[tactic(auto, unfolding(crate::specs::Answers::answer_text))]
+pub fn append_answer(answer: Answer, out: &mut Output) -> Rest
+    requires { length out.old.items + LONGEST_TEXT ≤ OUTPUT_BYTES }
+    ensures text { out.new.items ++ rest_text result ≡ out.old.items ++ answer_text answer }
+    ensures grows { length out.old.items ≤ length out.new.items }
+{
+    match answer {
+        Answer::Replied { part, reply } => return append_reply(part, reply, out),
+        Answer::Listed { total, lists } => {
+            push_head(out, total);
+            let (list, at) = (0, 0);
+            return Rest::Lists { lists, list, at };
+        }
+        Answer::Laid { part, layout } => {
+            push_layout_head(out, part, &layout);
+            return Rest::Pieces { layout, at: 0 };
+        }
+        Answer::Counted(total) => push_count(out, total),
+        Answer::Summed(total) => push_sum(out, total),
+        Answer::Folded(count) => push_folded(out, count),
+        Answer::Set(policy) => {
+            push(out, policy_line(policy));
+            push(out, b"\n");
+        }
+        Answer::Refused(refusal) => push_refusal(out, &refusal),
+        Answer::Bye => push(out, b"bye\n"),
+    }
+    Rest::Nothing
+}
+
+/// Appends the beginning of a reply's text, all of it unless it has rows, and returns what is left.
+#[inline(always)]
+pub fn append_reply(part: u32, reply: Reply, out: &mut Output) -> Rest
+    requires { length out.old.items + LONGEST_TEXT ≤ OUTPUT_BYTES }
+    ensures text { out.new.items ++ rest_text result ≡ out.old.items ++ reply_text part reply }
+    ensures grows { length out.old.items ≤ length out.new.items }
+{
+    match reply {
+        Reply::Placed(serial) => push_placed(out, part, serial),
+        Reply::Gone(row) => push_gone(out, &row),
+        Reply::Changed => push(out, b"changed\n"),
+        Reply::NoRow => push(out, b"none\n"),
+        Reply::Counted(count) => push_count(out, count),
+        Reply::Summed(sum) => push_sum(out, sum),
+        Reply::Rows(rows) => {
+            push_head(out, rows.as_slice().len() as u64);
+            return Rest::Rows { part, rows, at: 0 };
+        }
+    }
+    Rest::Nothing
+}
