@@ -101,6 +101,9 @@ enum Value {
 /// An option: its name, its value and its help.
 struct Choice(&'static str, Value, &'static str);
 
+/// How many cells a partition has, unless `--cells` says otherwise.
+const DEFAULT_CELLS: u64 = 1048576;
+
 const WORKERS: Choice = Choice(
     "workers",
     Value::Required("W"),
@@ -116,7 +119,7 @@ static OPENING_CHOICES: [Choice; 4] = [
     Choice(
         "cells",
         Value::Number("N"),
-        "Cells of a partition, 1 to 1048576 [default: 1048576]",
+        "Cells of a partition, 1 to 16777215 [default: 1048576]",
     ),
     Choice(
         "life",
@@ -337,12 +340,12 @@ fn splits_of(alloc: Global, matches: &ArgMatches<'_>) -> Result<Vec<Bound>, Argu
     Ok(splits)
 }
 
-/// The limits: those that are given, and the greatest of the others.
+/// The limits: those that are given, `DEFAULT_CELLS`, and the greatest of the others.
 fn limits_of(matches: &ArgMatches<'_>) -> Limits {
     let greatest = Limits::of_history(GREATEST_LIMIT);
     Limits {
         history: matches.get_one::<u64>("limit").unwrap_or(greatest.history),
-        cells: matches.get_one::<u64>("cells").unwrap_or(greatest.cells),
+        cells: matches.get_one::<u64>("cells").unwrap_or(DEFAULT_CELLS),
         life: matches.get_one::<u64>("life").unwrap_or(greatest.life),
         upkeep: upkeep_of(matches),
     }

@@ -1,8 +1,9 @@
 //! Measurements on one thread, of the arena, the cracker column and a partition that merges by a policy:
 //! `crack_bench arena STEPS ROWS`, `crack_bench column ROWS`,
 //! `crack_bench counts|sums|each|rising|narrow|cold|pass POLICY ROWS RANGES`,
-//! `crack_bench updates|ageing POLICY ROWS BATCHES SIZE`, `crack_bench merge POLICY ROWS PIECES PENDING`,
-//! `crack_bench pulls POLICY ROWS PIECES DELETES`, or `crack_bench fold POLICY ROWS CHANGES`.
+//! `crack_bench updates|ageing|climb POLICY ROWS BATCHES SIZE`,
+//! `crack_bench merge POLICY ROWS PIECES PENDING`, `crack_bench pulls POLICY ROWS PIECES DELETES`,
+//! or `crack_bench fold POLICY ROWS CHANGES`.
 //!
 //! `cold`, `updates`, `ageing`, `merge` and `pulls` also write the counts of the merges to standard error.
 

@@ -10,64 +10,62 @@ use Rattle.crack_row.specs.declared.Bound.{Bound}
 use Rattle.crack_row.specs.declared.limit.Limits.{Limits}
 use Rattle.crack_row.specs.declared.refusal.Refusal.{Refusal}
 use Rattle.crack_row.specs.declared.refusal.Refusal.TheVariants.{NoSuchPartition, OutOfMemory}
-use Rattle.crack_plain.specs.Past.{Past, folded, accepted_in}
-use Rattle.crack_plain.specs.Plain.{PlainView, checkpointed}
-use Rattle.crack_part.specs.Parts.{Part, folded_part}
+use Rattle.crack_plain.specs.Plain.{PlainView, accepted_of, checkpointed}
+use Rattle.crack_part.specs.Parts.{Part, table_of, folded_part}
 use Rattle.crack_core.specs.declared.step.Job.{Job}
 use Rattle.crack_core.specs.declared.step.Job.TheVariants.{Perform, Fold}
 use Rattle.crack_core.specs.declared.step.Done.{Done}
 use Rattle.crack_core.specs.declared.step.Done.TheVariants.{Folded}
-use Rattle.crack_part.specs.Refusals.{table_of}
 use Rattle.crack_core.specs.Routes.{keys_of_part}
-use Rattle.crack_core.specs.Steps.{Bounds, bounds_of, mapped, fresh_table, tables_of, pasts_of, accepted_by, IsOutcome, IsFoldOutcome, changed_at}
-use Rattle.crack_core.specs.Jobs.{past_after, past_at, KeepsJobs, IsJobOutcome, AreExpectedOutcomes, IsFoldedAt, Does, DoesAll}
-use Rattle.crack_core.proofs.StepLaws.{tables-pasts, get-last, get-front, get-set_same, get-set_other}
+use Rattle.crack_core.specs.Steps.{Bounds, bounds_of, mapped, fresh_table, tables_of, accepted_by, IsOutcome, IsFoldOutcome, expected_fold, changed_at}
+use Rattle.crack_core.specs.Jobs.{after_job, after_jobs, KeepsJobs, IsJobOutcome, AreExpectedOutcomes, IsFoldedAt, Does, DoesAll}
+use Rattle.crack_core.proofs.StepLaws.{get-last, get-front, get-set_same, get-set_other}
 
 -- one more job
-past_at-push : (limits : Limits) (part : ℕ) (jobs : List Job) (results : List (Result Done Refusal)) (job : Job) (result : Result Done Refusal) (past : Past) → length results ≡ length jobs → past_at limits part (jobs ++ job ∷ []) (results ++ result ∷ []) past ≡ past_after limits part job result (past_at limits part jobs results past)
-past_at-push limits part [] [] job result past same = refl
-past_at-push limits part [] (r ∷ results) job result past same = absurd (omega (arith, same))
-past_at-push limits part (j ∷ jobs) [] job result past same = absurd (omega (arith, same))
-past_at-push limits part (j ∷ jobs) (r ∷ results) job result past same = past_at-push limits part jobs results job result (past_after limits part j r past) (omega (arith, same))
+after_jobs-push : (limits : Limits) (part : ℕ) (jobs : List Job) (results : List (Result Done Refusal)) (job : Job) (result : Result Done Refusal) (table : PlainView) → length results ≡ length jobs → after_jobs limits part (jobs ++ job ∷ []) (results ++ result ∷ []) table ≡ after_job limits part job result (after_jobs limits part jobs results table)
+after_jobs-push limits part [] [] job result table same = refl
+after_jobs-push limits part [] (r ∷ results) job result table same = absurd (omega (arith, same))
+after_jobs-push limits part (j ∷ jobs) [] job result table same = absurd (omega (arith, same))
+after_jobs-push limits part (j ∷ jobs) (r ∷ results) job result table same = after_jobs-push limits part jobs results job result (after_job limits part j r table) (omega (arith, same))
 
-pub KeepsJobs-push : (limits : Limits) (old now new : List Past) (jobs : List Job) (results : List (Result Done Refusal)) (job : Job) (result : Result Done Refusal) → length results ≡ length jobs → KeepsJobs limits old jobs results now → KeepsJobs limits now (job ∷ []) (result ∷ []) new → KeepsJobs limits old (jobs ++ job ∷ []) (results ++ result ∷ []) new
+pub KeepsJobs-push : (limits : Limits) (old now new : List PlainView) (jobs : List Job) (results : List (Result Done Refusal)) (job : Job) (result : Result Done Refusal) → length results ≡ length jobs → KeepsJobs limits old jobs results now → KeepsJobs limits now (job ∷ []) (result ∷ []) new → KeepsJobs limits old (jobs ++ job ∷ []) (results ++ result ∷ []) new
 KeepsJobs-push limits old now new jobs results job result same before last = λ part.
-    last part ∙ ap (option_map (past_at limits part (job ∷ []) (result ∷ []))) (before part) ∙ joined part (slice_get old part)
+    last part ∙ ap (option_map (after_jobs limits part (job ∷ []) (result ∷ []))) (before part) ∙ joined part (slice_get old part)
   where
-    joined : (part : ℕ) (o : Option Past) → option_map (past_at limits part (job ∷ []) (result ∷ [])) (option_map (past_at limits part jobs results) o) ≡ option_map (past_at limits part (jobs ++ job ∷ []) (results ++ result ∷ [])) o
+    joined : (part : ℕ) (o : Option PlainView) → option_map (after_jobs limits part (job ∷ []) (result ∷ [])) (option_map (after_jobs limits part jobs results) o) ≡ option_map (after_jobs limits part (jobs ++ job ∷ []) (results ++ result ∷ [])) o
     joined part None = refl
-    joined part (Some past) = ap Some (sym (past_at-push limits part jobs results job result past same))
+    joined part (Some table) = ap Some (sym (after_jobs-push limits part jobs results job result table same))
 
 -- no job
-option-same : (o : Option Past) → o ≡ option_map (λ (past : Past). past) o
+option-same : (o : Option PlainView) → o ≡ option_map (λ (table : PlainView). table) o
 option-same None = refl
-option-same (Some past) = refl
+option-same (Some table) = refl
 
-pub KeepsJobs-nil : (limits : Limits) (pasts : List Past) → KeepsJobs limits pasts [] [] pasts
-KeepsJobs-nil limits pasts = λ part. option-same (slice_get pasts part)
+pub KeepsJobs-nil : (limits : Limits) (tables : List PlainView) → KeepsJobs limits tables [] [] tables
+KeepsJobs-nil limits tables = λ part. option-same (slice_get tables part)
 
 -- a job that was refused
-refused-past : (limits : Limits) (part : ℕ) (job : Job) (e : Refusal) (past : Past) → past_after limits part job (Err e) past ≡ past
-refused-past limits part (Perform step) e past = refl
-refused-past limits part (Fold number) e past = refl
+refused-table : (limits : Limits) (part : ℕ) (job : Job) (e : Refusal) (table : PlainView) → after_job limits part job (Err e) table ≡ table
+refused-table limits part (Perform step) e table = refl
+refused-table limits part (Fold number) e table = refl
 
-pub KeepsJobs-refused : (limits : Limits) (pasts : List Past) (job : Job) (e : Refusal) → KeepsJobs limits pasts (job ∷ []) (Err e ∷ []) pasts
-KeepsJobs-refused limits pasts job e = λ part. by_past part (slice_get pasts part)
+pub KeepsJobs-refused : (limits : Limits) (tables : List PlainView) (job : Job) (e : Refusal) → KeepsJobs limits tables (job ∷ []) (Err e ∷ []) tables
+KeepsJobs-refused limits tables job e = λ part. by_table part (slice_get tables part)
   where
-    by_past : (part : ℕ) (o : Option Past) → o ≡ option_map (past_at limits part (job ∷ []) (Err e ∷ [])) o
-    by_past part None = refl
-    by_past part (Some past) = ap Some (sym (refused-past limits part job e past))
+    by_table : (part : ℕ) (o : Option PlainView) → o ≡ option_map (after_jobs limits part (job ∷ []) (Err e ∷ [])) o
+    by_table part None = refl
+    by_table part (Some table) = ap Some (sym (refused-table limits part job e table))
 
--- a checkpoint: its partition's history moves into its base
-pub KeepsJobs-fold : (limits : Limits) (old new : List Part) (number count : ℕ) → IsFoldedAt number old new → KeepsJobs limits (pasts_of old) (Fold number ∷ []) (Ok (Folded count) ∷ []) (pasts_of new)
+-- a checkpoint of a partition is one of its plain table
+pub KeepsJobs-fold : (limits : Limits) (old new : List Part) (number count : ℕ) → IsFoldedAt number old new → KeepsJobs limits (tables_of old) (Fold number ∷ []) (Ok (Folded count) ∷ []) (tables_of new)
 KeepsJobs-fold limits old new number count folds = λ part.
-    slice_get-map (λ (p : Part). p.past) new part ∙ ap (option_map (λ (p : Part). p.past)) (folds part) ∙ by_part part (slice_get old part) ∙ ap (option_map (past_at limits part (Fold number ∷ []) (Ok (Folded count) ∷ []))) (sym (slice_get-map (λ (p : Part). p.past) old part))
+    slice_get-map (λ (p : Part). table_of p) new part ∙ ap (option_map (λ (p : Part). table_of p)) (folds part) ∙ by_part part (slice_get old part) ∙ ap (option_map (after_jobs limits part (Fold number ∷ []) (Ok (Folded count) ∷ []))) (sym (slice_get-map (λ (p : Part). table_of p) old part))
   where
-    by_test : (b : Bool) (p : Part) → (cond b (folded_part p) p).past ≡ cond b (folded p.past) p.past
+    by_test : (b : Bool) (p : Part) → table_of (cond b (folded_part p) p) ≡ cond b (checkpointed (table_of p)) (table_of p)
     by_test true p = refl
     by_test false p = refl
 
-    by_part : (part : ℕ) (o : Option Part) → option_map (λ (p : Part). p.past) (option_map (λ (p : Part). if number == part then folded_part p else p) o) ≡ option_map (past_at limits part (Fold number ∷ []) (Ok (Folded count) ∷ [])) (option_map (λ (p : Part). p.past) o)
+    by_part : (part : ℕ) (o : Option Part) → option_map (λ (p : Part). table_of p) (option_map (λ (p : Part). if number == part then folded_part p else p) o) ≡ option_map (after_jobs limits part (Fold number ∷ []) (Ok (Folded count) ∷ [])) (option_map (λ (p : Part). table_of p) o)
     by_part part None = refl
     by_part part (Some p) = ap Some (by_test (number == part) p)
 
@@ -88,79 +86,43 @@ IsFoldedAt-set parts i q d within is = λ k. ⊎_elim
 
 pub tables-folded : (parts : List Part) (i count : ℕ) (q d : Part) → i < length parts → q ≡ folded_part (get_or parts i d) → tables_of (set parts i q) ≡ changed_at {X = ℕ} checkpointed (tables_of parts) i (Ok count)
 tables-folded parts i count q d within is =
-    let table = λ (p : Part). table_of p.past in
+    let table = λ (p : Part). table_of p in
     map-set table parts i q ∙ ap (set (tables_of parts) i) (ap table is ∙ ap checkpointed (sym (get_or-map table parts i d fresh_table within)))
 
 pub accepted-folded : (parts : List Part) (i : ℕ) (q d : Part) → i < length parts → q ≡ folded_part (get_or parts i d) → accepted_by (set parts i q) ≡ accepted_by parts
 accepted-folded parts i q d within is =
-    let sum = sum_by-set (λ (p : Part). accepted_in p.past) parts i q d within in
-    let same : accepted_in q.past ≡ accepted_in (get_or parts i d).past + 0 = ap (λ (p : Part). accepted_in p.past) is in
+    let sum = sum_by-set (λ (p : Part). accepted_of (table_of p)) parts i q d within in
+    let same : accepted_of (table_of q) ≡ accepted_of (table_of (get_or parts i d)) + 0 = ap (λ (p : Part). accepted_of (table_of p)) is in
     omega (arith, sum, same)
 
 -- the outcome of a checkpoint: of a partition that is there, and if there is none
-pub fold-at : (parts : List Part) (i : ℕ) (r : Result ℕ Refusal) (d : Part) → i < length parts → (r ≡ Ok (length (get_or parts i d).past.tail)) ⊎ (r ≡ Err OutOfMemory) → IsFoldOutcome (slice_get (tables_of parts) i) r
-fold-at parts i r d within outcome =
-    let table = λ (p : Part). table_of p.past in
+pub fold-at : (parts : List Part) (i : ℕ) (d : Part) → i < length parts → Ok (get_or parts i d).since ≡ expected_fold (slice_get (tables_of parts) i)
+fold-at parts i d within =
+    let table = λ (p : Part). table_of p in
     let there = slice_get-map table parts i ∙ ap (option_map table) (slice_get-get_or parts i d within) in
-    subst (λ (t : Option PlainView). IsFoldOutcome t r) (sym there) outcome
+    ap expected_fold (sym there)
 
-pub fold-nowhere : (parts : List Part) (i : ℕ) → length parts ≤ i → IsFoldOutcome (slice_get (tables_of parts) i) (Err NoSuchPartition)
+pub fold-nowhere : (parts : List Part) (i : ℕ) → length parts ≤ i → Err NoSuchPartition ≡ expected_fold (slice_get (tables_of parts) i)
 fold-nowhere parts i beyond =
-    let none = slice_get_past (tables_of parts) i (omega (arith, beyond, length-map parts (λ (p : Part). table_of p.past))) in
-    subst (λ (t : Option PlainView). IsFoldOutcome t (Err NoSuchPartition)) (sym none) refl
+    let none = slice_get_past (tables_of parts) i (omega (arith, beyond, length-map parts (λ (p : Part). table_of p))) in
+    ap expected_fold (sym none)
 
--- the outcome of a checkpoint, from the partition that is replaced
-pub fold-outcome : (r : Result ℕ Refusal) (n : ℕ) → IfOk r (λ count. count ≡ n) → IfErr r (λ e. e ≡ OutOfMemory) → (r ≡ Ok n) ⊎ (r ≡ Err OutOfMemory)
-fold-outcome (Ok count) n ok err = inl (ap Ok ok)
-fold-outcome (Err e) n ok err = inr (ap Err err)
-
-abbrev pub Refolds : List Part → ℕ → Part → Part → Result ℕ Refusal → Type 0
-Refolds parts i q d r = OnOk r (q ≡ folded_part (get_or parts i d)) × OnErr r (q ≡ get_or parts i d)
-
-pub after-fold : (parts : List Part) (i : ℕ) (q d : Part) (r : Result ℕ Refusal) → i < length parts → Refolds parts i q d r → tables_of (set parts i q) ≡ changed_at checkpointed (tables_of parts) i r
-after-fold parts i q d (Ok count) within is = tables-folded parts i count q d within is.0
-after-fold parts i q d (Err e) within is = ap tables_of (ap (set parts i) is.1 ∙ set-get_or parts i d)
-
-pub folds-fold : (parts : List Part) (i : ℕ) (q d : Part) (r : Result ℕ Refusal) → i < length parts → Refolds parts i q d r → OnOk r (IsFoldedAt i parts (set parts i q))
-folds-fold parts i q d (Ok count) within is = IsFoldedAt-set parts i q d within is.0
-folds-fold parts i q d (Err e) within is = tt
-
-pub kept-fold : (limits : Limits) (parts : List Part) (i : ℕ) (q d : Part) (r : Result ℕ Refusal) → i < length parts → Refolds parts i q d r → KeepsJobs limits (pasts_of parts) (Fold i ∷ []) (mapped Folded r ∷ []) (pasts_of (set parts i q))
-kept-fold limits parts i q d (Ok count) within is = KeepsJobs-fold limits parts (set parts i q) i count (IsFoldedAt-set parts i q d within is.0)
-kept-fold limits parts i q d (Err e) within is = subst (λ (ps : List Part). KeepsJobs limits (pasts_of parts) (Fold i ∷ []) (Err e ∷ []) (pasts_of ps)) (sym (ap (set parts i) is.1 ∙ set-get_or parts i d)) (KeepsJobs-refused limits (pasts_of parts) (Fold i) e)
-
-pub accepted-fold : (parts : List Part) (i : ℕ) (q d : Part) (r : Result ℕ Refusal) → i < length parts → Refolds parts i q d r → accepted_by (set parts i q) ≡ accepted_by parts
-accepted-fold parts i q d (Ok count) within is = accepted-folded parts i q d within is.0
-accepted-fold parts i q d (Err e) within is = ap accepted_by (ap (set parts i) is.1 ∙ set-get_or parts i d)
-
-pub same-fold : (parts : List Part) (i : ℕ) (q d : Part) (r : Result ℕ Refusal) → Refolds parts i q d r → OnErr r (set parts i q ≡ parts)
-same-fold parts i q d (Ok count) is = tt
-same-fold parts i q d (Err e) is = ap (set parts i) is.1 ∙ set-get_or parts i d
-
-pub opened-fold : (parts : List Part) (i : ℕ) (q d : Part) (r : Result ℕ Refusal) → Refolds parts i q d r → (q.keys ≡ (get_or parts i d).keys) × (q.limits ≡ (get_or parts i d).limits)
-opened-fold parts i q d (Ok count) is = (ap (λ (p : Part). p.keys) is.0, ap (λ (p : Part). p.limits) is.0)
-opened-fold parts i q d (Err e) is = (ap (λ (p : Part). p.keys) is.1, ap (λ (p : Part). p.limits) is.1)
-
--- the plain rows of the partitions after jobs, by their pasts before
-pub tables-kept : (limits : Limits) (old now : List Part) (part : ℕ) (jobs : List Job) (results : List (Result Done Refusal)) → KeepsJobs limits (pasts_of old) jobs results (pasts_of now) → slice_get (tables_of now) part ≡ option_map (λ (past : Past). table_of (past_at limits part jobs results past)) (slice_get (pasts_of old) part)
-tables-kept limits old now part jobs results kept = tables-pasts now part ∙ ap (option_map table_of) (kept part) ∙ by_past (slice_get (pasts_of old) part)
-  where
-    by_past : (o : Option Past) → option_map table_of (option_map (past_at limits part jobs results) o) ≡ option_map (λ (past : Past). table_of (past_at limits part jobs results past)) o
-    by_past None = refl
-    by_past (Some past) = refl
+-- the partitions that a checkpoint leaves have the same keys and limits
+pub opened-fold : (p q : Part) → q ≡ folded_part p → (q.keys ≡ p.keys) × (q.limits ≡ p.limits)
+opened-fold p q is = (ap (λ (p : Part). p.keys) is, ap (λ (p : Part). p.limits) is)
 
 -- the outcome of a job is the same for equal tables
 pub outcome-alike : (bounds : Bounds) (splits : List Bound) (tables others : ℕ → Option PlainView) (job : Job) (result : Result Done Refusal) → ((part : ℕ) → tables part ≡ others part) → IsJobOutcome bounds splits tables job result → IsJobOutcome bounds splits others job result
 outcome-alike bounds splits tables others (Perform step) result alike comes = (comes.0, comes.1, subst (λ (t : Option PlainView). IsOutcome bounds (keys_of_part splits step.part) t step.command comes.0) (alike step.part) comes.2)
-outcome-alike bounds splits tables others (Fold part) result alike comes = (comes.0, comes.1, subst (λ (t : Option PlainView). IsFoldOutcome t comes.0) (alike part) comes.2)
+outcome-alike bounds splits tables others (Fold part) result alike comes = subst (λ (t : Option PlainView). result ≡ mapped Folded (expected_fold t)) (alike part) comes
 
 -- no job
-pub AreExpectedOutcomes-nil : (limits : Limits) (splits : List Bound) (pasts : List Past) → AreExpectedOutcomes limits splits pasts [] []
-AreExpectedOutcomes-nil limits splits pasts = record { each = refl; outcomes = λ k j r at. absurd (omega (arith, slice_get_within {A = Job} [] k j at)) }
+pub AreExpectedOutcomes-nil : (limits : Limits) (splits : List Bound) (tables : List PlainView) → AreExpectedOutcomes limits splits tables [] []
+AreExpectedOutcomes-nil limits splits tables = record { each = refl; outcomes = λ k j r at. absurd (omega (arith, slice_get_within {A = Job} [] k j at)) }
 
 -- one more job
-pub AreExpectedOutcomes-push : (limits : Limits) (splits : List Bound) (pasts : List Past) (jobs : List Job) (results : List (Result Done Refusal)) (j : Job) (r : Result Done Refusal) → AreExpectedOutcomes limits splits pasts jobs results → IsJobOutcome (bounds_of limits) splits (λ part. option_map (λ (past : Past). table_of (past_at limits part jobs results past)) (slice_get pasts part)) j r → AreExpectedOutcomes limits splits pasts (jobs ++ j ∷ []) (results ++ r ∷ [])
-AreExpectedOutcomes-push limits splits pasts jobs results j r before now = record {
+pub AreExpectedOutcomes-push : (limits : Limits) (splits : List Bound) (tables : List PlainView) (jobs : List Job) (results : List (Result Done Refusal)) (j : Job) (r : Result Done Refusal) → AreExpectedOutcomes limits splits tables jobs results → IsJobOutcome (bounds_of limits) splits (λ part. option_map (after_jobs limits part jobs results) (slice_get tables part)) j r → AreExpectedOutcomes limits splits tables (jobs ++ j ∷ []) (results ++ r ∷ [])
+AreExpectedOutcomes-push limits splits tables jobs results j r before now = record {
   each = omega (arith, before.each, length-append jobs (j ∷ []), length-append results (r ∷ []));
   outcomes = λ k j' r' at_job at_result. ⊎_elim
       (λ (front : k < length jobs).
@@ -194,3 +156,8 @@ DoesAll-push splits limits [] [] j r old now new before does = (new, rw before a
 DoesAll-push splits limits [] (y ∷ results) j r old now new before does = absurd before
 DoesAll-push splits limits (x ∷ jobs) [] j r old now new before does = absurd before
 DoesAll-push splits limits (x ∷ jobs) (y ∷ results) j r old now new before does = (before.0, before.1, DoesAll-push splits limits jobs results j r before.0 now new before.2 does)
+
+-- the outcome of a checkpoint that takes no memory is one of a checkpoint
+pub fold-expected : (table : Option PlainView) (r : Result ℕ Refusal) → r ≡ expected_fold table → IsFoldOutcome table r
+fold-expected None r is = is
+fold-expected (Some t) r is = inl is

@@ -1,6 +1,7 @@
 pub mod AskLaws
 pub mod BulkLaws
 pub mod JobLaws
+pub mod KeyLaws
 pub mod ListLaws
 pub mod RouteLaws
 pub mod ShortLaws

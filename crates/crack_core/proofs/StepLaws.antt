@@ -1,4 +1,4 @@
--- What follows from a step, of the entry that it leaves, and of partitions of which one is replaced.
+-- What follows from a step, of the plain table that it leaves, and of partitions of which one is replaced.
 use Rattle.std.specs.Prelude.{◌≡◌, ◌≢◌, ℕ, ◌+◌, ◌<◌, ◌≤◌, Bool, true, false, cond, List, [], ◌∷◌, ◌++◌, length, take, drop, Option, None, Some, Result, Ok, Err, is_ok, slice_get, IfSome, IfOk, IfErr, OnOk, OnErr, IsOk, ◌⊎◌, if◌then◌else◌}
 use Rattle.std.specs.Option.{option_map, option_or}
 use Rattle.std.proofs.Common.{zero, suc, get_or, set, arith, ap, refl, sym, subst, ◌∙◌, ⊎_elim, inl, inr, length-append, length-set}
@@ -11,53 +11,28 @@ use Rattle.std.proofs.Math.Seq.{map-set_same}
 use Rattle.crack_row.specs.Commands.{change_of, key_of}
 use Rattle.crack_row.specs.declared.Bound.{Bound}
 use Rattle.crack_row.specs.declared.command.Command.{Command}
-use Rattle.crack_row.specs.declared.command.Entry.{Entry}
 use Rattle.crack_row.specs.declared.command.Reply.{Reply}
 use Rattle.crack_row.specs.declared.refusal.Refusal.{Refusal}
 use Rattle.crack_row.specs.declared.refusal.Refusal.TheVariants.{KeyOutside, NoSuchPartition, OutOfMemory, NoCell}
 use Rattle.crack_row.specs.declared.limit.Limits.{Limits}
-use Rattle.crack_plain.specs.Past.{Past, with_entry, state_after, accepted_in}
-use Rattle.crack_plain.specs.Plain.{PlainView, IsSmall, reply_to}
-use Rattle.crack_plain.proofs.PastLaws.{state_after-push, accepted_in-push}
-use Rattle.crack_part.specs.Parts.{Part, IsSound}
+use Rattle.crack_plain.specs.Plain.{PlainView, accepted_of, checkpointed, reply_to, after}
+use Rattle.crack_part.specs.Parts.{Part, IsSound, state_of, table_of}
 use Rattle.crack_core.specs.declared.step.Step.{Step}
 use Rattle.crack_core.specs.declared.step.Job.TheVariants.{Perform}
 use Rattle.crack_core.specs.declared.step.Done.TheVariants.{Replied}
 use Rattle.crack_core.specs.Routes.{keys_of_part}
 use Rattle.crack_core.specs.Opening.{AreParts}
 use Rattle.crack_part.specs.Cells.{is_without_cell}
-use Rattle.crack_part.specs.Refusals.{is_key_in, table_of, stopped_by, refusal_of}
-use Rattle.crack_part.specs.Upkeep.{upkept}
+use Rattle.crack_part.specs.Refusals.{is_key_in, stopped_by, refusal_of}
+use Rattle.crack_part.specs.Upkeep.{is_due, answered}
 use Rattle.crack_part.proofs.RefusalLaws.{if_refused}
-use Rattle.crack_part.proofs.UpkeepLaws.{upkept_table, table_of-upkept, accepted_in-upkept}
-use Rattle.crack_core.specs.Steps.{Bounds, bounds_of, mapped, unless, MayLackCell, IsOutcome, IsOutcomeAt, fresh_table, table_after, tables_after, tables_of, pasts_of, accepted_by}
-use Rattle.crack_core.specs.Jobs.{past_after, past_at, KeepsJobs}
-
--- the outcome of an answer once the reply's copy is released
-pub record Gives (answered : Result (Reply × Reply) Refusal) (given : Result Reply Refusal) : Type 0 where
-  pub ok : IfOk answered (λ (replies : Reply × Reply). given ≡ Ok replies.0)
-  pub err : IfErr answered (λ (e : Refusal). given ≡ Err e)
-
-pub ok_given : (a : Result (Reply × Reply) Refusal) (r : Result Reply Refusal) {P Q : Type 0} → Gives a r → OnOk a P → (P → Q) → OnOk r Q
-ok_given (Ok replies) r gives p f = rw gives.ok (f p)
-ok_given (Err e) r gives p f = rw gives.err tt
-
-pub err_given : (a : Result (Reply × Reply) Refusal) (r : Result Reply Refusal) {P Q : Type 0} → Gives a r → OnErr a P → (P → Q) → OnErr r Q
-err_given (Ok replies) r gives p f = rw gives.ok tt
-err_given (Err e) r gives p f = rw gives.err (f p)
-
-pub small-given : (a : Result (Reply × Reply) Refusal) (r : Result Reply Refusal) → Gives a r → IfOk a (λ (replies : Reply × Reply). IsSmall replies.0) → IfOk r IsSmall
-small-given (Ok replies) r gives small = rw gives.ok small
-small-given (Err e) r gives small = rw gives.err tt
-
--- a refusal is passed on as it is
-given-err : (a : Result (Reply × Reply) Refusal) (r : Result Reply Refusal) (e : Refusal) → Gives a r → a ≡ Err e → r ≡ Err e
-given-err a r e gives is = rw is at gives.err
+use Rattle.crack_core.specs.Steps.{Bounds, bounds_of, mapped, unless, MayLackCell, IsOutcome, IsOutcomeAt, fresh_table, table_after, upkept_by, tables_after, tables_of, accepted_by}
+use Rattle.crack_core.specs.Jobs.{after_job, after_jobs, KeepsJobs}
 
 -- the outcome of a command that a partition doesn't refuse by itself
-kept-or-short : (said : Reply) (a : Result (Reply × Reply) Refusal) (r : Result Reply Refusal) → Gives a r → IfOk a (λ (replies : Reply × Reply). (replies.0 ≡ said) × (replies.1 ≡ replies.0)) → IfErr a (λ e. e ≡ OutOfMemory) → (r ≡ Ok said) ⊎ (r ≡ Err OutOfMemory)
-kept-or-short said (Ok replies) r gives says short = inl (gives.ok ∙ ap Ok says.0)
-kept-or-short said (Err e) r gives says short = inr (gives.err ∙ ap Err short)
+replied-or-short : (said : Reply) (r : Result Reply Refusal) → IfOk r (λ (reply : Reply). reply ≡ said) → IfErr r (λ e. e ≡ OutOfMemory) → (r ≡ Ok said) ⊎ (r ≡ Err OutOfMemory)
+replied-or-short said (Ok reply) says short = inl (ap Ok says)
+replied-or-short said (Err e) says short = inr (ap Err short)
 
 -- the first cause to refuse a command, by what is tested
 abbrev cause : Bool → Option Refusal → Bool → Option Refusal
@@ -71,46 +46,56 @@ by_cause true true None said Lacks r refused rest lack = inr (refl, inr (refused
 by_cause true false None said Lacks r refused rest lack = ⊎_elim (λ (is : r ≡ Ok said). inl is) (λ (short : r ≡ Err OutOfMemory). inr (refl, inl short)) (rest refl)
 
 -- what a partition answers is the reply of its plain rows, or the refusal that they call for, or a lack of memory or of a cell in place of a reply
-pub outcome-given : (p q : Part) (command : Command) (a : Result (Reply × Reply) Refusal) (r : Result Reply Refusal) → Gives a r → IfOk a (λ (replies : Reply × Reply). (replies.0 ≡ reply_to (state_after p.past) command) × (replies.1 ≡ replies.0)) → IfSome (refusal_of p command) (λ e. (a ≡ Err e) × (q ≡ p)) → (refusal_of p command ≡ None → IfErr a (λ e. e ≡ OutOfMemory)) → (is_without_cell p.limits p.store (change_of command) ≡ true → MayLackCell (bounds_of p.limits) (Some (table_of p.past)) command) → IsOutcome (bounds_of p.limits) p.keys (Some (table_of p.past)) command r
-outcome-given p q command a r gives said refused memory lack =
-    by_cause (is_key_in p.keys (key_of command)) (is_without_cell p.limits p.store (change_of command)) (stopped_by p.limits (table_of p.past)) (reply_to (state_after p.past) command) (MayLackCell (bounds_of p.limits) (Some (table_of p.past)) command) r
-    (if_refused (refusal_of p command) (λ e. (a ≡ Err e) × (q ≡ p)) (λ e. r ≡ Err e) (λ e is. given-err a r e gives is.0) refused)
-    (λ none. kept-or-short (reply_to (state_after p.past) command) a r gives said (memory none))
+pub outcome-given : (p q : Part) (command : Command) (r : Result Reply Refusal) → IfOk r (λ (reply : Reply). reply ≡ reply_to (state_of p) command) → IfSome (refusal_of p command) (λ e. (r ≡ Err e) × (q ≡ p)) → (refusal_of p command ≡ None → IfErr r (λ e. e ≡ OutOfMemory)) → (is_without_cell p.limits p.store (change_of command) ≡ true → MayLackCell (bounds_of p.limits) (Some (table_of p)) command) → IsOutcome (bounds_of p.limits) p.keys (Some (table_of p)) command r
+outcome-given p q command r said refused memory lack =
+    by_cause (is_key_in p.keys (key_of command)) (is_without_cell p.limits p.store (change_of command)) (stopped_by p.limits (table_of p)) (reply_to (state_of p) command) (MayLackCell (bounds_of p.limits) (Some (table_of p)) command) r
+    (if_refused (refusal_of p command) (λ e. (r ≡ Err e) × (q ≡ p)) (λ e. r ≡ Err e) (λ e is. is.0) refused)
+    (λ none. replied-or-short (reply_to (state_of p) command) r said (memory none))
     lack
 
 -- a refusal for another cause than lack of memory leaves a partition as it was
-pub same-given : (p q : Part) (o : Option Refusal) (a : Result (Reply × Reply) Refusal) (r : Result Reply Refusal) → Gives a r → IfSome o (λ e. (a ≡ Err e) × (q ≡ p)) → (o ≡ None → IfErr a (λ e. e ≡ OutOfMemory)) → IfErr r (λ e. e ≢ OutOfMemory → q ≡ p)
-same-given p q o (Ok replies) r gives refused memory = rw gives.ok tt
-same-given p q None (Err e) r gives refused memory = rw gives.err (λ other. absurd (other (memory refl)))
-same-given p q (Some x) (Err e) r gives refused memory = rw gives.err (λ other. refused.1)
+pub same-given : (p q : Part) (o : Option Refusal) (r : Result Reply Refusal) → IfSome o (λ e. (r ≡ Err e) × (q ≡ p)) → (o ≡ None → IfErr r (λ e. e ≡ OutOfMemory)) → IfErr r (λ e. e ≢ OutOfMemory → q ≡ p)
+same-given p q o (Ok reply) refused memory = tt
+same-given p q None (Err e) refused memory = λ other. absurd (other (memory refl))
+same-given p q (Some x) (Err e) refused memory = λ other. refused.1
 
--- one more entry
-pub table_of-push : (past : Past) (e : Entry) → table_of (with_entry past e) ≡ table_after (table_of past) e.command
-table_of-push past e =
-    let long : length (past.tail ++ e ∷ []) ≡ length past.tail + 1 = omega (arith, length-append past.tail (e ∷ [])) in
-    rw (state_after-push past e, long) refl
+-- what holds of an answer, from what the partition promises of it
+pub ok_given : (r : Result Reply Refusal) {P Q : Type 0} → OnOk r P → (P → Q) → OnOk r Q
+ok_given (Ok reply) p f = f p
+ok_given (Err e) p f = tt
 
--- the tables are those of the pasts
-pub tables-pasts : (parts : List Part) (part : ℕ) → slice_get (tables_of parts) part ≡ option_map table_of (slice_get (pasts_of parts) part)
-tables-pasts parts part =
-    slice_get-map (λ (p : Part). table_of p.past) parts part ∙ both (slice_get parts part) ∙ ap (option_map table_of) (sym (slice_get-map (λ (p : Part). p.past) parts part))
+pub err_given : (r : Result Reply Refusal) {P Q : Type 0} → OnErr r P → (P → Q) → OnErr r Q
+err_given (Ok reply) p f = tt
+err_given (Err e) p f = f p
+
+-- a plain table after an answered command is the one with one more command, after the checkpoint that is due
+answered-is : (limits : Limits) (table : PlainView) (command : Command) → answered limits table command ≡ table_after (upkept_by (bounds_of limits) table) command
+answered-is limits table command = by_test (is_due limits table.since)
   where
-    both : (o : Option Part) → option_map (λ (p : Part). table_of p.past) o ≡ option_map table_of (option_map (λ (p : Part). p.past) o)
-    both None = refl
-    both (Some p) = refl
+    by_test : (b : Bool) → record { state = after table.state command; folded = (cond b (checkpointed table) table).folded; since = (cond b (checkpointed table) table).since + 1 } ≡ table_after (cond b (checkpointed table) table) command
+    by_test true = refl
+    by_test false = refl
 
--- a partition's past after a step: an answered one adds its entry at its own partition alone
-past-own : (limits : Limits) (s : Step) (reply : Reply) (past : Past) → past_after limits s.part (Perform s) (Ok (Replied reply)) past ≡ with_entry (upkept limits past) (record { worker = s.worker; command = s.command; reply = reply })
-past-own limits s reply past = ap (λ (b : Bool). cond b (with_entry (upkept limits past) (record { worker = s.worker; command = s.command; reply = reply })) past) (eq-eqb s.part s.part refl)
+-- and counts one command more
+accepted-after : (limits : Limits) (table : PlainView) (command : Command) → accepted_of (table_after (upkept_by (bounds_of limits) table) command) ≡ accepted_of table + 1
+accepted-after limits table command = by_test (is_due limits table.since)
+  where
+    by_test : (b : Bool) → accepted_of (table_after (cond b (checkpointed table) table) command) ≡ accepted_of table + 1
+    by_test true = omega arith
+    by_test false = omega arith
 
-past-other : (limits : Limits) (part : ℕ) (s : Step) (r : Result Reply Refusal) (past : Past) → s.part ≢ part → past_after limits part (Perform s) (mapped Replied r) past ≡ past
-past-other limits part s (Ok reply) past differs = ap (λ (b : Bool). cond b (with_entry (upkept limits past) (record { worker = s.worker; command = s.command; reply = reply })) past) (ne_eqb s.part part differs)
-past-other limits part s (Err e) past differs = refl
+-- a partition's plain table after a step: an answered one changes that of its own partition alone
+job-own : (limits : Limits) (s : Step) (reply : Reply) (table : PlainView) → after_job limits s.part (Perform s) (Ok (Replied reply)) table ≡ table_after (upkept_by (bounds_of limits) table) s.command
+job-own limits s reply table = ap (λ (b : Bool). cond b (table_after (upkept_by (bounds_of limits) table) s.command) table) (eq-eqb s.part s.part refl)
 
--- the past has the entry of a step that was answered
-pub kept-given : (limits : Limits) (past new : Past) (s : Step) (a : Result (Reply × Reply) Refusal) (r : Result Reply Refusal) → Gives a r → IfOk a (λ (replies : Reply × Reply). new ≡ with_entry (upkept limits past) (record { worker = s.worker; command = s.command; reply = replies.0 })) → OnErr a (new ≡ past) → new ≡ past_after limits s.part (Perform s) (mapped Replied r) past
-kept-given limits past new s (Ok replies) r gives kept same = rw gives.ok (kept ∙ sym (past-own limits s replies.0 past))
-kept-given limits past new s (Err e) r gives kept same = rw gives.err same
+job-other : (limits : Limits) (part : ℕ) (s : Step) (r : Result Reply Refusal) (table : PlainView) → s.part ≢ part → after_job limits part (Perform s) (mapped Replied r) table ≡ table
+job-other limits part s (Ok reply) table differs = ap (λ (b : Bool). cond b (table_after (upkept_by (bounds_of limits) table) s.command) table) (ne_eqb s.part part differs)
+job-other limits part s (Err e) table differs = refl
+
+-- the plain table is that of a step that was answered
+pub table-given : (limits : Limits) (table new : PlainView) (s : Step) (r : Result Reply Refusal) → OnOk r (new ≡ answered limits table s.command) → OnErr r (new ≡ table) → new ≡ after_job limits s.part (Perform s) (mapped Replied r) table
+table-given limits table new s (Ok reply) is same = is ∙ answered-is limits table s.command ∙ sym (job-own limits s reply table)
+table-given limits table new s (Err e) is same = same
 
 -- the last of a list
 pub get-last : {X : Type 0} (xs : List X) (x : X) → slice_get (xs ++ x ∷ []) (length xs) ≡ Some x
@@ -135,53 +120,47 @@ get-set_other (x ∷ xs) zero (suc k) y differs = refl
 get-set_other (x ∷ xs) (suc i) zero y differs = refl
 get-set_other (x ∷ xs) (suc i) (suc k) y differs = get-set_other xs i k y (λ e. differs (ap suc e))
 
--- the partition of a step is replaced by one that keeps its entry
-pub Keeps-set : (limits : Limits) (parts : List Part) (q d : Part) (s : Step) (r : Result Reply Refusal) → s.part < length parts → q.past ≡ past_after limits s.part (Perform s) (mapped Replied r) (get_or parts s.part d).past → KeepsJobs limits (pasts_of parts) (Perform s ∷ []) (mapped Replied r ∷ []) (pasts_of (set parts s.part q))
+-- the partition of a step is replaced by one with its table after it
+pub Keeps-set : (limits : Limits) (parts : List Part) (q d : Part) (s : Step) (r : Result Reply Refusal) → s.part < length parts → table_of q ≡ after_job limits s.part (Perform s) (mapped Replied r) (table_of (get_or parts s.part d)) → KeepsJobs limits (tables_of parts) (Perform s ∷ []) (mapped Replied r ∷ []) (tables_of (set parts s.part q))
 Keeps-set limits parts q d s r within kept = λ k. ⊎_elim
-    (λ (same : k ≡ s.part). subst (λ (n : ℕ). slice_get (pasts_of (set parts s.part q)) n ≡ option_map (past_at limits n (Perform s ∷ []) (mapped Replied r ∷ [])) (slice_get (pasts_of parts) n)) (sym same) own)
+    (λ (same : k ≡ s.part). subst (λ (n : ℕ). slice_get (tables_of (set parts s.part q)) n ≡ option_map (after_jobs limits n (Perform s ∷ []) (mapped Replied r ∷ [])) (slice_get (tables_of parts) n)) (sym same) own)
     (λ (other : k ≢ s.part).
-    slice_get-map (λ (p : Part). p.past) (set parts s.part q) k
-    ∙ ap (option_map (λ (p : Part). p.past)) (get-set_other parts s.part k q other)
-    ∙ sym (slice_get-map (λ (p : Part). p.past) parts k)
-    ∙ same_past k (slice_get (pasts_of parts) k) (λ e. other (sym e)))
+    slice_get-map (λ (p : Part). table_of p) (set parts s.part q) k
+    ∙ ap (option_map (λ (p : Part). table_of p)) (get-set_other parts s.part k q other)
+    ∙ sym (slice_get-map (λ (p : Part). table_of p) parts k)
+    ∙ same_table k (slice_get (tables_of parts) k) (λ e. other (sym e)))
     (cases_eq k s.part)
   where
-    same_past : (k : ℕ) (o : Option Past) → s.part ≢ k → o ≡ option_map (past_at limits k (Perform s ∷ []) (mapped Replied r ∷ [])) o
-    same_past k None differs = refl
-    same_past k (Some past) differs = ap Some (sym (past-other limits k s r past differs))
+    same_table : (k : ℕ) (o : Option PlainView) → s.part ≢ k → o ≡ option_map (after_jobs limits k (Perform s ∷ []) (mapped Replied r ∷ [])) o
+    same_table k None differs = refl
+    same_table k (Some table) differs = ap Some (sym (job-other limits k s r table differs))
 
-    own : slice_get (pasts_of (set parts s.part q)) s.part ≡ option_map (past_at limits s.part (Perform s ∷ []) (mapped Replied r ∷ [])) (slice_get (pasts_of parts) s.part)
+    own : slice_get (tables_of (set parts s.part q)) s.part ≡ option_map (after_jobs limits s.part (Perform s ∷ []) (mapped Replied r ∷ [])) (slice_get (tables_of parts) s.part)
     own =
-        slice_get-map (λ (p : Part). p.past) (set parts s.part q) s.part
-        ∙ ap (option_map (λ (p : Part). p.past)) (get-set_same parts s.part q within)
+        slice_get-map (λ (p : Part). table_of p) (set parts s.part q) s.part
+        ∙ ap (option_map (λ (p : Part). table_of p)) (get-set_same parts s.part q within)
         ∙ ap Some kept
-        ∙ ap (λ (o : Option Part). option_map (past_at limits s.part (Perform s ∷ []) (mapped Replied r ∷ [])) (option_map (λ (p : Part). p.past) o)) (sym (slice_get-get_or parts s.part d within))
-        ∙ ap (option_map (past_at limits s.part (Perform s ∷ []) (mapped Replied r ∷ []))) (sym (slice_get-map (λ (p : Part). p.past) parts s.part))
+        ∙ ap (λ (o : Option Part). option_map (after_jobs limits s.part (Perform s ∷ []) (mapped Replied r ∷ [])) (option_map (λ (p : Part). table_of p) o)) (sym (slice_get-get_or parts s.part d within))
+        ∙ ap (option_map (after_jobs limits s.part (Perform s ∷ []) (mapped Replied r ∷ []))) (sym (slice_get-map (λ (p : Part). table_of p) parts s.part))
 
-pub tables-set : (limits : Limits) (parts : List Part) (q d : Part) (s : Step) (r : Result Reply Refusal) → s.part < length parts → q.past ≡ past_after limits s.part (Perform s) (mapped Replied r) (get_or parts s.part d).past → tables_of (set parts s.part q) ≡ tables_after (bounds_of limits) (tables_of parts) s.part s.command r
+pub tables-set : (limits : Limits) (parts : List Part) (q d : Part) (s : Step) (r : Result Reply Refusal) → s.part < length parts → table_of q ≡ after_job limits s.part (Perform s) (mapped Replied r) (table_of (get_or parts s.part d)) → tables_of (set parts s.part q) ≡ tables_after (bounds_of limits) (tables_of parts) s.part s.command r
 tables-set limits parts q d s (Ok reply) within kept =
-    let table = λ (p : Part). table_of p.past in
-    let entry : Entry = record { worker = s.worker; command = s.command; reply = reply } in
-    let old = get_or parts s.part d in
-    let grown = kept ∙ past-own limits s reply old.past in
-    let there = table_of-upkept limits old.past ∙ ap (upkept_table limits) (sym (get_or-map table parts s.part d fresh_table within)) in
-    map-set table parts s.part q ∙ ap (set (tables_of parts) s.part) (ap table_of grown ∙ table_of-push (upkept limits old.past) entry ∙ ap (λ (t : PlainView). table_after t s.command) there)
+    let table = λ (p : Part). table_of p in
+    let there = sym (get_or-map table parts s.part d fresh_table within) in
+    map-set table parts s.part q ∙ ap (set (tables_of parts) s.part) (kept ∙ job-own limits s reply (table_of (get_or parts s.part d)) ∙ ap (λ (t : PlainView). table_after (upkept_by (bounds_of limits) t) s.command) there)
 tables-set limits parts q d s (Err e) within kept =
-    map-set_same (λ (p : Part). table_of p.past) parts s.part q d (ap table_of kept)
+    map-set_same (λ (p : Part). table_of p) parts s.part q d kept
 
-pub accepted-set : (limits : Limits) (parts : List Part) (q d : Part) (s : Step) (r : Result Reply Refusal) → s.part < length parts → q.past ≡ past_after limits s.part (Perform s) (mapped Replied r) (get_or parts s.part d).past → accepted_by (set parts s.part q) ≡ (if is_ok r then accepted_by parts + 1 else accepted_by parts)
+pub accepted-set : (limits : Limits) (parts : List Part) (q d : Part) (s : Step) (r : Result Reply Refusal) → s.part < length parts → table_of q ≡ after_job limits s.part (Perform s) (mapped Replied r) (table_of (get_or parts s.part d)) → accepted_by (set parts s.part q) ≡ (if is_ok r then accepted_by parts + 1 else accepted_by parts)
 accepted-set limits parts q d s (Ok reply) within kept =
     let old = get_or parts s.part d in
-    let entry : Entry = record { worker = s.worker; command = s.command; reply = reply } in
-    let sum = sum_by-set (λ (p : Part). accepted_in p.past) parts s.part q d within in
-    let grown = ap accepted_in (kept ∙ past-own limits s reply old.past) in
-    let long = accepted_in-push (upkept limits old.past) entry in
-    let same = accepted_in-upkept limits old.past in
-    omega (arith, sum, grown, long, same)
+    let sum = sum_by-set (λ (p : Part). accepted_of (table_of p)) parts s.part q d within in
+    let grown : accepted_of (table_of q) ≡ accepted_of (table_of old) + 1 = ap accepted_of (kept ∙ job-own limits s reply (table_of old)) ∙ accepted-after limits (table_of old) s.command in
+    omega (arith, sum, grown)
 accepted-set limits parts q d s (Err e) within kept =
     let old = get_or parts s.part d in
-    let sum = sum_by-set (λ (p : Part). accepted_in p.past) parts s.part q d within in
-    let same = ap accepted_in kept in
+    let sum = sum_by-set (λ (p : Part). accepted_of (table_of p)) parts s.part q d within in
+    let same : accepted_of (table_of q) ≡ accepted_of (table_of old) = ap accepted_of kept in
     omega (arith, sum, same)
 
 pub AreParts-set : (splits : List Bound) (limits : Limits) (parts : List Part) (i : ℕ) (q d : Part) → i < length parts → AreParts splits limits parts → q.keys ≡ (get_or parts i d).keys → q.limits ≡ (get_or parts i d).limits → IsSound q → AreParts splits limits (set parts i q)
@@ -198,15 +177,15 @@ AreParts-set splits limits parts i q d within are keys limits_are sound = record
 -- if there is no such partition
 pub outcome-nowhere : (splits : List Bound) (bounds : Bounds) (parts : List Part) (s : Step) → length parts ≤ s.part → IsOutcomeAt bounds splits (tables_of parts) s.part s.command (Err NoSuchPartition)
 outcome-nowhere splits bounds parts s beyond =
-    let none = slice_get_past (tables_of parts) s.part (omega (arith, beyond, length-map parts (λ (p : Part). table_of p.past))) in
+    let none = slice_get_past (tables_of parts) s.part (omega (arith, beyond, length-map parts (λ (p : Part). table_of p))) in
     subst (λ (t : Option PlainView). IsOutcome bounds (keys_of_part splits s.part) t s.command (Err NoSuchPartition)) (sym none) (inl refl)
 
 -- what a partition of these splits is to answer is what the one with this number is to answer
-pub outcome-at : (splits : List Bound) (limits : Limits) (parts : List Part) (s : Step) (r : Result Reply Refusal) (d : Part) → AreParts splits limits parts → s.part < length parts → IsOutcome (bounds_of (get_or parts s.part d).limits) (get_or parts s.part d).keys (Some (table_of (get_or parts s.part d).past)) s.command r → IsOutcomeAt (bounds_of limits) splits (tables_of parts) s.part s.command r
+pub outcome-at : (splits : List Bound) (limits : Limits) (parts : List Part) (s : Step) (r : Result Reply Refusal) (d : Part) → AreParts splits limits parts → s.part < length parts → IsOutcome (bounds_of (get_or parts s.part d).limits) (get_or parts s.part d).keys (Some (table_of (get_or parts s.part d))) s.command r → IsOutcomeAt (bounds_of limits) splits (tables_of parts) s.part s.command r
 outcome-at splits limits parts s r d are within outcome =
-    let table = λ (p : Part). table_of p.past in
+    let table = λ (p : Part). table_of p in
     let there = slice_get-map table parts s.part ∙ ap (option_map table) (slice_get-get_or parts s.part d within) in
-    rw (there, ← are.keys s.part d within) (subst (λ (l : Limits). IsOutcome (bounds_of l) (get_or parts s.part d).keys (Some (table_of (get_or parts s.part d).past)) s.command r) (are.alike s.part d within) outcome)
+    rw (there, ← are.keys s.part d within) (subst (λ (l : Limits). IsOutcome (bounds_of l) (get_or parts s.part d).keys (Some (table_of (get_or parts s.part d))) s.command r) (are.alike s.part d within) outcome)
 
 -- a relation of a partition and the one that replaces it holds of those with its number
 pub replaced-at : (R : Part → Part → Type 0) (parts : List Part) (i : ℕ) (q d : Part) → i < length parts → R (get_or parts i d) q → (old new : Part) → slice_get parts i ≡ Some old → slice_get (set parts i q) i ≡ Some new → R old new

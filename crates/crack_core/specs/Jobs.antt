@@ -7,44 +7,41 @@ use Rattle.crack_row.specs.declared.limit.Limits.{Limits}
 use Rattle.crack_row.specs.declared.command.Reply.{Reply}
 use Rattle.crack_row.specs.declared.refusal.Refusal.{Refusal}
 use Rattle.crack_row.specs.declared.refusal.Refusal.TheVariants.{OutOfMemory}
-use Rattle.crack_plain.specs.Plain.{PlainView}
-use Rattle.crack_plain.specs.Past.{Past, with_entry, folded}
+use Rattle.crack_plain.specs.Plain.{PlainView, checkpointed}
 use Rattle.crack_part.specs.Parts.{Part, Serves, Spares, folded_part}
 use Rattle.crack_core.specs.Routes.{keys_of_part}
 use Rattle.crack_core.specs.Opening.{AreParts}
-use Rattle.crack_part.specs.Refusals.{table_of}
-use Rattle.crack_part.specs.Upkeep.{upkept}
-use Rattle.crack_core.specs.Steps.{Bounds, bounds_of, mapped, IsOutcome, IsFoldOutcome, pasts_of}
+use Rattle.crack_core.specs.Steps.{Bounds, bounds_of, mapped, IsOutcome, expected_fold, table_after, upkept_by, tables_of, tables_after}
 use Rattle.crack_core.specs.declared.step.Step.{Step}
 use Rattle.crack_core.specs.declared.step.Job.{Job}
 use Rattle.crack_core.specs.declared.step.Job.TheVariants.{Perform, Fold}
 use Rattle.crack_core.specs.declared.step.Done.{Done}
 use Rattle.crack_core.specs.declared.step.Done.TheVariants.{Replied, Folded}
 
--- the past of one partition with these limits, after a job: a step of its own that was answered is one more entry, after upkeep is done,
--- and a checkpoint of its own moves its history into its base
-abbrev pub past_after : Limits → ℕ → Job → Result Done Refusal → Past → Past
-past_after limits part (Perform step) (Ok (Replied reply)) past = if step.part == part then with_entry (upkept limits past) (record { worker = step.worker; command = step.command; reply = reply }) else past
-past_after limits part (Fold number) (Ok (Folded count)) past = if number == part then folded past else past
-past_after limits part job result past = past
+-- the plain table of one partition with these limits, after a job: a step of its own that was answered is one more command, after the checkpoint
+-- that is due, and a checkpoint of its own is made
+abbrev pub after_job : Limits → ℕ → Job → Result Done Refusal → PlainView → PlainView
+after_job limits part (Perform step) (Ok (Replied reply)) table = if step.part == part then table_after (upkept_by (bounds_of limits) table) step.command else table
+after_job limits part (Fold number) (Ok (Folded count)) table = if number == part then checkpointed table else table
+after_job limits part job result table = table
 
 -- the same after these jobs, one after the other
-abbrev pub past_at : Limits → ℕ → List Job → List (Result Done Refusal) → Past → Past
-past_at limits part jobs results past = fold (λ past done. past_after limits part done.0 done.1 past) past (zip jobs results)
+abbrev pub after_jobs : Limits → ℕ → List Job → List (Result Done Refusal) → PlainView → PlainView
+after_jobs limits part jobs results table = fold (λ table done. after_job limits part done.0 done.1 table) table (zip jobs results)
 
--- each partition with these limits has its former past, continued by its own jobs
-abbrev pub KeepsJobs : Limits → List Past → List Job → List (Result Done Refusal) → List Past → Type 0
-KeepsJobs limits old jobs results new = (part : ℕ) → slice_get new part ≡ option_map (past_at limits part jobs results) (slice_get old part)
+-- each partition with these limits has its former plain table, after its own jobs
+abbrev pub KeepsJobs : Limits → List PlainView → List Job → List (Result Done Refusal) → List PlainView → Type 0
+KeepsJobs limits old jobs results new = (part : ℕ) → slice_get new part ≡ option_map (after_jobs limits part jobs results) (slice_get old part)
 
 -- a relation of the partition with this number, if there is one, and the one that takes its place
 abbrev pub AtPart : ℕ → (Part → Part → Type 0) → List Part → List Part → Type 0
 AtPart part Holds old new = (p q : Part) → slice_get old part ≡ Some p → slice_get new part ≡ Some q → Holds p q
 
--- what a step does to the partitions of these splits: each remains one, the step's own partition adds its entry and its store is read by the step's
--- policy, the others are unchanged, and so are all after any refusal but 8
+-- what a step does to the partitions of these splits: each remains one, the step's own partition accepts its command and its store is read by the
+-- step's policy, the others are unchanged, and so are all after any refusal but 8
 pub record Makes (splits : List Bound) (limits : Limits) (step : Step) (result : Result Reply Refusal) (old new : List Part) : Type 0 where
   pub parts : AreParts splits limits new
-  pub kept : KeepsJobs limits (pasts_of old) (Perform step ∷ []) (mapped Replied result ∷ []) (pasts_of new)
+  pub kept : tables_of new ≡ tables_after (bounds_of limits) (tables_of old) step.part step.command result
   pub others : (k : ℕ) → k ≢ step.part → slice_get new k ≡ slice_get old k
   pub store : OnOk result (AtPart step.part (λ p q. Serves step.policy p step.command q.store) old new)
   pub spared : OnErr result (AtPart step.part (λ p q. Spares step.policy p step.command q.store) old new)
@@ -54,14 +51,14 @@ pub record Makes (splits : List Bound) (limits : Limits) (step : Step) (result :
 -- commands its partition accepted since the last one
 abbrev pub IsJobOutcome : Bounds → List Bound → (ℕ → Option PlainView) → Job → Result Done Refusal → Type 0
 IsJobOutcome bounds splits table (Perform step) result = (outcome : Result Reply Refusal) × (result ≡ mapped Replied outcome) × IsOutcome bounds (keys_of_part splits step.part) (table step.part) step.command outcome
-IsJobOutcome bounds splits table (Fold part) result = (outcome : Result ℕ Refusal) × (result ≡ mapped Folded outcome) × IsFoldOutcome (table part) outcome
+IsJobOutcome bounds splits table (Fold part) result = result ≡ mapped Folded (expected_fold (table part))
 
--- the expected replies over jobs: each is answered as its partition must answer, from its past before the first job and its own
+-- the expected replies over jobs: each is answered as its partition must answer, from its plain table before the first job and its own
 -- jobs done before; neither workers nor policies nor other partitions' jobs matter
-pub record AreExpectedOutcomes (limits : Limits) (splits : List Bound) (pasts : List Past) (jobs : List Job) (results : List (Result Done Refusal)) : Type 0 where
+pub record AreExpectedOutcomes (limits : Limits) (splits : List Bound) (tables : List PlainView) (jobs : List Job) (results : List (Result Done Refusal)) : Type 0 where
   pub each : length results ≡ length jobs
   pub outcomes : (k : ℕ) (job : Job) (result : Result Done Refusal) → slice_get jobs k ≡ Some job → slice_get results k ≡ Some result →
-      IsJobOutcome (bounds_of limits) splits (λ part. option_map (λ (past : Past). table_of (past_at limits part (take k jobs) (take k results) past)) (slice_get pasts part)) job result
+      IsJobOutcome (bounds_of limits) splits (λ part. option_map (after_jobs limits part (take k jobs) (take k results)) (slice_get tables part)) job result
 
 -- a checkpoint of the partition with this number is made, and the others are as they were
 abbrev pub IsFoldedAt : ℕ → List Part → List Part → Type 0

@@ -5,7 +5,6 @@ pub mod Inside
 pub mod Jobs
 pub mod Listing
 pub mod Opening
-pub mod Receipts
 pub mod Routes
 pub mod Steps
 pub mod Upkeep

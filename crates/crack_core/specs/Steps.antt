@@ -13,9 +13,8 @@ use Rattle.crack_row.specs.declared.layout.Layout.{Layout}
 use Rattle.crack_row.specs.declared.refusal.Refusal.{Refusal}
 use Rattle.crack_row.specs.declared.refusal.Refusal.TheVariants.{NoSuchPartition, OutOfMemory, NoCell}
 use Rattle.crack_plain.specs.Plain.{PlainView, accepted_of, checkpointed, no_rows, reply_to, after}
-use Rattle.crack_plain.specs.Past.{Past, accepted_in}
-use Rattle.crack_part.specs.Parts.{Part}
-use Rattle.crack_part.specs.Refusals.{table_of, stopped_by, first_cause}
+use Rattle.crack_part.specs.Parts.{Part, table_of}
+use Rattle.crack_part.specs.Refusals.{stopped_by, first_cause}
 use Rattle.crack_part.specs.Upkeep.{is_automatic, is_due}
 use Rattle.crack_core.specs.Routes.{keys_of_part}
 
@@ -64,7 +63,7 @@ IsOutcomeAt bounds splits tables part command outcome = IsOutcome bounds (keys_o
 abbrev pub fresh_table : PlainView
 fresh_table = record { state = no_rows; folded = 0; since = 0 }
 
--- a partition after an answered command: its rows, and one more entry
+-- a partition after an answered command: its rows, and one more command
 abbrev pub table_after : PlainView → Command → PlainView
 table_after table command = record { state = after table.state command; folded = table.folded; since = table.since + 1 }
 
@@ -94,14 +93,15 @@ abbrev pub IsFoldOutcome : Option PlainView → Result ℕ Refusal → Type 0
 IsFoldOutcome None outcome = outcome ≡ Err NoSuchPartition
 IsFoldOutcome (Some table) outcome = (outcome ≡ Ok table.since) ⊎ (outcome ≡ Err OutOfMemory)
 
+-- the outcome of a checkpoint that takes no memory: 5 if there is no such partition, else how many commands it accepted since its last one
+abbrev pub expected_fold : Option PlainView → Result ℕ Refusal
+expected_fold None = Err NoSuchPartition
+expected_fold (Some table) = Ok table.since
+
 -- the tables of partitions
 abbrev pub tables_of : List Part → List PlainView
-tables_of parts = map (λ (part : Part). table_of part.past) parts
-
--- the pasts of partitions
-abbrev pub pasts_of : List Part → List Past
-pasts_of parts = map (λ (part : Part). part.past) parts
+tables_of parts = map (λ (part : Part). table_of part) parts
 
 -- how many commands partitions have accepted in total, since they were opened
 abbrev pub accepted_by : List Part → ℕ
-accepted_by parts = sum_by (λ (part : Part). accepted_in part.past) parts
+accepted_by parts = sum_by (λ (part : Part). accepted_of (table_of part)) parts

@@ -4,13 +4,12 @@ ghost use Rattle.std.specs.Prelude.{None, Some, IfOk, IfErr, OnErr, OnOk, Ok, Er
 ghost use Rattle.crack_row.specs.Limits.{of_history};
 ghost use Rattle.crack_row.specs.declared.Bound.{Bound};
 ghost use Rattle.crack_row.specs.declared.limit.Limits.{Limits};
-ghost use Rattle.crack_plain.specs.Past.{no_past};
 ghost use Rattle.crack_plain.specs.Plain.{PlainView, IsNumbered, IsSmall, checkpointed};
-ghost use Rattle.crack_part.specs.Parts.{Part, Serves, Spares};
+ghost use Rattle.crack_part.specs.Parts.{Part, table_of, Serves, Spares};
 ghost use Rattle.crack_core.specs.Routes.{AreSplits, keys_of_part, route, parts_of};
 ghost use Rattle.crack_core.specs.Opening.{opening_fault, MayFault, AreParts};
-ghost use Rattle.crack_core.specs.Steps.{bounds_of, IsOutcomeAt, IsLayoutOutcome, IsFoldOutcome, tables_of};
-ghost use Rattle.crack_core.specs.Steps.{mapped, tables_after, changed_at, pasts_of, accepted_by};
+ghost use Rattle.crack_core.specs.Steps.{bounds_of, IsOutcomeAt, IsLayoutOutcome, expected_fold, tables_of};
+ghost use Rattle.crack_core.specs.Steps.{mapped, fresh_table, tables_after, changed_at, accepted_by};
 ghost use Rattle.crack_store.specs.Inside.{no_cells, IsLayoutOf};
 ghost use Rattle.crack_core.specs.Cores.{IsCore};
 ghost use Rattle.crack_core.specs.Jobs.{KeepsJobs, AtPart, AreExpectedOutcomes, IsJobOutcome};
@@ -49,11 +48,11 @@ impl Model for Core {
 }
 
 impl Core {
-    /// Partitions without rows, one more than splits, each with a history of at most `limit` entries, and with the
-    /// greatest of the other limits. Refused as `open_with` is.
+    /// Partitions without rows, one more than splits, each of which accepts at most `limit` commands after each
+    /// checkpoint, with the greatest of the other limits. Refused as `open_with` is.
     pub fn open(alloc: Global, splits: &[Bound], limit: u64) -> Result<Core, Refusal>
         ensures opened { IfOk result (λ core. (core.splits ≡ splits.now) × (core.limits ≡ of_history limit)) }
-        ensures fresh { IfOk result (λ core. All (λ (part : Part). part.past ≡ no_past) core.parts) }
+        ensures fresh { IfOk result (λ core. All (λ (part : Part). table_of part ≡ fresh_table) core.parts) }
         ensures empty { IfOk result (λ core.
             All (λ (part : Part). part.store ≡
             no_cells part.keys part.store.column_room part.store.in_room) core.parts) }
@@ -68,7 +67,7 @@ impl Core {
     /// `MOST_SPLITS`, with 14 if a limit isn't 1 to the greatest of its kind, and with 8 if no memory is found.
     pub fn open_with(alloc: Global, splits: &[Bound], limits: Limits) -> Result<Core, Refusal>
         ensures opened { IfOk result (λ core. (core.splits ≡ splits.now) × (core.limits ≡ limits)) }
-        ensures fresh { IfOk result (λ core. All (λ (part : Part). part.past ≡ no_past) core.parts) }
+        ensures fresh { IfOk result (λ core. All (λ (part : Part). table_of part ≡ fresh_table) core.parts) }
         ensures empty { IfOk result (λ core.
             All (λ (part : Part). part.store ≡
             no_cells part.keys part.store.column_room part.store.in_room) core.parts) }
@@ -140,10 +139,11 @@ impl Core {
     }
 
     /// Asks one partition, by one call of `Partition::apply`. Refused, in this order: with 5 if there is no such
-    /// partition, with 4 if the command has a key that isn't the partition's, with 6 if its history is full and upkeep
-    /// is on request, with 10 if it has accepted as many commands as it may in total, with 9 if no cell is free for a
-    /// row, upkeep frees none and it has as many as it may have, and with 8 if no memory is found. Then nothing has
-    /// changed, except after 8, which leaves what `Partition::apply` says.
+    /// partition, with 4 if the command has a key that isn't the partition's, with 6 if it has accepted as many
+    /// commands as its limit since its last checkpoint and upkeep is on request, with 10 if it has accepted as many
+    /// as it may in total, with 9 if no cell is free for a row, upkeep frees none and it has as many as it may have,
+    /// and with 8 if no memory is found. Then nothing has changed, except after 8, which leaves what
+    /// `Partition::apply` says.
     #[inline(always)]
     pub fn step(&mut self, step: Step) -> Result<Reply, Refusal>
         // It is the reply of the partition's plain rows, or the refusal that they require; in place of a reply it may
@@ -153,8 +153,6 @@ impl Core {
         // The plain rows change as the reply says, and a refusal leaves them.
         ensures after { tables_of self.new.parts ≡
             tables_after (bounds_of self.old.limits) (tables_of self.old.parts) step.part step.command result }
-        ensures kept { KeepsJobs self.old.limits (pasts_of self.old.parts) (Job.Perform step ∷ [])
-            (mapped Done.Replied result ∷ []) (pasts_of self.new.parts) }
         ensures accepted { accepted_by self.new.parts ≡
             (if is_ok result then accepted_by self.old.parts + 1 else accepted_by self.old.parts) }
         ensures small { IfOk result IsSmall }
@@ -175,11 +173,11 @@ impl Core {
     /// finds no memory.
     pub fn run_steps(&mut self, steps: &[Step]) -> Result<Vec<Result<Reply, Refusal>>, Refusal>
         ensures replies { IfOk result (λ results.
-            AreExpectedOutcomes self.old.limits self.old.splits (pasts_of self.old.parts) (map Job.Perform steps.now)
+            AreExpectedOutcomes self.old.limits self.old.splits (tables_of self.old.parts) (map Job.Perform steps.now)
             (map (mapped Done.Replied) results.items)) }
         ensures kept { IfOk result (λ results.
-            KeepsJobs self.old.limits (pasts_of self.old.parts) (map Job.Perform steps.now)
-            (map (mapped Done.Replied) results.items) (pasts_of self.new.parts)) }
+            KeepsJobs self.old.limits (tables_of self.old.parts) (map Job.Perform steps.now)
+            (map (mapped Done.Replied) results.items) (tables_of self.new.parts)) }
         // Each store is served by the policy of its own steps, in their order, and by nothing else.
         ensures stores { IfOk result (λ results.
             DoesAll self.old.splits self.old.limits (map Job.Perform steps.now)
@@ -193,12 +191,11 @@ impl Core {
         Ok(results)
     }
 
-    /// Makes a checkpoint of one partition, and returns how many entries its history had: the partition's rows are
-    /// kept as they are now, its commands aren't, and its history starts again. It cracks and merges nothing, and no
-    /// later reply depends on it. Refused with 5 if there is no such partition, and with 8 if no memory is
-    /// found; then nothing has changed. Its costs are those of `Partition::checkpoint`.
+    /// Makes a checkpoint of one partition, and returns how many commands it had accepted since its last one, which
+    /// are counted from 0 again. It cracks and merges nothing, allocates nothing, and no later reply depends on it.
+    /// Refused with 5 if there is no such partition; then nothing has changed.
     pub fn checkpoint(&mut self, part: u32) -> Result<u64, Refusal>
-        ensures outcome { IsFoldOutcome (slice_get (tables_of self.old.parts) part) result }
+        ensures outcome { result ≡ expected_fold (slice_get (tables_of self.old.parts) part) }
         ensures after { tables_of self.new.parts ≡ changed_at checkpointed (tables_of self.old.parts) part result }
         ensures folds { OnOk result (IsFoldedAt part self.old.parts self.new.parts) }
         ensures accepted { accepted_by self.new.parts ≡ accepted_by self.old.parts }
@@ -213,9 +210,9 @@ impl Core {
     /// the outcomes finds no memory.
     pub fn run_jobs(&mut self, jobs: &[Job]) -> Result<Vec<Result<Done, Refusal>>, Refusal>
         ensures replies { IfOk result (λ results.
-            AreExpectedOutcomes self.old.limits self.old.splits (pasts_of self.old.parts) jobs.now results.items) }
+            AreExpectedOutcomes self.old.limits self.old.splits (tables_of self.old.parts) jobs.now results.items) }
         ensures kept { IfOk result (λ results.
-            KeepsJobs self.old.limits (pasts_of self.old.parts) jobs.now results.items (pasts_of self.new.parts)) }
+            KeepsJobs self.old.limits (tables_of self.old.parts) jobs.now results.items (tables_of self.new.parts)) }
         // Each store is read by the policies of its own steps, in their order, and by nothing else; a checkpoint leaves
         // it as it is.
         ensures stores { IfOk result (λ results.
@@ -242,7 +239,7 @@ impl Core {
     }
 }
 
-/// Asks the partition of a step, if there is one, and drops the receipt.
+/// Asks the partition of a step, if there is one.
 #[inline(always)]
 fn ask_at(partitions: &mut [Partition], step: Step) -> Result<Reply, Refusal>
     ensures outcome { (splits : List Bound) (limits : Limits) → AreParts splits limits partitions.old →
@@ -251,8 +248,8 @@ fn ask_at(partitions: &mut [Partition], step: Step) -> Result<Reply, Refusal>
         tables_of partitions.new ≡ tables_after (bounds_of limits)
         (tables_of partitions.old) step.part step.command result }
     ensures kept { (splits : List Bound) (limits : Limits) → AreParts splits limits partitions.old →
-        KeepsJobs limits (pasts_of partitions.old) (Job.Perform step ∷ []) (mapped Done.Replied result ∷ [])
-        (pasts_of partitions.new) }
+        KeepsJobs limits (tables_of partitions.old) (Job.Perform step ∷ []) (mapped Done.Replied result ∷ [])
+        (tables_of partitions.new) }
     ensures accepted { accepted_by partitions.new ≡
         (if is_ok result then accepted_by partitions.old + 1 else accepted_by partitions.old) }
     ensures parts { (splits : List Bound) (limits : Limits) → AreParts splits limits partitions.old →
@@ -270,21 +267,9 @@ fn ask_at(partitions: &mut [Partition], step: Step) -> Result<Reply, Refusal>
         return Err(Refusal::NoSuchPartition);
     }
     let partition = &mut partitions[part];
-    let answered = partition.apply(step.worker, step.command, step.policy);
+    let answered = partition.apply(step.command, step.policy);
     partition.facts();
-    without_receipt(answered)
-}
-
-/// The outcome of asking a partition, without the reply's copy.
-#[inline(always)]
-fn without_receipt(answered: Result<(Reply, Reply), Refusal>) -> Result<Reply, Refusal>
-    ensures ok { IfOk answered (λ replies. result ≡ Ok replies.0) }
-    ensures err { IfErr answered (λ e. result ≡ Err e) }
-{
-    match answered {
-        Ok((reply, _receipt)) => Ok(reply),
-        Err(refusal) => Err(refusal),
-    }
+    answered
 }
 
 /// Makes steps one after the other, and adds the outcome of each if there is room.
@@ -292,10 +277,10 @@ fn run_all(partitions: &mut [Partition], steps: &[Step], results: &mut Vec<Resul
     requires empty { results.old.items ≡ [] }
     requires room { length steps.now ≤ vec_capacity results.old }
     ensures replies { (splits : List Bound) (limits : Limits) → AreParts splits limits partitions.old →
-        AreExpectedOutcomes limits splits (pasts_of partitions.old) (map Job.Perform steps.now)
+        AreExpectedOutcomes limits splits (tables_of partitions.old) (map Job.Perform steps.now)
         (map (mapped Done.Replied) results.new.items) }
     ensures kept { (splits : List Bound) (limits : Limits) → AreParts splits limits partitions.old → KeepsJobs limits
-        (pasts_of partitions.old) (map Job.Perform steps.now) (map (mapped Done.Replied) results.new.items) (pasts_of
+        (tables_of partitions.old) (map Job.Perform steps.now) (map (mapped Done.Replied) results.new.items) (tables_of
         partitions.new) }
     ensures stores { (splits : List Bound) (limits : Limits) → AreParts splits limits partitions.old →
         DoesAll splits limits (map Job.Perform steps.now)
@@ -311,12 +296,12 @@ fn run_all(partitions: &mut [Partition], steps: &[Step], results: &mut Vec<Resul
 
 /// Makes a checkpoint of one partition, if there is one with this number.
 fn fold_at(partitions: &mut [Partition], part: u32) -> Result<u64, Refusal>
-    ensures outcome { IsFoldOutcome (slice_get (tables_of partitions.old) part) result }
+    ensures outcome { result ≡ expected_fold (slice_get (tables_of partitions.old) part) }
     ensures after { tables_of partitions.new ≡ changed_at checkpointed (tables_of partitions.old) part result }
     ensures folds { OnOk result (IsFoldedAt part partitions.old partitions.new) }
     ensures kept { (limits : Limits) →
-        KeepsJobs limits (pasts_of partitions.old) (Job.Fold part ∷ []) (mapped Done.Folded result ∷ [])
-        (pasts_of partitions.new) }
+        KeepsJobs limits (tables_of partitions.old) (Job.Fold part ∷ []) (mapped Done.Folded result ∷ [])
+        (tables_of partitions.new) }
     ensures accepted { accepted_by partitions.new ≡ accepted_by partitions.old }
     ensures parts { (splits : List Bound) (limits : Limits) → AreParts splits limits partitions.old →
         AreParts splits limits partitions.new }
@@ -329,7 +314,7 @@ fn fold_at(partitions: &mut [Partition], part: u32) -> Result<u64, Refusal>
     let partition = &mut partitions[number];
     let folded = partition.checkpoint();
     partition.facts();
-    folded
+    Ok(folded)
 }
 
 /// Does one job.
@@ -337,7 +322,7 @@ fn do_job(partitions: &mut [Partition], job: Job) -> Result<Done, Refusal>
     ensures outcome { (splits : List Bound) (limits : Limits) → AreParts splits limits partitions.old →
         IsJobOutcome (bounds_of limits) splits (slice_get (tables_of partitions.old)) job result }
     ensures kept { (splits : List Bound) (limits : Limits) → AreParts splits limits partitions.old →
-        KeepsJobs limits (pasts_of partitions.old) (job ∷ []) (result ∷ []) (pasts_of partitions.new) }
+        KeepsJobs limits (tables_of partitions.old) (job ∷ []) (result ∷ []) (tables_of partitions.new) }
     ensures does { (splits : List Bound) (limits : Limits) → AreParts splits limits partitions.old →
         Does splits limits job result partitions.old partitions.new }
     ensures parts { (splits : List Bound) (limits : Limits) → AreParts splits limits partitions.old →
@@ -374,9 +359,9 @@ fn do_all(partitions: &mut [Partition], jobs: &[Job], results: &mut Vec<Result<D
     requires empty { results.old.items ≡ [] }
     requires room { length jobs.now ≤ vec_capacity results.old }
     ensures replies { (splits : List Bound) (limits : Limits) → AreParts splits limits partitions.old →
-        AreExpectedOutcomes limits splits (pasts_of partitions.old) jobs.now results.new.items }
+        AreExpectedOutcomes limits splits (tables_of partitions.old) jobs.now results.new.items }
     ensures kept { (splits : List Bound) (limits : Limits) → AreParts splits limits partitions.old →
-        KeepsJobs limits (pasts_of partitions.old) jobs.now results.new.items (pasts_of partitions.new) }
+        KeepsJobs limits (tables_of partitions.old) jobs.now results.new.items (tables_of partitions.new) }
     ensures stores { (splits : List Bound) (limits : Limits) → AreParts splits limits partitions.old →
         DoesAll splits limits jobs.now results.new.items partitions.old partitions.new }
     ensures parts { (splits : List Bound) (limits : Limits) → AreParts splits limits partitions.old →

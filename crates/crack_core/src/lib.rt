@@ -1,23 +1,19 @@
-//! Partitions by key range, asked by one thread; the receipts of workers, and the books that keep them.
+//! Partitions by key range, asked by one thread.
 #![tactic(auto)]
 
 pub mod asking;
-pub mod book;
 pub mod bulk;
 pub mod cores;
 pub mod listing;
 pub mod opening;
-pub mod receipt;
 pub mod routes;
 pub mod step;
 pub mod upkeep;
 
 pub use asking::Query;
-pub use book::Book;
 pub use bulk::{Progress, halves};
 pub use cores::Core;
 pub use opening::{limits_fault, open_partitions, splits_fault};
-pub use receipt::Receipt;
 pub use routes::{keys_of_part, only_part, parts_of, route};
 pub use step::{Done, Job, Step};
 pub use upkeep::upkeep_is_checkpoints;

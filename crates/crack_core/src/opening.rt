@@ -1,11 +1,11 @@
 //! The opening of partitions.
 ghost use Rattle.std.specs.Prelude.{◌≡◌, ◌≤◌, [], length, All, IfOk, IfErr};
 ghost use Rattle.crack_row.specs.Limits.{AreLimits};
-ghost use Rattle.crack_plain.specs.Past.{no_past};
 ghost use Rattle.crack_store.specs.Inside.{no_cells};
-ghost use Rattle.crack_part.specs.Parts.{Part};
+ghost use Rattle.crack_part.specs.Parts.{Part, table_of};
 ghost use Rattle.crack_core.specs.Routes.{is_rising, AreSplits};
 ghost use Rattle.crack_core.specs.Opening.{splits_fault, limits_fault, AreParts};
+ghost use Rattle.crack_core.specs.Steps.{fresh_table};
 
 use crate::MOST_SPLITS;
 use crate::routes::keys_of_part;
@@ -49,7 +49,7 @@ pub fn open_partitions(
     requires splits { AreSplits splits.now }
     requires limited { AreLimits limits }
     ensures parts { IfOk result (λ parts. AreParts splits.now limits parts.items) }
-    ensures fresh { IfOk result (λ parts. All (λ (part : Part). part.past ≡ no_past) parts.items) }
+    ensures fresh { IfOk result (λ parts. All (λ (part : Part). table_of part ≡ fresh_table) parts.items) }
     ensures empty { IfOk result (λ parts.
         All (λ (part : Part). part.store ≡ no_cells part.keys part.store.column_room part.store.in_room) parts.items) }
     ensures err { IfErr result (λ e. e ≡ Refusal.OutOfMemory) }

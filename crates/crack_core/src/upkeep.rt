@@ -1,7 +1,7 @@
 //! The result of automatic upkeep.
 ghost use Rattle.std.specs.Prelude.{ℕ, List, Result};
 ghost use Rattle.crack_row.specs.declared.refusal.Refusal.{Refusal};
-ghost use Rattle.crack_plain.specs.Past.{Past};
+ghost use Rattle.crack_plain.specs.Plain.{PlainView};
 ghost use Rattle.crack_core.specs.Upkeep.{IsKeptUp};
 ghost use Rattle.crack_core.specs.declared.step.Job.{Job};
 ghost use Rattle.crack_core.specs.declared.step.Done.{Done};
@@ -11,8 +11,8 @@ use crate::Core;
 /// States that automatic upkeep has the effect of checkpoints on request: after any jobs a partition is as it would be
 /// if each checkpoint that upkeep makes were requested as a job before its step. Does nothing.
 pub fn upkeep_is_checkpoints(core: &Core)
-    ensures { (part : ℕ) (jobs : List Job) (results : List (Result Done Refusal)) (past : Past) →
-        IsKeptUp core.now.limits part jobs results past }
+    ensures { (part : ℕ) (jobs : List Job) (results : List (Result Done Refusal)) (table : PlainView) →
+        IsKeptUp core.now.limits part jobs results table }
 {
     core.facts();
 }

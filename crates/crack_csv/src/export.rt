@@ -22,9 +22,9 @@ use std::io::Write;
 const BATCH_ROWS: usize = 256;
 
 /// Writes the header `key,payload` and then a record for each row, and returns how many rows there were; records end
-/// with a line feed. Each partition is asked for a list of all its rows, which its history keeps. The output is flushed
-/// at the end. The first refusal ends the export: 6, 7, 8 or 10 of a partition, 8 for the text of a batch of rows,
-/// or 18. The list of one partition's rows is in memory, and the text of a batch of them.
+/// with a line feed. Each partition is asked for a list of all its rows, which a history keeps if the desk has one. The
+/// output is flushed at the end. The first refusal ends the export: 6, 7, 8 or 10 of a partition, 8 for the text of a
+/// batch of rows, or 18. The list of one partition's rows is in memory, and the text of a batch of them.
 pub fn export_csv<D: Desk, W: Write>(
     alloc: Global,
     desk: &mut D,

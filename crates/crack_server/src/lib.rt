@@ -1,7 +1,6 @@
 //! Workers of a table, each on a thread of its own: over the lines of a batch, and over TCP.
 #![tactic(auto)]
 
-pub mod audited;
 pub mod batch;
 mod reporting;
 mod seats;
@@ -9,7 +8,6 @@ pub mod server;
 mod totals;
 pub mod witnessed;
 
-pub use audited::run_audited_service;
 pub use batch::run_batch;
 pub use server::{run_server, run_service};
 pub use witnessed::run_witnessed_service;

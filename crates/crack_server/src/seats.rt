@@ -4,8 +4,8 @@ use crack_service::{Host, Terms, serve_desks};
 use crack_session::Desk;
 use crack_table::{Gate, Table, Worker};
 use crack_witness::{Asker, Naming};
-use crack_witness_table::{AuditedAsker, WitnessedTable};
-use crack_worker_desk::{AuditedDesk, WitnessedDesk, WorkerDesk};
+use crack_witness_table::WitnessedTable;
+use crack_worker_desk::{WitnessedDesk, WorkerDesk};
 use std::alloc::Global;
 use std::io::Read;
 use std::net::TcpListener;
@@ -17,14 +17,12 @@ pub(crate) trait Seats {
     type Worker: Drop;
 
     type Seat: Desk + Send + Drop;
-    /// A worker that has served.
-    type Served: Drop;
 
     /// The desk at which this worker asks its table. Takes no lock and no memory.
-    fn seat(&self, alloc: Global, worker: Self::Worker) -> Self::Seat;
+    fn seat(&self, worker: Self::Worker) -> Self::Seat;
 
     /// The worker at a desk. Takes no lock and no memory.
-    fn leave(seat: Self::Seat) -> Self::Served;
+    fn leave(seat: Self::Seat) -> Self::Worker;
 }
 
 /// Desks at a table of this type, behind a gate.
@@ -35,20 +33,12 @@ pub(crate) struct AtTable<'a, Rt: Wait, G: Gate, T> {
     pub(crate) gate: &'a G,
 }
 
-/// The same, for workers that keep receipts.
-#[derive(Drop)]
-pub(crate) struct Audited<'a, Rt: Wait, G: Gate, J: Naming>(
-    pub(crate) AtTable<'a, Rt, G, WitnessedTable<J>>,
-);
-
 impl<'a, Rt: Wait + Sync, G: Gate + Sync> Seats for AtTable<'a, Rt, G, Table> {
     type Worker = Worker;
 
     type Seat = WorkerDesk<'a, Rt, G>;
 
-    type Served = Worker;
-
-    fn seat(&self, _alloc: Global, worker: Worker) -> WorkerDesk<'a, Rt, G> {
+    fn seat(&self, worker: Worker) -> WorkerDesk<'a, Rt, G> {
         WorkerDesk::new(self.rt, self.table, self.gate, worker)
     }
 
@@ -63,31 +53,12 @@ impl<'a, Rt: Wait + Sync, G: Gate + Sync, J: Naming + Send + Sync> Seats
 
     type Seat = WitnessedDesk<'a, Rt, G, J>;
 
-    type Served = Asker<J>;
-
-    fn seat(&self, _alloc: Global, worker: Asker<J>) -> WitnessedDesk<'a, Rt, G, J> {
+    fn seat(&self, worker: Asker<J>) -> WitnessedDesk<'a, Rt, G, J> {
         WitnessedDesk::new(self.rt, self.table, self.gate, worker)
     }
 
     fn leave(seat: WitnessedDesk<'a, Rt, G, J>) -> Asker<J> {
         seat.into_asker()
-    }
-}
-
-impl<'a, Rt: Wait + Sync, G: Gate + Sync, J: Naming + Send + Sync> Seats for Audited<'a, Rt, G, J> {
-    type Worker = Asker<J>;
-
-    type Seat = AuditedDesk<'a, Rt, G, J>;
-
-    type Served = AuditedAsker<J>;
-
-    fn seat(&self, alloc: Global, worker: Asker<J>) -> AuditedDesk<'a, Rt, G, J> {
-        let worker = AuditedAsker::new(alloc, worker);
-        AuditedDesk::new(self.0.rt, self.0.table, self.0.gate, worker)
-    }
-
-    fn leave(seat: AuditedDesk<'a, Rt, G, J>) -> AuditedAsker<J> {
-        seat.into_worker()
     }
 }
 
@@ -102,11 +73,11 @@ pub(crate) fn serve_workers<Rt: Threads + Wait + Sync, S: Seats, H: Host + Sync,
     terms: Terms,
     host: &H,
     input: &mut I,
-) -> Result<Vec<S::Served>, Refusal> {
+) -> Result<Vec<S::Worker>, Refusal> {
     let mut back = Vec::with_capacity(alloc, workers.len())?;
     let mut desks = Vec::with_capacity(alloc, workers.len())?;
     'workers: for worker in workers {
-        desks.push(seats.seat(alloc, worker))?;
+        desks.push(seats.seat(worker))?;
     }
     let served = serve_desks(rt, alloc, listener, desks, terms, host, input)?;
     'desks: for desk in served {

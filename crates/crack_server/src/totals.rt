@@ -1,19 +1,17 @@
 //! The end of a run: its workers are gathered, and its totals written.
 ghost use Rattle.std.specs.Prelude.{◌≡◌, List, map, IfOk};
+ghost use Rattle.crack_kept.specs.Parts.{Part};
 ghost use Rattle.crack_table.specs.Cover.{Covers, kept_of};
 ghost use Rattle.crack_table.specs.Gather.{AreTotals, receipts_of};
+ghost use Rattle.crack_table.specs.Parts.{AreParts};
 ghost use Rattle.crack_witness.specs.Witnesses.{WitnessedState};
-ghost use Rattle.crack_witness_table.specs.Audit.{AuditedState};
-ghost use Rattle.crack_witness_table.specs.Gather.{AreGathered, held_by};
+ghost use Rattle.crack_witness_table.specs.Gather.{AreGathered, AreHistoryTotals};
 
-use crack_core::Book;
 use crack_row::Refusal;
 use crack_table::{Closed, Table, Worker, gather};
 use crack_witness::{Asker, Naming};
-use crack_witness_table::{
-    AuditedAsker, Gathered, WitnessedTable, audit, gather as gather_witnessed,
-};
-use std::alloc::{AllocError, Global};
+use crack_witness_table::{Gathered, WitnessedTable, gather as gather_witnessed};
+use std::alloc::Global;
 use std::io::Write;
 
 /// The totals of a table and its workers.
@@ -30,7 +28,12 @@ pub(crate) fn totals_of(
     alloc: Global,
     table: Table,
     workers: Vec<Worker>,
-) -> Result<Totals, Refusal> {
+) -> Result<Totals, Refusal>
+    // The totals are those of the table's partitions, whose pasts the receipts of all workers cover.
+    ensures audited { IfOk result (λ totals. (parts : List Part) × AreParts table.splits table.limits parts ×
+        AreTotals parts totals.accepted totals.inserted totals.deleted totals.held ×
+        Covers (map kept_of parts) (receipts_of workers.items)) }
+{
     match gather(alloc, table, workers) {
         Ok(closed) => {
             let Closed {
@@ -64,50 +67,12 @@ pub(crate) fn witnessed_totals_of<J: Naming>(
 ) -> Result<Totals, Refusal>
     ensures gathered { IfOk result (λ totals. (parts : List WitnessedState) ×
         AreGathered J.owner table.splits table.limits table.workers askers.items parts ×
-        AreTotals (held_by parts) totals.accepted totals.inserted totals.deleted totals.held) }
+        AreHistoryTotals J.owner parts totals.accepted totals.inserted totals.deleted totals.held) }
 {
     let gathered = gathered(alloc, table, askers)?;
     let totals = totals_in(&gathered);
     drop(gathered);
     Ok(totals)
-}
-
-/// Gathers the workers of a table that witnesses its replies, and compares their receipts with the histories. Refused
-/// as its `gather` is, and then as `audit` is.
-pub(crate) fn audited_totals_of<J: Naming>(
-    alloc: Global,
-    table: WitnessedTable<J>,
-    workers: Vec<AuditedAsker<J>>,
-) -> Result<Totals, Refusal>
-    // The totals are those of partitions that agree with the workers, and whose pasts the receipts of all books cover.
-    ensures audited { IfOk result (λ totals. (parts : List WitnessedState) ×
-        AreGathered J.owner table.splits table.limits table.workers
-        (map (λ (w : AuditedState). w.asker) workers.items) parts ×
-        AreTotals (held_by parts) totals.accepted totals.inserted totals.deleted totals.held ×
-        Covers (map kept_of (held_by parts)) (receipts_of (map (λ (w : AuditedState). w.book) workers.items))) }
-{
-    let (askers, books) = match parted(alloc, workers) {
-        Ok(parted) => parted,
-        Err(_) => {
-            drop(table);
-            return Err(Refusal::OutOfMemory);
-        }
-    };
-    let gathered = match gathered(alloc, table, askers) {
-        Ok(gathered) => gathered,
-        Err(refusal) => {
-            drop(books);
-            return Err(refusal);
-        }
-    };
-    let audited = audit(alloc, &gathered.parts, &books);
-    let totals = totals_in(&gathered);
-    drop(gathered);
-    drop(books);
-    match audited {
-        Ok(()) => Ok(totals),
-        Err(refusal) => Err(refusal),
-    }
 }
 
 /// The gathered workers of a table. What a refusal hands back is dropped.
@@ -118,7 +83,7 @@ fn gathered<J: Naming>(
 ) -> Result<Gathered<J>, Refusal>
     ensures gathered { IfOk result (λ s. AreGathered J.owner table.splits table.limits table.workers askers.items
         s.parts.items) }
-    ensures totals { IfOk result (λ s. AreTotals (held_by s.parts.items) s.accepted s.inserted s.deleted s.held) }
+    ensures totals { IfOk result (λ s. AreHistoryTotals J.owner s.parts.items s.accepted s.inserted s.deleted s.held) }
 {
     match gather_witnessed(alloc, table, askers) {
         Ok(gathered) => Ok(gathered),
@@ -128,24 +93,6 @@ fn gathered<J: Naming>(
             Err(refusal)
         }
     }
-}
-
-/// Workers, and their books.
-fn parted<J: Naming>(
-    alloc: Global,
-    workers: Vec<AuditedAsker<J>>,
-) -> Result<(Vec<Asker<J>>, Vec<Book>), AllocError>
-    ensures askers { IfOk result (λ r. r.0.items ≡ map (λ (w : AuditedState). w.asker) workers.items) }
-    ensures books { IfOk result (λ r. r.1.items ≡ map (λ (w : AuditedState). w.book) workers.items) }
-{
-    let mut askers = Vec::with_capacity(alloc, workers.len())?;
-    let mut books = Vec::with_capacity(alloc, workers.len())?;
-    'workers: for worker in workers {
-        let (asker, book) = worker.into_parts();
-        askers.push(asker)?;
-        books.push(book)?;
-    }
-    Ok((askers, books))
 }
 
 /// The totals of gathered workers.

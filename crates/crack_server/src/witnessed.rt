@@ -1,4 +1,4 @@
-//! A server over a table that witnesses its replies: its workers keep no receipts.
+//! A server over a table that witnesses its replies: neither its partitions nor its workers keep commands.
 use crate::reporting::Reporting;
 use crate::seats::{AtTable, serve_workers};
 use crate::totals::witnessed_totals_of;

@@ -5,11 +5,11 @@ use crate::servers::{client, port_of};
 use crack_row::{
     Command, GREATEST_CELLS, GREATEST_LIFE, Key, Limits, Payload, Policy, Refusal, Upkeep,
 };
-use crack_server::{run_audited_service, run_server, run_service, run_witnessed_service};
+use crack_server::{run_server, run_service, run_witnessed_service};
 use crack_service::{Ending, Host, Notice, Terms};
 use crack_table::{Gate, Table};
-use crack_witness::{Asker, Naming};
-use crack_witness_table::{UnnamedTable, WitnessedTable};
+use crack_witness::Naming;
+use crack_witness_table::UnnamedTable;
 use std::alloc::Global;
 use std::marker::Brand;
 use std::net::{Net, TcpListener, TcpStream};
@@ -98,19 +98,17 @@ enum Way {
     NotingNone,
     Witnessed,
     WitnessedNotingNone,
-    Audited,
-    AuditedNotingNone,
-    /// Its worker asked before it kept receipts, and there is no session.
-    AuditedLate,
+    /// Another table's worker asked before, and there is no session.
+    Late,
 }
 
 /// The options of a server with a host.
 fn terms(way: Way) -> Terms {
     Terms {
         policy: Policy::Gradual,
-        ending: Ending::AfterSessions(u64::from(!matches!(way, Way::AuditedLate))),
+        ending: Ending::AfterSessions(u64::from(!matches!(way, Way::Late))),
         idle: Some(60),
-        notes_checkpoints: matches!(way, Way::NotingCheckpoints | Way::Witnessed | Way::Audited),
+        notes_checkpoints: matches!(way, Way::NotingCheckpoints | Way::Witnessed),
     }
 }
 
@@ -134,6 +132,9 @@ fn serve_plain<H: Threads + Wait + Sync>(
 ) -> Result<(), Refusal> {
     let (table, workers) = Table::open_with(alloc, &[], LIMITS, 1)?;
     let mut input: &[u8] = b"";
+    if matches!(way, Way::Late) {
+        ask_early(rt, alloc, &table, gate)?;
+    }
     if matches!(way, Way::Alone) {
         run_server(
             rt,
@@ -189,58 +190,33 @@ fn serve_named<J: Naming + Send + Sync, H: Threads + Wait + Sync>(
 ) -> Result<(), Refusal>
     requires { AreNames J.book J.owner table.opened }
 {
-    let (table, mut askers) = table.named::<J>(alloc)?;
+    let (table, askers) = table.named::<J>(alloc)?;
     let mut input: &[u8] = b"";
-    if matches!(way, Way::AuditedLate) {
-        ask_early(rt, &table, gate, &mut askers)?;
-    }
-    if matches!(
-        way,
-        Way::Audited | Way::AuditedNotingNone | Way::AuditedLate
-    ) {
-        run_audited_service(
-            rt,
-            alloc,
-            listener,
-            table,
-            askers,
-            terms(way),
-            gate,
-            host,
-            &mut input,
-            output,
-        )
-    } else {
-        run_witnessed_service(
-            rt,
-            alloc,
-            listener,
-            table,
-            askers,
-            terms(way),
-            gate,
-            host,
-            &mut input,
-            output,
-        )
-    }
+    run_witnessed_service(
+        rt,
+        alloc,
+        listener,
+        table,
+        askers,
+        terms(way),
+        gate,
+        host,
+        &mut input,
+        output,
+    )
 }
 
-/// An insert of the first of some workers, which keeps no receipt.
-fn ask_early<J: Naming, H: Wait>(
-    rt: &H,
-    table: &WitnessedTable<J>,
-    gate: &Second,
-    askers: &mut Vec<Asker<J>>,
-) -> Result<(), Refusal> {
-    let Some(worker) = askers.first_mut() else {
+/// An insert of another table's worker, which alone keeps the receipt.
+fn ask_early<H: Wait>(rt: &H, alloc: Global, table: &Table, gate: &Second) -> Result<(), Refusal> {
+    let (_other, mut strangers) = Table::open_with(alloc, &[], LIMITS, 1)?;
+    let Some(stranger) = strangers.first_mut() else {
         return Err(Refusal::WorkersMissing { missing: 1 });
     };
     let insert = Command::Insert {
         key: Key::from_number(10),
         payload: Payload::from_number(1),
     };
-    table.ask(rt, gate, worker, 0, insert, Policy::Gradual)?;
+    stranger.ask(rt, table, gate, 0, insert, Policy::Gradual)?;
     Ok(())
 }
 
@@ -258,11 +234,9 @@ const WAYS: &[(Way, [u64; 5])] = &[
     (Way::NotingCheckpoints, [14, 4, 1, 1, 0]),
     (Way::NotingNone, [14, 4, 0, 1, 0]),
     (Way::Alone, [14, 4, 0, 0, 0]),
-    // over a table that witnesses its replies, whose workers keep receipts or none
+    // over a table that witnesses its replies
     (Way::Witnessed, [14, 4, 1, 1, 0]),
     (Way::WitnessedNotingNone, [14, 4, 0, 1, 0]),
-    (Way::Audited, [14, 4, 1, 1, 0]),
-    (Way::AuditedNotingNone, [14, 4, 0, 1, 0]),
 ];
 
 /// The output of a server, and how it ends.
@@ -276,7 +250,7 @@ fn service<H: Threads + Wait + Sync>(
 ) -> (Vec<u8>, Result<(), Refusal>) {
     let mut output = Vec::new(alloc);
     let ended = match way {
-        Way::Alone | Way::NotingCheckpoints | Way::NotingNone => {
+        Way::Alone | Way::NotingCheckpoints | Way::NotingNone | Way::Late => {
             serve_plain(rt, alloc, listener, way, gate, host, &mut output)
         }
         _ => serve_witnessed(rt, alloc, listener, way, gate, host, &mut output),
@@ -323,13 +297,13 @@ fn a_server_asks_its_gate_and_notifies_its_host(rt: HostRuntime) {
     }
 }
 
-/// An entry that no receipt names is found by the audit at a server's end, whose totals aren't written.
+/// An entry that no receipt of its workers names is found by the audit at a server's end, whose totals aren't written.
 #[test]
 fn an_entry_without_a_receipt_refuses_an_audited_server(rt: HostRuntime) {
     let (gate, host) = (Second::new(), Notes::new());
     let bound = TcpListener::bind(&rt, "127.0.0.1:0");
     let listener = bound.ok().expect(&rt, "a listener");
-    let (written, ended) = service(&rt, rt.alloc(), &listener, Way::AuditedLate, &gate, &host);
+    let (written, ended) = service(&rt, rt.alloc(), &listener, Way::Late, &gate, &host);
     let strange = Refusal::StrangeReceipt {
         part: 0,
         position: 0,

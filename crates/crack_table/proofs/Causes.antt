@@ -7,10 +7,11 @@ use Rattle.crack_row.specs.declared.command.Command.{Command}
 use Rattle.crack_row.specs.declared.command.Reply.{Reply}
 use Rattle.crack_row.specs.declared.refusal.Refusal.{Refusal}
 use Rattle.crack_row.specs.declared.refusal.Refusal.TheVariants.{KeyOutside, HistoryFull, GateGaveUp, OutOfMemory, NoCell, LifeOver}
-use Rattle.crack_part.specs.Parts.{Part}
+use Rattle.crack_kept.specs.Parts.{Part}
 use Rattle.crack_plain.specs.Past.{accepted_in}
 use Rattle.crack_part.specs.Cells.{is_without_cell}
-use Rattle.crack_part.specs.Refusals.{is_key_in, refusal_of}
+use Rattle.crack_part.specs.Refusals.{is_key_in}
+use Rattle.crack_kept.specs.Refusals.{refusal_of}
 use Rattle.crack_part.specs.Upkeep.{is_full}
 use Rattle.crack_table.specs.Tables.{TableState, MayRefuse, with_limit}
 

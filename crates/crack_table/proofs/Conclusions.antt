@@ -8,7 +8,7 @@ use Rattle.std.proofs.lemmas.List.Folds.{Any-from_list_any}
 use Rattle.std.proofs.lemmas.List.{get_or_append_left, get_or_at, get_or_default}
 use Rattle.std.proofs.lemmas.Bool.Decides.{nat_tests}
 use Rattle.std.proofs.lemmas.List.Quantifiers.{all_pairs_push}
-use Rattle.crack_core.specs.declared.receipt.Receipt.{Receipt}
+use Rattle.crack_kept.specs.declared.receipt.Receipt.{Receipt}
 use Rattle.crack_table.specs.Cover.{KeptState, has_place, CoveredBelow, IsCovered, IsGap, first_stranger, first_late, is_late, IsFault, Covers}
 use Rattle.crack_table.specs.Coverage.{named_place}
 

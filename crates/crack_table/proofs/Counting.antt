@@ -7,8 +7,8 @@ use Rattle.std.proofs.lemmas.List.Sums.{sum_by-cons}
 use Rattle.std.proofs.lemmas.List.Elements.{All-nil, All-cons, All-head, All-tail, All-weaker}
 use Rattle.std.proofs.lemmas.Option.{slice_get_within}
 use Rattle.crack_row.specs.declared.command.Entry.{Entry}
-use Rattle.crack_core.specs.declared.receipt.Receipt.{Receipt}
-use Rattle.crack_core.specs.Receipts.{entry_of}
+use Rattle.crack_kept.specs.declared.receipt.Receipt.{Receipt}
+use Rattle.crack_kept.specs.Receipts.{entry_of}
 use Rattle.crack_plain.specs.Totals.{is_placed, is_gone, inserted, deleted}
 use Rattle.crack_table.specs.Cover.{KeptState, place_at, has_place, IsMetBy, folded_entries, IsCovered, Covers}
 use Rattle.crack_table.specs.Coverage.{Place, place_in, names}

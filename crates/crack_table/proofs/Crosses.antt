@@ -2,9 +2,10 @@
 use denote.Param.Send.{IsSend, IsSync, struct_send, struct_sync, sendable}
 use denote.Struct.Declared.{shape}
 use Rattle.std.proofs.Crossing.{crosses}
-use Rattle.crack_part.proofs.Crosses.{command-send, reply-send, partition-send}
-use Rattle.crack_core.specs.contracts.book.Book as Book
-use Rattle.crack_core.specs.contracts.receipt.Receipt as Receipt
+use Rattle.crack_part.proofs.Crosses.{command-send, reply-send}
+use Rattle.crack_kept.proofs.Crosses.{kept-send}
+use Rattle.crack_kept.specs.contracts.book.Book as Book
+use Rattle.crack_kept.specs.contracts.receipt.Receipt as Receipt
 use Rattle.crack_table.specs.contracts.table.Table as Table
 use Rattle.crack_table.specs.contracts.table.Table.TheInside as table
 use Rattle.crack_table.specs.contracts.worker.Worker as Worker
@@ -12,7 +13,7 @@ use Rattle.crack_table.specs.contracts.worker.Worker as Worker
 -- locks, splits, limits, workers
 inside-sync : IsSync table.the_field.row
 inside-sync =
-    let p = partition-send in
+    let p = kept-send in
     struct_sync (shape table.the_type) (search (sendable, crosses) depth 30, (search (sendable, crosses) depth 30, (search (sendable, crosses) depth 30, (search (sendable, crosses) depth 30, tt))))
 
 pub table-sync : IsSync Table.the_row

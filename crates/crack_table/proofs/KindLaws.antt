@@ -7,8 +7,8 @@ use Rattle.std.proofs.lemmas.List.{append-nil, map-append, take_more, length-map
 use Rattle.std.proofs.lemmas.List.Elements.{filter-append}
 use Rattle.crack_plain.specs.Totals.{is_placed, is_gone, inserted, deleted}
 use Rattle.crack_plain.proofs.TotalLaws.{inserted-push, deleted-push}
-use Rattle.crack_core.specs.declared.receipt.Receipt.{Receipt}
-use Rattle.crack_core.specs.Receipts.{entry_of}
+use Rattle.crack_kept.specs.declared.receipt.Receipt.{Receipt}
+use Rattle.crack_kept.specs.Receipts.{entry_of}
 use Rattle.crack_table.specs.declared.kept.Kept.{Kept}
 use Rattle.crack_table.specs.declared.kinds.KindsLeft.{KindsLeft}
 use Rattle.crack_table.specs.Cover.{KeptState, told, IsKept, folded_entries, IsCounted}

@@ -6,7 +6,7 @@ use Rattle.std.proofs.lemmas.Bool.Decides.{nat_tests}
 use Rattle.std.proofs.lemmas.Option.{slice_get_read}
 use Rattle.std.proofs.lemmas.List.{take_more, length-map, length-take, map-append}
 use Rattle.std.proofs.lemmas.List.Elements.{All-head, All-tail}
-use Rattle.crack_core.specs.declared.receipt.Receipt.{Receipt}
+use Rattle.crack_kept.specs.declared.receipt.Receipt.{Receipt}
 use Rattle.crack_table.specs.declared.kept.Kept.{Kept}
 use Rattle.crack_table.specs.declared.kinds.KindsLeft.{KindsLeft}
 use Rattle.crack_table.specs.declared.states.PlaceState.{PlaceState}

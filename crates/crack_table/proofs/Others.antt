@@ -6,8 +6,8 @@ use Rattle.std.proofs.lemmas.List.{take_all, get_or_default}
 use Rattle.std.proofs.lemmas.Option.{slice_get_read}
 use Rattle.crack_row.specs.declared.Bound.{Bound}
 use Rattle.crack_row.specs.declared.limit.Limits.{Limits}
-use Rattle.crack_part.specs.Parts.{Part, IsSound}
-use Rattle.crack_core.specs.Opening.{AreParts}
+use Rattle.crack_kept.specs.Parts.{Part, IsSound}
+use Rattle.crack_table.specs.Parts.{AreParts}
 use Rattle.crack_table.specs.Gather.{IsTables, IsFirstOther}
 
 pub all_sound : (parts : List Part) (n : ℕ) → length parts ≤ n → All IsSound (take n parts) → All IsSound parts

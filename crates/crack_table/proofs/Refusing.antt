@@ -3,9 +3,9 @@ use Rattle.std.proofs.Common.{List, map, inl, inr, ⊎_elim}
 use Rattle.crack_row.specs.declared.Bound.{Bound}
 use Rattle.crack_row.specs.declared.limit.Limits.{Limits}
 use Rattle.crack_row.specs.declared.refusal.Refusal.{Refusal}
-use Rattle.crack_part.specs.Parts.{Part}
-use Rattle.crack_core.specs.Opening.{AreParts}
-use Rattle.crack_core.specs.Receipts.{BookState}
+use Rattle.crack_kept.specs.Parts.{Part}
+use Rattle.crack_table.specs.Parts.{AreParts}
+use Rattle.crack_kept.specs.Receipts.{BookState}
 use Rattle.crack_table.specs.Cover.{MayNotCover}
 use Rattle.crack_table.specs.Gather.{receipts_of, MayNotAgree}
 use Rattle.crack_table.specs.Cover.{kept_of}

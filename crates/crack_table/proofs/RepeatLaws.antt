@@ -17,22 +17,25 @@ use Rattle.crack_row.specs.declared.refusal.Refusal.{Refusal}
 use Rattle.crack_row.specs.declared.refusal.Refusal.TheVariants.{KeyOutside, HistoryFull, LifeOver, OutOfMemory, NoCell}
 use Rattle.crack_plain.specs.Past.{Past, IsLegal, state_after, with_entry, accepted_in}
 use Rattle.crack_plain.specs.Plain.{PlainState, PlainView, AreReplies, reply_to, after}
+use Rattle.crack_plain.proofs.PastLaws.{state_after-push}
 use Rattle.crack_plain.proofs.Words.{IsWithin, BringWithin, replay_from}
-use Rattle.crack_part.specs.Parts.{Part, IsSound}
-use Rattle.crack_part.specs.Refusals.{is_key_in, table_of, stopped_by, first_cause}
-use Rattle.crack_part.specs.Upkeep.{is_automatic, upkept}
-use Rattle.crack_part.proofs.UpkeepLaws.{upkept-room}
-use Rattle.crack_core.specs.Opening.{AreParts}
+use Rattle.crack_kept.specs.Parts.{Part, IsSound}
+use Rattle.crack_part.specs.Refusals.{is_key_in, stopped_by, first_cause}
+use Rattle.crack_kept.specs.Refusals.{table_of}
+use Rattle.crack_part.specs.Upkeep.{is_automatic}
+use Rattle.crack_kept.specs.Upkeep.{upkept}
+use Rattle.crack_kept.proofs.UpkeepLaws.{upkept-room, table_of-upkept}
+use Rattle.crack_table.specs.Parts.{AreParts, pasts_of}
 use Rattle.crack_core.specs.Routes.{keys_of_part}
-use Rattle.crack_core.specs.Steps.{bounds_of, mapped, unless, expected, MayLackCell, IsOutcome, pasts_of}
-use Rattle.crack_core.specs.Jobs.{past_after, past_at, IsJobOutcome, AreExpectedOutcomes}
+use Rattle.crack_core.specs.Steps.{bounds_of, mapped, unless, expected, MayLackCell, IsOutcome, table_after, upkept_by}
+use Rattle.crack_core.specs.Jobs.{after_job, after_jobs, IsJobOutcome, AreExpectedOutcomes}
 use Rattle.crack_core.proofs.JobLaws.{outcome-alike}
 use Rattle.crack_core.specs.declared.step.Step.{Step}
 use Rattle.crack_core.specs.declared.step.Job.{Job}
 use Rattle.crack_core.specs.declared.step.Job.TheVariants.{Perform}
 use Rattle.crack_core.specs.declared.step.Done.{Done}
 use Rattle.crack_core.specs.declared.step.Done.TheVariants.{Replied}
-use Rattle.crack_table.specs.Repeats.{asked, asked_of, replies_at, first_refusal, at_base, said, AreAsked, AreRepeated, Repeats}
+use Rattle.crack_table.specs.Repeats.{asked, asked_of, replies_at, first_refusal, at_base, table_at_base, said, AreAsked, AreRepeated, Repeats}
 
 -- an entry in the middle has the reply of the state that those before it leave
 middle-reply : (s : PlainState) (xs ys : List Entry) (e : Entry) → AreReplies s (xs ++ e ∷ ys) → e.reply ≡ reply_to (replay_from s xs) e.command
@@ -84,28 +87,50 @@ unperformed (Err e) (Err f) same = let is : e ≡ f = cc same in ap Err is
 answered-or : {Lacks : Type 0} (reply : Reply) (o r : Result Reply Refusal) → o ≡ Ok reply → (r ≡ o) ⊎ (IsOk o × ((r ≡ Err OutOfMemory) ⊎ ((r ≡ Err NoCell) × Lacks))) → (r ≡ Ok reply) ⊎ ((r ≡ Err OutOfMemory) ⊎ (r ≡ Err NoCell))
 answered-or {Lacks} reply o r is comes = ⊎_elim (λ (same : r ≡ o). inl (same ∙ is)) (λ (wants : IsOk o × ((r ≡ Err OutOfMemory) ⊎ ((r ≡ Err NoCell) × Lacks))). inr (⊎_elim (λ (m : r ≡ Err OutOfMemory). inl m) (λ (c : (r ≡ Err NoCell) × Lacks). inr c.0) wants.1)) comes
 
+-- the entry that a step makes
+abbrev made : Step → Reply → Entry
+made step reply = record { worker = step.worker; command = step.command; reply = reply }
+
+-- the past of one partition with these limits after a step: one of its own that was answered is one more entry, after upkeep is done
+abbrev past_after : Limits → ℕ → Step → Result Reply Refusal → Past → Past
+past_after limits part step (Ok reply) past = if step.part == part then with_entry (upkept limits past) (made step reply) else past
+past_after limits part step (Err e) past = past
+
+-- one more entry is one more command of the plain table
+table_of-push : (past : Past) (e : Entry) → table_of (with_entry past e) ≡ table_after (table_of past) e.command
+table_of-push past e =
+    let long : length (past.tail ++ e ∷ []) ≡ length past.tail + 1 = omega (arith, length-append past.tail (e ∷ [])) in
+    rw (state_after-push past e, long) refl
+
+-- the plain table of a past after a step is its plain table after that step
+table-stepped : (limits : Limits) (part : ℕ) (step : Step) (r : Result Reply Refusal) (past : Past) → table_of (past_after limits part step r past) ≡ after_job limits part (Perform step) (mapped Replied r) (table_of past)
+table-stepped limits part step (Ok reply) past = by_test (step.part == part)
+  where
+    by_test : (b : Bool) → table_of (cond b (with_entry (upkept limits past) (made step reply)) past) ≡ cond b (table_after (upkept_by (bounds_of limits) (table_of past)) step.command) (table_of past)
+    by_test true = table_of-push (upkept limits past) (made step reply) ∙ ap (λ (t : PlainView). table_after t step.command) (table_of-upkept limits past)
+    by_test false = refl
+table-stepped limits part step (Err e) past = refl
+
 -- the outcomes of steps are those of partitions that have these pasts
 abbrev Outcomes : Limits → List Bound → (ℕ → Option Past) → List Step → List (Result Reply Refusal) → Type 0
 Outcomes limits splits now steps results =
     (k : ℕ) (job : Job) (result : Result Done Refusal) → slice_get (map Perform steps) k ≡ Some job → slice_get (map (mapped Replied) results) k ≡ Some result →
-    IsJobOutcome (bounds_of limits) splits (λ part. option_map (λ (past : Past). table_of (past_at limits part (take k (map Perform steps)) (take k (map (mapped Replied) results)) past)) (now part)) job result
+    IsJobOutcome (bounds_of limits) splits (λ part. option_map (λ (past : Past). after_jobs limits part (take k (map Perform steps)) (take k (map (mapped Replied) results)) (table_of past)) (now part)) job result
 
 -- the partitions after one step
 abbrev stepped : Limits → Step → Result Reply Refusal → (ℕ → Option Past) → ℕ → Option Past
-stepped limits step result now part = option_map (past_after limits part (Perform step) (mapped Replied result)) (now part)
-
-mapped-twice : {A B C : Type 0} (f : A → B) (g : B → C) (o : Option A) → option_map g (option_map f o) ≡ option_map (λ x. g (f x)) o
-mapped-twice f g None = refl
-mapped-twice f g (Some x) = refl
+stepped limits step result now part = option_map (past_after limits part step result) (now part)
 
 outcomes-rest : (limits : Limits) (splits : List Bound) (now : ℕ → Option Past) (step : Step) (steps : List Step) (result : Result Reply Refusal) (results : List (Result Reply Refusal)) → Outcomes limits splits now (step ∷ steps) (result ∷ results) → Outcomes limits splits (stepped limits step result now) steps results
 outcomes-rest limits splits now step steps result results outcomes = λ k job r at there.
     outcome-alike (bounds_of limits) splits
-    (λ part. option_map (λ (past : Past). table_of (past_at limits part (take (suc k) (map Perform (step ∷ steps))) (take (suc k) (map (mapped Replied) (result ∷ results))) past)) (now part))
-    (λ part. option_map (λ (past : Past). table_of (past_at limits part (take k (map Perform steps)) (take k (map (mapped Replied) results)) past)) (stepped limits step result now part))
-    job r
-    (λ part. sym (mapped-twice (past_after limits part (Perform step) (mapped Replied result)) (λ (past : Past). table_of (past_at limits part (take k (map Perform steps)) (take k (map (mapped Replied) results)) past)) (now part)))
-    (outcomes (suc k) job r at there)
+    (λ part. option_map (λ (past : Past). after_jobs limits part (take (suc k) (map Perform (step ∷ steps))) (take (suc k) (map (mapped Replied) (result ∷ results))) (table_of past)) (now part))
+    (λ part. option_map (λ (past : Past). after_jobs limits part (take k (map Perform steps)) (take k (map (mapped Replied) results)) (table_of past)) (stepped limits step result now part))
+    job r (λ part. rest k part (now part)) (outcomes (suc k) job r at there)
+  where
+    rest : (k part : ℕ) (o : Option Past) → option_map (λ (past : Past). after_jobs limits part (take (suc k) (map Perform (step ∷ steps))) (take (suc k) (map (mapped Replied) (result ∷ results))) (table_of past)) o ≡ option_map (λ (past : Past). after_jobs limits part (take k (map Perform steps)) (take k (map (mapped Replied) results)) (table_of past)) (option_map (past_after limits part step result) o)
+    rest k part None = refl
+    rest k part (Some past) = ap (λ (t : PlainView). Some (after_jobs limits part (take k (map Perform steps)) (take k (map (mapped Replied) results)) t)) (sym (table-stepped limits part step result past))
 
 -- each partition is on the way to its past
 abbrev Going : (ℕ → Option Past) → (ℕ → Option Past) → List Step → Type 0
@@ -138,17 +163,13 @@ replies-own step steps reply results = ap (λ (b : Bool). cond b (reply ∷ repl
 replies-other : (part : ℕ) (step : Step) (steps : List Step) (reply : Reply) (results : List (Result Reply Refusal)) → step.part ≢ part → replies_at part (step ∷ steps) (Ok reply ∷ results) ≡ replies_at part steps results
 replies-other part step steps reply results differs = ap (λ (b : Bool). cond b (reply ∷ replies_at part steps results) (replies_at part steps results)) (ne_eqb step.part part differs)
 
--- the entry that a step makes
-abbrev made : Step → Reply → Entry
-made step reply = record { worker = step.worker; command = step.command; reply = reply }
-
--- and the past after it
-after-own : (limits : Limits) (step : Step) (reply : Reply) (past : Past) → length past.tail < limits.history → past_after limits step.part (Perform step) (Ok (Replied reply)) past ≡ with_entry past (made step reply)
+-- the past after a step of its own, and after another
+after-own : (limits : Limits) (step : Step) (reply : Reply) (past : Past) → length past.tail < limits.history → past_after limits step.part step (Ok reply) past ≡ with_entry past (made step reply)
 after-own limits step reply past room =
     ap (λ (b : Bool). cond b (with_entry (upkept limits past) (made step reply)) past) (eq-eqb step.part step.part refl)
     ∙ ap (λ (p : Past). with_entry p (made step reply)) (upkept-room limits past room)
 
-after-other : (limits : Limits) (part : ℕ) (step : Step) (reply : Reply) (past : Past) → step.part ≢ part → past_after limits part (Perform step) (Ok (Replied reply)) past ≡ past
+after-other : (limits : Limits) (part : ℕ) (step : Step) (reply : Reply) (past : Past) → step.part ≢ part → past_after limits part step (Ok reply) past ≡ past
 after-other limits part step reply past differs = ap (λ (b : Bool). cond b (with_entry (upkept limits past) (made step reply)) past) (ne_eqb step.part part differs)
 
 -- the next entry of a step's partition
@@ -255,8 +276,8 @@ module _ (limits : Limits) (splits : List Bound) (final : ℕ → Option Past) (
       begun : (part : ℕ) (past cur : Past) → final part ≡ Some past → now part ≡ Some cur → (rest : List Reply) × (map said past.tail ≡ map said cur.tail ++ (replies_at part (step ∷ steps) (Ok n.entry.reply ∷ results) ++ rest))
       begun part past cur is at = by_now (stepped limits step (Ok n.entry.reply) now part) refl
         where
-          there : stepped limits step (Ok n.entry.reply) now part ≡ Some (past_after limits part (Perform step) (Ok (Replied n.entry.reply)) cur)
-          there = ap (option_map (past_after limits part (Perform step) (Ok (Replied n.entry.reply)))) at
+          there : stepped limits step (Ok n.entry.reply) now part ≡ Some (past_after limits part step (Ok n.entry.reply) cur)
+          there = ap (option_map (past_after limits part step (Ok n.entry.reply))) at
 
           by_now : (o : Option Past) → stepped limits step (Ok n.entry.reply) now part ≡ o → (rest : List Reply) × (map said past.tail ≡ map said cur.tail ++ (replies_at part (step ∷ steps) (Ok n.entry.reply ∷ results) ++ rest))
           by_now None none = absurd (cc (none, there))
@@ -345,6 +366,20 @@ repeats splits limits parts are steps results asks outcomes = record {
     going : Going final now steps
     going part past is = (at_base past, now-is part past is, record { rest = past.tail; base = refl; tails = refl; coming = asks.commands part past is })
 
+    -- the outcomes of a core at the plain tables of the bases are those of partitions at the bases
+    at-bases : Outcomes limits splits now steps results
+    at-bases k job r at there = outcome-alike (bounds_of limits) splits
+        (λ part. option_map (after_jobs limits part (take k (map Perform steps)) (take k (map (mapped Replied) results))) (slice_get (map table_at_base pasts) part))
+        (λ part. option_map (λ (past : Past). after_jobs limits part (take k (map Perform steps)) (take k (map (mapped Replied) results)) (table_of past)) (now part))
+        job r (λ part. alike k part) (outcomes.outcomes k job r at there)
+      where
+        by_past : (k part : ℕ) (o : Option Past) → option_map (after_jobs limits part (take k (map Perform steps)) (take k (map (mapped Replied) results))) (option_map table_at_base o) ≡ option_map (λ (past : Past). after_jobs limits part (take k (map Perform steps)) (take k (map (mapped Replied) results)) (table_of past)) (option_map at_base o)
+        by_past k part None = refl
+        by_past k part (Some past) = refl
+
+        alike : (k part : ℕ) → option_map (after_jobs limits part (take k (map Perform steps)) (take k (map (mapped Replied) results))) (slice_get (map table_at_base pasts) part) ≡ option_map (λ (past : Past). after_jobs limits part (take k (map Perform steps)) (take k (map (mapped Replied) results)) (table_of past)) (now part)
+        alike k part = rw (slice_get-map table_at_base pasts part, slice_get-map at_base pasts part) (by_past k part (slice_get pasts part))
+
     there-all : (some : List Step) → All (λ (step : Step). step.part < length pasts) some → AreThere final some
     there-all [] are_there = tt
     there-all (step ∷ some) are_there = (there step (are_there 0 step (omega arith)), there-all some (λ k d within. are_there (suc k) d (omega (arith, within))))
@@ -360,4 +395,4 @@ repeats splits limits parts are steps results asks outcomes = record {
     same = sym (length-map results (mapped Replied)) ∙ outcomes.each ∙ length-map steps Perform
 
     f : Followed final now steps results
-    f = follow limits splits final legal now steps results same outcomes.outcomes going (there-all steps asks.there)
+    f = follow limits splits final legal now steps results same at-bases going (there-all steps asks.there)

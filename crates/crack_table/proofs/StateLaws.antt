@@ -12,8 +12,8 @@ use Rattle.std.proofs.lemmas.List.{append-nil, take_more}
 use Rattle.std.proofs.lemmas.List.Elements.{filter-append}
 use Rattle.std.specs.Prelude.{nat_lt, ◌-◌}
 use Rattle.crack_row.specs.declared.command.Entry.{Entry}
-use Rattle.crack_core.specs.declared.receipt.Receipt.{Receipt}
-use Rattle.crack_core.specs.Receipts.{entry_of}
+use Rattle.crack_kept.specs.declared.receipt.Receipt.{Receipt}
+use Rattle.crack_kept.specs.Receipts.{entry_of}
 use Rattle.crack_table.specs.declared.states.PlaceState.{PlaceState}
 use Rattle.crack_table.specs.declared.states.PlaceState.TheVariants.{Unnamed, Met, Failed}
 use Rattle.crack_table.specs.Cover.{KeptState, place_at, first_stranger}

@@ -10,9 +10,9 @@ use Rattle.crack_plain.specs.Past.{accepted_in, inserted_in, deleted_in}
 use Rattle.crack_plain.specs.Totals.{inserted, deleted, is_placed, is_gone}
 use Rattle.crack_plain.proofs.PastLaws.{length_rows-after_past, inserted_in-le-accepted}
 use Rattle.crack_state.specs.State.{live_rows}
-use Rattle.crack_part.specs.Parts.{Part, IsSound, state_of}
-use Rattle.crack_part.proofs.SoundLemmas.{accepted-le-life}
-use Rattle.crack_core.specs.Receipts.{BookState, entry_of, entries_of}
+use Rattle.crack_kept.specs.Parts.{Part, IsSound, state_of}
+use Rattle.crack_kept.proofs.SoundLaws.{accepted-le-life}
+use Rattle.crack_kept.specs.Receipts.{BookState, entry_of, entries_of}
 use Rattle.crack_table.specs.Cover.{KeptState, kept_of, IsKept, Covers}
 use Rattle.crack_table.specs.Gather.{receipts_of}
 use Rattle.crack_table.proofs.Counting.{sum_entries, all_counted, placed_counted, gone_counted}

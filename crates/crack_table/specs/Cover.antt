@@ -6,9 +6,9 @@ use Rattle.crack_row.specs.declared.command.Entry.{Entry}
 use Rattle.crack_row.specs.declared.refusal.Refusal.{Refusal}
 use Rattle.crack_row.specs.declared.refusal.Refusal.TheVariants.{OutOfMemory, StrangeReceipt}
 use Rattle.crack_plain.specs.Totals.{inserted, deleted}
-use Rattle.crack_part.specs.Parts.{Part}
-use Rattle.crack_core.specs.declared.receipt.Receipt.{Receipt}
-use Rattle.crack_core.specs.Receipts.{entry_of, entries_of}
+use Rattle.crack_kept.specs.Parts.{Part}
+use Rattle.crack_kept.specs.declared.receipt.Receipt.{Receipt}
+use Rattle.crack_kept.specs.Receipts.{entry_of, entries_of}
 use Rattle.crack_table.specs.declared.kept.Kept.{Kept}
 
 -- what `cover` is given about a partition: how many of its commands are checkpointed, how many of these placed a row and how many removed one, and

@@ -7,10 +7,10 @@ use Rattle.crack_row.specs.declared.refusal.Refusal.{Refusal}
 use Rattle.crack_row.specs.declared.refusal.Refusal.TheVariants.{OutOfMemory, WorkersMissing, StrangeReceipt}
 use Rattle.crack_plain.specs.Past.{accepted_in, inserted_in, deleted_in}
 use Rattle.crack_state.specs.State.{live_rows}
-use Rattle.crack_part.specs.Parts.{Part, IsSound}
-use Rattle.crack_core.specs.declared.receipt.Receipt.{Receipt}
-use Rattle.crack_core.specs.Receipts.{BookState}
-use Rattle.crack_core.specs.Opening.{AreParts}
+use Rattle.crack_kept.specs.Parts.{Part, IsSound}
+use Rattle.crack_kept.specs.declared.receipt.Receipt.{Receipt}
+use Rattle.crack_kept.specs.Receipts.{BookState}
+use Rattle.crack_table.specs.Parts.{AreParts}
 use Rattle.crack_core.specs.Routes.{keys_of_part}
 use Rattle.crack_table.specs.Tables.{TableState}
 use Rattle.crack_table.specs.Cover.{kept_of, IsFault}

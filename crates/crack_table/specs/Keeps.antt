@@ -11,10 +11,10 @@ use Rattle.crack_row.specs.declared.refusal.Refusal.{Refusal}
 use Rattle.crack_row.specs.declared.refusal.Refusal.TheVariants.{OutOfMemory}
 use Rattle.crack_plain.specs.Past.{with_entry, accepted_in}
 use Rattle.crack_plain.specs.Plain.{IsSmall, reply_to, after}
-use Rattle.crack_part.specs.Parts.{Part, state_of, Serves, Spares}
-use Rattle.crack_part.specs.Refusals.{refusal_of}
-use Rattle.crack_part.specs.Upkeep.{upkept}
-use Rattle.crack_core.specs.Receipts.{BookState}
+use Rattle.crack_kept.specs.Parts.{Part, state_of, Serves, Spares}
+use Rattle.crack_kept.specs.Refusals.{refusal_of}
+use Rattle.crack_kept.specs.Upkeep.{upkept}
+use Rattle.crack_kept.specs.Receipts.{BookState}
 use Rattle.crack_core.specs.Routes.{AreSplits}
 use Rattle.crack_table.specs.declared.TheConstants.{MOST_WORKERS}
 

@@ -7,7 +7,7 @@ use Rattle.crack_row.specs.declared.limit.Limits.{Limits}
 use Rattle.crack_row.specs.declared.refusal.Refusal.{Refusal}
 use Rattle.crack_row.specs.declared.refusal.Refusal.TheVariants.{BadWorkerCount}
 use Rattle.crack_core.specs.Opening.{splits_fault, limits_fault, MayFault}
-use Rattle.crack_core.specs.Receipts.{BookState}
+use Rattle.crack_kept.specs.Receipts.{BookState}
 use Rattle.crack_table.specs.Tables.{TableState}
 use Rattle.crack_table.specs.declared.TheConstants.{MOST_WORKERS}
 

@@ -8,6 +8,8 @@ use Rattle.crack_row.specs.declared.limit.Limits.{Limits}
 use Rattle.crack_row.specs.declared.refusal.Refusal.{Refusal}
 use Rattle.crack_row.specs.declared.refusal.Refusal.TheVariants.{OutOfMemory, NoCell}
 use Rattle.crack_plain.specs.Past.{Past}
+use Rattle.crack_plain.specs.Plain.{PlainView}
+use Rattle.crack_kept.specs.Refusals.{table_of}
 use Rattle.crack_core.specs.Steps.{mapped}
 use Rattle.crack_core.specs.Jobs.{AreExpectedOutcomes}
 use Rattle.crack_core.specs.declared.step.Step.{Step}
@@ -38,6 +40,10 @@ first_refusal (Err e ∷ results) = Some e
 abbrev pub at_base : Past → Past
 at_base past = record { base = past.base; tail = [] }
 
+-- the plain table of a past before its history
+abbrev pub table_at_base : Past → PlainView
+table_at_base past = table_of (at_base past)
+
 -- the reply of an entry
 abbrev pub said : Entry → Reply
 said entry = entry.reply
@@ -55,6 +61,6 @@ pub record AreRepeated (pasts : List Past) (steps : List Step) (results : List (
   pub refused : IfSome (first_refusal results) (λ e. (e ≡ OutOfMemory) ⊎ (e ≡ NoCell))
 
 -- Steps that ask the commands of these pasts, however those of several partitions are interleaved, repeat the replies, if their outcomes are those of
--- a core at the bases of these pasts.
+-- a core whose plain tables are the bases of these pasts.
 abbrev pub Repeats : List Bound → Limits → List Past → Type 0
-Repeats splits limits pasts = (steps : List Step) (results : List (Result Reply Refusal)) → AreAsked pasts steps → AreExpectedOutcomes limits splits (map at_base pasts) (map Perform steps) (map (mapped Replied) results) → AreRepeated pasts steps results
+Repeats splits limits pasts = (steps : List Step) (results : List (Result Reply Refusal)) → AreAsked pasts steps → AreExpectedOutcomes limits splits (map table_at_base pasts) (map Perform steps) (map (mapped Replied) results) → AreRepeated pasts steps results

@@ -10,9 +10,9 @@ use Rattle.crack_row.specs.declared.layout.Layout.{Layout}
 use Rattle.crack_row.specs.declared.refusal.Refusal.{Refusal}
 use Rattle.crack_row.specs.declared.refusal.Refusal.TheVariants.{NoSuchPartition, HistoryFull, GateGaveUp, OutOfMemory}
 use Rattle.crack_plain.specs.Plain.{IsSmall}
-use Rattle.crack_part.specs.Parts.{Part}
-use Rattle.crack_part.specs.Refusals.{refusal_of}
-use Rattle.crack_core.specs.Receipts.{BookState}
+use Rattle.crack_kept.specs.Parts.{Part}
+use Rattle.crack_kept.specs.Refusals.{refusal_of}
+use Rattle.crack_kept.specs.Receipts.{BookState}
 use Rattle.crack_table.specs.declared.TheConstants.{GATE_TURNS}
 
 -- where one partition ends and the next begins, the limits of each partition, how many workers there are, and how many locks

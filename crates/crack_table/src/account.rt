@@ -3,9 +3,9 @@ ghost use Rattle.std.specs.Prelude.{◌≡◌, ◌+◌, ◌<◌, ◌≤◌, ◌^
 ghost use Rattle.std.specs.Prelude.{IfNone, IsTrue, ◌↔◌};
 ghost use Rattle.std.specs.List.{flat_map};
 ghost use Rattle.crack_plain.specs.Totals.{inserted, deleted};
-ghost use Rattle.crack_part.specs.Parts.{IsSound};
-ghost use Rattle.crack_core.specs.Receipts.{BookState, AreShares, entries_of};
-ghost use Rattle.crack_core.specs.Opening.{AreParts};
+ghost use Rattle.crack_kept.specs.Parts.{IsSound};
+ghost use Rattle.crack_kept.specs.Receipts.{BookState, AreShares, entries_of};
+ghost use Rattle.crack_table.specs.Parts.{AreParts};
 ghost use Rattle.crack_core.specs.Routes.{AreSplits};
 ghost use Rattle.crack_table.specs.Cover.{told, kept_of, Covers};
 ghost use Rattle.crack_table.specs.Gather.{receipts_of, IsTables, IsFirstOther, AreTotals, MayNotAgree};
@@ -13,8 +13,8 @@ ghost use Rattle.crack_table.specs.Gather.{receipts_of, IsTables, IsFirstOther, 
 use crate::covering::cover;
 use crate::kept::Kept;
 use crate::worker::Worker;
-use crack_core::{Receipt, keys_of_part};
-use crack_part::Partition;
+use crack_core::keys_of_part;
+use crack_kept::{Kept as Partition, Receipt};
 use crack_row::{Bound, Limits, Refusal};
 use std::alloc::{AllocError, Global};
 

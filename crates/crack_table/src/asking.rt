@@ -4,8 +4,7 @@ ghost use Rattle.crack_table.specs.Keeps.{AsksFor};
 ghost use Rattle.crack_table.specs.declared.TheConstants.{GATE_TURNS};
 
 use crate::gate::{Gate, pass};
-use crack_core::Book;
-use crack_part::Partition;
+use crack_kept::{Book, Kept as Partition};
 use crack_row::{Command, Policy, Refusal, Reply};
 
 /// Asks the gate until it consents, and then the partition, number `part`, for the worker of the book, which has

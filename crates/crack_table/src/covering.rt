@@ -4,8 +4,8 @@ ghost use Rattle.std.specs.Prelude.{IfNone, MatchOption, OnOk, None, Some, slice
 ghost use Rattle.std.specs.Bool.{Decides};
 ghost use Rattle.std.specs.List.{flat_map};
 ghost use Rattle.std.specs.Option.{option_map};
-ghost use Rattle.crack_core.specs.declared.receipt.Receipt.{Receipt};
-ghost use Rattle.crack_core.specs.Receipts.{entry_of};
+ghost use Rattle.crack_kept.specs.declared.receipt.Receipt.{Receipt};
+ghost use Rattle.crack_kept.specs.Receipts.{entry_of};
 ghost use Rattle.crack_table.specs.Cover.{told, KeptState, IsKept, CoveredBelow, IsFirstGap};
 ghost use Rattle.crack_table.specs.Coverage.{Place, place_in, IsRight};
 ghost use Rattle.crack_table.specs.Cover.{first_stranger, Covers, IsFault, MayNotCover};
@@ -16,7 +16,7 @@ use crate::kept::Kept;
 use crate::kinds::KindsLeft;
 use crate::order::first_late;
 use crate::states::PlaceStates;
-use crack_core::Receipt;
+use crack_kept::Receipt;
 use crack_row::Refusal;
 use std::alloc::{AllocError, Global};
 

@@ -1,6 +1,6 @@
 //! Gaps, which keep a partition from being covered.
 ghost use Rattle.std.specs.Prelude.{◌≡◌, ℕ, List, IfSome, IfNone};
-ghost use Rattle.crack_core.specs.declared.receipt.Receipt.{Receipt};
+ghost use Rattle.crack_kept.specs.declared.receipt.Receipt.{Receipt};
 ghost use Rattle.crack_table.specs.Cover.{told, IsKept, IsCovered, IsGap};
 ghost use Rattle.crack_table.specs.Coverage.{IsRowCoverage, is_below};
 

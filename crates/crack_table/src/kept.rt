@@ -1,11 +1,11 @@
 //! What a partition keeps of its past, for `cover`.
 ghost use Rattle.std.specs.Prelude.{◌≡◌, ◌+◌, length, None, Some, IfOk, IfErr, IsTrue, ◌↔◌, MatchOption};
 ghost use Rattle.std.specs.Bool.{Decides};
-ghost use Rattle.crack_core.specs.Receipts.{entry_of};
+ghost use Rattle.crack_kept.specs.Receipts.{entry_of};
 ghost use Rattle.crack_table.specs.Cover.{told, place_at};
 ghost use Rattle.crack_table.specs.Coverage.{IsRight, Place};
 
-use crack_core::Receipt;
+use crack_kept::Receipt;
 use crack_row::{Entry, Refusal};
 
 /// What a partition keeps of its answered commands: totals of the checkpointed ones, and the entries since.

@@ -1,7 +1,7 @@
 //! Putting partitions into locks, and taking them out.
 ghost use Rattle.std.specs.Prelude.{◌≡◌, ◌≤◌, length, vec_len, vec_capacity};
 
-use crack_part::Partition;
+use crack_kept::Kept as Partition;
 use std::sync::Mutex;
 
 /// Takes partitions out of their locks, in their order.

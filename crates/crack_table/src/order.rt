@@ -3,11 +3,11 @@ ghost use Rattle.std.specs.Prelude.{◌≡◌, List, [], ◌++◌, IfOk, None};
 ghost use Rattle.std.specs.BTreeMap.{get};
 ghost use Rattle.std.specs.List.{flat_map};
 ghost use Rattle.std.specs.Option.{option_map};
-ghost use Rattle.crack_core.specs.declared.receipt.Receipt.{Receipt};
+ghost use Rattle.crack_kept.specs.declared.receipt.Receipt.{Receipt};
 ghost use Rattle.crack_table.specs.Cover.{first_late};
 ghost use Rattle.crack_table.specs.Coverage.{named_place, Tracks, pair_cmp, is_late_at};
 
-use crack_core::Receipt;
+use crack_kept::Receipt;
 use std::alloc::{AllocError, Global};
 use std::collections::BTreeMap;
 

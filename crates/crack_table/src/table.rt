@@ -7,9 +7,10 @@ ghost use Rattle.crack_table.specs.Keeps.{AreNew};
 
 use crate::MOST_WORKERS;
 use crate::locks::lock;
+use crate::partitions::open_partitions;
 use crate::worker::Worker;
-use crack_core::{limits_fault, open_partitions, splits_fault};
-use crack_part::Partition;
+use crack_core::{limits_fault, splits_fault};
+use crack_kept::Kept as Partition;
 use crack_row::{Bound, Limits, Refusal};
 use std::alloc::{AllocError, Global};
 use std::marker::Model;

@@ -5,7 +5,7 @@ ghost use Rattle.crack_table.specs.Tables.{AnswersAt, AsksTable, LooksAt, with_l
 use crate::asking::ask_behind;
 use crate::gate::Gate;
 use crate::table::Table;
-use crack_core::Book;
+use crack_kept::Book;
 use crack_row::{Command, Layout, Policy, Refusal, Reply};
 use std::alloc::Global;
 use std::marker::Model;
@@ -18,7 +18,7 @@ pub struct Worker {
 }
 
 impl Model for Worker {
-    ghost use Rattle.crack_core.specs.Receipts.{BookState};
+    ghost use Rattle.crack_kept.specs.Receipts.{BookState};
 
     ghost Value = { BookState };
 

@@ -2,7 +2,7 @@
 ghost use Rattle.std.specs.Prelude.{◌+◌, ◌≤◌};
 ghost use Rattle.crack_table.specs.Cover.{told, IsKept};
 
-use crack_core::Receipt;
+use crack_kept::Receipt;
 use crack_row::{Command, Entry, Key, KeyRange, Payload, PayloadNumber, Refusal, Reply, Serial};
 use crack_table::{Kept, cover};
 use std::alloc::Global;

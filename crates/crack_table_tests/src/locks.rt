@@ -1,12 +1,12 @@
-//! What a worker of a table that witnesses its replies does under a partition's lock, and what after it.
+//! What a worker does under a partition's lock, and what after it.
 use crate::gates::{Listing, Visitors};
-use crate::values::insert;
-use crack_row::{Policy, Reply};
+use crate::values::{TWO, bounds, insert};
+use crack_row::{Limits, Policy, Reply, Upkeep};
 use crack_session::Desk;
-use crack_table::Gate;
+use crack_table::{Gate, Table, Worker};
 use crack_witness::{Asker, Naming};
-use crack_witness_table::{AuditedAsker, WitnessedTable};
-use crack_worker_desk::{AuditedDesk, WitnessedDesk};
+use crack_witness_table::WitnessedTable;
+use crack_worker_desk::{WitnessedDesk, WorkerDesk};
 use std::alloc::Global;
 use std::process::Abort;
 use std::sync::Wait;
@@ -30,44 +30,35 @@ fn listed_rows<D: Desk>(desk: &mut D, gate: Listing<'_>) -> u32 {
     placed
 }
 
-/// The same for a worker with receipts or without, behind a gate that lists it.
+/// The same for a worker behind a gate that lists it.
 fn be_listed<J: Naming, R: Wait>(
     rt: &R,
-    alloc: Global,
     table: &WitnessedTable<J>,
     visitors: &Visitors,
     worker: Asker<J>,
-    is_audited: bool,
 ) -> u32 {
     let gate = Listing {
         worker: worker.number(),
         visitors,
     };
-    if is_audited {
-        let worker = AuditedAsker::new(alloc, worker);
-        listed_rows(&mut AuditedDesk::new(rt, table, &gate, worker), gate)
-    } else {
-        listed_rows(&mut WitnessedDesk::new(rt, table, &gate, worker), gate)
-    }
+    listed_rows(&mut WitnessedDesk::new(rt, table, &gate, worker), gate)
 }
 
-/// Two workers on threads of their own, with receipts or without, insert into one partition behind gates that list
-/// them: if the lock were released between the gate's consent and the command, another worker would be listed at some
-/// row's place.
+/// Two workers on threads of their own insert into one partition behind gates that list them: if the lock were
+/// released between the gate's consent and the command, another worker would be listed at some row's place.
 pub(crate) fn assert_order<J: Naming + Send + Sync, R: Threads + Wait + Abort + Sync>(
     rt: &R,
     alloc: Global,
     table: WitnessedTable<J>,
     mut workers: Vec<Asker<J>>,
-    is_audited: bool,
 ) {
     let visitors = Visitors::new(alloc, 2 * ROWS).expect(rt, "a list");
     let second = workers.pop().expect(rt, "the second");
     let first = workers.pop().expect(rt, "the first");
     let (one, two) = thread::join(
         rt,
-        || be_listed(rt, alloc, &table, &visitors, first, is_audited),
-        || be_listed(rt, alloc, &table, &visitors, second, is_audited),
+        || be_listed(rt, &table, &visitors, first),
+        || be_listed(rt, &table, &visitors, second),
     );
     assert!(rt; [one, two] == [ROWS, ROWS]);
     assert!(rt; visitors.entered.load(Ordering::SeqCst) == 2 * ROWS);
@@ -103,11 +94,10 @@ fn insert_two<D: Desk>(rt: &impl Abort, desk: &mut D) {
     assert!(rt; one.is_ok() && two.is_ok());
 }
 
-/// A gate takes note of a checkpoint once the lock is released, by a worker without receipts at partition 0, whose
-/// history may have one entry, and by one with receipts.
+/// A gate takes note of a checkpoint once the lock is released, by two workers at partition 0, whose history may have
+/// one entry.
 pub(crate) fn assert_released<J: Naming, R: Wait + Abort>(
     rt: &R,
-    alloc: Global,
     table: WitnessedTable<J>,
     mut workers: Vec<Asker<J>>,
 ) {
@@ -119,7 +109,51 @@ pub(crate) fn assert_released<J: Naming, R: Wait + Abort>(
         rows: AtomicU64::new(0),
     };
     insert_two(rt, &mut WitnessedDesk::new(rt, &table, &gate, first));
-    let audited = AuditedAsker::new(alloc, second);
-    insert_two(rt, &mut AuditedDesk::new(rt, &table, &gate, audited));
+    insert_two(rt, &mut WitnessedDesk::new(rt, &table, &gate, second));
     assert!(rt; gate.rows.load(Ordering::SeqCst) == 9);
+}
+
+/// The same gate for a table whose workers keep receipts: another worker looks.
+#[derive(Drop)]
+struct LookingBeside<'a, R: Wait> {
+    rt: &'a R,
+    table: &'a Table,
+    worker: &'a Worker,
+    rows: AtomicU64,
+}
+
+impl<R: Wait> Gate for LookingBeside<'_, R> {
+    ghost may_refuse = { λ gate part turn. ⊥ };
+
+    fn inside(&self, _part: u32, _turn: u32) -> bool {
+        true
+    }
+
+    fn note_checkpoint(&self, part: u32, _entries: u64) {
+        if let Ok(layout) = self.worker.layout(self.rt, self.table, part) {
+            self.rows.fetch_add(layout.rows, Ordering::SeqCst);
+        }
+    }
+}
+
+#[test]
+fn a_worker_with_receipts_releases_its_lock_before_a_note(rt: HostRuntime) {
+    let alloc: Global = rt.alloc();
+    let splits = bounds(&rt, alloc, TWO);
+    let limits = Limits {
+        upkeep: Upkeep::Automatic,
+        ..Limits::of_history(1)
+    };
+    let opened = Table::open_with(alloc, &splits, limits, 2);
+    let (table, mut workers) = opened.expect(&rt, "a table");
+    let second = workers.pop().expect(&rt, "the second");
+    let first = workers.pop().expect(&rt, "the first");
+    let gate = LookingBeside {
+        rt: &rt,
+        table: &table,
+        worker: &second,
+        rows: AtomicU64::new(0),
+    };
+    insert_two(&rt, &mut WorkerDesk::new(&rt, &table, &gate, first));
+    assert!(rt; gate.rows.load(Ordering::SeqCst) == 2);
 }

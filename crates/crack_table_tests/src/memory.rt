@@ -5,7 +5,7 @@
 use crate::script::command_of;
 use crate::values::GREATEST;
 use crack_commands::parse_statement;
-use crack_core::Book;
+use crack_kept::Book;
 use crack_plain::PlainTable;
 use crack_row::{Command, Limits, Policy, Refusal, Upkeep};
 use crack_table::{Closed, GatherRefused, OpenGate, Table, Worker, gather};

@@ -7,13 +7,10 @@ use crate::gates::{Listing, Visitors};
 use crate::lines::assert_lines;
 use crate::locks::{assert_order, assert_released};
 use crate::values::{TWO, bounds, insert};
-use crack_core::{Book, Receipt};
 use crack_row::{Command, Limits, Policy, Refusal, Reply, Serial, Upkeep};
 use crack_table::{Gate, OpenGate};
 use crack_witness::{Asker, Naming};
-use crack_witness_table::{
-    AuditedAsker, GatherRefused, UnnamedTable, WitnessedTable, audit, gather,
-};
+use crack_witness_table::{GatherRefused, UnnamedTable, WitnessedTable, gather};
 use std::alloc::Global;
 use std::marker::Brand;
 use std::process::Abort;
@@ -33,14 +30,12 @@ enum Way {
     Stranger,
     /// Two workers ask on threads of their own.
     Threads,
-    /// A worker with a book is audited.
-    Audited,
     /// Layouts and checkpoints of both partitions are requested.
     Parts,
     /// A worker serves a session.
     Session,
     /// Two workers are let into one partition in turn.
-    Order { is_audited: bool },
+    Order,
     /// A gate looks at partitions whose checkpoints were due.
     Notes,
 }
@@ -51,11 +46,9 @@ const WAYS: &[(Way, u64, u64)] = &[
     (Way::Twin, 10, 1),
     (Way::Stranger, 10, 1),
     (Way::Threads, 100000, 2),
-    (Way::Audited, 10, 1),
     (Way::Parts, 10, 1),
     (Way::Session, 10, 2),
-    (Way::Order { is_audited: false }, 100000, 2),
-    (Way::Order { is_audited: true }, 100000, 2),
+    (Way::Order, 100000, 2),
     (Way::Notes, 1, 2),
 ];
 
@@ -99,14 +92,13 @@ fn assert_way<J: Naming + Send + Sync, R: Threads + Wait + Abort + Sync>(
         }
         Way::Stranger => refuse_stranger(rt, alloc, table, workers),
         Way::Threads => work_on_threads(rt, alloc, table, workers),
-        Way::Audited => audit_one(rt, alloc, table, workers),
         Way::Parts => {
             assert_parts(rt, &table, &mut workers);
             assert_totals(rt, alloc, table, workers, Ok([3, 3, 0, 3]));
         }
         Way::Session => assert_lines(rt, alloc, table, workers),
-        Way::Order { is_audited } => assert_order(rt, alloc, table, workers, is_audited),
-        Way::Notes => assert_released(rt, alloc, table, workers),
+        Way::Order => assert_order(rt, alloc, table, workers),
+        Way::Notes => assert_released(rt, table, workers),
     }
 }
 
@@ -293,61 +285,6 @@ fn work_on_threads<J: Naming + Send + Sync, R: Threads + Wait + Abort + Sync>(
     assert_totals(rt, alloc, table, workers, Ok([2500, 2000, 500, 1500]));
 }
 
-/// A worker with a book asks before and after a checkpoint, and is gathered. Its receipts cover the histories; an empty
-/// book doesn't.
-fn audit_one<J: Naming, R: Wait + Abort>(
-    rt: &R,
-    alloc: Global,
-    table: WitnessedTable<J>,
-    mut askers: Vec<Asker<J>>,
-) {
-    let asker = askers.pop().expect(rt, "an asker");
-    let mut worker = AuditedAsker::new(alloc, asker);
-    ask_with_checkpoint(rt, &table, &mut worker);
-    let (asker, book) = worker.into_parts();
-    assert!(rt; askers.push(asker).is_ok());
-    hold_against(rt, alloc, table, askers, book);
-}
-
-/// Asks two partitions for three commands, with a checkpoint before the last, and compares the receipts.
-fn ask_with_checkpoint<J: Naming, R: Wait + Abort>(
-    rt: &R,
-    table: &WitnessedTable<J>,
-    worker: &mut AuditedAsker<J>,
-) {
-    let first = ask_audited(rt, table, worker, 0, insert(7));
-    let second = ask_audited(rt, table, worker, 1, insert(1000007));
-    let folded = table.checkpoint(rt, 0);
-    let third = ask_audited(rt, table, worker, 0, insert(8));
-    let strange = ask_audited(rt, table, worker, 2, insert(9));
-    assert!(rt; first.is_ok() && second.is_ok() && folded == Ok(1) && third.is_ok());
-    assert!(rt; strange.err() == Some(Refusal::NoSuchPartition));
-    let receipts = worker.book().receipts();
-    assert!(rt; receipts.len() == 3);
-    let places = [
-        place_of(&receipts[0]),
-        place_of(&receipts[1]),
-        place_of(&receipts[2]),
-    ];
-    assert!(rt; places == [(0, 0, 0), (1, 0, 0), (0, 1, 0)]);
-}
-
-/// The answer to a worker with a book.
-fn ask_audited<J: Naming, R: Wait>(
-    rt: &R,
-    table: &WitnessedTable<J>,
-    worker: &mut AuditedAsker<J>,
-    part: u32,
-    command: Command,
-) -> Result<Reply, Refusal> {
-    worker.ask(rt, table, &OpenGate, part, command, Policy::Complete)
-}
-
-/// The partition, the position and the worker of a receipt.
-fn place_of(receipt: &Receipt) -> (u32, u64, u32) {
-    (receipt.part, receipt.position, receipt.worker)
-}
-
 /// A layout and a checkpoint are of the partition that they name: the first has one row, and the second two.
 fn assert_parts<J: Naming, R: Wait + Abort>(
     rt: &R,
@@ -386,22 +323,4 @@ fn assert_checkpoints<J: Naming, R: Wait + Abort>(rt: &R, table: &WitnessedTable
         table.checkpoint(rt, 2),
     ];
     assert!(rt; folded == [Ok(2), Ok(0), Ok(1), Err(Refusal::NoSuchPartition)]);
-}
-
-/// Gathers the only worker of a table, and compares its book and an empty one with the histories.
-fn hold_against<J: Naming, R: Abort>(
-    rt: &R,
-    alloc: Global,
-    table: WitnessedTable<J>,
-    askers: Vec<Asker<J>>,
-    book: Book,
-) {
-    let gathered = gather(alloc, table, askers).ok().expect(rt, "gathered");
-    let mut books = Vec::new(alloc);
-    assert!(rt; books.push(book).is_ok());
-    let covered = audit(alloc, &gathered.parts, &books);
-    books[0] = Book::new(alloc, 0);
-    let bare = audit(alloc, &gathered.parts, &books);
-    drop(gathered);
-    assert!(rt; covered == Ok(()) && bare == Err(strange_at(0)));
 }

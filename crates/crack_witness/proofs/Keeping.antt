@@ -1,51 +1,39 @@
--- The past that a partition keeps, beside its whole history.
-use Rattle.std.specs.Prelude.{if◌then◌else◌, IfSome}
-use Rattle.std.proofs.Common.{◌≡◌, ◌⊎◌, inl, inr, Option, None, Some, ℕ, Bool, true, false, ◌+◌, ◌≤◌, ◌<◌, ◌==◌, List, [], ◌∷◌, ◌++◌, refl, ap, sym, ◌∙◌, subst, arith, length, length-append, append_assoc, Result, Ok, Err, OnOk, OnErr}
-use Rattle.std.proofs.lemmas.List.{append-nil}
+-- The plain table after a history, and the past into which its checkpoint divides that history.
+use Rattle.std.specs.Prelude.{IfSome, take, drop}
+use Rattle.std.proofs.Common.{◌≡◌, ◌⊎◌, inl, inr, Option, None, Some, ℕ, ◌+◌, ◌≤◌, ◌==◌, List, [], ◌∷◌, ◌++◌, refl, ap, sym, ◌∙◌, arith, length, length-append, Result, Ok, Err}
+use Rattle.std.proofs.lemmas.List.{append-nil, take-append-drop}
+use Rattle.std.proofs.Math.Seq.{drop-append_seam, take-append_seam}
 use Rattle.std.proofs.lemmas.List.Sums.{length-filter, count_by-le-length}
 use Rattle.crack_row.specs.declared.command.Entry.{Entry}
+use Rattle.crack_row.specs.declared.command.Reply.{Reply}
+use Rattle.crack_row.specs.declared.limit.Limits.{Limits}
 use Rattle.crack_row.specs.declared.refusal.Refusal.{Refusal}
 use Rattle.crack_row.specs.declared.refusal.Refusal.TheVariants.{OutOfMemory}
-use Rattle.crack_row.specs.declared.command.Reply.{Reply}
-use Rattle.crack_plain.specs.Plain.{PlainState, no_rows}
-use Rattle.crack_plain.proofs.Words.{replay_from}
-use Rattle.crack_plain.specs.Past.{Base, Past, no_base, no_past, with_entry, state_after, accepted_in, inserted_in, deleted_in, base_after, folded}
+use Rattle.crack_plain.specs.Plain.{PlainState, PlainView, no_rows, after, accepted_of, checkpointed}
+use Rattle.crack_plain.specs.Past.{Base, Past, no_base, state_after, base_after, folded}
 use Rattle.crack_plain.specs.Totals.{inserted, deleted}
-use Rattle.crack_plain.proofs.Laws.{replay_from-append}
+use Rattle.crack_plain.proofs.Words.{replay_from}
+use Rattle.crack_plain.proofs.Laws.{replay_from-append, replay_from-push}
 use Rattle.crack_plain.proofs.TotalLaws.{inserted-append, deleted-append}
-use Rattle.crack_row.specs.declared.limit.Limits.{Limits}
-use Rattle.crack_part.specs.Parts.{Part, folded_part}
-use Rattle.crack_part.specs.Upkeep.{is_due, upkept}
-use Rattle.crack_witness.specs.Histories.{IsPastOf, calls_by}
+use Rattle.crack_part.specs.Upkeep.{answered}
+use Rattle.crack_part.proofs.UpkeepLaws.{accepted-upkept}
+use Rattle.crack_witness.specs.Histories.{IsPastOf, calls_by, past_in}
 
--- nothing was answered
-pub IsPastOf-none : IsPastOf [] no_past
-IsPastOf-none = record { folded = []; base = refl; all = refl }
+-- one more command
+pub IsPastOf-push : (h : List Entry) (limits : Limits) (table : PlainView) (e : Entry) → IsPastOf h table → IsPastOf (h ++ e ∷ []) (answered limits table e.command)
+IsPastOf-push h limits table e k = record {
+  rows = ap (λ (s : PlainState). after s e.command) k.rows ∙ sym (replay_from-push no_rows h e);
+  all = omega (arith, accepted-upkept limits table, k.all, length-append h (e ∷ []));
+}
 
--- one more entry
-pub IsPastOf-push : (h : List Entry) (past : Past) (e : Entry) → IsPastOf h past → IsPastOf (h ++ e ∷ []) (with_entry past e)
-IsPastOf-push h past e k = record { folded = k.folded; base = k.base; all = ap (λ (l : List Entry). l ++ e ∷ []) k.all ∙ append_assoc k.folded past.tail (e ∷ []) }
+-- a checkpoint
+pub IsPastOf-checkpointed : (h : List Entry) (table : PlainView) → IsPastOf h table → IsPastOf h (checkpointed table)
+IsPastOf-checkpointed h table k = record { rows = k.rows; all = omega (arith, k.all) }
 
--- the partition's rows and totals are those of the whole history
-pub state_after-whole : (h : List Entry) (past : Past) → IsPastOf h past → state_after past ≡ replay_from no_rows h
-state_after-whole h past k =
-    let base : past.base.state ≡ replay_from no_rows k.folded = ap (λ (b : Base). b.state) k.base in
-    ap (λ (s : PlainState). replay_from s past.tail) base ∙ (sym (replay_from-append no_rows k.folded past.tail) ∙ ap (replay_from no_rows) (sym k.all))
-
-pub accepted_in-whole : (h : List Entry) (past : Past) → IsPastOf h past → accepted_in past ≡ length h
-accepted_in-whole h past k =
-    let base : past.base.folded ≡ 0 + length k.folded = ap (λ (b : Base). b.folded) k.base in
-    omega (arith, base, length-append k.folded past.tail, ap length k.all)
-
-pub inserted_in-whole : (h : List Entry) (past : Past) → IsPastOf h past → inserted_in past ≡ inserted h
-inserted_in-whole h past k =
-    let base : past.base.placed ≡ 0 + inserted k.folded = ap (λ (b : Base). b.placed) k.base in
-    omega (arith, base, inserted-append k.folded past.tail, ap inserted k.all)
-
-pub deleted_in-whole : (h : List Entry) (past : Past) → IsPastOf h past → deleted_in past ≡ deleted h
-deleted_in-whole h past k =
-    let base : past.base.gone ≡ 0 + deleted k.folded = ap (λ (b : Base). b.gone) k.base in
-    omega (arith, base, deleted-append k.folded past.tail, ap deleted k.all)
+-- the plain rows are those after the past into which the last checkpoint divides the history
+pub state-divided : (h : List Entry) (table : PlainView) → IsPastOf h table → state_after (past_in h table) ≡ table.state
+state-divided h table k =
+    sym (replay_from-append no_rows (take table.folded h) (drop table.folded h)) ∙ (ap (replay_from no_rows) (take-append-drop table.folded h) ∙ sym k.rows)
 
 abbrev pub base_of : PlainState → ℕ → ℕ → ℕ → Base
 base_of state folded placed gone = record { state = state; folded = folded; placed = placed; gone = gone }
@@ -53,36 +41,60 @@ base_of state folded placed gone = record { state = state; folded = folded; plac
 pub same_base : (s t : PlainState) (a b c d e f : ℕ) → s ≡ t → a ≡ b → c ≡ d → e ≡ f → base_of s a c e ≡ base_of t b d f
 same_base s t a b c d e f p q r u = λ i. base_of (p i) (q i) (r i) (u i)
 
--- all of it is checkpointed
-pub IsPastOf-folded : (h : List Entry) (past : Past) → IsPastOf h past → IsPastOf h (folded past)
-IsPastOf-folded h past k = record {
-  folded = h;
-  base = same_base (state_after past) (replay_from no_rows h) (accepted_in past) (0 + length h) (inserted_in past) (0 + inserted h) (deleted_in past) (0 + deleted h) (state_after-whole h past k) (omega (arith, accepted_in-whole h past k)) (omega (arith, inserted_in-whole h past k)) (omega (arith, deleted_in-whole h past k));
-  all = sym (append-nil h);
-}
+-- the base after a history that is divided anywhere is the base after all of it
+base-whole : (first rest : List Entry) → base_after (record { base = no_base; tail = first ++ rest }) ≡ base_after (record { base = base_after (record { base = no_base; tail = first }); tail = rest })
+base-whole first rest = same_base
+    (replay_from no_rows (first ++ rest))
+    (replay_from (replay_from no_rows first) rest)
+    (0 + length (first ++ rest))
+    (0 + length first + length rest)
+    (0 + inserted (first ++ rest))
+    (0 + inserted first + inserted rest)
+    (0 + deleted (first ++ rest))
+    (0 + deleted first + deleted rest)
+    (replay_from-append no_rows first rest)
+    (omega (arith, length-append first rest))
+    (omega (arith, inserted-append first rest))
+    (omega (arith, deleted-append first rest))
 
--- the partition once the checkpoint that is due is made
-pub IsPastOf-upkept : (h : List Entry) (limits : Limits) (past : Past) → IsPastOf h past → IsPastOf h (upkept limits past)
-IsPastOf-upkept h limits past k = by_test (is_due limits (length past.tail))
-  where
-    by_test : (b : Bool) → IsPastOf h (if b then folded past else past)
-    by_test true = IsPastOf-folded h past k
-    by_test false = k
+-- a list is divided at its end
+take-whole : (h : List Entry) (n : ℕ) → n ≡ length h → take n h ≡ h
+take-whole h n is = ap (λ (k : ℕ). take k h) is ∙ (ap (take (length h)) (sym (append-nil h)) ∙ take-append_seam h [])
 
-pub IsPastOf-either : (h : List Entry) (old new : Part) (r : Result ℕ Refusal) → OnOk r (new ≡ folded_part old) → OnErr r (new ≡ old) → IsPastOf h old.past → IsPastOf h new.past
-IsPastOf-either h old new (Ok n) ok err k = subst (λ (p : Part). IsPastOf h p.past) (sym ok) (IsPastOf-folded h old.past k)
-IsPastOf-either h old new (Err e) ok err k = subst (λ (p : Part). IsPastOf h p.past) (sym err) k
+drop-whole : (h : List Entry) (n : ℕ) → n ≡ length h → drop n h ≡ []
+drop-whole h n is = ap (λ (k : ℕ). drop k h) is ∙ (ap (drop (length h)) (sym (append-nil h)) ∙ drop-append_seam h [])
+
+abbrev past_with : Base → List Entry → Past
+past_with base tail = record { base = base; tail = tail }
+
+same_past : (a b : Base) (xs ys : List Entry) → a ≡ b → xs ≡ ys → past_with a xs ≡ past_with b ys
+same_past a b xs ys p q = λ i. past_with (p i) (q i)
+
+-- a checkpoint divides the history at its end: its entries so far are folded into the base
+pub folded-checkpointed : (h : List Entry) (table : PlainView) → IsPastOf h table → past_in h (checkpointed table) ≡ folded (past_in h table)
+folded-checkpointed h table k =
+    let all : accepted_of table ≡ length h = k.all in
+    let first = take table.folded h in
+    let rest = drop table.folded h in
+    let whole : take (accepted_of table) h ≡ first ++ rest = take-whole h (accepted_of table) all ∙ sym (take-append-drop table.folded h) in
+    same_past
+    (base_after (record { base = no_base; tail = take (accepted_of table) h }))
+    (base_after (past_in h table))
+    (drop (accepted_of table) h)
+    []
+    (ap (λ (l : List Entry). base_after (record { base = no_base; tail = l })) whole ∙ base-whole first rest)
+    (drop-whole h (accepted_of table) all)
 
 -- no worker has more entries than there are
-pub calls-le-accepted : (worker : ℕ) (h : List Entry) (past : Past) → IsPastOf h past → length (calls_by worker h) ≤ accepted_in past
-calls-le-accepted worker h past k = omega (arith, accepted_in-whole h past k, length-filter (λ (e : Entry). e.worker == worker) h, count_by-le-length (λ (e : Entry). e.worker == worker) h)
+pub calls-le-accepted : (worker : ℕ) (h : List Entry) (table : PlainView) → IsPastOf h table → length (calls_by worker h) ≤ accepted_of table
+calls-le-accepted worker h table k = omega (arith, k.all, length-filter (λ (e : Entry). e.worker == worker) h, count_by-le-length (λ (e : Entry). e.worker == worker) h)
 
 -- a partition that was asked refuses for lack of memory, or as it refuses the command
-pub refused-for : (o : Option Refusal) (e : Refusal) (Same : Type 0) → IfSome o (λ x. (◌≡◌ {A = Result (Reply × Reply) Refusal} (Err e) (Err x)) × Same) → (o ≡ None → e ≡ OutOfMemory) → (e ≡ OutOfMemory) ⊎ (o ≡ Some e)
+pub refused-for : (o : Option Refusal) (e : Refusal) (Same : Type 0) → IfSome o (λ x. (◌≡◌ {A = Result Reply Refusal} (Err e) (Err x)) × Same) → (o ≡ None → e ≡ OutOfMemory) → (e ≡ OutOfMemory) ⊎ (o ≡ Some e)
 refused-for None e Same refused memory = inl (memory refl)
 refused-for (Some x) e Same refused memory = inr (let is : x ≡ e = cc refused.0 in ap Some is)
 
 -- one that replied refuses for no cause
-pub replied-for : (o : Option Refusal) (replies : Reply × Reply) (Same : Type 0) → IfSome o (λ x. (◌≡◌ {A = Result (Reply × Reply) Refusal} (Ok replies) (Err x)) × Same) → o ≡ None
-replied-for None replies Same refused = refl
-replied-for (Some x) replies Same refused = absurd (cc refused.0)
+pub replied-for : (o : Option Refusal) (reply : Reply) (Same : Type 0) → IfSome o (λ x. (◌≡◌ {A = Result Reply Refusal} (Ok reply) (Err x)) × Same) → o ≡ None
+replied-for None reply Same refused = refl
+replied-for (Some x) reply Same refused = absurd (cc refused.0)

@@ -1,8 +1,8 @@
--- The history of each owner in the events of a book, and the past that a partition keeps of it.
-use Rattle.std.specs.Prelude.{◌≡◌, ◌≢◌, ℕ, ◌==◌, List, [], ◌∷◌, ◌++◌, option_to_list, filter, if◌then◌else◌}
+-- The history of each owner in the events of a book, and the plain table after it.
+use Rattle.std.specs.Prelude.{◌≡◌, ◌≢◌, ℕ, ◌==◌, List, [], ◌∷◌, ◌++◌, length, take, drop, option_to_list, filter, if◌then◌else◌}
 use Rattle.crack_row.specs.declared.command.Entry.{Entry}
-use Rattle.crack_plain.specs.Plain.{AreReplies, no_rows}
-use Rattle.crack_plain.specs.Past.{Past, no_base, base_after}
+use Rattle.crack_plain.specs.Plain.{PlainView, AreReplies, no_rows, accepted_of}
+use Rattle.crack_plain.specs.Past.{Past, no_base, base_after, state_after}
 use Rattle.crack_witness.specs.declared.event.Event.{Event}
 
 -- the entries of one owner, in order
@@ -26,8 +26,12 @@ calls_by worker es = filter (λ (e : Entry). e.worker == worker) es
 abbrev pub calls_at : (ℕ → ℕ) → ℕ → ℕ → List Event → List Entry
 calls_at owner part worker log = calls_by worker (history_of (owner part) log)
 
--- the past that a partition keeps is its whole history: its base is the effect of the first entries, and its history is the rest
-pub record IsPastOf (history : List Entry) (past : Past) : Type 0 where
-  pub folded : List Entry
-  pub base : past.base ≡ base_after (record { base = no_base; tail = folded })
-  pub all : history ≡ folded ++ past.tail
+-- a plain table that has answered a history: its rows are those after the history, and it has accepted as many commands as the history has
+pub record IsPastOf (history : List Entry) (table : PlainView) : Type 0 where
+  pub rows : table.state ≡ state_after (record { base = no_base; tail = history })
+  pub all : accepted_of table ≡ length history
+
+-- the past of a plain table that has answered a history: its base is the effect of the commands up to the last checkpoint, and the rest of the history
+-- follows
+abbrev pub past_in : List Entry → PlainView → Past
+past_in history table = record { base = base_after (record { base = no_base; tail = take table.folded history }); tail = drop table.folded history }

@@ -6,7 +6,7 @@ use Rattle.crack_row.specs.declared.command.Entry.{Entry}
 use Rattle.crack_row.specs.declared.refusal.Refusal.{Refusal}
 use Rattle.crack_row.specs.declared.command.Command.{Command}
 use Rattle.crack_row.specs.declared.refusal.Refusal.TheVariants.{NoSuchPartition, OutOfMemory, StrangeReceipt}
-use Rattle.crack_part.specs.Parts.{Part}
+use Rattle.crack_part.specs.Parts.{Part, table_of}
 use Rattle.crack_part.specs.Refusals.{refusal_of}
 use Rattle.crack_witness.specs.declared.event.Event.{Event}
 use Rattle.crack_witness.specs.Histories.{history_of, calls_by, calls_at, AreHistories, AreEmpty, IsPastOf}
@@ -36,11 +36,11 @@ pub record WitnessedState : Type 0 where
   pub held : Part
   pub workers : ℕ
 
--- the past that a partition keeps is all of its history, each reply in it is that of the plain rows, and each entry is of one of the workers that it
--- counts
+-- a partition's plain rows are those after its history, which has as many entries as it accepted commands; each reply in the history is that of the
+-- plain rows there, and each entry is of one of the workers that it counts
 pub record IsWhole (owner : ℕ → ℕ) (w : WitnessedState) : Type 0 where
   pub legal : AreHistories w.log
-  pub kept : IsPastOf (history_of (owner w.part) w.log) w.held.past
+  pub kept : IsPastOf (history_of (owner w.part) w.log) (table_of w.held)
   pub known : All (λ (e : Entry). e.worker < w.workers) (history_of (owner w.part) w.log)
 
 -- a partition that has its number, and no entry yet

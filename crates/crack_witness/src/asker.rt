@@ -4,10 +4,9 @@ ghost use Rattle.std.specs.Prelude.{OnErr, OnOk, Err, IsTrue, List, slice_index_
 ghost use mathlib.Core.List.{IsPrefix};
 ghost use Rattle.crack_row.specs.declared.command.Entry.{Entry};
 ghost use Rattle.crack_plain.specs.Plain.{IsSmall, reply_to};
-ghost use Rattle.crack_plain.specs.Past.{with_entry};
-ghost use Rattle.crack_part.specs.Parts.{state_of};
-ghost use Rattle.crack_part.specs.Upkeep.{upkept};
+ghost use Rattle.crack_part.specs.Parts.{state_of, table_of};
 ghost use Rattle.crack_part.specs.Refusals.{refusal_of};
+ghost use Rattle.crack_part.specs.Upkeep.{answered};
 ghost use Rattle.crack_witness.specs.Histories.{history_of, calls_at, AreHistories, AreEmpty};
 ghost use Rattle.crack_witness.specs.Witnesses.{IsInStep, IsGiven, HasJustItsOwn, IsNewAsker, Knows, MayRefuseAt};
 ghost use Rattle.crack_witness.specs.Witnesses.{replies_at, replies_to};
@@ -111,35 +110,33 @@ impl<J: Naming> Asker<J> {
         &self.front
     }
 
-    /// Asks a partition, which must have number `part`: O(1) beyond `Partition::apply`, and no memory. The reply comes
-    /// with the copy for a receipt that `Partition::apply` makes. Refused with 5 if the worker knows of no such
-    /// partition; with 16, with the number and the count of its replies there, if the partition has another number, or
-    /// its history has another number of the worker's entries; then as `Partition::apply` is. After a refusal nothing
-    /// was seen or written.
+    /// Asks a partition, which must have number `part`: O(1) beyond `Partition::apply`, and no memory. Refused with 5
+    /// if the worker knows of no such partition; with 16, with the number and the count of its replies there, if the
+    /// partition has another number, or its history has another number of the worker's entries; then as
+    /// `Partition::apply` is. After a refusal nothing was seen or written.
     pub fn ask(
         &mut self,
         witnessed: &mut Witnessed<J>,
         part: u32,
         command: Command,
         policy: Policy,
-    ) -> Result<(Reply, Reply), Refusal>
-        ensures replies { IfOk result (λ replies. (replies.0 ≡ reply_to (state_of witnessed.old.held) command) ×
-            (replies.1 ≡ replies.0)) }
-        ensures small { IfOk result (λ replies. IsSmall replies.0) }
-        ensures given { IfOk result (λ replies. IsGiven J.owner part (record {
+    ) -> Result<Reply, Refusal>
+        ensures reply { IfOk result (λ reply. reply ≡ reply_to (state_of witnessed.old.held) command) }
+        ensures small { IfOk result IsSmall }
+        ensures given { IfOk result (λ reply. IsGiven J.owner part (record {
           worker = self.old.worker;
           command = command;
-          reply = replies.0;
+          reply = reply;
         }) self.old.seen self.new.seen) }
-        ensures mine { IfOk result (λ replies. calls_at J.owner part self.old.worker self.new.seen ≡
+        ensures mine { IfOk result (λ reply. calls_at J.owner part self.old.worker self.new.seen ≡
             calls_at J.owner part self.old.worker (slice_index_or self.old.fronts part []) ++
-            record { worker = self.old.worker; command = command; reply = replies.0 } ∷ []) }
+            record { worker = self.old.worker; command = command; reply = reply } ∷ []) }
         ensures count { OnOk result (replies_to self.new ≡ replies_to self.old + 1) }
         ensures fronts { OnOk result (self.new.fronts ≡ slice_set self.old.fronts part self.new.seen) }
         ensures legal { OnOk result (AreHistories self.new.seen) }
         ensures whole { OnOk result ((witnessed.old.part ≡ part) × (self.new.seen ≡ witnessed.new.log)) }
-        ensures kept { IfOk result (λ replies. witnessed.new.held.past ≡ with_entry (upkept witnessed.old.held.limits
-            witnessed.old.held.past) (record { worker = self.old.worker; command = command; reply = replies.0 })) }
+        ensures table { OnOk result (table_of witnessed.new.held ≡ answered witnessed.old.held.limits
+            (table_of witnessed.old.held) command) }
         ensures opened { (witnessed.new.held.keys ≡ witnessed.old.held.keys) × (witnessed.new.held.limits ≡
             witnessed.old.held.limits) × (witnessed.new.part ≡ witnessed.old.part) }
         ensures seen { IsPrefix self.old.seen self.new.seen × IsPrefix witnessed.old.log witnessed.new.log }
@@ -149,7 +146,7 @@ impl<J: Naming> Asker<J> {
             (result ≡ Err (Refusal.StrangeReceipt part (replies_at self.old part))) × (witnessed.new ≡ witnessed.old) }
         ensures causes { IfErr result (MayRefuseAt J.owner witnessed.old part command self.old) }
         ensures err { OnErr result ((self.new ≡ self.old) × (witnessed.new.log ≡ witnessed.old.log) ×
-            (witnessed.new.held.past ≡ witnessed.old.held.past)) }
+            (table_of witnessed.new.held ≡ table_of witnessed.old.held)) }
     {
         let Some(count) = count_at(self.counts.as_slice(), part) else {
             return Err(Refusal::NoSuchPartition);
@@ -160,10 +157,10 @@ impl<J: Naming> Asker<J> {
                 position: count,
             });
         }
-        let (reply, copy) = witnessed.ask(&mut self.front, self.number, count, command, policy)?;
+        let reply = witnessed.ask(&mut self.front, self.number, count, command, policy)?;
         self.counts[part as usize] = count + 1;
         self.fronts[part as usize] = self.front.again();
-        Ok((reply, copy))
+        Ok(reply)
     }
 
     /// Whether a partition's history has exactly the entries of this worker for which it received replies. States that

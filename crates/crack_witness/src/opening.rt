@@ -1,9 +1,8 @@
 //! The opening of a book, with an owner for each partition.
 ghost use Rattle.std.specs.Prelude.{◌≡◌, ◌+◌, ◌<◌, ◌≤◌, ◌^◌, [], length, map, All, true, IfOk, vec_len};
 ghost use mathlib.Core.List.{IsPrefix};
-ghost use Rattle.crack_plain.specs.Past.{no_past};
-ghost use Rattle.crack_part.specs.Parts.{Part};
-ghost use Rattle.crack_witness.specs.Histories.{history_of, AreEmpty};
+ghost use Rattle.crack_part.specs.Parts.{Part, table_of};
+ghost use Rattle.crack_witness.specs.Histories.{history_of, AreEmpty, IsPastOf};
 ghost use Rattle.crack_witness.specs.Witnesses.{AreDistinct, AreNames, AreApart, AreNewFrom};
 ghost use Rattle.crack_witness.specs.Rules.{row, NoneOf};
 ghost use Rattle.crack_witness.specs.Keeps.{HasWord, HasOwner, IsNew, AreOwners};
@@ -129,7 +128,7 @@ impl Opened {
         workers: u32,
     ) -> Result<(Front<J>, Vec<Witnessed<J>>), AllocError>
         requires names { AreNames J.book J.owner self }
-        requires new { All (λ (part : Part). part.past ≡ no_past) partitions.items }
+        requires new { All (λ (part : Part). IsPastOf [] (table_of part)) partitions.items }
         requires count { length partitions.items ≡ length self.ids }
         ensures front { IfOk result (λ r. AreEmpty r.0) }
         ensures parts { IfOk result (λ r. AreNewFrom J.owner workers 0 partitions.items r.1.items) }
@@ -179,7 +178,7 @@ fn witness_each<J: Naming>(
     workers: u32,
 ) -> Result<Vec<Witnessed<J>>, AllocError>
     requires owners { AreOwners J.book J.owner owners.old.items }
-    requires new { All (λ (part : Part). part.past ≡ no_past) partitions.old.items }
+    requires new { All (λ (part : Part). IsPastOf [] (table_of part)) partitions.old.items }
     requires count { (length partitions.old.items ≡ length owners.old.items) × (length owners.old.items < 2 ^ 32) }
     ensures { IfOk result (λ ws. AreNewFrom J.owner workers 0 partitions.old.items ws.items) }
 {

@@ -1,13 +1,13 @@
-//! What a lock holds: a partition, and the scribe of its whole history.
+//! What a lock holds: a partition, and the scribe of its history.
 ghost use Rattle.std.specs.Prelude.{◌≡◌, ◌⊎◌, ◌+◌, ◌<◌, ◌≤◌, [], ◌∷◌, ◌++◌, length, vec_len, IfOk, IfErr, IfSome};
 ghost use Rattle.std.specs.Prelude.{IsTrue, OnErr, OnOk, Err, None, ◌≢◌, ◌↔◌, ◌^◌, slice_index_or};
 ghost use mathlib.Core.List.{IsPrefix};
-ghost use Rattle.crack_plain.specs.Past.{no_past, with_entry};
+ghost use Rattle.crack_plain.specs.Past.{folded, state_after};
 ghost use Rattle.crack_plain.specs.Plain.{IsSmall, reply_to};
-ghost use Rattle.crack_part.specs.Parts.{IsSound, state_of, folded_part, Serves, Spares};
+ghost use Rattle.crack_part.specs.Parts.{IsSound, state_of, table_of, folded_part, Serves, Spares};
 ghost use Rattle.crack_part.specs.Refusals.{refusal_of};
-ghost use Rattle.crack_part.specs.Upkeep.{upkept};
-ghost use Rattle.crack_witness.specs.Histories.{history_of, calls_by, AreHistories, IsPastOf};
+ghost use Rattle.crack_part.specs.Upkeep.{answered};
+ghost use Rattle.crack_witness.specs.Histories.{history_of, calls_by, AreHistories, IsPastOf, past_in};
 ghost use Rattle.crack_witness.specs.Witnesses.{IsWhole, IsNewAt, IsInStep, MayRefuseIt};
 ghost use Rattle.crack_witness.specs.Keeps.{IsOwnerAt};
 
@@ -18,8 +18,8 @@ use crack_row::{Command, Policy, Refusal, Reply};
 use std::alloc::{AllocError, Global};
 use std::marker::Model;
 
-/// A partition with the scribe of its whole history since it was opened, and a count of each worker's entries there.
-/// Contracts see the partition, its number, and the events that the scribe has seen.
+/// A partition with the scribe of its history since it was opened, and a count of each worker's entries there. The
+/// history has no bytes. Contracts see the partition, its number, and the events that the scribe has seen.
 pub struct Witnessed<J: Naming> {
     partition: Partition,
     scribe: Scribe<J>,
@@ -43,6 +43,7 @@ impl<J: Naming> Drop for Witnessed<J> {
 impl<J: Naming> Model for Witnessed<J> {
     ghost use Rattle.std.specs.Prelude.{◌<◌, length, All};
     ghost use Rattle.crack_row.specs.declared.command.Entry.{Entry};
+    ghost use Rattle.crack_part.specs.Parts.{table_of};
     ghost use Rattle.crack_witness.specs.Histories.{history_of, IsPastOf};
     ghost use Rattle.crack_witness.specs.Witnesses.{WitnessedState};
     ghost use Rattle.crack_witness.specs.Keeps.{AreCounts};
@@ -56,7 +57,7 @@ impl<J: Naming> Model for Witnessed<J> {
       workers = length w.answered.items;
     } };
 
-    ghost invariant = { λ w. IsPastOf (history_of (J.owner w.scribe.part) w.scribe.log) w.partition.past ×
+    ghost invariant = { λ w. IsPastOf (history_of (J.owner w.scribe.part) w.scribe.log) (table_of w.partition) ×
         AreCounts w.answered.items (history_of (J.owner w.scribe.part) w.scribe.log) ×
         All (λ (e : Entry). e.worker < length w.answered.items) (history_of (J.owner w.scribe.part) w.scribe.log) };
 }
@@ -71,7 +72,7 @@ impl<J: Naming> Witnessed<J> {
         workers: u32,
     ) -> Result<Witnessed<J>, AllocError>
         requires owner { IsOwnerAt J.book J.owner part owner }
-        requires new { partition.past ≡ no_past }
+        requires new { IsPastOf [] (table_of partition) }
         ensures { IfOk result (IsNewAt J.owner workers part partition) }
     {
         match vec![in alloc; 0u64; workers as usize] {
@@ -109,11 +110,13 @@ impl<J: Naming> Witnessed<J> {
         self.answered.len()
     }
 
-    /// States the invariants of each, and does nothing: its history is legal, the partition's past is all of it, and
-    /// each entry is one of its workers'.
+    /// States the invariants of each, and does nothing: its history is legal, the partition's plain rows are those
+    /// after it and as many commands were accepted as it has entries, and each entry is one of its workers'.
     pub fn facts(&self)
         ensures whole { IsWhole J.owner self.now }
         ensures sound { IsSound self.now.held }
+        ensures divided { state_after (past_in (history_of (J.owner self.now.part) self.now.log)
+            (table_of self.now.held)) ≡ state_of self.now.held }
     {
         let _part = self.scribe.part();
         self.partition.facts();
@@ -129,10 +132,9 @@ impl<J: Naming> Witnessed<J> {
     }
 
     /// Answers a command of a worker that has received `count` replies from this partition before, and writes it into
-    /// the history: O(1) beyond `Partition::apply`, and no memory. The reply comes with the copy for a receipt that
-    /// `Partition::apply` makes. Refused with 16, with the partition's number and that count, if the history doesn't
-    /// have exactly as many entries of the worker, or the worker isn't one of the table's; then nothing has changed.
-    /// Otherwise refused as `Partition::apply` is, and nothing is written.
+    /// the history: O(1) beyond `Partition::apply`, and no memory. Refused with 16, with the partition's number and
+    /// that count, if the history doesn't have exactly as many entries of the worker, or the worker isn't one of the
+    /// table's; then nothing has changed. Otherwise refused as `Partition::apply` is, and nothing is written.
     pub fn ask(
         &mut self,
         me: &mut Front<J>,
@@ -140,18 +142,17 @@ impl<J: Naming> Witnessed<J> {
         count: u64,
         command: Command,
         policy: Policy,
-    ) -> Result<(Reply, Reply), Refusal>
-        ensures replies { IfOk result (λ replies. (replies.0 ≡ reply_to (state_of self.old.held) command) ×
-            (replies.1 ≡ replies.0)) }
-        ensures small { IfOk result (λ replies. IsSmall replies.0) }
-        ensures written { IfOk result (λ replies. history_of (J.owner self.old.part) self.new.log ≡
+    ) -> Result<Reply, Refusal>
+        ensures reply { IfOk result (λ reply. reply ≡ reply_to (state_of self.old.held) command) }
+        ensures small { IfOk result IsSmall }
+        ensures written { IfOk result (λ reply. history_of (J.owner self.old.part) self.new.log ≡
             history_of (J.owner self.old.part) self.old.log ++ record {
               worker = worker;
               command = command;
-              reply = replies.0;
+              reply = reply;
             } ∷ []) }
-        ensures kept { IfOk result (λ replies. self.new.held.past ≡ with_entry (upkept self.old.held.limits
-            self.old.held.past) (record { worker = worker; command = command; reply = replies.0 })) }
+        ensures table { OnOk result (table_of self.new.held ≡ answered self.old.held.limits (table_of self.old.held)
+            command) }
         ensures store { OnOk result (Serves policy self.old.held command self.new.held.store) }
         ensures opened { (self.new.held.keys ≡ self.old.held.keys) × (self.new.held.limits ≡ self.old.held.limits) }
         ensures part { (self.new.part ≡ self.old.part) × (self.new.workers ≡ self.old.workers) }
@@ -164,7 +165,7 @@ impl<J: Naming> Witnessed<J> {
 
         ensures strange { (IsInStep J.owner self.old worker count → ⊥) →
             (result ≡ Err (Refusal.StrangeReceipt self.old.part count)) × (self.new ≡ self.old) }
-        ensures err { OnErr result ((self.new.log ≡ self.old.log) × (self.new.held.past ≡ self.old.held.past) ×
+        ensures err { OnErr result ((self.new.log ≡ self.old.log) × (table_of self.new.held ≡ table_of self.old.held) ×
             (me.new ≡ me.old)) }
         ensures spared { IsInStep J.owner self.old worker count → OnErr result (Spares policy self.old.held command
             self.new.held.store) }
@@ -183,20 +184,22 @@ impl<J: Naming> Witnessed<J> {
             });
         }
         let asked = command;
-        let (reply, copy) = self.partition.apply(worker, command, policy)?;
+        let reply = self.partition.apply(command, policy)?;
         self.scribe.write(me, worker, &asked, &reply);
         self.answered[worker as usize] = count + 1;
-        Ok((reply, copy))
+        Ok(reply)
     }
 
-    /// Makes a checkpoint of the partition as `Partition::checkpoint` does, with its refusal; the history stays whole.
-    pub fn checkpoint(&mut self) -> Result<u64, Refusal>
-        ensures ok { IfOk result (λ count. count ≡ length self.old.held.past.tail) }
-        ensures folded { OnOk result (self.new.held ≡ folded_part self.old.held) }
+    /// Makes a checkpoint of the partition as `Partition::checkpoint` does, and returns how many commands there were
+    /// since the last one; no row changes. The history stays whole: the checkpoint divides it at its end, so that its
+    /// entries since the last one are now of the base.
+    pub fn checkpoint(&mut self) -> u64
+        ensures since { result ≡ self.old.held.since }
+        ensures folded { self.new.held ≡ folded_part self.old.held }
         ensures witness { (self.new.part ≡ self.old.part) × (self.new.log ≡ self.old.log) ×
             (self.new.workers ≡ self.old.workers) }
-        ensures err { IfErr result (λ e. e ≡ Refusal.OutOfMemory) }
-        ensures same { OnErr result (self.new ≡ self.old) }
+        ensures divides { past_in (history_of (J.owner self.new.part) self.new.log) (table_of self.new.held) ≡
+            folded (past_in (history_of (J.owner self.old.part) self.old.log) (table_of self.old.held)) }
     {
         self.partition.checkpoint()
     }

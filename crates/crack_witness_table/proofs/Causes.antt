@@ -10,12 +10,12 @@ use Rattle.crack_witness_table.specs.Asking.{MayRefuseAsker}
 -- if a witnessed partition refuses a worker, its table does, with its limit of a history
 at-table : (owner : ℕ → ℕ) (table : TableState) (may_refuse : ℕ → Type 0) (part : ℕ) (w : WitnessedState) (command : Command) (old : AskerState) (e : Refusal) → MayRefuseAt owner w part command old e → MayRefuseAsker table may_refuse part command old (with_limit table.limits.history e)
 at-table owner table may_refuse part w command old e cause = elim cause [
-  | inl nowhere ↦ rw nowhere.0 (inr (inr (refl, nowhere.1)))
+  | inl nowhere ↦ rw nowhere.0 (inr (inr (inr (inr (refl, nowhere.1)))))
   | inr rest ↦ elim rest [
-    | inl strange ↦ rw strange.0 (inr (inl refl))
+    | inl strange ↦ rw strange.0 (inr (inr (inr (inl refl))))
     | inr more ↦ elim more [
-      | inl short ↦ rw short (inl (inr (inl refl)))
-      | inr refused ↦ inl (inr (inr (w.held, e, refused, refl)))
+      | inl short ↦ rw short (inr (inl refl))
+      | inr refused ↦ inr (inr (inl (w.held, e, refused, refl)))
     ]
   ]
 ]

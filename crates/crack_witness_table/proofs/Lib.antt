@@ -2,4 +2,5 @@ mod Causes
 mod Hiring
 mod Partitions
 mod Placing
+mod Counts
 pub mod Crosses

@@ -1,29 +1,19 @@
--- Witnessed partitions that are the table's, and their totals.
-use Rattle.std.proofs.Common.{◌≡◌, ◌<◌, ◌≤◌, ◌+◌, ◌^◌, ◌⊎◌, ℕ, List, [], ◌∷◌, length, get_or, map, Some, refl, ap, sym, ◌∙◌, arith, ⊎_elim}
-use Rattle.std.specs.Prelude.{All, sum_by}
+-- Witnessed partitions that are the table's.
+use Rattle.std.proofs.Common.{◌≡◌, ◌<◌, ◌≤◌, ◌+◌, ◌⊎◌, ℕ, List, [], ◌∷◌, length, get_or, Some, refl, ◌∙◌, arith, ⊎_elim}
+use Rattle.std.specs.Prelude.{All}
 use Rattle.std.specs.List.{slice_get}
 use Rattle.std.proofs.lemmas.List.{length-map, get_or-map, get_or_default}
 use Rattle.std.proofs.lemmas.List.Elements.{All-map}
-use Rattle.std.proofs.lemmas.List.Sums.{sum_by-cons}
 use Rattle.std.proofs.lemmas.Option.{slice_get_read, slice_get_within}
 use Rattle.crack_row.specs.declared.Bound.{Bound}
 use Rattle.crack_row.specs.declared.limit.Limits.{Limits}
-use Rattle.crack_plain.specs.Past.{accepted_in, inserted_in}
-use Rattle.crack_state.specs.State.{live_rows}
 use Rattle.crack_part.specs.Parts.{Part, IsSound}
 use Rattle.crack_core.specs.Opening.{AreParts}
 use Rattle.crack_witness.specs.Witnesses.{WitnessedState}
-use Rattle.crack_table.specs.Gather.{IsTables, AreTotals}
-use Rattle.crack_table.proofs.Totals.{held_difference, held_are, accepted-bound, inserted-bound}
-use Rattle.crack_witness_table.specs.Gather.{held_by, IsTablesAt, IsFirstStrange}
+use Rattle.crack_witness_table.specs.Gather.{held_by, IsTables, IsTablesAt, IsFirstStrange}
 use Rattle.crack_witness_table.specs.Keeps.{AreNumbered}
 
--- a sum over witnessed partitions is one over the partitions that they hold
-pub held_sum : (f : Part → ℕ) (ws : List WitnessedState) → sum_by (λ (w : WitnessedState). f w.held) ws ≡ sum_by f (held_by ws)
-held_sum f [] = refl
-held_sum f (w ∷ ws) = sum_by-cons (λ (v : WitnessedState). f v.held) w ws ∙ (ap (λ (n : ℕ). f w.held + n) (held_sum f ws) ∙ sym (sum_by-cons f w.held (held_by ws)))
-
--- and so is a property of each
+-- what holds of each partition that is held
 pub held_sound : (ws : List WitnessedState) → All (λ (w : WitnessedState). IsSound w.held) ws → All IsSound (held_by ws)
 held_sound ws all = All-map IsSound (λ (w : WitnessedState). w.held) ws all
 
@@ -73,36 +63,3 @@ are_numbered splits limits workers parts n long all k w is = let there = all k w
 
 pub first_strange : (splits : List Bound) (limits : Limits) (workers : ℕ) (parts : List WitnessedState) (place : ℕ) (w : WitnessedState) → place < length parts → w ≡ get_or parts place w → ¬ IsTablesAt splits limits workers place w → AreUpTo splits limits workers parts place → IsFirstStrange splits limits workers parts place
 first_strange splits limits workers parts place w lt read other before = (w, slice_get_read parts (length parts) place w refl lt read, other, before)
-
--- the totals of sound partitions fit into a word
-pub record AreSmall (parts : List Part) : Type 0 where
-  pub accepted_fits : sum_by (λ (p : Part). accepted_in p.past) parts < 2 ^ 64
-  pub inserted_fits : sum_by (λ (p : Part). inserted_in p.past) parts < 2 ^ 64
-  pub rows_fit : sum_by (λ (p : Part). length (live_rows p.store)) parts < 2 ^ 64
-  pub enough : sum_by (λ (p : Part). length (live_rows p.store)) parts ≤ sum_by (λ (p : Part). inserted_in p.past) parts
-
-pub are_small : (parts : List Part) → All IsSound parts → length parts ≤ 64 → AreSmall parts
-are_small parts sound few =
-    let most = accepted-bound parts sound in
-    let placed = inserted-bound parts sound in
-    let left = held_difference parts sound in record {
-      accepted_fits = omega (arith, most, few);
-      inserted_fits = omega (arith, most, placed, few);
-      rows_fit = omega (arith, most, placed, left, few);
-      enough = omega (arith, left);
-    }
-
--- the same for the partitions that witnessed partitions hold
-pub witnessed_small : (ws : List WitnessedState) → All (λ (w : WitnessedState). IsSound w.held) ws → length ws ≤ 64 → AreSmall (held_by ws)
-witnessed_small ws sound few = are_small (held_by ws) (held_sound ws sound) (omega (arith, few, length-map ws (λ (w : WitnessedState). w.held)))
-
--- and their totals are these
-pub are_totals : (parts : List Part) (answers placed left gone : ℕ) → All IsSound parts → answers ≡ sum_by (λ (p : Part). accepted_in p.past) parts → placed ≡ sum_by (λ (p : Part). inserted_in p.past) parts → left ≡ sum_by (λ (p : Part). length (live_rows p.store)) parts → gone + left ≡ placed → AreTotals parts answers placed gone left
-are_totals parts answers placed left gone sound answers_are placed_are left_are gone_is =
-    let all = held_difference parts sound in record {
-      accepted_is = answers_are;
-      inserted_is = placed_are;
-      deleted_is = omega (arith, all, placed_are, left_are, gone_is);
-      rows_are = left_are;
-      held_is = held_are placed gone left (omega (arith, gone_is));
-    }

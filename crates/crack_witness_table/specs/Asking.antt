@@ -1,22 +1,27 @@
 -- The answers of a table that witnesses its replies to a worker.
-use Rattle.std.specs.Prelude.{◌≡◌, ℕ, ◌+◌, ◌≤◌, ◌⊎◌, [], ◌∷◌, ◌++◌, length, Result, IfOk, OnOk, OnErr, slice_index_or, slice_set}
+use Rattle.std.specs.Prelude.{◌≡◌, ℕ, ◌+◌, ◌<◌, ◌≤◌, ◌⊎◌, [], ◌∷◌, ◌++◌, length, Some, Result, IfOk, OnOk, OnErr, slice_index_or, slice_set}
 use Rattle.std.specs.List.{sum}
 use mathlib.Core.List.{IsPrefix}
 use Rattle.crack_row.specs.declared.command.Command.{Command}
 use Rattle.crack_row.specs.declared.command.Reply.{Reply}
 use Rattle.crack_row.specs.declared.refusal.Refusal.{Refusal}
-use Rattle.crack_row.specs.declared.refusal.Refusal.TheVariants.{NoSuchPartition, StrangeReceipt}
+use Rattle.crack_row.specs.declared.refusal.Refusal.TheVariants.{NoSuchPartition, GateGaveUp, OutOfMemory, StrangeReceipt}
 use Rattle.crack_plain.specs.Plain.{IsSmall}
+use Rattle.crack_part.specs.Parts.{Part}
+use Rattle.crack_part.specs.Refusals.{refusal_of}
 use Rattle.crack_witness.specs.Histories.{calls_at, AreHistories}
 use Rattle.crack_witness.specs.Witnesses.{AskerState, IsGiven}
-use Rattle.crack_table.specs.Tables.{TableState, AnswersAt, MayRefuse}
+use Rattle.crack_table.specs.Tables.{TableState, AnswersAt, with_limit}
+use Rattle.crack_table.specs.declared.TheConstants.{GATE_TURNS}
 
--- why a partition that exists may refuse a worker: as `MayRefuse` says; 16 with the partition and the number of its replies there; or 5 if the worker
--- knows of no such partition
+-- why a partition that exists may refuse a worker: the gate may refuse at each turn, no memory was found, or a partition refuses the command in this
+-- way, with the table's limit of a history; 16 with the partition and the number of its replies there; or 5 if the worker knows of no such partition
 abbrev pub MayRefuseAsker : TableState → (ℕ → Type 0) → ℕ → Command → AskerState → Refusal → Type 0
 MayRefuseAsker table may_refuse part command asker e =
-    MayRefuse table may_refuse command e
-    ⊎ ((e ≡ StrangeReceipt part (slice_index_or asker.counts part 0)) ⊎ ((e ≡ NoSuchPartition) × (length asker.fronts ≤ part)))
+    ((e ≡ GateGaveUp) × ((turn : ℕ) → turn < GATE_TURNS → may_refuse turn))
+    ⊎ ((e ≡ OutOfMemory)
+    ⊎ (((p : Part) × (cause : Refusal) × (refusal_of p command ≡ Some cause) × (e ≡ with_limit table.limits.history cause))
+    ⊎ ((e ≡ StrangeReceipt part (slice_index_or asker.counts part 0)) ⊎ ((e ≡ NoSuchPartition) × (length asker.fronts ≤ part)))))
 
 -- A worker asks one partition. If it is answered, its entry ends the history of that partition, as far as the worker now sees it; all that it had
 -- seen before precedes the entry, every history is legal, and the worker's entries there are those of its replies. If it is refused, there is a

@@ -1,18 +1,34 @@
 -- The totals of a table that witnesses its replies when its workers are gathered.
-use Rattle.std.specs.Prelude.{◌≡◌, ◌≢◌, ℕ, ◌+◌, ◌<◌, ◌⊎◌, List, length, map, All, Some, slice_get}
+use Rattle.std.specs.Prelude.{◌≡◌, ◌≢◌, ℕ, pos, ◌-ℤ◌, ◌+◌, ◌<◌, ◌⊎◌, List, length, map, sum_by, All, Some, slice_get}
 use Rattle.crack_row.specs.declared.Bound.{Bound}
 use Rattle.crack_row.specs.declared.limit.Limits.{Limits}
 use Rattle.crack_row.specs.declared.refusal.Refusal.{Refusal}
 use Rattle.crack_row.specs.declared.refusal.Refusal.TheVariants.{OutOfMemory, StrangeReceipt, WorkersMissing}
+use Rattle.crack_plain.specs.Totals.{inserted, deleted}
+use Rattle.crack_state.specs.State.{live_rows}
 use Rattle.crack_part.specs.Parts.{Part}
 use Rattle.crack_core.specs.Opening.{AreParts}
+use Rattle.crack_core.specs.Routes.{keys_of_part}
+use Rattle.crack_witness.specs.Histories.{history_of}
 use Rattle.crack_witness.specs.Witnesses.{AskerState, WitnessedState, IsWhole, Agrees, MayDiffer}
 use Rattle.crack_table.specs.Tables.{TableState}
-use Rattle.crack_table.specs.Gather.{IsTables, missing_below}
+use Rattle.crack_table.specs.Gather.{missing_below}
 
 -- the partitions themselves
 abbrev pub held_by : List WitnessedState → List Part
 held_by parts = map (λ (w : WitnessedState). w.held) parts
+
+-- the partition with this number has the table's keys and limits
+abbrev pub IsTables : List Bound → Limits → ℕ → Part → Type 0
+IsTables splits limits part p = (p.keys ≡ keys_of_part splits part) × (p.limits ≡ limits)
+
+-- the totals of the partitions' histories, and the number of live rows: the rows placed minus those removed
+pub record AreHistoryTotals (owner : ℕ → ℕ) (parts : List WitnessedState) (answers placed gone left : ℕ) : Type 0 where
+  pub accepted_is : answers ≡ sum_by (λ (w : WitnessedState). length (history_of (owner w.part) w.log)) parts
+  pub inserted_is : placed ≡ sum_by (λ (w : WitnessedState). inserted (history_of (owner w.part) w.log)) parts
+  pub deleted_is : gone ≡ sum_by (λ (w : WitnessedState). deleted (history_of (owner w.part) w.log)) parts
+  pub rows_are : left ≡ sum_by (λ (w : WitnessedState). length (live_rows w.held.store)) parts
+  pub held_is : pos left ≡ pos placed -ℤ pos gone
 
 -- these are the partitions of a table whose workers are gathered: they are the table's, each has the number of its place and counts the entries of its
 -- workers, each is whole, and each worker agrees with each

@@ -2,10 +2,9 @@
 ghost use Rattle.std.specs.Prelude.{◌≡◌, ◌⊎◌, ℕ, ◌+◌, ◌<◌, ◌≤◌, [], ◌∷◌, ◌++◌, length, Err, IfOk, IfErr, OnErr, OnOk};
 ghost use Rattle.std.specs.Prelude.{Ok, MatchResult, slice_index_or, slice_set};
 ghost use mathlib.Core.List.{IsPrefix};
-ghost use Rattle.crack_plain.specs.Past.{with_entry};
 ghost use Rattle.crack_plain.specs.Plain.{IsSmall, reply_to};
-ghost use Rattle.crack_part.specs.Parts.{state_of};
-ghost use Rattle.crack_part.specs.Upkeep.{upkept};
+ghost use Rattle.crack_part.specs.Parts.{state_of, table_of};
+ghost use Rattle.crack_part.specs.Upkeep.{answered};
 ghost use Rattle.crack_table.specs.Tables.{with_limit};
 ghost use Rattle.crack_witness.specs.Histories.{calls_at, AreHistories};
 ghost use Rattle.crack_witness.specs.Witnesses.{IsGiven, Knows, MayRefuseAt, replies_at, replies_to};
@@ -18,9 +17,9 @@ use crack_witness::{Asker, Naming, Witnessed};
 
 /// Asks the gate until it consents, and then the partition, which must have number `part`, for the worker. The
 /// partition stays borrowed from the gate's first turn to the reply, so its lock can't be released in between. The
-/// outcome of asking the partition, which may be a refusal, is the value, and `folded` is set to how many entries the
-/// history had at a checkpoint that was due. Refused with 7 if the gate refuses at each turn: then worker and partition
-/// are as they were.
+/// outcome of asking the partition, which may be a refusal, is the value, and `folded` is set to how many commands a
+/// checkpoint that was due counted with those before. Refused with 7 if the gate refuses at each turn: then worker
+/// and partition are as they were.
 pub(crate) fn ask_behind<J: Naming, G: Gate>(
     gate: &G,
     asker: &mut Asker<J>,
@@ -29,33 +28,28 @@ pub(crate) fn ask_behind<J: Naming, G: Gate>(
     command: Command,
     policy: Policy,
     folded: &mut u64,
-) -> Result<Result<(Reply, Reply), Refusal>, Refusal>
+) -> Result<Result<Reply, Refusal>, Refusal>
     ensures cause { IfErr result (λ e. e ≡ Refusal.GateGaveUp) }
     ensures turns { OnErr result ((turn : ℕ) → turn < 1000 → G.may_refuse gate.now part turn) }
     ensures kept_out { OnErr result ((asker.new ≡ asker.old) × (witnessed.new ≡ witnessed.old)) }
 
-    ensures replies { IfOk result (λ answered. IfOk answered (λ replies. (replies.0 ≡
-        reply_to (state_of witnessed.old.held) command) × (replies.1 ≡ replies.0))) }
-    ensures small { IfOk result (λ answered. IfOk answered (λ replies. IsSmall replies.0)) }
-    ensures given { IfOk result (λ answered. IfOk answered (λ replies. IsGiven J.owner part
-        (record { worker = asker.old.worker; command = command; reply = replies.0 }) asker.old.seen asker.new.seen)) }
-    ensures mine { IfOk result (λ answered. IfOk answered (λ replies. calls_at J.owner part asker.old.worker
+    ensures reply { IfOk result (λ answered. IfOk answered (λ reply. reply ≡
+        reply_to (state_of witnessed.old.held) command)) }
+    ensures small { IfOk result (λ answered. IfOk answered IsSmall) }
+    ensures given { IfOk result (λ answered. IfOk answered (λ reply. IsGiven J.owner part
+        (record { worker = asker.old.worker; command = command; reply = reply }) asker.old.seen asker.new.seen)) }
+    ensures mine { IfOk result (λ answered. IfOk answered (λ reply. calls_at J.owner part asker.old.worker
         asker.new.seen ≡ calls_at J.owner part asker.old.worker (slice_index_or asker.old.fronts part []) ++
-        record { worker = asker.old.worker; command = command; reply = replies.0 } ∷ [])) }
+        record { worker = asker.old.worker; command = command; reply = reply } ∷ [])) }
     ensures count { IfOk result (λ answered. OnOk answered (replies_to asker.new ≡ replies_to asker.old + 1)) }
     ensures fronts { IfOk result (λ answered. OnOk answered (asker.new.fronts ≡ slice_set asker.old.fronts part
         asker.new.seen)) }
     ensures legal { IfOk result (λ answered. OnOk answered (AreHistories asker.new.seen)) }
     ensures whole { IfOk result (λ answered. OnOk answered ((witnessed.old.part ≡ part) ×
         (asker.new.seen ≡ witnessed.new.log))) }
-    ensures kept { IfOk result (λ answered. IfOk answered (λ replies. witnessed.new.held.past ≡
-        with_entry (upkept witnessed.old.held.limits witnessed.old.held.past) (record {
-          worker = asker.old.worker;
-          command = command;
-          reply = replies.0;
-        }))) }
-    ensures folds { OnOk result (witnessed.new.held.past.base.folded ≡ witnessed.old.held.past.base.folded
-        + folded.new) }
+    ensures table { IfOk result (λ outcome. OnOk outcome (table_of witnessed.new.held ≡
+        answered witnessed.old.held.limits (table_of witnessed.old.held) command)) }
+    ensures folds { OnOk result (witnessed.new.held.folded ≡ witnessed.old.held.folded + folded.new) }
     ensures opened { (witnessed.new.held.keys ≡ witnessed.old.held.keys) × (witnessed.new.held.limits ≡
         witnessed.old.held.limits) × (witnessed.new.part ≡ witnessed.old.part) }
     ensures seen { IsPrefix asker.old.seen asker.new.seen × IsPrefix witnessed.old.log witnessed.new.log }
@@ -67,7 +61,7 @@ pub(crate) fn ask_behind<J: Naming, G: Gate>(
     ensures causes { IfOk result (λ answered. IfErr answered (MayRefuseAt J.owner witnessed.old part
         command asker.old)) }
     ensures err { IfOk result (λ answered. OnErr answered ((asker.new ≡ asker.old) ×
-        (witnessed.new.log ≡ witnessed.old.log) × (witnessed.new.held.past ≡ witnessed.old.held.past))) }
+        (witnessed.new.log ≡ witnessed.old.log) × (table_of witnessed.new.held ≡ table_of witnessed.old.held))) }
 {
     pass(gate, part)?;
     let before = witnessed.partition().folded();
@@ -79,13 +73,13 @@ pub(crate) fn ask_behind<J: Naming, G: Gate>(
 /// The outcome of asking, with the table's limit if it reports a full history: a lock reveals nothing of its
 /// partition's own.
 pub(crate) fn with_table_limit(
-    answered: Result<(Reply, Reply), Refusal>,
+    answered: Result<Reply, Refusal>,
     limit: u64,
-) -> Result<(Reply, Reply), Refusal>
-    ensures { MatchResult answered (λ replies. result ≡ Ok replies) (λ e. result ≡ Err (with_limit limit e)) }
+) -> Result<Reply, Refusal>
+    ensures { MatchResult answered (λ reply. result ≡ Ok reply) (λ e. result ≡ Err (with_limit limit e)) }
 {
     match answered {
-        Ok(replies) => Ok(replies),
+        Ok(reply) => Ok(reply),
         Err(refusal) => Err(with_limit(refusal, limit)),
     }
 }

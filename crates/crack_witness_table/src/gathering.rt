@@ -6,22 +6,23 @@ ghost use Rattle.crack_part.specs.Parts.{IsSound};
 ghost use Rattle.crack_core.specs.Opening.{AreParts};
 ghost use Rattle.crack_core.specs.Routes.{AreSplits};
 ghost use Rattle.crack_witness.specs.Witnesses.{AskerState, WitnessedState, IsWhole};
-ghost use Rattle.crack_table.specs.Gather.{missing_below, AreTotals};
-ghost use Rattle.crack_witness_table.specs.Gather.{held_by, AreGathered};
+ghost use Rattle.crack_table.specs.Gather.{missing_below};
+ghost use Rattle.crack_witness_table.specs.Gather.{held_by, AreGathered, AreHistoryTotals, IsTables};
 ghost use Rattle.crack_witness_table.specs.Keeps.{AreNumbered};
 ghost use Rattle.crack_witness_table.specs.Gather.{IsTablesAt, IsFirstStrange, MayNotMatch, MayNotGather};
 
 use crate::locks::{lock, unlock};
 use crate::table::WitnessedTable;
 use crate::totals::{Sums, sums_of};
+use crack_core::keys_of_part;
+use crack_part::Partition;
 use crack_row::{Bound, Limits, Refusal};
-use crack_table::account::is_tables;
 use crack_table::gathering::bit_unless;
 use crack_witness::{Asker, Naming, Witnessed, compare};
 use std::alloc::Global;
 use std::sync::Mutex;
 
-/// The totals of all workers, and the partitions with their whole histories.
+/// The totals of all workers, and the partitions with their histories, which exist only in proofs.
 #[derive(Drop)]
 pub struct Gathered<J: Naming> {
     /// How many commands were answered.
@@ -57,7 +58,7 @@ pub fn gather<J: Naming>(
     ensures all { OnOk result (missing_below (λ (a : AskerState). a.worker) askers.items table.workers ≡ 0) }
     ensures gathered { IfOk result (λ s. AreGathered J.owner table.splits table.limits table.workers askers.items
         s.parts.items) }
-    ensures totals { IfOk result (λ s. AreTotals (held_by s.parts.items) s.accepted s.inserted s.deleted s.held) }
+    ensures totals { IfOk result (λ s. AreHistoryTotals J.owner s.parts.items s.accepted s.inserted s.deleted s.held) }
 
     ensures table { IfErr result (λ e. e.table ≡ table) }
     ensures askers { IfErr result (λ e. e.askers.items ≡ askers.items) }
@@ -106,7 +107,7 @@ fn close<J: Naming>(
     requires rising { AreSplits splits.now }
     ensures gathered { IfOk result (λ s. AreGathered J.owner splits.now limits workers askers.now.items
         s.parts.items) }
-    ensures totals { IfOk result (λ s. AreTotals (held_by s.parts.items) s.accepted s.inserted s.deleted s.held) }
+    ensures totals { IfOk result (λ s. AreHistoryTotals J.owner s.parts.items s.accepted s.inserted s.deleted s.held) }
     ensures locked { OnErr result (vec_len locks.new ≡ vec_len locks.old) }
     ensures causes { IfErr result (MayNotMatch J.owner splits.now limits workers askers.now.items) }
 {
@@ -140,7 +141,8 @@ fn match_all<J: Naming>(
     ensures same { parts.new.items ≡ parts.old.items }
     ensures gathered { OnOk result (AreGathered J.owner splits.now limits workers askers.now.items
         parts.old.items) }
-    ensures totals { IfOk result (λ s. AreTotals (held_by parts.old.items) s.accepted s.inserted s.deleted s.held) }
+    ensures totals { IfOk result (λ s. AreHistoryTotals J.owner parts.old.items s.accepted s.inserted s.deleted
+        s.held) }
     ensures causes { IfErr result (MayNotMatch J.owner splits.now limits workers askers.now.items) }
 {
     facts(parts);
@@ -199,6 +201,15 @@ fn is_tables_at<J: Naming>(
     part.part() as usize == place
         && part.workers() as u64 == workers
         && is_tables(splits, limits, place, part.partition())
+}
+
+/// Whether a partition has the keys of its number and these limits.
+fn is_tables(splits: &[Bound], limits: Limits, part: usize, partition: &Partition) -> bool
+    requires rising { AreSplits splits.now }
+    requires there { part ≤ length splits.now }
+    ensures { IsTrue result ↔ IsTables splits.now limits part partition.now }
+{
+    partition.keys() == keys_of_part(splits, part) && partition.limits() == limits
 }
 
 /// One bit for each of this many workers that is missing.

@@ -1,4 +1,4 @@
-//! Tables whose replies are proved when they are given, and whose workers keep no receipts.
+//! Tables whose replies are proved when they are given, and which keep no commands.
 ghost use Rattle.std.specs.Prelude.{◌≡◌, ◌+◌, ◌≤◌, length};
 ghost use Rattle.crack_row.specs.Limits.{AreLimits};
 ghost use Rattle.crack_core.specs.Routes.{AreSplits};
@@ -102,14 +102,13 @@ impl<J: Naming> WitnessedTable<J> {
         )?;
         drop(witnessed);
         note_folded(gate, part, folded);
-        let (reply, _copy) = with_table_limit(answered, self.limits.history)?;
+        let reply = with_table_limit(answered, self.limits.history)?;
         Ok(reply)
     }
 
-    /// Makes a checkpoint of partition `part`, under its lock, which it may wait for, and returns how many
-    /// entries its history had. For all workers its rows and its history stay whole. Refused with 5 if there is no such
-    /// partition, and with 8 if it finds no memory; then nothing has changed. It holds this one lock, for the time
-    /// that `Partition::checkpoint` takes.
+    /// Makes a checkpoint of partition `part`, under its lock, which it may wait for, and returns how many commands it
+    /// accepted since the last one. For all workers its rows and its history stay whole. Refused with 5 if there is no
+    /// such partition. It holds this one lock, for the time that `Partition::checkpoint` takes.
     pub fn checkpoint<R: Wait>(&self, rt: &R, part: u32) -> Result<u64, Refusal>
         ensures { AnswersAt self.now part (λ e. e ≡ Refusal.OutOfMemory) result }
     {
@@ -117,7 +116,7 @@ impl<J: Naming> WitnessedTable<J> {
             return Err(Refusal::NoSuchPartition);
         };
         let mut witnessed = lock.lock(rt);
-        witnessed.checkpoint()
+        Ok(witnessed.checkpoint())
     }
 
     /// The layout of partition `part`, read under its lock, which it may wait for. It cracks and merges nothing,

@@ -1,11 +1,10 @@
 //! The totals of witnessed partitions.
 ghost use Rattle.std.specs.Prelude.{◌≡◌, ◌<◌, ◌≤◌, ◌^◌, length, sum_by, All};
-ghost use Rattle.crack_plain.specs.Past.{accepted_in, inserted_in};
+ghost use Rattle.crack_plain.specs.Plain.{accepted_of};
 ghost use Rattle.crack_state.specs.State.{live_rows};
-ghost use Rattle.crack_part.specs.Parts.{IsSound};
-ghost use Rattle.crack_table.specs.Gather.{AreTotals};
-ghost use Rattle.crack_witness.specs.Witnesses.{WitnessedState};
-ghost use Rattle.crack_witness_table.specs.Gather.{held_by};
+ghost use Rattle.crack_part.specs.Parts.{IsSound, table_of};
+ghost use Rattle.crack_witness.specs.Witnesses.{WitnessedState, IsWhole};
+ghost use Rattle.crack_witness_table.specs.Gather.{AreHistoryTotals};
 
 use crack_witness::{Naming, Witnessed};
 
@@ -18,11 +17,12 @@ pub(crate) struct Sums {
     pub(crate) held: u64,
 }
 
-/// The totals of the partitions' pasts: O(partitions).
+/// The totals of the partitions' histories: O(partitions).
 pub(crate) fn sums_of<J: Naming>(parts: &Vec<Witnessed<J>>) -> Sums
+    requires whole { All (λ (w : WitnessedState). IsWhole J.owner w) parts.now.items }
     requires sound { All (λ (w : WitnessedState). IsSound w.held) parts.now.items }
     requires few { length parts.now.items ≤ 64 }
-    ensures { AreTotals (held_by parts.now.items) result.accepted result.inserted result.deleted result.held }
+    ensures { AreHistoryTotals J.owner parts.now.items result.accepted result.inserted result.deleted result.held }
 {
     let inserted = inserted_in(parts);
     let held = rows_in(parts);
@@ -36,18 +36,18 @@ pub(crate) fn sums_of<J: Naming>(parts: &Vec<Witnessed<J>>) -> Sums
 
 /// How many commands partitions accepted.
 fn accepted_in<J: Naming>(parts: &Vec<Witnessed<J>>) -> u64
-    requires { sum_by (λ (w : WitnessedState). accepted_in w.held.past) parts.now.items < 2 ^ 64 }
-    ensures { result ≡ sum_by (λ (w : WitnessedState). accepted_in w.held.past) parts.now.items }
+    requires { sum_by (λ (w : WitnessedState). accepted_of (table_of w.held)) parts.now.items < 2 ^ 64 }
+    ensures { result ≡ sum_by (λ (w : WitnessedState). accepted_of (table_of w.held)) parts.now.items }
 {
     parts.iter().map(|part| part.partition().accepted()).sum()
 }
 
 /// How many rows were placed in partitions.
 fn inserted_in<J: Naming>(parts: &Vec<Witnessed<J>>) -> u64
-    requires { sum_by (λ (w : WitnessedState). inserted_in w.held.past) parts.now.items < 2 ^ 64 }
-    ensures { result ≡ sum_by (λ (w : WitnessedState). inserted_in w.held.past) parts.now.items }
+    requires { sum_by (λ (w : WitnessedState). w.held.next) parts.now.items < 2 ^ 64 }
+    ensures { result ≡ sum_by (λ (w : WitnessedState). w.held.next) parts.now.items }
 {
-    parts.iter().map(|part| part.partition().inserted()).sum()
+    parts.iter().map(|part| part.partition().insertions()).sum()
 }
 
 /// How many rows partitions have.

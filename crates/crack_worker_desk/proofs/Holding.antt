@@ -7,11 +7,10 @@ use Rattle.crack_session.specs.declared.session.Fault.{Fault}
 use Rattle.crack_session.specs.Calls.{Call, Calls}
 use Rattle.crack_session.specs.Answers.{answer_text}
 use Rattle.crack_session.specs.Written.{HaveAnswers, AreWritten, AreCutInLast, AreWrittenThen}
-use Rattle.crack_core.specs.Receipts.{BookState}
+use Rattle.crack_kept.specs.Receipts.{BookState}
 use Rattle.crack_table.specs.Tables.{TableState, AsksTable}
 use Rattle.crack_witness.specs.Witnesses.{AskerState}
 use Rattle.crack_witness_table.specs.Asking.{AsksWitnessed}
-use Rattle.crack_witness_table.specs.Audit.{AuditedState, AsksAudited}
 use Rattle.crack_worker_desk.specs.Leads.{table_leads}
 
 -- what a call does to a worker: its book gains a receipt of an answer
@@ -21,10 +20,6 @@ worker_leads table may_refuse = table_leads table (λ part. AsksTable table (may
 -- the same of a worker that keeps no receipts: an answer is at the end of its partition's one history, as the worker then sees it
 abbrev pub witnessed_leads : (ℕ → ℕ) → TableState → (ℕ → ℕ → Type 0) → AskerState → Call → AskerState → Type 0
 witnessed_leads owner table may_refuse = table_leads table (λ part. AsksWitnessed owner table (may_refuse part) part)
-
--- the same with a book
-abbrev pub audited_leads : (ℕ → ℕ) → TableState → (ℕ → ℕ → Type 0) → AuditedState → Call → AuditedState → Type 0
-audited_leads owner table may_refuse = table_leads table (λ part. AsksAudited owner table (may_refuse part) part)
 
 module _ {D G S : Type 0} (stands : TableState → G → S → Call → S → Type 0) (leads : D → Call → D → Type 0) (table : D → TableState) (gate : D → G) (worker : D → S) where
   -- what a call does to a desk over its table, with its gate

@@ -1,21 +1,14 @@
 -- The answers of a session over a desk of a witnessed table are made of replies in the histories.
-use Rattle.std.proofs.Common.{ℕ, List, ap, ◌∙◌, subst}
+use Rattle.std.proofs.Common.{ℕ, List, ◌∙◌, subst}
 use Rattle.crack_commands.specs.Grammar.{Reading}
 use Rattle.crack_row.specs.declared.command.Policy.{Policy}
 use Rattle.crack_session.specs.declared.answer.Answer.{Answer}
-use Rattle.crack_session.specs.Calls.{Call, Asked, Checkpointed, Looked, Calls, AreAnswersOf}
+use Rattle.crack_session.specs.Calls.{Call, Calls, AreAnswersOf}
 use Rattle.crack_table.specs.Tables.{TableState}
 use Rattle.crack_witness.specs.Witnesses.{AskerState, WitnessedState}
-use Rattle.crack_witness_table.specs.Audit.{AuditedState}
 use Rattle.crack_worker_desk.specs.Histories.{IsGathered, AreOfHistories, AreLinesOfHistories}
-use Rattle.crack_worker_desk.proofs.Holding.{witnessed_leads, audited_leads, IsStep, Lead, Lead-all, AreWritten-follows, AreWrittenThen-follows}
+use Rattle.crack_worker_desk.proofs.Holding.{witnessed_leads, IsStep, Lead, Lead-all, AreWritten-follows, AreWrittenThen-follows}
 use Rattle.crack_worker_desk.proofs.Standing.{stands}
-
--- a call that has an effect with a book has it without one
-pub without_book : (owner : ℕ → ℕ) (table : TableState) (may_refuse : ℕ → ℕ → Type 0) (old : AuditedState) (call : Call) (new : AuditedState) → audited_leads owner table may_refuse old call new → witnessed_leads owner table may_refuse old.asker call new.asker
-without_book owner table may_refuse old (Asked part command policy outcome) new led = led.asks
-without_book owner table may_refuse old (Checkpointed part outcome) new led = (led.0, ap (λ (a : AuditedState). a.asker) led.1)
-without_book owner table may_refuse old (Looked part outcome) new led = (led.0, ap (λ (a : AuditedState). a.asker) led.1)
 
 module _ {D G : Type 0} (owner : ℕ → ℕ) (may_refuse : G → ℕ → ℕ → Type 0) (leads : D → Call → D → Type 0) (table : D → TableState) (gate : D → G) (worker : D → AskerState) (step : IsStep (λ t g. witnessed_leads owner t (may_refuse g)) leads table gate worker) where
   of_histories : (parts : List WitnessedState) (later : List Call) (policy : Policy) (old new last : D) → Calls leads new later last → IsGathered owner (table last) parts (worker last) → (readings : List Reading) (answers : List Answer)

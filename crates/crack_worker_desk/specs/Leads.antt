@@ -4,7 +4,7 @@ use Rattle.crack_row.specs.declared.command.Command.{Command}
 use Rattle.crack_row.specs.declared.command.Reply.{Reply}
 use Rattle.crack_row.specs.declared.refusal.Refusal.{Refusal}
 use Rattle.crack_row.specs.declared.refusal.Refusal.TheVariants.{OutOfMemory}
-use Rattle.crack_core.specs.declared.receipt.Receipt.{Receipt}
+use Rattle.crack_kept.specs.declared.receipt.Receipt.{Receipt}
 use Rattle.crack_session.specs.Calls.{Call, Asked, Checkpointed, Looked}
 use Rattle.crack_table.specs.Tables.{TableState, AnswersAt, LooksAt}
 

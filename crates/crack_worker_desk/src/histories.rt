@@ -1,7 +1,6 @@
 //! The output of a session over a desk of a witnessed table is made of replies in the histories.
 ghost use Rattle.crack_worker_desk.specs.Histories.{AreLinesOfHistories};
 
-use crate::audited::AuditedDesk;
 use crate::witnessed::WitnessedDesk;
 use crack_session::Desk;
 use crack_table::Gate;
@@ -13,16 +12,6 @@ use std::sync::Wait;
 /// the reply of the plain rows there, at rising places. Does nothing.
 pub fn lines_stand_in_histories<'a, R: Wait, G: Gate, J: Naming>(desk: &WitnessedDesk<'a, R, G, J>)
     ensures { AreLinesOfHistories ⟦<WitnessedDesk<'a, R, G, J> as Desk>⟧.leads (λ d. d.table.now) (λ d. d.asker)
-        J.owner desk.now }
-{
-    let _desk = desk;
-}
-
-/// States the same of a desk whose worker keeps receipts. Does nothing.
-pub fn audited_lines_stand_in_histories<'a, R: Wait, G: Gate, J: Naming>(
-    desk: &AuditedDesk<'a, R, G, J>,
-)
-    ensures { AreLinesOfHistories ⟦<AuditedDesk<'a, R, G, J> as Desk>⟧.leads (λ d. d.table.now) (λ d. d.worker.asker)
         J.owner desk.now }
 {
     let _desk = desk;

@@ -1,14 +1,12 @@
 //! Sessions over a table: its workers as desks.
 #![tactic(auto)]
 
-pub mod audited;
 pub mod desk;
 pub mod histories;
 pub mod receipts;
 pub mod witnessed;
 
-pub use audited::AuditedDesk;
 pub use desk::WorkerDesk;
-pub use histories::{audited_lines_stand_in_histories, lines_stand_in_histories};
-pub use receipts::{answers_are_receipts, audited_answers_are_receipts};
+pub use histories::lines_stand_in_histories;
+pub use receipts::answers_are_receipts;
 pub use witnessed::WitnessedDesk;

@@ -7,10 +7,10 @@ use crack_arguments::{ArgumentsError, Opening, Request, Service, Staffed, asks_f
 use crack_core::Core;
 use crack_csv::{export_csv, load_csv};
 use crack_row::{Policy, Refusal, Upkeep, Watched};
-use crack_server::{run_audited_service, run_batch, run_witnessed_service};
+use crack_server::{run_batch, run_service, run_witnessed_service};
 use crack_service::{Ending, Host, Notice, REPLY_BYTES, Terms};
 use crack_session::serve;
-use crack_table::OpenGate;
+use crack_table::{OpenGate, Table};
 use crack_witness::Naming;
 use crack_witness_table::UnnamedTable;
 use std::io::{BufWriter, ErrorKind, Write};
@@ -110,20 +110,54 @@ fn batch<H: Threads + Wait + Sync>(
     )
 }
 
-/// Has workers serve connections to a port.
+/// Has workers serve connections to a port. They keep receipts if an audit is asked for.
 fn serve_port<H: Threads + Wait + Net<Listener = TcpListener, Stream = TcpStream> + Sync>(
     handle: &H,
     rt: &HostRuntime,
     service: &Service,
 ) -> Result<(), Refusal> {
+    if service.is_audited {
+        return serve_audited(handle, rt, service);
+    }
     let Staffed { opening, workers } = &service.table;
     let splits = opening.splits.as_slice();
     let table = UnnamedTable::open(rt.alloc(), splits, opening.limits, *workers)?;
     serve_named::<Brand, H>(handle, rt, service, table)
 }
 
-/// Has the workers of a table serve connections, once its book has its name. They keep receipts if an audit is asked
-/// for.
+/// Has workers that keep receipts serve connections to a port.
+fn serve_audited<H: Threads + Wait + Net<Listener = TcpListener, Stream = TcpStream> + Sync>(
+    handle: &H,
+    rt: &HostRuntime,
+    service: &Service,
+) -> Result<(), Refusal> {
+    let Staffed { opening, workers } = &service.table;
+    let splits = opening.splits.as_slice();
+    let (table, workers) = Table::open_with(rt.alloc(), splits, opening.limits, *workers)?;
+    let mut writer = rt.stdout();
+    let host = console_of(handle, rt, service);
+    match listen(&host, &mut writer) {
+        Ok(listener) => run_service(
+            handle,
+            rt.alloc(),
+            &listener,
+            table,
+            workers,
+            terms_of(service),
+            &OpenGate,
+            &host,
+            &mut rt.stdin(),
+            &mut writer,
+        ),
+        Err(refusal) => {
+            drop(workers);
+            drop(table);
+            Err(refusal)
+        }
+    }
+}
+
+/// Has the workers of a table serve connections, once its book has its name.
 fn serve_named<
     J: Naming + Send + Sync,
     H: Threads + Wait + Net<Listener = TcpListener, Stream = TcpStream> + Sync,
@@ -133,27 +167,14 @@ fn serve_named<
     let (table, askers) = table.named::<J>(rt.alloc())?;
     let mut writer = rt.stdout();
     let host = console_of(handle, rt, service);
-    let terms = terms_of(service);
     match listen(&host, &mut writer) {
-        Ok(listener) if service.is_audited => run_audited_service(
-            handle,
-            rt.alloc(),
-            &listener,
-            table,
-            askers,
-            terms,
-            &OpenGate,
-            &host,
-            &mut rt.stdin(),
-            &mut writer,
-        ),
         Ok(listener) => run_witnessed_service(
             handle,
             rt.alloc(),
             &listener,
             table,
             askers,
-            terms,
+            terms_of(service),
             &OpenGate,
             &host,
             &mut rt.stdin(),

@@ -12,15 +12,14 @@ use Rattle.crack_row.specs.declared.layout.PieceSize.{PieceSize}
 use Rattle.crack_row.specs.declared.limit.Limits.{Limits}
 use Rattle.crack_row.specs.declared.refusal.Refusal.{Refusal}
 use Rattle.crack_row.specs.declared.refusal.Refusal.TheVariants.{OutOfMemory}
-use Rattle.crack_plain.specs.Past.{no_past}
 use Rattle.crack_plain.specs.Plain.{checkpointed}
 use Rattle.crack_store.specs.Inside.{IsLayoutOf}
-use Rattle.crack_part.specs.Parts.{Part}
+use Rattle.crack_part.specs.Parts.{Part, table_of}
 use Rattle.crack_core.specs.Bulk.{NumberedCall, Went}
 use Rattle.crack_core.specs.Jobs.{IsFoldedAt}
 use Rattle.crack_core.specs.Opening.{opening_fault, MayFault}
 use Rattle.crack_core.specs.Routes.{keys_of_part}
-use Rattle.crack_core.specs.Steps.{tables_of, changed_at, IsLayoutOutcome, IsFoldOutcome}
+use Rattle.crack_core.specs.Steps.{tables_of, changed_at, IsLayoutOutcome, expected_fold, fresh_table}
 use Rattle.crack_core.specs.declared.bulk.Progress.{Progress}
 use Rattle.crackd_c.specs.declared.handle.Handle.{Handle}
 use Rattle.crackd_c.specs.declared.picture.Totals.{Totals}
@@ -82,14 +81,14 @@ GoesOn call count done old new status unwritten = StaysOpen old new × ((progres
 abbrev pub Shows : ℕ → Totals → List ℕ → List ℕ → Handle → Handle → ℕ → Type 0 → Type 0
 Shows part totals lows sizes old new status unwritten = (new.is_open ≡ true) × (new.core ≡ old.core) × ((outcome : Result Layout Refusal) × IsLayoutOutcome (keys_of_part old.core.splits part) (slice_get (tables_of old.core.parts) part) outcome × IfOk outcome (λ layout. (p : Part) → slice_get old.core.parts part ≡ Some p → IsLayoutOf p.store layout) × MatchResult outcome (λ layout. (status ≡ 0) × (totals ≡ totals_in layout) × PiecesIn layout.pieces lows sizes) (λ e. (status ≡ code_of e) × unwritten))
 
--- a checkpoint of a partition is made, which leaves its store and the other partitions as they were, and how many entries its history had is written;
--- or it is refused, and the table is as it was
+-- a checkpoint of a partition is made, which leaves its store and the other partitions as they were, and how many commands it had accepted since its
+-- last one is written; or it is refused, and the table is as it was
 abbrev pub FoldsOne : ℕ → ℕ → Handle → Handle → ℕ → Type 0 → Type 0
-FoldsOne part folded old new status unwritten = StaysOpen old new × ((outcome : Result ℕ Refusal) × IsFoldOutcome (slice_get (tables_of old.core.parts) part) outcome × (tables_of new.core.parts ≡ changed_at checkpointed (tables_of old.core.parts) part outcome) × OnOk outcome (IsFoldedAt part old.core.parts new.core.parts) × OnErr outcome (new.core ≡ old.core) × MatchResult outcome (λ count. (status ≡ 0) × (folded ≡ count)) (λ e. (status ≡ code_of e) × unwritten))
+FoldsOne part folded old new status unwritten = StaysOpen old new × ((outcome : Result ℕ Refusal) × (outcome ≡ expected_fold (slice_get (tables_of old.core.parts) part)) × (tables_of new.core.parts ≡ changed_at checkpointed (tables_of old.core.parts) part outcome) × OnOk outcome (IsFoldedAt part old.core.parts new.core.parts) × OnErr outcome (new.core ≡ old.core) × MatchResult outcome (λ count. (status ≡ 0) × (folded ≡ count)) (λ e. (status ≡ code_of e) × unwritten))
 
 -- a handle holds a table that was just opened
 abbrev pub IsFresh : Handle → List ℕ → Limits → Type 0
-IsFresh handle splits limits = (handle.is_open ≡ true) × (handle.core.splits ≡ bounds_at splits) × (handle.core.limits ≡ limits) × All (λ (part : Part). part.past ≡ no_past) handle.core.parts × (opening_fault (bounds_at splits) limits ≡ None)
+IsFresh handle splits limits = (handle.is_open ≡ true) × (handle.core.splits ≡ bounds_at splits) × (handle.core.limits ≡ limits) × All (λ (part : Part). table_of part ≡ fresh_table) handle.core.parts × (opening_fault (bounds_at splits) limits ≡ None)
 
 -- a table is opened with these splits and limits, without rows, or this is the reason why not
 abbrev pub OpensHandle : Handle → Handle → List ℕ → Limits → ℕ → Type 0

@@ -298,7 +298,7 @@ pub extern "C" fn crackd_layout(
     }
 }
 
-/// Makes a checkpoint of a partition, and writes how many entries its history had.
+/// Makes a checkpoint of a partition, and writes how many commands it had answered since its last one.
 #[unsafe(no_mangle)]
 pub extern "C" fn crackd_checkpoint(handle: &mut Handle, part: u32, folded: &mut u64) -> u32
     ensures folds { OnTable handle.old handle.new result (folded.new ≡ folded.old) (FoldsOne part folded.new) }

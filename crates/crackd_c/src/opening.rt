@@ -2,8 +2,8 @@
 ghost use Rattle.std.specs.Prelude.{◌≡◌, ◌⊎◌, All, map, None, IfOk, IfErr, OnOk};
 ghost use Rattle.crack_row.specs.declared.Bound.{Bound};
 ghost use Rattle.crack_core.specs.Opening.{opening_fault, MayFault};
-ghost use Rattle.crack_part.specs.Parts.{Part};
-ghost use Rattle.crack_plain.specs.Past.{no_past};
+ghost use Rattle.crack_core.specs.Steps.{fresh_table};
+ghost use Rattle.crack_part.specs.Parts.{Part, table_of};
 ghost use Rattle.crackd_c.specs.Calls.{bounds_at};
 
 use crack_core::Core;
@@ -14,7 +14,7 @@ use std::alloc::Global;
 /// memory.
 pub fn open(alloc: Global, splits: &[u64], limits: Limits) -> Result<Box<Core>, Refusal>
     ensures opened { IfOk result (λ core. (core.value.splits ≡ bounds_at splits.now) × (core.value.limits ≡ limits)) }
-    ensures fresh { IfOk result (λ core. All (λ (part : Part). part.past ≡ no_past) core.value.parts) }
+    ensures fresh { IfOk result (λ core. All (λ (part : Part). table_of part ≡ fresh_table) core.value.parts) }
     ensures none { OnOk result (opening_fault (bounds_at splits.now) limits ≡ None) }
     ensures fault { IfErr result (λ e. MayFault (opening_fault (bounds_at splits.now) limits) e ⊎
         (e ≡ Refusal.OutOfMemory)) }

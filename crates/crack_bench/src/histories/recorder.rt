@@ -5,7 +5,7 @@ use crate::histories::gate::Restless;
 use crate::histories::texts::{write_answer, write_checkpoint, write_receipt, written};
 use crate::seats::{Questions, Works};
 use crack_commands::send;
-use crack_core::Book;
+use crack_kept::Book;
 use crack_row::{Command, Refusal, Watched};
 use std::io::Write;
 

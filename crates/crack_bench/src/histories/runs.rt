@@ -6,7 +6,7 @@ use crate::histories::recorder::Recorder;
 use crate::histories::texts::{write_answer, write_base, written};
 use crate::report::Host;
 use crate::seats::{Hand, Seated, leave, work_on_threads};
-use crack_part::Partition;
+use crack_kept::Kept as Partition;
 use crack_row::{Key, Limits, Policy, Refusal, Watched};
 use crack_table::{Closed, Table, Worker, gather};
 use std::alloc::Global;

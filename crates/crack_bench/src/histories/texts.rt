@@ -2,8 +2,7 @@
 //! fails.
 
 use crack_commands::{send, write_each_row, write_folded, write_refusal, write_reply, write_row};
-use crack_core::Receipt;
-use crack_part::Partition;
+use crack_kept::{Kept as Partition, Receipt};
 use crack_row::{Command, Key, KeyRange, Payload, Refusal, Reply, Row, Watched};
 use std::io;
 use std::io::Write;

@@ -3,7 +3,7 @@ ghost use Rattle.std.specs.Prelude.{◌<◌};
 
 use crate::seats::number_of;
 use crate::single::numbers::{Numbers, mixed};
-use crack_part::Partition;
+use crack_kept::Kept as Partition;
 use crack_row::{
     BoundNumber, Command, GREATEST_BOUND, GREATEST_LIMIT, Key, KeyNumber, KeyRange, Payload,
     PayloadNumber, Policy, Refusal, Serial,

@@ -3,7 +3,7 @@
 use crate::report::{Failure, Outcome, Output, report};
 use crate::single::numbers::mixed;
 use crate::single::partition::{Ask, Keys, Measured, Sizes};
-use crack_part::Partition;
+use crack_kept::Kept as Partition;
 use crack_row::{Policy, Row};
 use std::time::Instant;
 
@@ -188,6 +188,19 @@ const AGEING: Kind = Kind {
     ],
 };
 
+/// Batches of updates, each with the sum of the next of as many neighbouring ranges, from the lowest up.
+const CLIMB: Kind = Kind {
+    numbers: 2,
+    load: COUNTED,
+    steps: &[
+        Step::List,
+        Step::Begin,
+        Step::Batches(Times::First, Keys::Rising),
+        Step::Time("climb"),
+        Step::Sum("climb"),
+    ],
+};
+
 /// Sums of neighbouring ranges, from the lowest up.
 const RISING: Kind = Kind {
     numbers: 1,
@@ -281,6 +294,7 @@ pub fn kind_of(name: &str) -> Option<Kind> {
         "each" => Some(EACH),
         "updates" => Some(UPDATES),
         "ageing" => Some(AGEING),
+        "climb" => Some(CLIMB),
         "rising" => Some(RISING),
         "narrow" => Some(NARROW),
         "merge" => Some(MERGE),

@@ -4,7 +4,7 @@ use crate::report::{Host, Outcome};
 use crate::seats::Asks;
 use crate::workers::measuring::POLICY;
 use crate::workers::mix::{Mix, PART_WIDTH, PARTS_EACH, Parts, count_all};
-use crack_part::Partition;
+use crack_kept::Kept as Partition;
 use crack_row::{BoundNumber, Command, GREATEST_LIMIT, KeyRange, Refusal, Reply};
 use std::alloc::Global;
 

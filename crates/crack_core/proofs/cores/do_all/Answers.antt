@@ -2,12 +2,10 @@ use Rattle.std.proofs.Common.{◌≡◌, ◌+◌, ◌<◌, ◌++◌, [], ◌∷�
 use Rattle.std.proofs.lemmas.List.{take_more}
 use Rattle.std.specs.Prelude.{slice_get}
 use Rattle.std.specs.Option.{option_map}
-use Rattle.crack_plain.specs.Past.{Past}
-use Rattle.crack_part.specs.Refusals.{table_of}
 use Rattle.crack_core.specs.declared.step.Job.{Job}
-use Rattle.crack_core.specs.Steps.{bounds_of, tables_of, pasts_of}
-use Rattle.crack_core.specs.Jobs.{past_at}
-use Rattle.crack_core.proofs.JobLaws.{KeepsJobs-push, AreExpectedOutcomes-push, DoesAll-push, tables-kept, outcome-alike}
+use Rattle.crack_core.specs.Steps.{bounds_of, tables_of}
+use Rattle.crack_core.specs.Jobs.{after_jobs}
+use Rattle.crack_core.proofs.JobLaws.{KeepsJobs-push, AreExpectedOutcomes-push, DoesAll-push, outcome-alike}
 use Rattle.crack_core.proofs.cores.do_all.Goals as goal
 
 pub jobs-preserved : goal.jobs-preserved
@@ -27,9 +25,9 @@ jobs-preserved c =
     record {
       room = omega (arith, before.room, c.push_reserved.ensures.capacity);
       count = omega (arith, before.count, ap length c.push_reserved.ensures.items, length-append results (r ∷ []));
-      replies = λ splits limits are. rw (grown, c.push_reserved.ensures.items) (AreExpectedOutcomes-push limits splits (pasts_of old) front results j r (before.replies splits limits are)
-          (outcome-alike (bounds_of limits) splits (slice_get (tables_of now)) (λ part. option_map (λ (past : Past). table_of (past_at limits part front results past)) (slice_get (pasts_of old) part)) j r (λ part. tables-kept limits old now part front results (before.kept splits limits are)) (c.do_job-result.ensures.outcome splits limits (before.parts splits limits are))));
-      kept = λ splits limits are. rw (grown, c.push_reserved.ensures.items) (KeepsJobs-push limits (pasts_of old) (pasts_of now) (pasts_of c.do_job-result.new.partitions) front results j r long (before.kept splits limits are) (c.do_job-result.ensures.kept splits limits (before.parts splits limits are)));
+      replies = λ splits limits are. rw (grown, c.push_reserved.ensures.items) (AreExpectedOutcomes-push limits splits (tables_of old) front results j r (before.replies splits limits are)
+          (outcome-alike (bounds_of limits) splits (slice_get (tables_of now)) (λ part. option_map (after_jobs limits part front results) (slice_get (tables_of old) part)) j r (before.kept splits limits are) (c.do_job-result.ensures.outcome splits limits (before.parts splits limits are))));
+      kept = λ splits limits are. rw (grown, c.push_reserved.ensures.items) (KeepsJobs-push limits (tables_of old) (tables_of now) (tables_of c.do_job-result.new.partitions) front results j r long (before.kept splits limits are) (c.do_job-result.ensures.kept splits limits (before.parts splits limits are)));
       stores = λ splits limits are. rw (grown, c.push_reserved.ensures.items) (DoesAll-push splits limits front results j r old now c.do_job-result.new.partitions (before.stores splits limits are) (c.do_job-result.ensures.does splits limits (before.parts splits limits are)));
       parts = λ splits limits are. c.do_job-result.ensures.parts splits limits (before.parts splits limits are);
     }

@@ -1,6 +1,6 @@
 use Rattle.std.proofs.Common.{arith}
 use Rattle.std.proofs.lemmas.List.Elements.{All-more}
-use Rattle.crack_part.specs.Parts.{IsSound}
+use Rattle.crack_kept.specs.Parts.{IsSound}
 use Rattle.crack_table.proofs.Others.{all_sound}
 use Rattle.crack_table.proofs.account.facts.Goals as goal
 

@@ -1,6 +1,6 @@
 use Rattle.std.proofs.Common.{◌≡◌, List, ◌++◌, map, take}
 use Rattle.std.specs.Option.{option_map}
-use Rattle.crack_core.specs.declared.receipt.Receipt.{Receipt}
+use Rattle.crack_kept.specs.declared.receipt.Receipt.{Receipt}
 use Rattle.crack_table.specs.Cover.{told, first_stranger}
 use Rattle.crack_table.specs.Coverage.{named_place, IsCoverage}
 use Rattle.crack_table.proofs.covering.add_all.Given as goal

@@ -1,5 +1,5 @@
 use Rattle.std.proofs.Common.{List, map}
-use Rattle.crack_core.specs.declared.receipt.Receipt.{Receipt}
+use Rattle.crack_kept.specs.declared.receipt.Receipt.{Receipt}
 use Rattle.crack_table.specs.Cover.{told, CoveredBelow}
 use Rattle.crack_table.specs.Coverage.{IsCoverage}
 use Rattle.crack_table.proofs.covering.first_gap.Given as goal

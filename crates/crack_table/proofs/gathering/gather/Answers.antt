@@ -1,5 +1,5 @@
 use Rattle.std.proofs.Common.{◌≡◌, sym, ◌∙◌, ap, inr}
-use Rattle.crack_core.specs.Receipts.{BookState}
+use Rattle.crack_kept.specs.Receipts.{BookState}
 use Rattle.crack_table.proofs.Missing.{none_missing}
 use Rattle.crack_table.proofs.gathering.gather.Goals as goal
 

@@ -1,5 +1,5 @@
 use Rattle.std.proofs.Common.{arith, ◌*◌, ap, ◌∙◌}
-use Rattle.crack_core.specs.Receipts.{BookState}
+use Rattle.crack_kept.specs.Receipts.{BookState}
 use Rattle.crack_table.proofs.Missing.{bit_fits, next_bit, missing_more, next_fits}
 use Rattle.crack_table.proofs.gathering.missing_workers.Goals as goal
 

@@ -1,5 +1,5 @@
 use Rattle.std.proofs.Common.{◌≡◌, ◌<◌, ◌^◌}
-use Rattle.crack_core.specs.Receipts.{BookState}
+use Rattle.crack_kept.specs.Receipts.{BookState}
 use Rattle.crack_table.specs.Gather.{missing_below}
 use Rattle.crack_table.proofs.gathering.missing_workers.Given as goal
 

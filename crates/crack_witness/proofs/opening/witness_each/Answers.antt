@@ -1,6 +1,6 @@
 use Rattle.std.proofs.Common.{◌≡◌, ℕ, List, [], ◌∷◌, ◌++◌, length, reverse, All, ap, sym, subst, arith, length-append}
-use Rattle.crack_plain.specs.Past.{no_past}
-use Rattle.crack_part.specs.Parts.{Part}
+use Rattle.crack_part.specs.Parts.{Part, table_of}
+use Rattle.crack_witness.specs.Histories.{IsPastOf}
 use Rattle.crack_witness.specs.Witnesses.{WitnessedState, IsNewAt}
 use Rattle.crack_witness.specs.Keeps.{AreOwners}
 use Rattle.crack_witness.proofs.Lists.{all_front}
@@ -25,7 +25,7 @@ partitions-preserved g c =
     let done = done_more own c.args.workers all ps p w c.partitions.witnessed.items here (subst (λ (l : List Part). AreDone own c.args.workers all l (reverse c.partitions.witnessed.items)) ps_is old.done) in
     record {
       owners = owners_begin g.J.Naming.book own os (o ∷ []) (subst (AreOwners g.J.Naming.book own) os_is old.owners);
-      new = all_front (λ (q : Part). q.past ≡ no_past) ps (p ∷ []) (subst (All (λ (q : Part). q.past ≡ no_past)) ps_is old.new);
+      new = all_front (λ (q : Part). IsPastOf [] (table_of q)) ps (p ∷ []) (subst (All (λ (q : Part). IsPastOf [] (table_of q))) ps_is old.new);
       count = count;
       few = omega (arith, old.few, ap length os_is, length-append os (o ∷ []));
       room = omega (arith, old.room, ap length os_is, length-append os (o ∷ []), c.push_reserved.ensures.len, c.push_reserved.ensures.capacity);

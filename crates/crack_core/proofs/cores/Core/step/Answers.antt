@@ -33,10 +33,3 @@ returns-clause-after c =
     let long : length c.ask_at.new.partitions ≡ c.self.inside.partitions.len = omega (arith, are.count, c.self.invariant.parts.count, c.self.inside.partitions.ok.0) in
     let made = (rw c.deref_mut.ensures.value at (c.ask_at.ensures.after c.self.inside.splits.items c.self.inside.limits)) c.self.invariant.parts in
     rw (← c.self.view_is, come_back c.self.inside.partitions.items c.ask_at.new.partitions c.self.inside.partitions.len long) made
-
-pub returns-clause-kept : goal.returns-clause-kept
-returns-clause-kept c =
-    let are = (rw c.deref_mut.ensures.value at (c.ask_at.ensures.parts c.self.inside.splits.items c.self.inside.limits)) c.self.invariant.parts in
-    let long : length c.ask_at.new.partitions ≡ c.self.inside.partitions.len = omega (arith, are.count, c.self.invariant.parts.count, c.self.inside.partitions.ok.0) in
-    let made = (rw c.deref_mut.ensures.value at (c.ask_at.ensures.kept c.self.inside.splits.items c.self.inside.limits)) c.self.invariant.parts in
-    rw (← c.self.view_is, come_back c.self.inside.partitions.items c.ask_at.new.partitions c.self.inside.partitions.len long) made

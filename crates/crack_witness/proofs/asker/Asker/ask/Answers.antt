@@ -71,8 +71,8 @@ returns-clause-count g c =
     let more : sum_by (λ (n : ℕ). n) (slice_set counts c.args.part (c.in-Some.count + 1)) ≡ sum_by (λ (n : ℕ). n) counts + 1 = sum_more counts c.args.part (c.in-Some.count + 1) less (omega (arith, is)) in
     subst (λ (a : AskerState). sum_by (λ (n : ℕ). n) (slice_set counts c.args.part (c.in-Some.count + 1)) ≡ sum_by (λ (n : ℕ). n) a.counts + 1) c.self.view_is more
 
-pub returns-in_default-clause-replies : goal.returns-in_default-clause-replies
-returns-in_default-clause-replies g c = tt
+pub returns-in_default-clause-reply : goal.returns-in_default-clause-reply
+returns-in_default-clause-reply g c = tt
 
 pub returns-in_default-clause-small : goal.returns-in_default-clause-small
 returns-in_default-clause-small g c = tt
@@ -95,8 +95,8 @@ returns-in_default-clause-legal g c = tt
 pub returns-in_default-clause-whole : goal.returns-in_default-clause-whole
 returns-in_default-clause-whole g c = tt
 
-pub returns-in_default-clause-kept : goal.returns-in_default-clause-kept
-returns-in_default-clause-kept g c = tt
+pub returns-in_default-clause-table : goal.returns-in_default-clause-table
+returns-in_default-clause-table g c = tt
 
 pub returns-in_default-clause-opened : goal.returns-in_default-clause-opened
 returns-in_default-clause-opened g c = (refl, refl, refl)
@@ -113,8 +113,8 @@ returns-in_default-clause-nowhere g c = λ beyond. refl
 pub returns-in_default-clause-err : goal.returns-in_default-clause-err
 returns-in_default-clause-err g c = (refl, refl, refl)
 
-pub returns-then-part-clause-replies : goal.returns-then-part-clause-replies
-returns-then-part-clause-replies g c = tt
+pub returns-then-part-clause-reply : goal.returns-then-part-clause-reply
+returns-then-part-clause-reply g c = tt
 
 pub returns-then-part-clause-small : goal.returns-then-part-clause-small
 returns-then-part-clause-small g c = tt
@@ -137,8 +137,8 @@ returns-then-part-clause-legal g c = tt
 pub returns-then-part-clause-whole : goal.returns-then-part-clause-whole
 returns-then-part-clause-whole g c = tt
 
-pub returns-then-part-clause-kept : goal.returns-then-part-clause-kept
-returns-then-part-clause-kept g c = tt
+pub returns-then-part-clause-table : goal.returns-then-part-clause-table
+returns-then-part-clause-table g c = tt
 
 pub returns-then-part-clause-opened : goal.returns-then-part-clause-opened
 returns-then-part-clause-opened g c = (refl, refl, refl)
@@ -152,8 +152,8 @@ returns-then-part-clause-worker g c = refl
 pub returns-then-part-clause-err : goal.returns-then-part-clause-err
 returns-then-part-clause-err g c = (refl, refl, refl)
 
-pub returns-in_err-reply-clause-replies : goal.returns-in_err-reply-clause-replies
-returns-in_err-reply-clause-replies g c = rw (given g c) tt
+pub returns-in_err-reply-clause-reply : goal.returns-in_err-reply-clause-reply
+returns-in_err-reply-clause-reply g c = rw (given g c) tt
 
 pub returns-in_err-reply-clause-small : goal.returns-in_err-reply-clause-small
 returns-in_err-reply-clause-small g c = rw (given g c) tt
@@ -176,5 +176,5 @@ returns-in_err-reply-clause-legal g c = rw (given g c) tt
 pub returns-in_err-reply-clause-whole : goal.returns-in_err-reply-clause-whole
 returns-in_err-reply-clause-whole g c = rw (given g c) tt
 
-pub returns-in_err-reply-clause-kept : goal.returns-in_err-reply-clause-kept
-returns-in_err-reply-clause-kept g c = rw (given g c) tt
+pub returns-in_err-reply-clause-table : goal.returns-in_err-reply-clause-table
+returns-in_err-reply-clause-table g c = rw (given g c) tt

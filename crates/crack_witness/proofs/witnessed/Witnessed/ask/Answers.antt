@@ -3,18 +3,17 @@ use Rattle.std.specs.Prelude.{All}
 use Rattle.std.proofs.lemmas.List.{length-set}
 use Rattle.std.proofs.lemmas.List.Elements.{All-push}
 use Rattle.crack_row.specs.declared.command.Entry.{Entry}
-use Rattle.crack_plain.specs.Plain.{PlainState, no_rows, reply_to}
+use Rattle.crack_plain.specs.Plain.{PlainState, PlainView, no_rows, reply_to}
 use Rattle.crack_plain.proofs.Words.{replay_from}
 use Rattle.crack_plain.proofs.Laws.{AreReplies-push}
-use Rattle.crack_part.specs.Parts.{Part}
+use Rattle.crack_part.specs.Parts.{Part, table_of}
 use Rattle.crack_part.specs.Refusals.{refusal_of}
-use Rattle.crack_part.specs.Upkeep.{upkept}
 use Rattle.crack_part.proofs.RefusalLaws.{if_refused}
 use Rattle.crack_witness.proofs.Keeping.{refused-for, replied-for}
 use Rattle.crack_witness.specs.Histories.{history_of, calls_by, IsPastOf}
 use Rattle.crack_witness.specs.Witnesses.{WitnessedState}
 use Rattle.crack_witness.specs.Keeps.{AreCounts}
-use Rattle.crack_witness.proofs.Keeping.{state_after-whole, IsPastOf-push, IsPastOf-upkept, calls-le-accepted}
+use Rattle.crack_witness.proofs.Keeping.{IsPastOf-push, calls-le-accepted}
 use Rattle.crack_witness.proofs.Counting.{counts_set}
 use Rattle.crack_witness.proofs.Lists.{prefix_self}
 use Rattle.crack_witness.proofs.witnessed.Witnessed.ask.Goals as goal
@@ -28,7 +27,7 @@ write-requires g c =
     let owner = g.J.Naming.owner c.self.inside.scribe.part in
     let h = history_of owner c.self.inside.scribe.log in
     let e : Entry = record { worker = c.args.worker; command = c.args.command; reply = c.in_ok-reply.reply } in
-    let is : c.in_ok-reply.reply ≡ reply_to (replay_from no_rows h) c.args.command = (c.in_ok-reply.ensures.replies).0 ∙ ap (λ (s : PlainState). reply_to s c.args.command) (state_after-whole h c.self.inside.partition.past c.self.invariant.0) in
+    let is : c.in_ok-reply.reply ≡ reply_to (replay_from no_rows h) c.args.command = c.in_ok-reply.ensures.reply ∙ ap (λ (s : PlainState). reply_to s c.args.command) c.self.invariant.0.rows in
     AreReplies-push no_rows h e (c.part-part.ensures.legal owner) is
 
 -- the worker's count, and a bound on it
@@ -40,7 +39,7 @@ overflow_add-count g c =
     let less : c.args.worker < length c.self.inside.answered.items = subst (λ (l : List ℕ). c.args.worker < length l) items at.0 in
     let is : slice_index_or c.self.inside.answered.items c.args.worker 0 ≡ c.args.count = subst (λ (l : List ℕ). slice_index_or l c.args.worker 0 ≡ c.args.count) items at.1 in
     let counted : slice_index_or c.self.inside.answered.items c.args.worker 0 ≡ length (calls_by c.args.worker h) = c.self.invariant.1 c.args.worker less in
-    omega (arith, is, counted, calls-le-accepted c.args.worker h c.self.inside.partition.past c.self.invariant.0, c.facts.ensures.legal.lived, c.facts.ensures.limited.life.1)
+    omega (arith, is, counted, calls-le-accepted c.args.worker h (table_of c.self.inside.partition) c.self.invariant.0, c.facts.ensures.lived, c.facts.ensures.limited.life.1)
 
 pub invariant_of-self-2 : goal.invariant_of-self-2
 invariant_of-self-2 g c =
@@ -53,11 +52,11 @@ invariant_of-self-2 g c =
     let is : slice_index_or c.self.inside.answered.items c.args.worker 0 ≡ c.args.count = subst (λ (l : List ℕ). slice_index_or l c.args.worker 0 ≡ c.args.count) items at.1 in
     let counts : AreCounts (slice_set c.self.inside.answered.items c.args.worker (c.args.count + 1)) (h ++ e ∷ []) = counts_set c.self.inside.answered.items h e (c.args.count + 1) c.self.invariant.1 (omega (arith, is)) less in
     let new : history_of (own c.write.new.self.part) c.write.new.self.log ≡ h ++ e ∷ [] = ap (λ (p : ℕ). history_of (own p) c.write.new.self.log) c.write.ensures.part ∙ c.write.ensures.history in
-    let past : IsPastOf (h ++ e ∷ []) c.apply.new.self.past = subst (IsPastOf (h ++ e ∷ [])) (sym c.in_ok-reply.ensures.kept) (IsPastOf-push h (upkept c.self.inside.partition.limits c.self.inside.partition.past) e (IsPastOf-upkept h c.self.inside.partition.limits c.self.inside.partition.past c.self.invariant.0)) in
+    let past : IsPastOf (h ++ e ∷ []) (table_of c.apply.new.self) = subst (IsPastOf (h ++ e ∷ [])) (sym {A = PlainView} c.in_ok-reply.ensures.table) (IsPastOf-push h c.self.inside.partition.limits (table_of c.self.inside.partition) e c.self.invariant.0) in
     let all = All-push (λ (x : Entry). x.worker < length c.self.inside.answered.items) h e c.self.invariant.2 less in
     let are_below : ℕ → List Entry → Type 0 = λ n es. All (λ (x : Entry). x.worker < n) es in
     let own_all : are_below (length (slice_set c.self.inside.answered.items c.args.worker (c.args.count + 1))) (h ++ e ∷ []) = subst (λ (n : ℕ). are_below n (h ++ e ∷ [])) (sym (length-set c.self.inside.answered.items c.args.worker (c.args.count + 1))) all in
-    (subst (λ (l : List Entry). IsPastOf l c.apply.new.self.past) (sym new) past, subst (AreCounts (slice_set c.self.inside.answered.items c.args.worker (c.args.count + 1))) (sym new) counts, subst (are_below (length (slice_set c.self.inside.answered.items c.args.worker (c.args.count + 1)))) (sym new) own_all)
+    (subst (λ (l : List Entry). IsPastOf l (table_of c.apply.new.self)) (sym new) past, subst (AreCounts (slice_set c.self.inside.answered.items c.args.worker (c.args.count + 1))) (sym new) counts, subst (are_below (length (slice_set c.self.inside.answered.items c.args.worker (c.args.count + 1)))) (sym new) own_all)
 
 pub returns-clause-few : goal.returns-clause-few
 returns-clause-few g c =
@@ -67,12 +66,12 @@ returns-clause-few g c =
     let less : c.args.worker < length c.self.inside.answered.items = subst (λ (l : List ℕ). c.args.worker < length l) items at.0 in
     let is : slice_index_or c.self.inside.answered.items c.args.worker 0 ≡ c.args.count = subst (λ (l : List ℕ). slice_index_or l c.args.worker 0 ≡ c.args.count) items at.1 in
     let counted : slice_index_or c.self.inside.answered.items c.args.worker 0 ≡ length (calls_by c.args.worker h) = c.self.invariant.1 c.args.worker less in
-    omega (arith, is, counted, calls-le-accepted c.args.worker h c.self.inside.partition.past c.self.invariant.0, c.facts.ensures.legal.lived, c.facts.ensures.limited.life.1)
+    omega (arith, is, counted, calls-le-accepted c.args.worker h (table_of c.self.inside.partition) c.self.invariant.0, c.facts.ensures.lived, c.facts.ensures.limited.life.1)
 
 pub returns-clause-refused : goal.returns-clause-refused
 returns-clause-refused g c = λ in_step.
     let p = c.self.inside.partition in
-    let none : refusal_of p c.args.command ≡ None = replied-for (refusal_of p c.args.command) (c.in_ok-reply.reply, c.in_ok-reply.copy) (c.apply.new.self ≡ p) c.in_ok-reply.ensures.refused in
+    let none : refusal_of p c.args.command ≡ None = replied-for (refusal_of p c.args.command) c.in_ok-reply.reply (c.apply.new.self ≡ p) c.in_ok-reply.ensures.refused in
     rw (← c.self.view_is, none) tt
 
 pub returns-in_err-reply-clause-refused : goal.returns-in_err-reply-clause-refused
@@ -92,8 +91,8 @@ returns-in_err-reply-clause-causes g c =
     let cause = refused-for (refusal_of p c.args.command) e0 (c.apply.new.self ≡ p) c.in_err-reply.ensures.refused c.in_err-reply.ensures.memory in
     rw (given, ← c.self.view_is) (inr cause)
 
-pub returns-then-not-is_at-clause-replies : goal.returns-then-not-is_at-clause-replies
-returns-then-not-is_at-clause-replies g c = tt
+pub returns-then-not-is_at-clause-reply : goal.returns-then-not-is_at-clause-reply
+returns-then-not-is_at-clause-reply g c = tt
 
 pub returns-then-not-is_at-clause-small : goal.returns-then-not-is_at-clause-small
 returns-then-not-is_at-clause-small g c = tt
@@ -101,8 +100,8 @@ returns-then-not-is_at-clause-small g c = tt
 pub returns-then-not-is_at-clause-written : goal.returns-then-not-is_at-clause-written
 returns-then-not-is_at-clause-written g c = tt
 
-pub returns-then-not-is_at-clause-kept : goal.returns-then-not-is_at-clause-kept
-returns-then-not-is_at-clause-kept g c = tt
+pub returns-then-not-is_at-clause-table : goal.returns-then-not-is_at-clause-table
+returns-then-not-is_at-clause-table g c = tt
 
 pub returns-then-not-is_at-clause-store : goal.returns-then-not-is_at-clause-store
 returns-then-not-is_at-clause-store g c = tt
@@ -131,8 +130,8 @@ returns-then-not-is_at-clause-few g c = tt
 pub returns-then-not-is_at-clause-err : goal.returns-then-not-is_at-clause-err
 returns-then-not-is_at-clause-err g c = (refl, refl, refl)
 
-pub returns-in_err-reply-clause-replies : goal.returns-in_err-reply-clause-replies
-returns-in_err-reply-clause-replies g c = rw (given g c) tt
+pub returns-in_err-reply-clause-reply : goal.returns-in_err-reply-clause-reply
+returns-in_err-reply-clause-reply g c = rw (given g c) tt
 
 pub returns-in_err-reply-clause-small : goal.returns-in_err-reply-clause-small
 returns-in_err-reply-clause-small g c = rw (given g c) tt
@@ -140,8 +139,8 @@ returns-in_err-reply-clause-small g c = rw (given g c) tt
 pub returns-in_err-reply-clause-written : goal.returns-in_err-reply-clause-written
 returns-in_err-reply-clause-written g c = rw (given g c) tt
 
-pub returns-in_err-reply-clause-kept : goal.returns-in_err-reply-clause-kept
-returns-in_err-reply-clause-kept g c = rw (given g c) tt
+pub returns-in_err-reply-clause-table : goal.returns-in_err-reply-clause-table
+returns-in_err-reply-clause-table g c = rw (given g c) tt
 
 pub returns-in_err-reply-clause-store : goal.returns-in_err-reply-clause-store
 returns-in_err-reply-clause-store g c = rw (given g c) tt

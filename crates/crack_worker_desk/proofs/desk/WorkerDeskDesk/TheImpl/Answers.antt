@@ -1,7 +1,7 @@
 -- A desk's clauses about a known table are empty here: the table isn't known.
 use Rattle.std.proofs.Common.{◌≡◌, length, Some, None, is_some, ap, refl}
 use Rattle.std.proofs.lemmas.Bool.{false≢true}
-use Rattle.crack_core.specs.Receipts.{BookState}
+use Rattle.crack_kept.specs.Receipts.{BookState}
 use Rattle.crack_core.specs.Steps.{bounds_of}
 use Rattle.crack_table.specs.Tables.{TableState}
 use Rattle.crack_worker_desk.proofs.desk.WorkerDeskDesk.TheImpl.Goals as goal
