@@ -61,9 +61,9 @@ enum {
    one. */
 enum { CRACKD_COMPLETE = 0, CRACKD_GRADUAL = 1, CRACKD_RIPPLE = 2, CRACKD_AUTO = 3 };
 
-/* The greatest limits: entries of a partition's history, cells of its rows, and commands that it may ever answer. */
+/* The greatest limits of a partition: commands between checkpoints, cells of rows, and commands that it may answer. */
 #define CRACKD_MOST_HISTORY UINT64_C(1000000)
-#define CRACKD_MOST_CELLS UINT64_C(1048576)
+#define CRACKD_MOST_CELLS UINT64_C(16777215)
 #define CRACKD_MOST_LIFE UINT64_C(1099511627776)
 
 /* A table of the library, or none. */
@@ -125,8 +125,8 @@ uint32_t crackd_select(crackd_handle *handle, uint32_t policy, uint64_t first, u
 uint32_t crackd_layout(crackd_handle *handle, uint32_t part, crackd_totals *totals, uint64_t *lows, size_t lows_len,
                        uint64_t *sizes, size_t sizes_len);
 
-/* Makes a checkpoint of a partition, which frees the memory of its history, and writes how many entries that had. Rows
-   and numbers stay. Partitions whose histories are full do so by themselves. Returns 101, 5 or 8. */
+/* Makes a checkpoint of a partition, and writes how many commands it has answered since its last one. Rows and numbers
+   stay. Partitions make checkpoints that are due by themselves. Returns 101 or 5. */
 uint32_t crackd_checkpoint(crackd_handle *handle, uint32_t part, uint64_t *folded);
 
 /* Writes how many commands the partitions have answered since they were opened: one for each row that was to be placed,

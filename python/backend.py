@@ -1,5 +1,7 @@
 """Builds the wheel with the standard library alone, so that `pip install ./python` downloads nothing. The library is
-included if it was built."""
+included if it was built; the wheel's tag says then which system it needs. With `pip install -e ./python` the package is
+used where it is.
+"""
 
 import base64
 import hashlib
@@ -17,13 +19,21 @@ def field(name):
     return re.search(rf'^{name} = "(.*)"$', (HERE / "pyproject.toml").read_text(encoding="utf-8"), re.MULTILINE)[1]
 
 
+def section(name):
+    """The lines of a section of pyproject.toml."""
+    return (HERE / "pyproject.toml").read_text(encoding="utf-8").partition(f"[{name}]\n")[2].partition("\n[")[0]
+
+
 def extras():
     """The optional dependencies, by the name of their extra."""
-    section = (HERE / "pyproject.toml").read_text(encoding="utf-8").partition("[project.optional-dependencies]\n")[2]
-    return {
-        name: re.findall(r'"(.*?)"', listed)
-        for name, listed in re.findall(r"^(\w+) = \[(.*)\]$", section, re.MULTILINE)
-    }
+    lines = re.findall(r"^(\w+) = \[(.*)\]$", section("project.optional-dependencies"), re.MULTILINE)
+    return {name: re.findall(r'"(.*?)"', listed) for name, listed in lines}
+
+
+def scripts():
+    """The commands that are installed, as the file of entry points has them."""
+    lines = re.findall(r'^(\w+) = "(.*)"$', section("project.scripts"), re.MULTILINE)
+    return "".join(["[console_scripts]\n", *(f"{name} = {call}\n" for name, call in lines)])
 
 
 def packed():
@@ -48,13 +58,33 @@ def digest(content):
     return base64.urlsafe_b64encode(hashlib.sha256(content).digest()).rstrip(b"=").decode("ascii")
 
 
+def platform(library):
+    """The platform that a library needs, by the newest version of glibc that it names, as PEP 600 writes it."""
+    system, _, machine = sysconfig.get_platform().rpartition("-")
+    versions = [int(it) for it in re.findall(rb"GLIBC_2\.(\d+)", library)]
+    if system != "linux" or not versions:
+        return re.sub(r"[^A-Za-z0-9]", "_", sysconfig.get_platform())
+    # (pip knows no older ones)
+    return f"manylinux_2_{max(*versions, 5 if machine == 'x86_64' else 17)}_{machine}"
+
+
 def build_wheel(wheel_directory, config_settings=None, metadata_directory=None):
-    name, version, files = field("name"), field("version"), packed()
-    has_library = any(f"crackd/{it}" in files for it in LIBRARIES)
-    platform = re.sub(r"[^A-Za-z0-9]", "_", sysconfig.get_platform()) if has_library else "any"
-    tag, info = f"py3-none-{platform}", f"{name}-{version}.dist-info"
+    files = packed()
+    libraries = b"".join(files.get(f"crackd/{it}", b"") for it in LIBRARIES)
+    return write_wheel(wheel_directory, files, platform(libraries) if libraries else "any")
+
+
+def build_editable(wheel_directory, config_settings=None, metadata_directory=None):
+    return write_wheel(wheel_directory, {"crackd.pth": f"{HERE}\n".encode("utf-8")}, "any")
+
+
+def write_wheel(wheel_directory, files, system):
+    """Writes a wheel with these files, for a system or "any". Returns its name."""
+    name, version = field("name"), field("version")
+    tag, info = f"py3-none-{system}", f"{name}-{version}.dist-info"
     files[f"{info}/METADATA"] = metadata().encode("utf-8")
-    wheel = f"Wheel-Version: 1.0\nGenerator: crackd\nRoot-Is-Purelib: {str(not has_library).lower()}\nTag: {tag}\n"
+    files[f"{info}/entry_points.txt"] = scripts().encode("ascii")
+    wheel = f"Wheel-Version: 1.0\nGenerator: crackd\nRoot-Is-Purelib: {str(system == 'any').lower()}\nTag: {tag}\n"
     files[f"{info}/WHEEL"] = wheel.encode("ascii")
     record = "".join(f"{path},sha256={digest(it)},{len(it)}\n" for path, it in files.items()) + f"{info}/RECORD,,\n"
     files[f"{info}/RECORD"] = record.encode("utf-8")

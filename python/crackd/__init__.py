@@ -5,7 +5,8 @@
 dates; payloads are integers of 64 bits. `load_csv` reads a table from a file. numpy is used if it is installed.
 """
 
-from .base import Rows, row_text
+from .aio import AsyncTable, connect_async
+from .base import Row, Rows, row_text
 from .client import Client, connect
 from .csvfile import CsvError, load_csv
 from .errors import (
@@ -27,11 +28,17 @@ from .errors import (
 )
 from .layout import Layout, PartLayout, Piece
 from .library import version
+from .rows import Rebalanced
+from .saved import BadSave
 from .server import NoServer, Server, serve
 from .table import Table
 
+__version__ = "0.1"
+
 __all__ = [
+    "AsyncTable",
     "BadLimit",
+    "BadSave",
     "BadSplits",
     "Busy",
     "Client",
@@ -49,13 +56,17 @@ __all__ = [
     "OutOfMemory",
     "PartLayout",
     "Piece",
+    "Rebalanced",
     "Refused",
+    "Row",
     "Rows",
     "Server",
     "Table",
     "TimedOut",
     "WrongPartition",
+    "__version__",
     "connect",
+    "connect_async",
     "load_csv",
     "row_text",
     "serve",

@@ -4,26 +4,32 @@
   splits FILE.csv N  prints where to cut keys into partitions, for `crackd serve`
   picture SCRIPT     draws a column as the queries of a script crack it, as SVG
 
-Each has --help.
+Each has --help. script, batch, serve and csv are handed to the program crackd, if it is there.
 """
 
 from __future__ import annotations
 
 import argparse
+import os
 import sys
+from typing import Callable
 
+from . import __version__
 from .arrays import TOP
 from .base import MOST_PARTS
 from .csvfile import Column, CsvFile
 from .errors import Error
 from .keys import quantiles
 from .picture import main as picture
+from .server import called, find_program
+
+OF_THE_PROGRAM = ("script", "batch", "serve", "csv")
 
 
 def splits(words: list[str]) -> int:
     """Prints splits that cut the keys of a CSV file into nearly equal parts."""
     about = "Prints splits that divide the keys of a CSV file into N nearly equal parts, for `crackd serve` and others."
-    parser = argparse.ArgumentParser(prog="python3 -m crackd splits", description=about)
+    parser = argparse.ArgumentParser(prog=f"{called()} splits", description=about)
     parser.add_argument(
         "file", metavar="FILE.csv", help="a file whose keys are integers from 0 to 18446744073709551615"
     )
@@ -55,16 +61,28 @@ def splits(words: list[str]) -> int:
     return 0
 
 
+def handed(words: list[str]) -> int:
+    """Goes on as the program crackd."""
+    path = find_program()
+    os.execv(path, [path, *words])
+
+
 def main(words: list[str]) -> int:
+    if words[:1] in (["--version"], ["-V"]):
+        print(f"crackd {__version__}")
+        return 0
     if words[:1] == ["shell"]:
         from .shell import main as shell
 
         return shell(words[1:])
-    if words[:1] not in (["splits"], ["picture"]):
-        print(__doc__, end="", file=sys.stdout if words[:1] in (["--help"], ["-h"]) else sys.stderr)
-        return 0 if words[:1] in (["--help"], ["-h"]) else 2
+    commands: dict[str, Callable[[list[str]], int]] = {"splits": splits, "picture": picture}
+    commands |= dict.fromkeys(OF_THE_PROGRAM, lambda _: handed(words))
+    if not words or words[0] not in commands:
+        is_help = words[:1] in (["--help"], ["-h"])
+        print(__doc__.replace("python3 -m crackd", called()), end="", file=sys.stdout if is_help else sys.stderr)
+        return 0 if is_help else 2
     try:
-        return picture(words[1:]) if words[0] == "picture" else splits(words[1:])
+        return commands[words[0]](words[1:])
     except (Error, UnicodeDecodeError) as error:
         print(f"crackd: {error}", file=sys.stderr)
     except OSError as error:
@@ -72,5 +90,10 @@ def main(words: list[str]) -> int:
     return 1
 
 
+def run() -> int:
+    """The command `crackd`, which pip installs."""
+    return main(sys.argv[1:])
+
+
 if __name__ == "__main__":
-    sys.exit(main(sys.argv[1:]))
+    sys.exit(run())

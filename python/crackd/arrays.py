@@ -10,6 +10,8 @@ import array
 import operator
 from typing import Any, Iterable, Sequence
 
+# numpy, or None
+np: Any
 try:
     import numpy as np
 except ImportError:
@@ -71,7 +73,7 @@ def items_of(it: Any, what: str) -> Any:
     return found.tolist() if found.dtype == object else found
 
 
-def types_of(items: Any) -> set:
+def types_of(items: Any) -> set[type]:
     """The types of the items of a list."""
     return {int} if isinstance(items, range) else set(map(type, items))
 
@@ -150,9 +152,10 @@ def flags(it: Any) -> Any:
     return it.view(bool) if np is not None else [bool(each) for each in it]
 
 
-def plain(it: Any) -> list:
+def plain(it: Any) -> list[Any]:
     """An array as a list of Python's numbers."""
-    return it.tolist() if hasattr(it, "tolist") else it
+    found: list[Any] = it.tolist() if hasattr(it, "tolist") else it
+    return found
 
 
 def parsed(code: str, text: bytes) -> Any:

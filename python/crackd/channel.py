@@ -11,6 +11,8 @@ from .errors import Disconnected, TimedOut
 
 BYTES_AT_ONCE = 2**18
 SECONDS_OF_A_STEP = 0.2
+# up to this many lines are looked up one by one
+FEW_LINES = 100
 LEFT = "the server closed the connection; connect again"
 
 
@@ -19,6 +21,41 @@ def checked_timeout(seconds: Optional[float]) -> Optional[float]:
     if seconds is not None and not seconds > 0:
         raise ValueError(f"a timeout must be above 0 seconds, or None, not {seconds}")
     return seconds
+
+
+class Lines:
+    """What has arrived and wasn't taken yet. `feeds` is how many line feeds it has."""
+
+    def __init__(self) -> None:
+        # (what was taken of the first part is still there)
+        self._parts: list[bytes] = []
+        self._begin = self.feeds = 0
+
+    def add(self, given: bytes) -> None:
+        self._parts.append(given)
+        self.feeds += given.count(b"\n")
+
+    def taken(self, lines: int) -> bytes:
+        """Takes this many lines, which must be there, each with its line feed."""
+        if len(self._parts) > 1:
+            self._parts = [b"".join([self._parts[0][self._begin :], *self._parts[1:]])]
+            self._begin = 0
+        given = self._parts[0] if self._parts else b""
+        begin, end = self._begin, self._end_of(given, lines)
+        self._parts, self._begin = ([given], end) if end < len(given) else ([], 0)
+        self.feeds -= lines
+        return given[begin:end]
+
+    def _end_of(self, given: bytes, lines: int) -> int:
+        """The place after this many lines from the first one that wasn't taken."""
+        if lines == self.feeds:
+            return max(self._begin, given.rfind(b"\n") + 1)
+        if lines > FEW_LINES:
+            return len(given) - len(given[self._begin :].split(b"\n", lines)[-1])
+        end = self._begin
+        for _ in range(lines):
+            end = given.index(b"\n", end) + 1
+        return end
 
 
 class Channel:
@@ -31,10 +68,9 @@ class Channel:
         self.on_wait, self.timeout = on_wait, timeout
         self.socket = socket.create_connection((host, port), timeout)
         self.socket.setsockopt(socket.IPPROTO_TCP, socket.TCP_NODELAY, 1)
+        self.peer = f"{host}:{port}"
         self.socket.setblocking(False)
-        # (what has arrived and wasn't returned yet, and how many line feeds it has)
-        self._given: list[bytes] = []
-        self._feeds = 0
+        self._given = Lines()
         self.unsent, self._poll = memoryview(b""), select.poll()
         # (since when the server is silent)
         self._since = time.monotonic()
@@ -64,8 +100,7 @@ class Channel:
             given = self.socket.recv(BYTES_AT_ONCE)
             if not given:
                 raise Disconnected(LEFT)
-            self._given.append(given)
-            self._feeds += given.count(b"\n")
+            self._given.add(given)
             self._since = time.monotonic()
         except BlockingIOError:
             pass
@@ -84,16 +119,13 @@ class Channel:
 
     def block(self, lines: int) -> bytes:
         """The next `lines` lines of the server, each with its line feed. If it raises an error, none is taken."""
-        while self._feeds < lines:
+        while self._given.feeds < lines:
             self.step()
-        given = b"".join(self._given)
-        rest = b"" if self._feeds == lines and given.endswith(b"\n") else given.split(b"\n", lines)[-1]
-        self._given, self._feeds = [rest] if rest else [], self._feeds - lines
-        return given[: len(given) - len(rest)]
+        return self._given.taken(lines)
 
     def block_given(self) -> bytes:
         """The lines that have arrived but weren't returned yet, each with its line feed."""
-        return self.block(self._feeds)
+        return self._given.taken(self._given.feeds)
 
     def line(self) -> str:
         """The next line of the server, without its line feed."""
@@ -105,7 +137,7 @@ class Channel:
 
     def lines_given(self) -> list[str]:
         """The lines that have arrived but weren't returned yet, without their line feeds."""
-        return self.lines(self._feeds)
+        return self.lines(self._given.feeds)
 
     def close(self) -> None:
         self.socket.close()

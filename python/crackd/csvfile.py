@@ -16,7 +16,9 @@ from typing import Any, Callable, Iterator, Optional, Sequence, Union
 from .arrays import MOST_SHOWN, SIGN, TOP, np, shown, whole
 from .base import AnyTable
 from .errors import Error
+from .pandascsv import columns_of_pandas
 from .table import Table
+from .typed import Progress
 
 HEADER = ["key", "payload"]
 WHOLE = re.compile(r"[+-]?[0-9]+")
@@ -26,6 +28,8 @@ FLOAT = re.compile(rf"{DECIMAL.pattern}(?:e[+-]?[0-9]+)?|[+-]?inf(?:inity)?|[+-]
 ISO = re.compile(r"%Y-%m-%d(?:[T ]%H(?::%M(?::%S(?:\.%f)?)?)?)?Z?")
 DIGITS = {"%Y": "0000", "%m": "00", "%d": "00", "%H": "00", "%M": "00", "%S": "00"}
 MOST_DECIMALS = 40
+# so many digits fit into 64 bits
+MOST_DIGITS = 18
 # (few, so that they stay in the processor's caches)
 RECORDS_AT_ONCE = 1000
 EPOCH = datetime.datetime(1970, 1, 1)
@@ -61,13 +65,13 @@ class Column:
             return self._float
         return self._decimal if self.decimals else self._whole
 
-    def read_all(self, fields: list[str]) -> Sequence:
+    def read_all(self, fields: list[str]) -> Sequence[Any]:
         """The numbers of many fields. If this can't read them all it raises ValueError, and `reader` may still be able
         to."""
         if self.format is not None:
             return dates_of_numpy(fields, self.format)
         if self.is_float or self.decimals:
-            return list(map(self.reader(), fields))
+            return self._plain_decimals(fields) or list(map(self.reader(), fields))
         text = "".join(fields)
         if not (text.isascii() and text.replace("-", "").replace("+", "").isdigit()):
             raise ValueError("more than digits and signs")
@@ -76,6 +80,17 @@ class Column:
             raise ValueError("out of bounds")
         return found
 
+    def _plain_decimals(self, fields: list[str]) -> Optional[list[int]]:
+        """The numbers of decimals, if all are written with as many decimal places as they may have, and are small."""
+        if not 0 < self.decimals < MOST_DIGITS:
+            return None
+        text = "\n".join(fields)
+        form = rf"[+-]?[0-9]{{1,{MOST_DIGITS - self.decimals}}}\.[0-9]{{{self.decimals}}}"
+        if re.fullmatch(rf"(?:{form}\n)*{form}", text) is None:
+            return None
+        found = list(map(int, text.replace(".", "").split("\n")))
+        return found if len(found) == len(fields) and self.least <= min(found) else None
+
     @property
     def code(self) -> str:
         """The type of the numbers, as the module `array` names it."""
@@ -83,7 +98,7 @@ class Column:
 
     def _date(self, field: str) -> int:
         try:
-            date = datetime.datetime.strptime(field.strip(), self.format)
+            date = datetime.datetime.strptime(field.strip(), self.format or "")
         except ValueError:
             raise ValueError(f"{quoted(field)} isn't a date of the form {self.format!r}") from None
         if date.tzinfo is not None:
@@ -123,7 +138,7 @@ class Column:
         return number
 
 
-def dates_of_numpy(fields: list[str], form: str) -> Sequence:
+def dates_of_numpy(fields: list[str], form: str) -> Sequence[Any]:
     """The microseconds since 1970 of dates of an ISO format, whose fields all have their digits; else ValueError."""
     if np is None or ISO.fullmatch(form) is None:
         raise ValueError("numpy doesn't read this format")
@@ -157,12 +172,12 @@ class CsvFile:
             raise ValueError(f"a delimiter must be one character, and no quote or line end, not {delimiter!r}")
         self.path, self.delimiter, self.header, self.encoding = os.fspath(path), delimiter, header, encoding
 
-    def rows(self, columns: list[tuple[Place, Column]]) -> Iterator[tuple]:
+    def rows(self, columns: list[tuple[Place, Column]]) -> Iterator[tuple[Any, ...]]:
         """The numbers of these columns, record by record."""
         for block in self.blocks(columns):
             yield from zip(*block)
 
-    def blocks(self, columns: list[tuple[Place, Column]]) -> Iterator[list[Sequence]]:
+    def blocks(self, columns: list[tuple[Place, Column]]) -> Iterator[list[Sequence[Any]]]:
         """The numbers of these columns, column by column for some records at a time."""
         with open(self.path, encoding=self.encoding, newline="") as file:
             records = csv.reader(file, delimiter=self.delimiter)
@@ -188,7 +203,7 @@ class CsvFile:
         for error in errors:
             raise CsvError(self.path, records.line_num, 1, "", str(error)) from error
 
-    def _block(self, block: list[list], lines: list[int], fields: list) -> list[Sequence]:
+    def _block(self, block: list[list[str]], lines: list[int], fields: list[Any]) -> list[Sequence[Any]]:
         """The numbers of some records, which end at these lines, column by column."""
         try:
             return [column.read_all([record[at] for record in block]) for at, column, _ in fields]
@@ -196,7 +211,7 @@ class CsvFile:
             readers = [(at, column.reader(), name) for at, column, name in fields]
             return list(zip(*(self._row(record, readers, line) for record, line in zip(block, lines))))
 
-    def _is_header(self, first: Optional[list], columns: list[tuple[Place, Column]]) -> bool:
+    def _is_header(self, first: Optional[list[str]], columns: list[tuple[Place, Column]]) -> bool:
         is_named = any(isinstance(place, str) for place, _ in columns)
         if self.header is not None:
             if is_named and not self.header:
@@ -204,7 +219,7 @@ class CsvFile:
             return self.header
         return is_named or first == HEADER
 
-    def _place(self, place: Place, names: list) -> int:
+    def _place(self, place: Place, names: list[str]) -> int:
         if isinstance(place, str):
             if place not in names:
                 raise CsvError(
@@ -215,7 +230,7 @@ class CsvFile:
             raise ValueError(f"columns are numbered from 0, not {place}")
         return place
 
-    def _row(self, record: list, fields: list, line: int) -> tuple:
+    def _row(self, record: list[str], fields: list[Any], line: int) -> tuple[Any, ...]:
         numbers = []
         for at, read, name in fields:
             if at >= len(record):
@@ -229,7 +244,7 @@ class CsvFile:
         return tuple(numbers)
 
 
-def not_blank(records: Any, lines: list[int], errors: list[csv.Error]) -> Iterator[list]:
+def not_blank(records: Any, lines: list[int], errors: list[csv.Error]) -> Iterator[list[str]]:
     """The records that aren't blank. Their last lines are added to one list. An error of the format ends them and is
     added to the other, since a field before it may be wrong too."""
     try:
@@ -246,10 +261,12 @@ def read_columns(
 ) -> tuple[Any, Any]:
     """The keys and payloads of a file; without a column of payloads these are 0, 1, 2 .."""
     columns = [(key, key_column)] + ([] if payload is None else [(payload, payload_column)])
-    found = [array.array(column.code) for _, column in columns]
-    for block in file.blocks(columns):
-        for numbers, more in zip(found, block):
-            numbers.extend(more)
+    found = columns_of_pandas(file, columns)
+    if found is None:
+        found = [array.array(column.code) for _, column in columns]
+        for block in file.blocks(columns):
+            for numbers, more in zip(found, block):
+                numbers.extend(more)
     return found[0], range(len(found[0])) if payload is None else found[1]
 
 
@@ -267,18 +284,44 @@ def load_csv(
     payload_format: Optional[str] = None,
     encoding: str = "utf-8-sig",
     into: Optional[AnyTable] = None,
+    progress: Progress = None,
     **options: Any,
 ) -> AnyTable:
     """Reads the rows of a CSV file into a new table of this process, or `into` another table, and merges them.
 
-    `key` and `payload` are columns: names of the header, or numbers from 0. With `payload=None` the payloads are 0, 1,
-    2 .. A file has a header if a column is named, if the first record is `key,payload`, or if `header` says so.
-    `key_type` is "int64", "uint64" or "float64". `key_decimals=2` reads 12.34 as the integer 1234, and refuses 12.345.
+    Parameters
+    ----------
+    path : path_like
+    key, payload : str or int, optional
+        Columns: names of the header, or numbers from 0. With `payload=None` the payloads are 0, 1, 2 ..
+    delimiter : str, optional
+    header : bool, optional
+        Whether the file has a header. By default it has one if a column is named, or if the first record is
+        `key,payload`.
+    key_type : str, optional
+        "int64", "uint64" or "float64".
+    key_decimals, payload_decimals : int, optional
+        `key_decimals=2` reads 12.34 as the integer 1234, and refuses 12.345.
+    key_format, payload_format : str, optional
+        Those of `datetime.strptime`. Such keys are microseconds since 1970, as datetime64[us] where numpy is installed;
+        such payloads are microseconds as integers. A time zone in the field (%z) is respected. ISO formats such as
+        "%Y-%m-%d %H:%M:%S" are read fastest, by numpy.
+    encoding : str, optional
+    into : table, optional
+    progress : bool or callable, optional
+        Whether to report how many rows are inserted: on standard error, or by calls with the numbers of rows done and
+        of all.
+    **options
+        Those of `Table`, for a new table.
 
-    `key_format` is that of `datetime.strptime`: such keys are microseconds since 1970, as datetime64[us] where numpy is
-    installed; such payloads are microseconds as integers. A time zone in the field (%z) is respected. ISO formats such
-    as "%Y-%m-%d %H:%M:%S" are read fastest, by numpy. A field that can't be read is a `CsvError`, and nothing is
-    loaded. `options` are those of `Table`.
+    Raises
+    ------
+    CsvError
+        If a field can't be read. Nothing is loaded.
+
+    Notes
+    -----
+    pandas reads a large file, where it is installed and reads the same.
     """
     if key_type not in ("int64", "uint64", "float64", int, float):
         raise ValueError(f"key_type must be int64, uint64 or float64, not {key_type}")
@@ -298,9 +341,9 @@ def load_csv(
             keys = keys.view("datetime64[us]")
     if into is None:
         kind = keys.dtype if np is not None else {"d": "float64", "Q": "uint64", "q": "int64"}[keys.typecode]
-        return Table.from_arrays(keys, payloads, key_type=kind, **options)
+        return Table.from_arrays(keys, payloads, key_type=kind, progress=progress, **options)
     if options:
         raise TypeError(f"options are for a new table: {', '.join(options)}")
-    into.insert_many(keys, payloads)
+    into.insert_rows(keys, payloads, progress=progress)
     into.settle()
     return into

@@ -28,6 +28,8 @@ REASONS = {
 class Error(Exception):
     """The base of all errors of this package, except plain TypeError, ValueError and OverflowError."""
 
+    answers: Any = None
+
 
 class Closed(Error, ValueError):
     """The table is closed."""
@@ -53,8 +55,8 @@ class Refused(Error):
     """A call was refused.
 
     `code` is the number of the refusal. `done` is how many items of the call were done before the first that was
-    refused. Over TCP and on a cluster items after it may also be done: `later` is how many, and 0 in process. After an
-    `insert_many`, `answers` has the numbers of the rows that were placed.
+    refused. Over TCP and in other shards items after it may also be done: `later` is how many, and 0 in a table of one
+    shard. After an `insert_many`, `answers` has the numbers of the rows that were placed, in the order of the items.
     """
 
     answers: Any = None
@@ -66,6 +68,29 @@ class Refused(Error):
 
     def __reduce__(self) -> Any:
         return type(self), (self.code, self.done, self.later), {"answers": self.answers}
+
+
+class ShardLost(Error):
+    """A shard's worker is gone, and its rows with it.
+
+    `shard` is its number, and `low` and `high` are the ends of its keys, half open; None means no end. After an
+    `insert_many`, `answers` has the numbers of the rows that were placed in other shards.
+    """
+
+    answers: Any = None
+
+    def __init__(self, shard: int, low: Any, high: Any, keys: str, why: str):
+        super().__init__(f"shard {shard} ({keys}) is lost: {why}")
+        self.shard, self.low, self.high, self.keys, self.why = shard, low, high, keys, why
+
+    def __reduce__(self) -> Any:
+        return type(self), (self.shard, self.low, self.high, self.keys, self.why), {"answers": self.answers}
+
+    def copied(self, answers: Any = None) -> "ShardLost":
+        """A new error with these answers, since each call raises its own."""
+        found = ShardLost(self.shard, self.low, self.high, self.keys, self.why)
+        found.answers = answers
+        return found
 
 
 class WrongPartition(Refused, ValueError):

@@ -8,16 +8,21 @@ from typing import Any
 
 from .errors import Forked
 
-_TABLES: weakref.WeakSet = weakref.WeakSet()
+OF_THE_PARENT = "the table is that of the parent process; open one, or connect again, in this one"
+
+_TABLES: weakref.WeakSet[Any] = weakref.WeakSet()
 
 
 class NoLock:
     """Stands in for a table's lock in a forked child, where a thread that held it is no more."""
 
     def __enter__(self) -> None:
-        raise Forked("the table is that of the parent process; open one, or connect again, in this one")
+        raise Forked(OF_THE_PARENT)
 
     def __exit__(self, *_: Any) -> None: ...
+
+    def _is_owned(self) -> bool:
+        return False
 
 
 def leave_in_children(table: Any) -> None:

@@ -33,11 +33,13 @@ FLOATS = {float} if np is None else {float, np.float64}
 
 
 def _bits_of(number: float) -> int:
-    return struct.unpack("<Q", struct.pack("<d", number))[0]
+    (bits,) = struct.unpack("<Q", struct.pack("<d", number))
+    return int(bits)
 
 
 def _float_of(bits: int) -> float:
-    return struct.unpack("<d", struct.pack("<Q", bits))[0]
+    (number,) = struct.unpack("<d", struct.pack("<Q", bits))
+    return float(number)
 
 
 def kind_of(keys: Any) -> "Keys":
@@ -113,6 +115,7 @@ class Keys:
 
     def one(self, key: Any) -> int:
         """The number of a key."""
+        number: int
         if type(key) is not int or self.kind not in "ui":
             if self.kind == "f":
                 return self._of_float(exact_float(key))
@@ -215,7 +218,7 @@ class Keys:
                 return TOP if end > 0 else 0
             else:
                 end = math.ceil(end)
-        number = end if self.kind == "u" else end + SIGN
+        number: int = end if self.kind == "u" else end + SIGN
         return number if 0 <= number <= TOP else 0 if number < 0 else TOP
 
     def _exact(self, end: Any) -> Any:
@@ -334,7 +337,7 @@ def quantiles(found: Sequence[int], parts: int, most: int = 10_000) -> list[int]
 
     Looks at about `most` of them.
     """
-    step = max(1, len(found) // most)
-    drawn = sorted(int(it) for it in found[::step])
+    drawn = found[:: max(1, len(found) // most)]
+    drawn = np.sort(drawn).tolist() if is_array(drawn) else sorted(drawn)
     ends = {drawn[len(drawn) * it // parts] for it in range(1, parts)} if drawn else set()
     return sorted(ends - {0})

@@ -4,7 +4,7 @@ from __future__ import annotations
 
 import html
 from dataclasses import dataclass
-from typing import Any, Callable, Iterator, Sequence
+from typing import Iterator, Sequence
 
 from .arrays import SIGN, TOP
 from .keys import Keys
@@ -12,9 +12,17 @@ from .keys import Keys
 MOST_BARS = 20
 # the least width of names, the greatest of bars, and that of a line with a wider name and a narrower bar
 NAME_WIDTH, BAR_WIDTH, LINE_WIDTH = 24, 40, 80
-# the sizes of a picture as SVG, in pixels
-SVG_WIDTH, SVG_ROW, SVG_GAP, SVG_LEFT = 900, 22, 8, 60
-COLOURS = ("#4c78a8", "#9ecae9")
+# the sizes of a picture as SVG, in pixels: the picture, a bar and the space below it, and the spaces for texts
+SVG_WIDTH, SVG_ROW, SVG_GAP, SVG_LEFT, SVG_HEAD, SVG_FOOT = 900, 22, 8, 130, 34, 28
+# what is drawn, with its colours on a light page and on a dark one
+COLOURS = {
+    "page": ("#ffffff", "#1e1e1e"),
+    "text": ("#333333", "#dddddd"),
+    "even": ("#4c78a8", "#6f9bd1"),
+    "odd": ("#9ecae9", "#2f5b8a"),
+    "pending": ("#f58518", "#ffa64d"),
+}
+KEY = {"even": "a piece", "odd": "the next piece", "pending": "not merged yet"}
 UNSIGNED = Keys("u")
 
 
@@ -142,33 +150,63 @@ class Layout:
 
     def svg(self) -> str:
         """The layout as an SVG image: a bar for each partition, with its pieces in two colours in turn, and then what
-        isn't merged yet."""
+        isn't merged yet. It is legible on light pages and on dark ones."""
         most = max((it.column + it.pending_in for it in self.parts), default=0) or 1
-        scale = (SVG_WIDTH - SVG_LEFT) / most
-        height = len(self.parts) * (SVG_ROW + SVG_GAP) + SVG_GAP
+        scale = (SVG_WIDTH - SVG_LEFT - SVG_GAP) / most
+        height = SVG_HEAD + len(self.parts) * (SVG_ROW + SVG_GAP) + SVG_FOOT
         lines = [
             f'<svg xmlns="http://www.w3.org/2000/svg" width="{SVG_WIDTH}" height="{height}" '
-            'font-family="sans-serif" font-size="11">'
+            f'viewBox="0 0 {SVG_WIDTH} {height}" font-family="sans-serif" font-size="12" role="img">',
+            f"<title>{self.title()}</title>",
+            f"<style>{_styles()}</style>",
+            f'<rect class="crackd-page" width="{SVG_WIDTH}" height="{height}"/>',
+            _text(SVG_GAP, 20, self.title(), " font-weight=\"bold\""),
         ]
         for at, part in enumerate(self.parts):
-            lines += _svg_row(part, SVG_GAP + at * (SVG_ROW + SVG_GAP), scale)
-        return "\n".join([*lines, "</svg>\n"])
+            lines += _svg_row(part, SVG_HEAD + at * (SVG_ROW + SVG_GAP), scale)
+        return "\n".join([*lines, *_svg_key(height - SVG_FOOT + SVG_GAP), "</svg>\n"])
+
+    def title(self) -> str:
+        """What the picture shows, in a line."""
+        parts = "1 partition" if len(self.parts) == 1 else f"{len(self.parts):,} partitions"
+        pieces = sum(len(it.pieces) for it in self.parts)
+        return f"{rows_text(self.rows)} in {parts}, {'1 piece' if pieces == 1 else f'{pieces:,} pieces'}"
 
     def _repr_svg_(self) -> str:
         """What a notebook shows."""
         return self.svg()
 
 
+def _styles() -> str:
+    """The colours of a light page, and those of a dark one. (In a notebook they hold for all of its page.)"""
+    light, dark = (" ".join(f".crackd-{name}{{fill:{them[at]}}}" for name, them in COLOURS.items()) for at in (0, 1))
+    return f"{light} @media (prefers-color-scheme: dark){{{dark}}}"
+
+
+def _text(left: float, base: int, text: str, more: str = "") -> str:
+    return f'<text class="crackd-text" x="{left}" y="{base}"{more}>{html.escape(text)}</text>'
+
+
 def _svg_row(part: PartLayout, top: int, scale: float) -> Iterator[str]:
-    yield f'<text x="4" y="{top + 15}">{part.partition}: {part.rows}</text>'
+    whose = f"partition {part.partition}: keys {keys_text(part.keys, *part.ends)}, {rows_text(part.rows)}"
+    yield f"<g><title>{html.escape(whose)}</title>"
+    yield _text(SVG_GAP, top + 15, f"{part.partition}: {rows_text(part.rows)}") + "</g>"
     place = float(SVG_LEFT)
     for at, piece in enumerate(part.pieces):
-        title = html.escape(f"{keys_text(part.keys, piece.low, piece.high)}: {rows_text(piece.rows)}")
-        yield _rectangle(place, top, piece.rows * scale, COLOURS[at % 2], title)
+        title = f"{keys_text(part.keys, piece.low, piece.high)}: {rows_text(piece.rows)}"
+        yield _rectangle(place, top, piece.rows * scale, ("even", "odd")[at % 2], title)
         place += piece.rows * scale
-    yield _rectangle(place, top, part.pending_in * scale, "#f58518", f"not merged yet: {rows_text(part.pending_in)}")
+    yield _rectangle(place, top, part.pending_in * scale, "pending", f"not merged yet: {rows_text(part.pending_in)}")
 
 
-def _rectangle(left: float, top: int, width: float, colour: str, title: str) -> str:
+def _svg_key(top: int) -> Iterator[str]:
+    """What each colour stands for."""
+    for at, (name, text) in enumerate(KEY.items()):
+        left = SVG_LEFT + at * 150
+        yield f'<rect class="crackd-{name}" x="{left}" y="{top}" width="12" height="12"/>'
+        yield _text(left + 18, top + 11, text)
+
+
+def _rectangle(left: float, top: int, width: float, name: str, title: str) -> str:
     where = f'x="{left:.2f}" y="{top}" width="{width:.2f}" height="{SVG_ROW}"'
-    return f'<rect {where} fill="{colour}"><title>{title}</title></rect>'
+    return f'<rect class="crackd-{name}" {where}><title>{html.escape(title)}</title></rect>'

@@ -5,7 +5,7 @@ from __future__ import annotations
 import ctypes
 import os
 import pathlib
-from typing import Optional
+from typing import TYPE_CHECKING, Any, Optional
 
 # what `make lib` and `make lib-unproved` build
 NAMES = ("libcrackd.so", "libcrackd-unproved.so")
@@ -18,12 +18,13 @@ class Handle(ctypes.Structure):
     _fields_ = [("at", ctypes.c_void_p), ("is_open", ctypes.c_bool)]
 
 
+TOTALS = ("rows", "column", "pending_out", "pending_in", "cells", "free", "pieces")
+
+
 class Totals(ctypes.Structure):
     """The layout of a partition, in numbers."""
 
-    _fields_ = [
-        (name, ctypes.c_uint64) for name in ("rows", "column", "pending_out", "pending_in", "cells", "free", "pieces")
-    ]
+    _fields_ = [(name, ctypes.c_uint64) for name in TOTALS]
 
 
 _HANDLE, _U32, _U64, _I64 = ctypes.POINTER(Handle), ctypes.c_uint32, ctypes.c_uint64, ctypes.c_int64
@@ -51,6 +52,10 @@ FORMS = {
 
 class Library:
     """The functions of crackd.h, without their prefix."""
+
+    if TYPE_CHECKING:
+
+        def __getattr__(self, name: str) -> Any: ...
 
     def __init__(self, path: str):
         loaded = ctypes.CDLL(path)
@@ -91,4 +96,4 @@ def library() -> Library:
 
 def version() -> str:
     """The version of the library, followed by " (unproved)" if it was built without a proof."""
-    return library().version
+    return str(library().version)

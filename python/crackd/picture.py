@@ -18,16 +18,30 @@ from .arrays import TOP
 from .base import POLICIES
 from .errors import Error
 from .layout import PartLayout, rows_text
-from .server import find_program
+from .server import called, find_program
 
 QUERIES = ("count", "sum", "select")
 # in pixels: the picture, its strips and bars, and the space for a statement before a strip
 WIDTH, LEFT, STRIP_WIDTH, STRIP, ROW, HEAD, FOOT = 900, 212, 466, 18, 26, 44, 34
 BAR_LEFT, BAR_WIDTH = LEFT + STRIP_WIDTH + 16, 140
-# a piece without rows, the largest one, and marks
-LIGHT, DARK, MARK, BAR = (226, 234, 245), (24, 61, 112), "#c0392b", "#e08214"
+# how many shades pieces have: the first is that of a piece without rows, the last that of the largest
+SHADES = 16
+# the first shade and the last, of a light page and of a dark one
+ENDS = (((226, 234, 245), (24, 61, 112)), ((43, 52, 64), (150, 200, 250)))
+# what else is drawn, with its colours on a light page and on a dark one
+COLOURS = {
+    "page": ("#ffffff", "#1b1f24"),
+    "text": ("#24292f", "#d0d7de"),
+    "faint": ("#6e7781", "#9aa4af"),
+    "grid": ("#d8dee4", "#3d444d"),
+    "mark": ("#c0392b", "#ff7b72"),
+    "bar": ("#e69f00", "#f0b93a"),
+    "complete": ("#56b4e9", "#9bd3f5"),
+    "gradual": ("#e69f00", "#f0b93a"),
+    "ripple": ("#d55e00", "#f5854a"),
+    "auto": ("#0072b2", "#4ba3e3"),
+}
 CHART_HEIGHT = 240
-LINES = ("#1f4e8c", "#e08214", "#c0392b", "#229954")
 
 
 class ScriptError(Error):
@@ -132,30 +146,46 @@ def keys_in(statements: Iterable[str]) -> tuple[int, int]:
     return min(keys), max(keys) + 1
 
 
-def colour(share: float) -> str:
-    """The colour of a piece with this share of the rows of the largest."""
-    return "#" + "".join(f"{round(light + (dark - light) * share**0.5):02x}" for light, dark in zip(LIGHT, DARK))
+def shade(share: float) -> str:
+    """The class of a piece with this share of the rows of the largest."""
+    return f"shade{round(share**0.5 * (SHADES - 1))}"
 
 
-def words(x: float, y: float, text: str, anchor: str = "start", fill: str = "#333") -> str:
-    return f'<text x="{x:.1f}" y="{y:.1f}" text-anchor="{anchor}" fill="{fill}">{html.escape(text)}</text>'
+def styles() -> str:
+    """The colours of a light page, and those of a dark one."""
+    light, dark = (" ".join(rules(at)) for at in (0, 1))
+    return f"<style>{light} @media (prefers-color-scheme: dark){{{dark}}}</style>"
 
 
-def box(x: float, y: float, width: float, height: float, fill: str, title: str = "") -> str:
+def rules(at: int) -> Iterator[str]:
+    for name, them in COLOURS.items():
+        yield f".{name}{{{'stroke' if name in POLICIES else 'fill'}:{them[at]}}}"
+    first, last = ENDS[at]
+    for step in range(SHADES):
+        mixed = (round(it + (end - it) * step / (SHADES - 1)) for it, end in zip(first, last))
+        yield f".shade{step}{{fill:#{''.join(f'{it:02x}' for it in mixed)}}}"
+
+
+def words(x: float, y: float, text: str, anchor: str = "start", kind: str = "text") -> str:
+    return f'<text class="{kind}" x="{x:.1f}" y="{y:.1f}" text-anchor="{anchor}">{html.escape(text)}</text>'
+
+
+def box(x: float, y: float, width: float, height: float, kind: str, title: str = "") -> str:
     said = f"<title>{html.escape(title)}</title>" if title else ""
-    return (
-        f'<rect x="{x:.1f}" y="{y:.1f}" width="{max(width, 0):.1f}" height="{height:.1f}" fill="{fill}">{said}</rect>'
+    where = f'x="{x:.1f}" y="{y:.1f}" width="{max(width, 0):.1f}" height="{height:.1f}"'
+    return f'<rect class="{kind}" {where}>{said}</rect>'
+
+
+def document(height: int, title: str, parts: Iterable[str]) -> str:
+    box_of_view = f'viewBox="0 0 {WIDTH} {height}"'
+    head = f'<svg xmlns="http://www.w3.org/2000/svg" {box_of_view} font-family="sans-serif" font-size="12" role="img">'
+    return "\n".join(
+        [head, f"<title>{title}</title>", styles(), box(0, 0, WIDTH, height, "page"), *parts, "</svg>\n"]
     )
 
 
-def document(height: int, parts: Iterable[str]) -> str:
-    box_of_view = f'viewBox="0 0 {WIDTH} {height}"'
-    head = f'<svg xmlns="http://www.w3.org/2000/svg" {box_of_view} font-family="sans-serif" font-size="12">'
-    return "\n".join([head, box(0, 0, WIDTH, height, "white"), *parts, "</svg>\n"])
-
-
 def strip(query: Query, top: float, low: int, high: int, rows: int) -> Iterator[str]:
-    """The pieces after a query, each as wide as its keys and darker with more rows; the query's range and its new
+    """The pieces after a query, each as wide as its keys and stronger with more rows; the query's range and its new
     bounds."""
 
     def across(key: int) -> float:
@@ -170,13 +200,13 @@ def strip(query: Query, top: float, low: int, high: int, rows: int) -> Iterator[
                 top,
                 right - left - gap,
                 STRIP,
-                colour(it.rows / rows),
+                shade(it.rows / rows),
                 f"{it.low} to {it.high - 1}: {rows_text(it.rows)}",
             )
-    yield box(across(query.low), top - 3, across(query.high) - across(query.low), 2, MARK)
+    yield box(across(query.low), top - 3, across(query.high) - across(query.low), 2, "mark")
     for bound in query.new_bounds():
         if low < bound < high:
-            yield box(across(bound) - 1, top - 3, 1.4, STRIP + 3, MARK)
+            yield box(across(bound) - 1, top - 3, 1.4, STRIP + 3, "mark")
 
 
 def cracking(queries: Sequence[Query], low: int, high: int) -> str:
@@ -184,21 +214,22 @@ def cracking(queries: Sequence[Query], low: int, high: int) -> str:
     rows = max([1, *(piece.rows for it in queries for piece in it.after.pieces)])
     most = max([1, *(it.work() for it in queries)])
     parts = [words(LEFT, 18, "the column after each query, by key"), words(BAR_LEFT, 18, "rows it cracked or merged")]
-    parts += [words(LEFT, 36, str(low), fill="#777"), words(LEFT + STRIP_WIDTH, 36, str(high - 1), "end", "#777")]
+    parts += [words(LEFT, 36, str(low), kind="faint"), words(LEFT + STRIP_WIDTH, 36, str(high - 1), "end", "faint")]
     for at, it in enumerate(queries):
         top = HEAD + at * ROW
         parts.append(words(LEFT - 10, top + 13, it.text.replace(str(TOP), "end"), "end"))
         parts += strip(it, top, low, high, rows)
         width = it.work() / most * BAR_WIDTH
         parts += [
-            box(BAR_LEFT, top + 2, max(width, 1), STRIP - 4, BAR),
+            box(BAR_LEFT, top + 2, max(width, 1), STRIP - 4, "bar"),
             words(BAR_LEFT + width + 6, top + 13, f"{it.work():,}"),
         ]
     foot = HEAD + len(queries) * ROW + 16
-    parts.append(box(LEFT, foot - 9, 12, 10, colour(1)))
-    parts.append(words(LEFT + 18, foot, "a piece: the darker, the more rows in no order"))
-    parts += [box(LEFT + 310, foot - 6, 22, 2, MARK), words(LEFT + 338, foot, "a query's range and its new bounds")]
-    return document(HEAD + len(queries) * ROW + FOOT, parts)
+    parts.append(box(LEFT, foot - 9, 12, 10, shade(1)))
+    parts.append(words(LEFT + 18, foot, "a piece: the stronger, the more rows in no order"))
+    parts += [box(LEFT + 310, foot - 6, 22, 2, "mark"), words(LEFT + 338, foot, "a query's range and its new bounds")]
+    title = "A column as queries crack it, and how many rows each cracked or merged"
+    return document(HEAD + len(queries) * ROW + FOOT, title, parts)
 
 
 def pending(by_policy: dict[str, list[Query]]) -> str:
@@ -217,21 +248,25 @@ def pending(by_policy: dict[str, list[Query]]) -> str:
     for share in (0, 0.5, 1):
         y = bottom - share * (bottom - top)
         parts += [
-            box(left, y, right - left, 0.7, "#ddd"),
-            words(left - 8, y + 4, f"{round(share * most):,}", "end", "#777"),
+            box(left, y, right - left, 0.7, "grid"),
+            words(left - 8, y + 4, f"{round(share * most):,}", "end", "faint"),
         ]
-    parts += [words(left, bottom + 18, "first query", fill="#777"), words(right, bottom + 18, "last", "end", "#777")]
-    for (name, line), stroke, at in zip(counts.items(), LINES, itertools.count()):
+    parts += [words(left, bottom + 18, "first query", kind="faint"), words(right, bottom + 18, "last", "end", "faint")]
+    for at, (name, line) in enumerate(counts.items()):
         path = "L".join("{:.1f} {:.1f}".format(*place(*it)) for it in enumerate(line))
-        parts.append(f'<path d="M{path}" fill="none" stroke="{stroke}" stroke-width="{3 if at else 7}"/>')
-        parts.append(words(right + 14, top + 16 + at * 20, f"{name}: {line[-1]:,}", fill=stroke))
-    return document(CHART_HEIGHT, parts)
+        y = top + 16 + at * 20
+        # (curves that lie on each other are all seen)
+        parts.append(f'<path class="{name}" d="M{path}" fill="none" stroke-width="{8 - 2 * at}"/>')
+        ends = f'x1="{right + 12}" x2="{right + 28}" y1="{y - 4}" y2="{y - 4}"'
+        parts.append(f'<line class="{name}" {ends} stroke-width="4"/>')
+        parts.append(words(right + 34, y, f"{name}: {line[-1]:,}"))
+    return document(CHART_HEIGHT, "Rows that wait to be merged after each query, under each policy", parts)
 
 
 def options_of(arguments: Sequence[str]) -> argparse.Namespace:
     """The options of the command line."""
     about = "Draws a column as the queries of a script crack it, as SVG on standard output."
-    parser = argparse.ArgumentParser(prog="python3 -m crackd picture", description=about)
+    parser = argparse.ArgumentParser(prog=f"{called()} picture", description=about)
     parser.add_argument("script", metavar="SCRIPT", nargs="?", help="a file of statements, one a line")
     parser.add_argument("splits", metavar="SPLIT", nargs="*", help="where partitions begin")
     parser.add_argument("--csv", metavar="FILE", help="rows to load first, one key,payload a line")

@@ -10,7 +10,7 @@ import socket
 import subprocess
 import sys
 import tempfile
-from typing import Any, Optional, Sequence
+from typing import IO, Any, AnyStr, Optional, Sequence
 
 from .arrays import whole
 from .base import MOST_PARTS, POLICIES, POLICY, parts_for
@@ -33,7 +33,7 @@ class NoServer(Error):
 def find_program(path: Optional[str] = None) -> str:
     """The path of the program: the given one, that of the variable CRACKD, the one built in this checkout, the one on
     PATH, or else the unproved one of this checkout, which a line on standard error reports."""
-    found = path or os.environ.get("CRACKD") or (str(BUILT) if BUILT.exists() else shutil.which("crackd"))
+    found = path or os.environ.get("CRACKD") or (str(BUILT) if BUILT.exists() else program_of_path())
     if found is None and UNPROVED.exists():
         _report_unproved()
         return str(UNPROVED)
@@ -47,6 +47,29 @@ def find_program(path: Optional[str] = None) -> str:
     return str(found)
 
 
+def program_of_path() -> Optional[str]:
+    """The program on PATH. The command that this package installs has its name, but is a script."""
+    for folder in os.get_exec_path():
+        found = shutil.which("crackd", path=folder)
+        if found is not None and not is_script(found):
+            return found
+    return None
+
+
+def called() -> str:
+    """How this package's command was called."""
+    return "crackd" if os.path.basename(sys.argv[0]) == "crackd" else "python3 -m crackd"
+
+
+def is_script(path: str) -> bool:
+    """Whether a file begins as scripts do."""
+    try:
+        with open(path, "rb") as file:
+            return file.read(2) == b"#!"
+    except OSError:
+        return False
+
+
 @functools.cache
 def _report_unproved() -> None:
     """Says once that the program that is used isn't proved."""
@@ -56,7 +79,13 @@ def _report_unproved() -> None:
 def free_port() -> int:
     with socket.socket() as it:
         it.bind(("127.0.0.1", 0))
-        return it.getsockname()[1]
+        return int(it.getsockname()[1])
+
+
+def output_of(process: subprocess.Popen[AnyStr]) -> IO[AnyStr]:
+    """What a process writes, which was begun with a pipe for it."""
+    assert process.stdout is not None
+    return process.stdout
 
 
 class Server:
@@ -67,7 +96,7 @@ class Server:
         for _ in range(TRIES):
             self.port = free_port()
             self._start(command)
-            if self._process.stdout.readline() == f"listening {self.port}\n".encode("ascii"):
+            if output_of(self._process).readline() == f"listening {self.port}\n".encode("ascii"):
                 return
             complaint = self._complaint()
             # (another program may have taken the port in the meantime)
@@ -80,9 +109,11 @@ class Server:
         # (a server that writes much would wait for a pipe)
         self._errors = tempfile.TemporaryFile()
         # (the server ends with its input, so it does when this process is killed)
-        how = {"stdin": subprocess.PIPE, "stdout": subprocess.PIPE, "stderr": self._errors, "start_new_session": True}
+        pipe = subprocess.PIPE
         try:
-            self._process = subprocess.Popen(words, **how)
+            self._process = subprocess.Popen(
+                words, stdin=pipe, stdout=pipe, stderr=self._errors, start_new_session=True
+            )
         except OSError as error:
             self._errors.close()
             raise NoServer(f"{command[0]}: {error.strerror}") from error
@@ -105,7 +136,8 @@ class Server:
 
         A server serves as many at a time as it has workers; further ones wait.
         """
-        return connect("127.0.0.1", self.port, **{"key_type": self._keys, "policy": self._policy, **options})
+        given: dict[str, Any] = {"key_type": self._keys, "policy": self._policy, **options}
+        return connect("127.0.0.1", self.port, **given)
 
     def close(self) -> None:
         """Ends the server and its table. A second call does nothing."""
@@ -135,12 +167,20 @@ class Server:
 
 
 def splits_of(
-    keys: Keys, sample: Any, rows: Optional[int], partitions: Optional[int], splits: Optional[Sequence[Any]]
+    keys: Keys,
+    sample: Any,
+    rows: Optional[int],
+    partitions: Optional[int],
+    splits: Optional[Sequence[Any]],
+    shards: Optional[int] = None,
+    by_default: int = 1,
 ) -> list[int]:
     """Where a table's keys are divided, as numbers: at these splits, or else at quantiles of a sample, so that
-    partitions get about equally many of the rows."""
-    if partitions is not None and not 1 <= whole(partitions, "partitions") <= MOST_PARTS:
-        raise ValueError(f"partitions must be 1 to {MOST_PARTS}, not {partitions}")
+    partitions get about equally many of the rows. A shard has up to 64 of them; there are these shards, or so many by
+    default."""
+    most = MOST_PARTS * (shards or 1)
+    if partitions is not None and not 1 <= whole(partitions, "partitions") <= most:
+        raise ValueError(f"partitions must be 1 to {most}, not {partitions}")
     if splits is not None:
         if partitions not in (None, len(splits) + 1):
             raise ValueError(f"{len(splits)} splits make {len(splits) + 1} partitions, not {partitions}")
@@ -149,7 +189,8 @@ def splits_of(
         if partitions not in (None, 1):
             raise ValueError(f"{partitions} partitions need a sample of the keys, or splits")
         return []
-    count = partitions or parts_for(len(sample) if rows is None else rows)
+    divided = shards or by_default
+    count = partitions or divided * parts_for((len(sample) if rows is None else rows) // divided)
     return quantiles(keys.many(sample), count) if count > 1 else []
 
 
@@ -166,12 +207,31 @@ def serve(
     cells: Optional[int] = None,
     program: Optional[str] = None,
 ) -> Server:
-    """Starts `crackd serve` as a child of this process, with an empty table for about `rows` rows whose keys look like
-    those of `sample`.
+    """Starts `crackd serve` as a child of this process, with an empty table. It ends with the block of a `with`.
 
-    In a `with` the server ends with the block. `workers`, 1 to 64, is how many connections it serves at a time.
-    `history` and `cells` are the limits of each partition, which empties its history when that is full. `program` is
-    the path of crackd. The other options are those of `Table`.
+    Parameters
+    ----------
+    sample : array_like, optional
+        Keys that look like those of the table, which have its type.
+    rows : int, optional
+        About how many rows it will have; by default the length of the sample.
+    key_type, partitions, splits, policy
+        Those of `Table`.
+    workers : int, optional
+        How many connections it serves at a time, 1 to 64.
+    history, cells : int, optional
+        The limits of each partition, which empties its history when that is full.
+    program : str, optional
+        The path of crackd.
+
+    Returns
+    -------
+    Server
+
+    Raises
+    ------
+    NoServer
+        If the program isn't found, or can't be started.
     """
     if policy not in POLICIES:
         raise ValueError(f"policy must be one of {', '.join(POLICIES)}, not {policy}")

@@ -6,15 +6,18 @@ Keys are numbers here, as `crackd.keys` makes them.
 from __future__ import annotations
 
 import asyncio
+import functools
 import os
 import pathlib
 import uuid
-from typing import Any, Callable, Iterator, NamedTuple, Sequence
+from typing import Any, Callable, NamedTuple, Sequence
 
 from .arrays import TOP, ints, np
 from .errors import Error
 from .keys import Keys
-from .table import Table as LocalTable
+from .local import LocalShard
+from .routing import blocks_of, shard_of
+from .saved import BadSave, row_dtype
 
 MISSING = "crackd.cluster needs numpy and dask.distributed: pip install numpy distributed"
 if np is None:
@@ -40,10 +43,6 @@ class ShardFailed(Error):
     answers: Any = None
 
 
-class BadSave(Error, ValueError):
-    """What is read isn't what was saved."""
-
-
 class LoadFailed(Error):
     """A task that loads rows can't reach a shard."""
 
@@ -58,18 +57,18 @@ class LoadFailed(Error):
 class Shard:
     """One shard, an actor on its worker. Each answer comes with the token of the shard that gives it."""
 
-    def __init__(self, kind: Keys, cuts: Sequence[int], options: dict):
+    def __init__(self, kind: Keys, cuts: Sequence[int], options: dict[str, Any]):
         self.token = uuid.uuid4().hex
         self.kind = kind
-        self.table = LocalTable(key_type="uint64", splits=cuts, **options)
+        self.rows = LocalShard(cuts, **options)
         self.loaded: set[int] = set()
 
-    def ask(self, name: str, words: tuple) -> tuple[str, Any]:
-        """The answer of a method of this shard, or else of its table."""
+    def ask(self, name: str, words: tuple[Any, ...]) -> tuple[str, Any]:
+        """The answer of a method of this shard, or else of its rows."""
         # (an array that came over the network may lie at any address)
         words = tuple(np.require(it, requirements="CA") if isinstance(it, np.ndarray) else it for it in words)
         try:
-            return self.token, getattr(self if name in ("begin", "load", "save") else self.table, name)(*words)
+            return self.token, getattr(self if name in ("begin", "load", "save") else self.rows, name)(*words)
         except Error:
             raise
         except Exception as error:
@@ -77,14 +76,14 @@ class Shard:
 
     def begin(self) -> int:
         """How many partitions the shard has."""
-        return self.table.partitions
+        return self.rows.partitions
 
     def load(self, token: str, number: int, keys: Any, payloads: Any) -> None:
         """Places the rows of a block, once: Dask runs a task again when it loses the worker that ran it."""
         if token != self.token:
             raise ShardFailed("its worker was restarted")
         if number not in self.loaded:
-            self.table._insert_many(keys, payloads)
+            self.rows.insert_many(keys, payloads)
             self.loaded.add(number)
 
     def save(self, path: str) -> tuple[int, int]:
@@ -99,56 +98,26 @@ class Shard:
         return saved
 
     def _write(self, part: pathlib.Path) -> tuple[int, int]:
-        rows, total = self.table.count(), 0
+        count, total = self.rows.count(0, TOP - 1), 0
         dtype = row_dtype(self.kind)
-        head = {"descr": np.lib.format.dtype_to_descr(dtype), "fortran_order": False, "shape": (rows,)}
-        ends = [0, *self.table._cuts, TOP]
+        head = {"descr": np.lib.format.dtype_to_descr(dtype), "fortran_order": False, "shape": (count,)}
+        ends = [0, *self.rows.cuts, TOP]
         with open(part, "wb") as file:
             np.lib.format.write_array_header_1_0(file, head)
             for low, high in zip(ends, ends[1:]):
-                got = self.table.select(low, high)
-                block = np.empty(len(got.keys), dtype)
-                block["key"], block["payload"] = self.kind.back(got.keys), got.payloads
-                total += exact_sum(got.payloads)
+                _, keys, payloads = self.rows.select(low, high - 1)
+                block = np.empty(len(keys), dtype)
+                block["key"], block["payload"] = self.kind.back(keys), payloads
+                total += exact_sum(payloads)
                 file.write(block.tobytes())
             file.flush()
             os.fsync(file.fileno())
-        return rows, total
-
-
-def row_dtype(kind: Keys) -> Any:
-    """The type of the rows in a file."""
-    return np.dtype([("key", kind.name), ("payload", "int64")])
+        return count, total
 
 
 def exact_sum(payloads: Any) -> int:
     """The sum of payloads, whatever its size, by halves that fit into 64 bits."""
     return (int((payloads >> 32).sum()) << 32) + int((payloads & 0xFFFFFFFF).sum())
-
-
-# Dividing rows by shard
-
-
-class Block(NamedTuple):
-    """Rows of one shard: their places among all given rows, in order."""
-
-    shard: int
-    places: Any
-
-
-def shard_of(cuts: Any, keys: Any) -> Any:
-    """The shard of each key."""
-    return np.searchsorted(cuts, keys, side="right")
-
-
-def blocks_of(shards: Any) -> Iterator[Block]:
-    """The rows of each shard, of the shards of all rows."""
-    # (numbers of 16 bits are sorted by radix, in linear time)
-    order = np.argsort(shards.astype(np.uint16), kind="stable")
-    counts = np.bincount(shards) if len(shards) else np.empty(0, np.int64)
-    ends = np.cumsum(counts)
-    for shard in np.flatnonzero(counts).tolist():
-        yield Block(shard, order[ends[shard] - counts[shard] : ends[shard]])
 
 
 def waited(future: Any, is_there: Callable[[], bool]) -> Any:
@@ -178,6 +147,11 @@ class Place(NamedTuple):
     token: str
 
 
+def is_there(place: Place) -> bool:
+    """Whether a shard is where it was started, for a task."""
+    return has_actor(get_client(), place.address, place.key)
+
+
 def load_rows(number: int, keys: Any, payloads: Any, places: Sequence[Place], cuts: Any) -> int:
     """Sends the rows of block `number` from this worker to their shards. Returns how many they are."""
     worker = get_worker()
@@ -187,8 +161,9 @@ def load_rows(number: int, keys: Any, payloads: Any, places: Sequence[Place], cu
         words = place.token, number, keys[rows], payloads[rows]
         waiting.append((shard, Actor(Shard, place.address, place.key, worker=worker).ask("load", words)))
     for shard, future in waiting:
+        has_shard = functools.partial(is_there, places[shard])
         try:
-            waited(future, lambda place=places[shard]: has_actor(get_client(), place.address, place.key))
+            waited(future, has_shard)
         except Error:
             raise
         except Exception as error:

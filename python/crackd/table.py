@@ -2,34 +2,52 @@
 
 from __future__ import annotations
 
-import array
-import threading
-from ctypes import byref, c_int64, c_uint8, c_uint32, c_uint64
-from typing import Any, Iterator, Optional, Sequence
+from bisect import bisect_right
+from functools import partial
+from typing import Any, Callable, Optional, Sequence
 
-from .arrays import TOP, address, empty, from_ints, np, plain, whole
-from .base import POLICIES, POLICY, SERIAL, SHIFT, AnyTable
-from .errors import Closed, refused
+from .arrays import np, whole
+from .base import POLICIES, POLICY, SHIFT
+from .errors import Error, Refused, refused
 from .keys import Keys, kind_of
-from .layout import PartLayout, Piece
-from .library import Handle, Totals, library
+from .library import library
+from .local import HISTORY, MOST_CELLS, LocalShard
+from .makers import TableHere
+from .placed import Placed, PlacedInShards, PlacedInTurn, Taken, rows_of, telling
+from .pool import processors, run_in_turn, run_side_by_side
+from .primitives import Answer, Steps
+from .progress import pieces_of, reporter
+from .routing import IN_SHARD, MOST_SHARDS, SHARD_SHIFT, Cut, Sharded, checked_splits, placed_rows, shard_of
+from .rows import Row, row_of
 from .server import splits_of
+from .typed import Progress, RowNumbers, Self
 
-HISTORY = 65_536
-MOST_CELLS = 1_048_576
-MOST_LIFE = 1 << 40
-# (a history keeps the rows that selects listed, so it is emptied before these are many more than the table's rows)
-LISTED = 100_000
-CLOSED = 101
-ARRAYS = (array.array,) if np is None else (array.array, np.ndarray)
+# a table has by default a shard for this many rows, and no more than these or than processors
+ROWS_A_SHARD = 50_000
+MOST_BY_DEFAULT = 16
+# how many keys of an array are drawn as a sample
+SAMPLED = 10_000
+# how many items a call for many has if its shards answer side by side, and how many rows a table has for other calls
+LONG = {"place_many": 2000, "delete_many": 2000, "update_many": 2000, "count_many": 200, "sum_many": 200}
+LONG_BY_ROWS = ("select", "settle", "checkpoint", "layouts")
+MANY_ROWS = 20_000
+# up to so many items are cheaper one by one than cut by shard
+FEW_ITEMS = 32
+# what a table with one shard has that shard do
+ALONE = ["insert", "delete", "update", "count", "sum", "select", "settle", "checkpoint", "rows", "check_open"]
+ALONE += ["delete_many", "update_many", "count_many", "sum_many"]
 
 
-class Table(AnyTable):
+class Table(TableHere, Sharded):
     """A table in this process.
 
     Its histories are emptied as they fill. Calls run without the interpreter's lock, so other threads go on meanwhile.
-    `partitions` is how many it has.
+    It has `shards`, each of which has a range of the keys and answers one call at a time; those that a call for many
+    meets answer side by side. `partitions` is how many partitions they have. `row_numbers` of a table that was made of
+    arrays, a frame or a file has the numbers of its rows, in their order there.
     """
+
+    row_numbers: RowNumbers
 
     def __init__(
         self,
@@ -37,270 +55,338 @@ class Table(AnyTable):
         rows: Optional[int] = None,
         *,
         key_type: Any = None,
+        shards: Optional[int] = None,
         partitions: Optional[int] = None,
         splits: Optional[Sequence[Any]] = None,
         policy: str = POLICY,
         history: int = HISTORY,
         cells: int = MOST_CELLS,
     ):
-        """An empty table for about `rows` rows whose keys look like those of `sample`, and have its type.
+        """An empty table.
 
-        `rows` is by default the length of the sample. `key_type` gives the type if there is no sample: "int64" by
-        default, "uint64", "float64", "datetime64[s]" .. There are `partitions` of them, 1 to 64, by default one for
-        each 4,096 rows; quantiles of the sample divide the keys, or `splits` does. Without either there is one.
-        `policy` says how rows are merged, `history` after how many commands a partition's history is emptied, and
-        `cells` how many rows a partition may have.
+        Parameters
+        ----------
+        sample : array_like, optional
+            Keys that look like those of the table, which have their type.
+        rows : int, optional
+            About how many rows it will have; by default the length of the sample.
+        key_type : str or type, optional
+            The type of the keys: that of the sample, or else by default "int64"; "uint64", "float64",
+            "datetime64[s]" ..
+        shards : int, optional
+            In how many shards the partitions are: by default one for each 50,000 rows, at most one for each processor,
+            and 16. There are never more than partitions.
+        partitions : int, optional
+            How many there are, 1 to 64 for each shard: by default one for each 4,096 rows, between quantiles of the
+            sample. Without a sample there is one.
+        splits : array_like, optional
+            Where the keys are divided, in place of a sample.
+        policy : str, optional
+            How rows are merged: "auto", "complete", "gradual" or "ripple".
+        history : int, optional
+            After how many commands a partition's history is emptied.
+        cells : int, optional
+            How many rows a partition may have.
         """
         if policy not in POLICIES:
             raise ValueError(f"policy must be one of {', '.join(POLICIES)}, not {policy}")
-        self._handle = Handle()
-        self._library, self._ref, self._lock = library(), byref(self._handle), threading.RLock()
-        self._keys, self._policy = kind_of(sample) if key_type is None else Keys.named(key_type), POLICIES.index(policy)
-        cuts = splits_of(self._keys, sample, rows, partitions, splits)
-        limits = [it if 0 <= it < TOP else 0 for it in (whole(history, "history"), whole(cells, "cells"), MOST_LIFE)]
-        self._check(self._run(self._library.open, from_ints("Q", cuts, "splits"), *limits))
-        self.partitions, self._cuts = len(cuts) + 1, cuts
-        # (about how many rows were inserted and not deleted, and how many rows selects listed since the last
-        # checkpoints)
-        self._held = self._listed = 0
-        # (where the library writes the rows that single deletes remove)
-        self._removed = byref(c_uint64()), byref(c_int64())
+        library()
+        self._keys, self._policy = kind_of(sample) if key_type is None else Keys.named(key_type), policy
+        has_ends = len(sample) > 0 or splits is not None
+        count = self._shards_for(len(sample) if rows is None else rows, shards, has_ends or partitions == 1)
+        cuts = splits_of(self._keys, sample, rows, partitions, splits, shards, count)
+        options = {"policy": policy, "history": whole(history, "history"), "cells": whole(cells, "cells")}
+        self._open(cuts, min(count, len(cuts) + 1), options)
+
+    @staticmethod
+    def _shards_for(rows: int, shards: Optional[int], is_divided: bool) -> int:
+        """How many shards a table for these rows has, if it has as many partitions."""
+        if shards is None:
+            return 1 if np is None else max(1, min(rows // ROWS_A_SHARD, processors(), MOST_BY_DEFAULT))
+        if not 1 <= whole(shards, "shards") <= MOST_SHARDS:
+            raise ValueError(f"shards must be 1 to {MOST_SHARDS}, not {shards}")
+        if shards > 1 and np is None:
+            raise ValueError("several shards need numpy")
+        if shards > 1 and not is_divided:
+            raise ValueError(f"{shards} shards need a sample of the keys, or splits")
+        return shards
+
+    def _open(self, cuts: list[int], shards: int, options: dict[str, Any]) -> None:
+        """Opens shards, which have about equally many of the partitions between these splits."""
+        if shards > 1:
+            checked_splits(np.array(cuts, np.uint64))
+        self.shards, self.partitions = shards, len(cuts) + 1
+        # (the first partition of each shard, and the end of the last)
+        begins = [self.partitions * it // shards for it in range(shards + 1)]
+        self._starts = [cuts[it - 1] for it in begins[1:-1]]
+        self._shards: list[LocalShard] = []
+        try:
+            for begin, end in zip(begins, begins[1:]):
+                self._shards.append(LocalShard(cuts[begin : end - 1], **options))
+        except BaseException:
+            self.close()
+            raise
+        if shards == 1:
+            # (nothing is routed)
+            vars(self).update((f"_{name}", getattr(self._shards[0], name)) for name in ALONE)
+        else:
+            self._shard_cuts = np.array(self._starts, np.uint64)
+            self._parts = np.array([*(it.partitions for it in self._shards), 0], np.uint64)
 
     @classmethod
-    def from_arrays(cls, keys: Any, payloads: Any = None, **options: Any) -> "Table":
-        """A table of these rows, all merged. Without payloads they are 0, 1, 2 ..
+    def from_arrays(cls, keys: Any, payloads: Any = None, *, progress: Progress = None, **options: Any) -> Self:
+        """A table of these rows, all merged.
 
-        `row_numbers` of the table has the numbers of the rows, in the order of the arrays.
+        Parameters
+        ----------
+        keys : array_like
+        payloads : array_like, optional
+            By default 0, 1, 2 ..
+        progress : bool or callable, optional
+            Whether to report how far it is: on standard error, or by calls with the numbers of rows done and of all.
+        **options
+            Those of `Table`.
+
+        Returns
+        -------
+        Table
+            `row_numbers` has the numbers of the rows, in the order of the arrays.
         """
         if not hasattr(keys, "__len__"):
             keys = list(keys)
-        table = cls(keys, len(keys), **options)
+        # (of a long array only those keys are mapped here that are looked at)
+        sample = keys[:: max(1, len(keys) // SAMPLED)] if np is not None and isinstance(keys, np.ndarray) else keys
+        table = cls(sample, len(keys), **options)
+        if payloads is None:
+            payloads = range(len(keys)) if np is None else np.arange(len(keys))
         try:
-            table.row_numbers = table.insert_many(keys, range(len(keys)) if payloads is None else payloads)
+            table.row_numbers = table.insert_rows(keys, payloads, progress=progress)
             table.settle()
         except BaseException:
             table.close()
             raise
         return table
 
-    def _run(self, call: Any, *words: Any) -> int:
-        """Calls a function of the library with numbers, pointers and arrays, which stay until it returns. Returns the
-        status."""
-        flat: list = []
-        for it in words:
-            flat.extend(address(it) if isinstance(it, ARRAYS) else (it,))
-        with self._lock:
-            return call(self._ref, *flat)
+    @property
+    def policy(self) -> str:
+        """How rows are merged."""
+        return self._policy
 
-    def _check(self, code: int, done: int = 0) -> None:
-        if code:
-            raise Closed("the table is closed") if code == CLOSED else refused(code, done)
+    # Inserting rows
 
-    def _check_open(self) -> None:
-        with self._lock:
-            if not self._handle.is_open:
-                raise Closed("the table is closed")
+    @telling
+    def insert_many(self, placed: list[Any], keys: Any, payloads: Any) -> RowNumbers:
+        return self._place(placed, *self._row_words(keys, payloads))
 
-    def _leave(self) -> None:
-        super()._leave()
-        # (the parent's memory isn't freed here, since another of its threads may have been changing it)
-        self._handle = Handle()
-        self._ref = byref(self._handle)
+    @telling
+    def _insert_many(self, placed: list[Any], keys: Any, payloads: Any) -> RowNumbers:
+        return self._place(placed, keys, payloads)
 
-    def _insert(self, key: int, payload: int) -> int:
-        part, serial = c_uint32(), c_uint64()
-        with self._lock:
-            self._check(self._library.insert(self._ref, key, payload, byref(part), byref(serial)))
-            self._held += 1
-        return part.value << SHIFT | serial.value
+    @telling
+    def insert_rows(self, placed: list[Any], keys: Any, payloads: Any, *, progress: Progress = None) -> RowNumbers:
+        report, (numbers, payloads) = reporter(progress), self._row_words(keys, payloads)
+        if report is None:
+            return self._place(placed, numbers, payloads)
+        for at, end in pieces_of(len(numbers)):
+            try:
+                self._place(placed, numbers[at:end], payloads[at:end])
+            except Refused as error:
+                raise refused(error.code, at + error.done, error.later) from None
+            report(end, len(numbers))
+        return rows_of(placed)
 
-    def _delete(self, row: int) -> bool:
-        gone = c_uint8()
-        with self._lock:
-            self._check(self._library.delete(self._ref, row >> SHIFT, row & SERIAL, byref(gone), *self._removed))
-            self._held -= gone.value
-        return gone.value == 1
-
-    def _update(self, row: int, key: int, payload: int) -> bool:
-        found = c_uint8()
-        with self._lock:
-            self._check(self._library.update(self._ref, row >> SHIFT, row & SERIAL, key, payload, byref(found)))
-        return found.value == 1
-
-    def _insert_many(self, keys: Any, payloads: Any) -> Any:
-        parts, serials, done = empty("I", len(keys)), empty("Q", len(keys)), c_uint64()
-        # (after a refusal there may be no memory for the row numbers)
-        rows = empty("Q", len(keys))
-        try:
-            with self._lock:
-                code = self._run(self._library.insert_many, keys, payloads, parts, serials, byref(done))
-                self._held += done.value
-            self._check(code, done.value)
-            return _joined(parts, serials, rows)
-        except BaseException as error:
-            # (a signal is noticed once the library has returned, and its handler may raise anything)
-            error.answers = _joined(*(it[: done.value] for it in (parts, serials, rows)))
-            raise
-
-    def _delete_many(self, rows: Any) -> Any:
-        (parts, serials), found, done = _parted(rows), empty("B", len(rows)), c_uint64()
-        with self._lock:
-            code = self._run(self._library.delete_many, parts, serials, found, byref(done))
-            self._held -= sum(plain(found[: done.value])) if np is None else int(found[: done.value].sum())
-        self._check(code, done.value)
-        return found
-
-    def _update_many(self, rows: Any, keys: Any, payloads: Any) -> Any:
-        (parts, serials), found, done = _parted(rows), empty("B", len(rows)), c_uint64()
-        self._check(
-            self._run(self._library.update_many, parts, serials, keys, payloads, found, byref(done)), done.value
-        )
-        return found
-
-    def _count(self, first: int, last: int) -> int:
-        count = c_uint64()
-        with self._lock:
-            self._check(self._library.count(self._ref, self._policy, first, last, byref(count)))
-        return count.value
-
-    def _sum(self, first: int, last: int) -> int:
-        low, high = c_uint64(), c_int64()
-        with self._lock:
-            self._check(self._library.sum(self._ref, self._policy, first, last, byref(low), byref(high)))
-        return low.value + (high.value << 64)
-
-    def _count_many(self, firsts: Any, lasts: Any) -> Any:
-        counts = self._ask_many(firsts, lasts, ("Q",))[0]
-        return counts.view(np.int64) if np is not None else counts
-
-    def _sum_many(self, firsts: Any, lasts: Any) -> list[int]:
-        lows, highs = self._ask_many(firsts, lasts, ("Q", "q"))
-        return [low + (high << 64) for low, high in zip(plain(lows), plain(highs))]
-
-    def _ask_many(self, firsts: Any, lasts: Any, codes: Sequence[str]) -> list:
-        """The answers for many ranges, a list for each code. An empty range isn't asked, and its answer is 0."""
-        whole, size, done = _not_empty(firsts, lasts), len(firsts), c_uint64()
-        if whole is not None:
-            firsts, lasts = _picked("Q", firsts, whole), _picked("Q", lasts, whole)
-        answers = [empty(code, len(firsts)) for code in codes]
-        call = self._library.count_many if len(codes) == 1 else self._library.sum_many
-        code = self._run(call, self._policy, firsts, lasts, *answers, byref(done))
-        if whole is not None and done.value < len(whole):
-            # (the empty ranges before the refused one are done as well)
-            done.value = int(whole[done.value])
-        self._check(code, done.value)
-        return answers if whole is None else [_spread(code, it, whole, size) for code, it in zip(codes, answers)]
-
-    def _select(self, first: int, last: int) -> tuple[Any, Any, Any]:
-        found = c_uint64()
-        with self._lock:
-            room = self._count(first, last)
-            while True:
-                lists = empty("I", room), empty("Q", room), empty("Q", room), empty("q", room)
-                self._check(self._run(self._library.select, self._policy, first, last, *lists, byref(found)))
-                self._listed += found.value
-                if self._listed > self._held + LISTED:
-                    self._fold()
-                # (a handler of a signal may have changed the table after the count)
-                if found.value == room:
-                    break
-                room = found.value
-        return _joined(lists[0], lists[1]), lists[2], lists[3]
-
-    def _settle(self) -> None:
-        count = c_uint64()
-        with self._lock:
-            self._check(self._library.count(self._ref, POLICIES.index("complete"), 0, TOP - 1, byref(count)))
-
-    def _checkpoint(self) -> int:
-        with self._lock:
-            return self._fold()
-
-    def _fold(self) -> int:
-        folded, each, self._listed = 0, c_uint64(), 0
-        for part in range(self.partitions):
-            self._check(self._library.checkpoint(self._ref, part, byref(each)))
-            folded += each.value
-        return folded
-
-    def _rows(self) -> int:
-        totals, rows = Totals(), 0
-        with self._lock:
-            for part in range(self.partitions):
-                self._check(self._run(self._library.layout, part, byref(totals), empty("Q", 0), empty("Q", 0)))
-                rows += totals.rows
+    def _place(self, placed: list[Any], keys: Any, payloads: Any) -> RowNumbers:
+        """Inserts rows. Returns their numbers. Before any is placed, it is added to the list where they will be."""
+        if self.shards == 1:
+            placed.append(Placed(len(keys)))
+            return self._shards[0].place_many(keys, payloads, placed[-1])
+        if len(keys) <= FEW_ITEMS:
+            return self._place_in_turn(placed, keys, payloads)
+        found = PlacedInShards(shard_of(self._shard_cuts, keys))
+        placed.append(found)
+        cuts = {it: Cut((keys, payloads), places, (found.each[it],)) for it, places in found.blocks}
+        answers, errors = self._ask(cuts, "place_many")
+        if errors:
+            raise found.error(errors)
+        rows: RowNumbers = placed_rows(found.blocks, answers, len(keys))
         return rows
 
-    def _layouts(self) -> Iterator[PartLayout]:
-        with self._lock:
-            for part in range(self.partitions):
-                yield self._layout(part)
+    def _place_in_turn(self, placed: list[Any], keys: Any, payloads: Any) -> RowNumbers:
+        keys, payloads = keys.tolist(), payloads.tolist()
+        found = PlacedInTurn([bisect_right(self._starts, it) for it in keys])
+        placed.append(found)
+        if not keys:
+            self._check_open()
+        for at, it in enumerate(found.each):
+            try:
+                self._shards[it.shard].place(keys[at], payloads[at], it)
+            except Refused as error:
+                raise refused(error.code, at) from None
+        return found.rows()
 
-    def _layout(self, part: int) -> PartLayout:
-        totals, room = Totals(), 0
-        while True:
-            lows, sizes = empty("Q", room), empty("Q", room)
-            self._check(self._run(self._library.layout, part, byref(totals), lows, sizes))
-            if totals.pieces == room:
-                break
-            room = totals.pieces
-        begins = plain(lows)
-        ends = [*begins[1:], *self._cuts[part : part + 1]] if part < len(self._cuts) else [*begins[1:], TOP]
-        pieces = tuple(map(Piece, begins, ends, plain(sizes)))
-        return PartLayout(part, *(getattr(totals, name) for name, _ in Totals._fields_[:6]), pieces, self._keys)
+    # Moving rows
+
+    @telling
+    def move(self, placed: list[Any], row: int, key: Any) -> Optional[int]:
+        number, new, taken = row_of(row), self._keys.one(key), Taken()
+        shards = sorted((min(number >> SHARD_SHIFT, self.shards - 1), bisect_right(self._starts, new)))
+        told: Any = None
+        with self._shards[shards[0]].alone(), self._shards[shards[1]].alone():
+            try:
+                try:
+                    self._with_row(number).take_into(number & IN_SHARD, taken)
+                    return None if taken.row is None else self._place_one(placed, new, taken.row[1])
+                except BaseException as error:
+                    self._put_back(placed, taken, error)
+                    told = error
+                    raise
+            except BaseException as error:
+                # (a signal may have come while the row was put back)
+                if error is not told:
+                    self._put_back(placed, taken, error)
+                # (else the error would refer to itself)
+                told = None
+                raise
+
+    def _place_one(self, placed: list[Any], key: int, payload: int) -> int:
+        found = PlacedInTurn([bisect_right(self._starts, key)])
+        placed.append(found)
+        it = found.each[0]
+        self._shards[it.shard].place(key, payload, it)
+        return it.row
+
+    def _put_back(self, placed: list[Any], taken: Taken, error: Any) -> None:
+        """Inserts a row that was taken, if it isn't placed. The error gets it."""
+        if taken.row is None:
+            return
+        key, payload = taken.row
+        error.row = Row(self._keys.back_one(key), payload)
+        if not len(rows_of(placed)):
+            try:
+                self._place_one(placed, key, payload)
+            except Error:
+                pass
+
+    # Asking shards
+
+    def _alone_steps(self, steps: Steps[Answer]) -> Steps[Answer]:
+        # (the shards then answer this thread alone, in turn)
+        return holding([it.alone() for it in self._shards], steps)
+
+    def _check_open(self) -> None:
+        self._shards[0].check_open()
+
+    def _memory(self) -> int:
+        return sum(it.memory() for it in self._shards)
+
+    def _gather(self, cuts: dict[int, Cut], name: str, answers: dict[int, Any], errors: dict[int, Error]) -> None:
+        if not cuts:
+            self._check_open()
+        jobs = {it: partial(_answer, self._shards[it], name, cut) for it, cut in cuts.items()}
+        # (a shard whose call a handler of a signal interrupts answers that thread alone)
+        is_short = len(jobs) < 2 or not self._is_long(name, cuts) or any(self._shards[it].is_asking for it in cuts)
+        (run_in_turn if is_short else run_side_by_side)(jobs, answers, errors)
+
+    def _is_long(self, name: str, cuts: dict[int, Cut]) -> bool:
+        """Whether a call takes long enough for several threads."""
+        if name == "select" and len(cuts) == 2:
+            # (no shard is met as a whole, so there may be few rows)
+            return sum(self._shards[it].count(*cut.columns) for it, cut in cuts.items()) >= MANY_ROWS
+        if name in LONG_BY_ROWS:
+            return sum(self._shards[it].held for it in cuts) >= MANY_ROWS
+        return sum(cut.items for cut in cuts.values()) >= LONG[name] if name in LONG else False
+
+    def _ends_of(self, shard: int) -> tuple[int, int]:
+        # (integers of Python, also without numpy)
+        ends = [0, *self._starts, 1 << 64]
+        return ends[shard], ends[shard + 1]
+
+    def _met(self, first: int, last: int) -> range:
+        return range(bisect_right(self._starts, first), bisect_right(self._starts, last) + 1)
+
+    def _with_row(self, row: int) -> LocalShard:
+        """The shard of a row number."""
+        if row >> SHARD_SHIFT < self.shards:
+            return self._shards[row >> SHARD_SHIFT]
+        self._check_open()
+        raise refused(5)
+
+    # What a table of several shards does
+
+    def _insert(self, key: int, payload: int) -> int:
+        shard = bisect_right(self._starts, key)
+        return self._shards[shard].insert(key, payload) | shard << SHARD_SHIFT
+
+    def _delete(self, row: int) -> bool:
+        return self._with_row(row).delete(row & IN_SHARD)
+
+    def _update(self, row: int, key: int, payload: int) -> bool:
+        shard = self._with_row(row)
+        if bisect_right(self._starts, key) == row >> SHARD_SHIFT:
+            return shard.update(row & IN_SHARD, key, payload)
+        shard.check_open()
+        raise refused(4 if (row & IN_SHARD) >> SHIFT < shard.partitions else 5)
+
+    def _count(self, first: int, last: int) -> int:
+        low, high = bisect_right(self._starts, first), bisect_right(self._starts, last)
+        if low == high:
+            return self._shards[low].count(first, last)
+        return sum(self._shards[it].count(*ends) for it, *ends in self._asked(first, last))
+
+    def _sum(self, first: int, last: int) -> int:
+        low, high = bisect_right(self._starts, first), bisect_right(self._starts, last)
+        if low == high:
+            return self._shards[low].sum(first, last)
+        return sum(self._shards[it].sum(*ends) for it, *ends in self._asked(first, last))
+
+    def _delete_many(self, rows: Any) -> Any:
+        few = len(rows) <= FEW_ITEMS
+        return np.array(self._each([], self._delete, rows), np.uint8) if few else super()._delete_many(rows)
+
+    def _update_many(self, rows: Any, keys: Any, payloads: Any) -> Any:
+        if len(rows) > FEW_ITEMS:
+            return super()._update_many(rows, keys, payloads)
+        return np.array(self._each([], self._update, rows, keys, payloads), np.uint8)
+
+    def _count_many(self, firsts: Any, lasts: Any) -> Any:
+        few = len(firsts) <= FEW_ITEMS
+        counts = self._each([], self._count, firsts, lasts) if few else super()._count_many(firsts, lasts)
+        return np.asarray(counts, np.int64)
+
+    def _sum_many(self, firsts: Any, lasts: Any) -> list[int]:
+        few = len(firsts) <= FEW_ITEMS
+        return self._each([], self._sum, firsts, lasts) if few else super()._sum_many(firsts, lasts)
+
+    def _each(self, answers: list[Any], call: Callable[..., Any], *columns: Any) -> list[Any]:
+        """Adds the answer of a call for each item of these arrays. A refusal says how many there are."""
+        if not len(columns[0]):
+            self._check_open()
+        for words in zip(*(it.tolist() for it in columns)):
+            try:
+                answers.append(call(*words))
+            except Refused as error:
+                raise refused(error.code, len(answers)) from None
+        return answers
 
     def close(self) -> None:
         """Frees all that the table took. A second call does nothing."""
-        with self._lock:
-            if self._handle.is_open:
-                self._library.close(self._ref)
-
-    def __del__(self) -> None:
-        if getattr(self, "_handle", None) is not None and self._handle.is_open:
-            self._library.close(self._ref)
+        for it in self._shards:
+            it.close()
 
 
-def _parted(rows: Any) -> tuple[Any, Any]:
-    """The partitions and the serials of row numbers."""
-    if np is not None:
-        return (rows >> np.uint64(SHIFT)).astype(np.uint32), rows & np.uint64(SERIAL)
-    return from_ints("I", [it >> SHIFT for it in rows], "partitions"), from_ints(
-        "Q", [it & SERIAL for it in rows], "serials"
-    )
+for _name in ("insert_many", "insert_rows", "move"):
+    getattr(Table, _name).__doc__ = getattr(Sharded, _name).__doc__
 
 
-def _joined(parts: Any, serials: Any, rows: Any = None) -> Any:
-    """The row numbers of partitions and serials, in an array of numpy that may be given."""
-    if np is not None:
-        found = np.empty(len(parts), np.uint64) if rows is None else rows
-        # (in place, which takes no memory)
-        found[:] = parts
-        found <<= np.uint64(SHIFT)
-        found |= serials
-        return found
-    return from_ints("Q", [part << SHIFT | serial for part, serial in zip(parts, serials)], "row numbers")
+def holding(locks: Sequence[Any], steps: Steps[Answer]) -> Steps[Answer]:
+    """Steps during which locks are held, which may be taken again by the same thread."""
+    if not locks:
+        return (yield from steps)
+    # (a statement `with` lets go of locks of C whenever a signal comes, but not of a context that is written in Python)
+    one, two, three, four = [*locks[:4], *[locks[0]] * 3][:4]
+    with one, two, three, four:
+        return (yield from holding(locks[4:], steps))
 
 
-def _not_empty(firsts: Any, lasts: Any) -> Any:
-    """The places of the ranges that aren't empty, or None if all are such."""
-    if np is not None:
-        is_whole = firsts <= lasts
-        return None if is_whole.all() else np.flatnonzero(is_whole)
-    found = [at for at, (first, last) in enumerate(zip(firsts, lasts)) if first <= last]
-    return None if len(found) == len(firsts) else found
-
-
-def _picked(code: str, numbers: Any, places: Any) -> Any:
-    return numbers[places] if np is not None else from_ints(code, [numbers[at] for at in places], "keys")
-
-
-def _spread(code: str, answers: Any, places: Any, size: int) -> Any:
-    """Answers at their places, and 0 elsewhere."""
-    if np is not None:
-        found = np.zeros(size, dtype=answers.dtype)
-        found[places] = answers
-        return found
-    found = from_ints(code, [0] * size, "")
-    for at, it in zip(places, answers):
-        found[at] = it
-    return found
+def _answer(shard: LocalShard, name: str, cut: Cut) -> Any:
+    return getattr(shard, name)(*cut.words())

@@ -1,4 +1,4 @@
-"""Run by test_memory.py with an allocator that refuses memory to the library: refusals.py STEPS ONE_IN
+"""Run by test_memory.py with an allocator that refuses memory to the library: refusals.py STEPS HOW [SHARDS]
 
 Prints how many calls were refused, and fails if the table and a plain list no longer agree.
 """
@@ -42,15 +42,15 @@ def numbers(it):
 class Pair:
     """A table, and a list of the same rows."""
 
-    def __init__(self, rng):
-        self.rng, self.rows, self.refused = rng, {}, 0
+    def __init__(self, rng, shards):
+        self.rng, self.rows, self.refused, self.shards = rng, {}, 0, shards
         self.table = self.opened()
 
     def opened(self):
         """A table that is opened as soon as there is memory."""
         while True:
             try:
-                return crackd.Table([0, KEYS // 2, KEYS], partitions=3, history=40)
+                return crackd.Table([0, KEYS // 2, KEYS], partitions=3, history=40, shards=self.shards)
             except crackd.OutOfMemory:
                 self.refused += 1
 
@@ -75,8 +75,29 @@ class Pair:
         except crackd.OutOfMemory as error:
             self.refused += 1
             rows = numbers(error.answers)
-            expect("placed", error.done, len(rows))
+            expect("placed", error.done + error.later, len(rows))
+            if error.later:
+                return self.look(rows, keys, payloads)
         self.rows.update(zip(rows, zip(keys, payloads)))
+
+    def look(self, rows, keys, payloads):
+        """Takes up what a call that was refused in one shard has changed, which other shards have done further."""
+        found = self.listed()
+        expect("placed", sorted(rows), sorted(set(found) - set(self.rows)))
+        for row in rows:
+            at = next(it for it, key in enumerate(keys) if (key, payloads[it]) == found[row])
+            keys, payloads = keys[:at] + keys[at + 1 :], payloads[:at] + payloads[at + 1 :]
+        expect("others", self.rows, {row: it for row, it in found.items() if row not in rows})
+        self.rows = found
+
+    def listed(self):
+        """All rows of the table, listed as soon as there is memory."""
+        while True:
+            try:
+                got = self.table.select()
+                return dict(zip(numbers(got.rows), zip(numbers(got.keys), numbers(got.payloads))))
+            except crackd.OutOfMemory:
+                self.refused += 1
 
     def insert_one(self):
         key = self.rng.randrange(KEYS)
@@ -90,8 +111,25 @@ class Pair:
         except crackd.OutOfMemory as error:
             self.refused += 1
             done = error.done
+            if error.later:
+                return self.look_again(rows, dict.fromkeys(rows), error)
         for row in rows[:done]:
             del self.rows[row]
+
+    def look_again(self, rows, changed, error):
+        """Takes up what a change of rows that was refused in one shard has done: the first ones as far as the error
+        says, and of those after them so many."""
+        wanted, found = {row: changed[row] for row in rows}, self.listed()
+        is_done = [found.get(row) == wanted[row] for row in rows]
+        is_same = [self.rows[row] == wanted[row] for row in rows]
+        expect("done", [True] * error.done, is_done[: error.done])
+        expect("not done", is_same[error.done], is_done[error.done])
+        later = sum(is_done[error.done + 1 :])
+        expect("later", True, later - sum(is_same[error.done + 1 :]) <= error.later <= later)
+        expect("others", {row: it for row, it in self.rows.items() if row not in rows}, {
+            row: it for row, it in found.items() if row not in rows
+        })
+        self.rows = found
 
     def update(self):
         rows = self.some_rows()
@@ -102,6 +140,8 @@ class Pair:
         except crackd.OutOfMemory as error:
             self.refused += 1
             done = error.done
+            if error.later:
+                return self.look_again(rows, dict(zip(rows, zip(keys, payloads))), error)
         self.rows.update(list(zip(rows, zip(keys, payloads)))[:done])
 
     def delete_one(self):
@@ -155,34 +195,34 @@ class Pair:
             self.refused += 1
 
 
-def by_chance(steps):
+def by_chance(steps, shards):
     """Random calls, each allocation of which may be refused. Returns how many calls were refused."""
-    pair = Pair(random.Random(steps))
+    pair = Pair(random.Random(steps), shards)
     for _ in range(steps):
         pair.step()
     pair.table.close()
     return pair.refused
 
 
-def each_in_turn(steps):
+def each_in_turn(steps, shards):
     """The same few calls again and again, with each allocation refused in turn, until none is left to refuse. Returns
     how many calls were refused."""
     number = 0
     while True:
         number += 1
         ALLOCATOR.refuse_calls(number, number)
-        by_chance(steps)
+        by_chance(steps, shards)
         if ALLOCATOR.refuse_told() == 0:
             return number - 1
 
 
-def main(steps, how):
+def main(steps, how, shards=1):
     loaded = library.library()
     for name in library.FORMS:
         if name != "close":
             setattr(loaded, name, switched(getattr(loaded, name)))
-    print(each_in_turn(steps) if how == "turn" else by_chance(steps))
+    print(each_in_turn(steps, shards) if how == "turn" else by_chance(steps, shards))
 
 
 if __name__ == "__main__":
-    main(int(sys.argv[1]), sys.argv[2])
+    main(int(sys.argv[1]), sys.argv[2], *map(int, sys.argv[3:]))

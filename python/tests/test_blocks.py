@@ -9,7 +9,7 @@ from unittest import mock
 
 from ways import OverTcp, crackd, wants_program
 
-from crackd import client, server
+from crackd import server, wire
 
 AT_ONCE = 3
 # how long either side waits for the other at most
@@ -46,7 +46,7 @@ class Blocks(OverTcp):
     """Calls of several blocks, of which a later one has refused items."""
 
     def setUp(self):
-        patch = mock.patch.object(client, "STATEMENTS_AT_ONCE", AT_ONCE)
+        patch = mock.patch.object(wire, "STATEMENTS_AT_ONCE", AT_ONCE)
         patch.start()
         self.addCleanup(patch.stop)
 
@@ -154,7 +154,7 @@ class FullHistories(Blocks, unittest.TestCase):
 
     def test_each_call(self):
         for limit, at_once in itertools.product((1, 2, 7), (3, 100)):
-            with self.subTest(limit=limit, at_once=at_once), mock.patch.object(client, "STATEMENTS_AT_ONCE", at_once):
+            with self.subTest(limit=limit, at_once=at_once), mock.patch.object(wire, "STATEMENTS_AT_ONCE", at_once):
                 with self.table(limit) as table:
                     self.each_call(table)
 

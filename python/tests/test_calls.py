@@ -1,6 +1,7 @@
 """What a table asks of the library, by stand-ins for its functions: one call at a time, `done` as it reports it, and
 what happens between two calls."""
 
+import collections
 import contextlib
 import ctypes
 import os
@@ -9,10 +10,10 @@ import time
 import unittest
 from unittest import mock
 
-from ways import InProcess, crackd, np, wants_library, wants_numpy
+from ways import InProcess, InShards, crackd, np, wants_library, wants_numpy, wants_shards
 
 from crackd import library
-from crackd import table as table_module
+from crackd import local
 
 THREADS, CALLS, SECONDS_OF_A_CALL = 12, 4, 0.001
 MANY = ("insert_many", "delete_many", "update_many", "count_many", "sum_many")
@@ -35,23 +36,24 @@ def standing_in(**calls):
 
 
 class Watch:
-    """Counts the calls of the library, and how many run at once."""
+    """Counts the calls of the library, and how many run at once on a handle."""
 
     def __init__(self):
-        self.lock, self.running, self.most, self.names = threading.Lock(), 0, 0, []
+        self.lock, self.running, self.most, self.names = threading.Lock(), collections.Counter(), 0, []
 
     def watched(self, name):
         def call(real, *words):
+            handle = ctypes.addressof(words[0]._obj)
             with self.lock:
-                self.running += 1
-                self.most = max(self.most, self.running)
+                self.running[handle] += 1
+                self.most = max(self.most, self.running[handle])
                 self.names.append(name)
             time.sleep(SECONDS_OF_A_CALL)
             try:
                 return real(*words)
             finally:
                 with self.lock:
-                    self.running -= 1
+                    self.running[handle] -= 1
 
         return call
 
@@ -80,7 +82,7 @@ def at_once(calls):
 
 @wants_library
 class OneAtATime(InProcess, unittest.TestCase):
-    """A table's calls of the library don't overlap."""
+    """The calls of the library on a table of one shard don't overlap."""
 
     def calls_of(self, table, row):
         """A call of each method, of which none can fail."""
@@ -126,7 +128,12 @@ class OneAtATime(InProcess, unittest.TestCase):
                 call = self.calls_of(table, row)[name]
                 faults = at_once([call, call, *[table.close] * CALLS])
                 self.assertEqual({type(it) for it in faults} - {crackd.Closed}, set())
-                self.assertEqual((watch.most, watch.names.count("close")), (1, 1))
+                self.assertEqual((watch.most, watch.names.count("close")), (1, table.shards))
+
+
+@wants_shards
+class OneAtATimeInShards(InShards, OneAtATime):
+    """The calls of the library on a shard don't overlap either."""
 
 
 @wants_library
@@ -215,7 +222,7 @@ class Reported(InProcess, unittest.TestCase):
 
     def test_a_partition_answers_more_commands_than_it_has_cells(self):
         many = 2**20 + 2**16
-        with self.table() as table:
+        with self.table(cells=2**20) as table:
             table.insert_many([1, 2, 3], [10, 20, 30])
             counts = table.count_many([1] * many, [3] * many)
             self.assertEqual((len(counts), sum(counts)), (many, 2 * many))
@@ -270,7 +277,8 @@ class Children(InProcess, unittest.TestCase):
                 status = 1
                 try:
                     with standing_in(close=lambda real, *words: os._exit(7)):
-                        table.__del__()
+                        for it in table._shards:
+                            it.__del__()
                     status = 0
                 finally:
                     os._exit(status)
@@ -308,7 +316,7 @@ class Histories(InProcess, unittest.TestCase):
     def test_rows_that_come_and_go_one_by_one(self):
         # (selects of 1,000 rows each, of which the third is the first to list more than 2,000)
         for way, remains in [("one", 1000), ("many", 1000), ("none", 4000)]:
-            with self.subTest(way), mock.patch.object(table_module, "LISTED", 1000), self.table() as table:
+            with self.subTest(way), mock.patch.object(local, "LISTED", 1000), self.table() as table:
                 rows = [table.insert(it, 1) for it in range(4000)]
                 if way == "one":
                     self.assertTrue(all([table.delete(it) for it in rows[1000:]]))
@@ -337,7 +345,7 @@ class Histories(InProcess, unittest.TestCase):
             self.assertLess(resident() - before, 20_000_000)
 
     def test_rows_that_are_there_make_room(self):
-        with self.table(range(100_000), rows=400_000) as table:
+        with self.table(range(100_000), rows=400_000, shards=1) as table:
             table.insert_many(range(self.ROWS, 400_000), [0] * (400_000 - self.ROWS))
             table.settle()
             table.checkpoint()

@@ -2,13 +2,16 @@
 
 import contextlib
 import itertools
+import random
 import socket
 import threading
 import time
 import unittest
+from unittest import mock
 
 from ways import crackd
 
+from crackd import channel
 from crackd.channel import Channel
 
 LARGE = 3_000_000
@@ -82,6 +85,31 @@ class Lines(unittest.TestCase):
             self.assertEqual((channel.lines_given(), channel.lines_given()), (["2", "3"], []))
             channel.send(b"go\n")
             self.assertEqual(channel.line(), "rest of it")
+
+
+class Taken(unittest.TestCase):
+    """Lines that arrive in pieces, and are taken some at a time."""
+
+    def test_any_pieces_and_any_numbers_of_lines(self):
+        drawn = random.Random(11)
+        for few, _ in itertools.product((0, 1, 3, 100), range(150)):
+            text = b"".join(b"x" * drawn.randrange(4) + b"\n" for _ in range(drawn.randrange(30))) + b"end"
+            lines, given, found, at = channel.Lines(), [], [], 0
+            with mock.patch.object(channel, "FEW_LINES", few):
+                while at < len(text):
+                    piece = text[at : at + drawn.randrange(1, 12)]
+                    lines.add(piece)
+                    given.append(piece)
+                    at += len(piece)
+                    self.assertEqual(lines.feeds, b"".join(given).count(b"\n") - b"".join(found).count(b"\n"))
+                    for _ in range(drawn.randrange(3)):
+                        count = drawn.randrange(lines.feeds + 1)
+                        found.append(lines.taken(count))
+                        self.assertEqual(found[-1].count(b"\n"), count)
+                found.append(lines.taken(lines.feeds))
+            self.assertEqual((b"".join(found), lines.feeds), (text[:-3], 0))
+            lines.add(b"\n")
+            self.assertEqual(lines.taken(1), b"end\n")
 
 
 class Sends(unittest.TestCase):

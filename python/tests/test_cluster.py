@@ -55,7 +55,7 @@ class OnACluster(OnWorkers, Cases, unittest.TestCase):
     def test_bad_openings(self):
         wrong = [
             ({"history": 0}, crackd.BadLimit),
-            ({"cells": 2**21}, crackd.BadLimit),
+            ({"cells": 2**24}, crackd.BadLimit),
             ({"splits": [5, 5]}, crackd.BadSplits),
         ]
         wrong += [({"policy": "none"}, ValueError), ({"partitions": 0}, ValueError), ({"partitions": 2000}, ValueError)]
@@ -258,12 +258,12 @@ class Messages(OnWorkers, unittest.TestCase):
     def test_rows_are_sent_once_to_their_shards(self):
         with self.recorded() as (table, log):
             rows = table.insert_many([250, 1, 150, 2, 260, 3], range(6))
-            self.expect(log, [("_insert_many", 0, 3), ("_insert_many", 1, 1), ("_insert_many", 2, 2)])
+            self.expect(log, [("insert_many", 0, 3), ("insert_many", 1, 1), ("insert_many", 2, 2)])
             self.assertEqual([int(it) >> 54 for it in rows], [2, 0, 1, 0, 2, 0])
             table.update_many(rows[[0, 1, 3]], [255, 1, 2], [7, 7, 7])
-            self.expect(log, [("_update_many", 0, 2), ("_update_many", 2, 1)])
+            self.expect(log, [("update_many", 0, 2), ("update_many", 2, 1)])
             table.delete_many(rows[[4, 0]])
-            self.expect(log, [("_delete_many", 2, 2)])
+            self.expect(log, [("delete_many", 2, 2)])
             self.assertEqual((table.count(), table.sum()), (4, 21))
 
     def test_only_shards_that_a_range_meets_are_asked(self):
@@ -275,13 +275,13 @@ class Messages(OnWorkers, unittest.TestCase):
                 ((200, None), [2]),
                 ((5, 5), []),
             ]:
-                for call, name in [(table.count, "_count"), (table.sum, "_sum"), (table.select, "_select")]:
+                for call, name in [(table.count, "count"), (table.sum, "sum"), (table.select, "select")]:
                     call(*ends)
                     self.expect(log, [(name, it, 1) for it in shards])
             table.count_many([0, 50, 120, 7], [100, 150, 130, 7])
-            self.expect(log, [("_count_many", 0, 2), ("_count_many", 1, 2)])
+            self.expect(log, [("count_many", 0, 2), ("count_many", 1, 2)])
             table.sum_many([200, None], [300, None])
-            self.expect(log, [("_sum_many", 0, 1), ("_sum_many", 1, 1), ("_sum_many", 2, 2)])
+            self.expect(log, [("sum_many", 0, 1), ("sum_many", 1, 1), ("sum_many", 2, 2)])
             table.settle()
             self.expect(log, [("settle", it, 1) for it in range(3)])
 
@@ -303,6 +303,23 @@ class Refusals(OnWorkers, unittest.TestCase):
             error = self.expect(crackd.Full, (9, 3, 1), table.insert_many, [1, 200, 2, 3, 201], [1, 2, 4, 8, 16])
             self.assertEqual((len(error.answers), table.count(), table.sum()), (4, 4, 23))
             self.assertEqual(list(table.delete_many(error.answers)), [True] * 4)
+
+    def test_an_interrupted_move_puts_nothing_back_that_may_be_placed(self):
+        for kind in (KeyboardInterrupt, crackd.OutOfMemory):
+            with self.subTest(kind), self.table(splits=[100]) as table:
+                row, answer, asked = table.insert(5, 50), table._result, []
+
+                def interrupted(shard, future):
+                    asked.append(answer(shard, future))
+                    if len(asked) == 2:
+                        raise crackd.OutOfMemory(8) if kind is crackd.OutOfMemory else KeyboardInterrupt
+                    return asked[-1]
+
+                with mock.patch.object(table, "_result", interrupted), self.assertRaises(kind) as caught:
+                    table.move(row, 150)
+                # (the row has its new key; a refusal says that it hasn't)
+                self.assertEqual(table.count(), 1 if kind is KeyboardInterrupt else 2)
+                self.assertEqual((caught.exception.row, table.count(150)), ((5, 50), 1))
 
     def test_an_interrupted_insert_of_many_gives_back_the_rows_of_its_answers(self):
         with self.table(splits=[100, 200]) as table:
@@ -598,7 +615,7 @@ class OfDask(OnWorkers, unittest.TestCase):
         for _ in range(3):
             self.assertEqual(shard.ask("load", words), (shard.token, None))
         shard.ask("load", (shard.token, 4, *words[2:]))
-        self.assertEqual(shard.table.count(), 10)
+        self.assertEqual(shard.rows.rows(), 10)
         self.assertRaises(cluster.ShardFailed, shard.ask, "load", ("another", *words[1:]))
 
 

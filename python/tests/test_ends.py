@@ -8,7 +8,7 @@ import unittest
 
 from clusters import wants_cluster, wants_pandas
 from test_cluster import OnWorkers, begin, end
-from ways import InProcess, OverTcp, crackd, np, wants_library, wants_numpy, wants_program
+from ways import InProcess, InShards, OverTcp, crackd, np, wants_library, wants_numpy, wants_program, wants_shards
 
 LEAST, GREATEST, UNSIGNED = -(2**63), 2**63 - 1, 2**64 - 1
 SECOND = 10**18
@@ -311,9 +311,19 @@ class EndsOfDates:
                 self.assertRaises(TypeError, table.count_many, [end], None)
 
 
+@wants_shards
+class InShardsNumbers(EndsOfNumbers, InShards, unittest.TestCase):
+    """In the process, in several shards."""
+
+
 @wants_library
 class InProcessNumbers(EndsOfNumbers, InProcess, unittest.TestCase):
     """In the process."""
+
+
+@wants_shards
+class InShardsDates(EndsOfDates, InShards, unittest.TestCase):
+    """In the process, in several shards."""
 
 
 @wants_library

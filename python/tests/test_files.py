@@ -12,7 +12,7 @@ import tempfile
 import unittest
 from unittest import mock
 
-from ways import InProcess, OverTcp, crackd, np, wants_library, wants_numpy, wants_program
+from ways import InProcess, InShards, OverTcp, crackd, np, wants_library, wants_numpy, wants_program, wants_shards
 
 from crackd import csvfile
 from crackd.csvfile import Column, CsvFile, read_columns
@@ -204,6 +204,12 @@ class Loads:
             self.assertEqual(sum(it.pending_in for it in table.layout().parts), 0)
             self.assertEqual((table.count(), table.sum(), table.sum(0, 2)), (3, -15, 10))
 
+    def test_a_load_that_is_reported(self):
+        told = []
+        with self.table() as table, mock.patch("crackd.progress.STEP", 2):
+            crackd.load_csv(self.path("1,10\n2,-30\n-7,5\n"), into=table, progress=lambda *it: told.append(it))
+            self.assertEqual((told, table.sum()), ([(2, 3), (3, 3)], -15))
+
     def test_a_bad_file_loads_nothing(self):
         with self.table() as table:
             with self.assertRaises(crackd.CsvError):
@@ -215,6 +221,11 @@ class Loads:
 @wants_program
 class LoadsOverTcp(Loads, OverTcp, unittest.TestCase):
     """Over TCP."""
+
+
+@wants_shards
+class LoadsInShards(Loads, InShards, unittest.TestCase):
+    """In the process, in several shards."""
 
 
 @wants_library

@@ -8,7 +8,7 @@ import unittest
 from unittest import mock
 
 from clusters import cluster, local, wants_cluster
-from ways import InProcess, OverTcp, crackd, wants_library, wants_program
+from ways import InProcess, InShards, OverTcp, crackd, wants_library, wants_program, wants_shards
 
 SECONDS = 20
 
@@ -19,6 +19,16 @@ def outcome(call, *words):
         return str(call(*words))
     except Exception as error:
         return type(error).__name__
+
+
+def owners_of(table):
+    """What frees the memory of a table, or closes its connection, when it is dropped."""
+    return getattr(table, "_shards", [table])
+
+
+def lock_of(table):
+    """The lock that a call holds, of a table or of its last shard."""
+    return owners_of(table)[-1]._lock
 
 
 def in_child(work):
@@ -80,7 +90,7 @@ class Forking:
             is_held, is_over = threading.Event(), threading.Event()
 
             def hold():
-                with table._lock:
+                with lock_of(table):
                     is_held.set()
                     is_over.wait()
 
@@ -97,8 +107,14 @@ class Forking:
     def test_a_table_that_a_child_drops_stays(self):
         with self.table() as table:
             table.insert_many(range(1000), range(1000))
-            self.assertEqual(in_child(lambda: [outcome(table.__del__)]), ["None"])
+            owners = owners_of(table)
+            self.assertEqual(in_child(lambda: [outcome(it.__del__) for it in owners]), ["None"] * len(owners))
             self.assertEqual((table.count(), table.sum()), (1000, 499500))
+
+
+@wants_shards
+class ForkingInShards(Forking, InShards, unittest.TestCase):
+    """In the process, in several shards."""
 
 
 @wants_library
@@ -108,8 +124,9 @@ class ForkingInProcess(Forking, InProcess, unittest.TestCase):
     def test_a_child_frees_no_memory_of_its_parent(self):
         def work():
             closed = []
-            with mock.patch.object(table._library, "close", closed.append):
-                table.__del__()
+            with mock.patch.object(crackd.library.library(), "close", closed.append):
+                for it in owners_of(table):
+                    it.__del__()
             return [str(len(closed))]
 
         with self.table() as table:

@@ -11,7 +11,7 @@ import unittest
 
 from clusters import wants_cluster, wants_pandas
 from test_cluster import MODULE, OnWorkers, begin, end
-from ways import InProcess, OverTcp, crackd, np, wants_library, wants_numpy, wants_program
+from ways import InProcess, InShards, OverTcp, crackd, np, wants_library, wants_numpy, wants_program, wants_shards
 
 from crackd.keys import Keys, kind_of
 
@@ -332,6 +332,11 @@ class Options(unittest.TestCase):
             self.assertRaisesRegex(TypeError, "history must be an integer", crackd.serve, history=value)
             self.assertRaisesRegex(TypeError, "cells must be an integer", crackd.serve, cells=value)
             self.assertRaisesRegex(TypeError, "workers must be an integer", crackd.serve, workers=value)
+
+
+@wants_shards
+class InShardsArguments(Arguments, InShards, unittest.TestCase):
+    """In the process, in several shards."""
 
 
 @wants_library

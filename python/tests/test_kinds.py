@@ -12,7 +12,7 @@ from unittest import mock
 from clusters import cluster, local, wants_cluster
 from kinds import GREATEST, KINDS, LEAST, value
 from test_shards import Steps
-from ways import InProcess, OverTcp, crackd, np, wants_library, wants_numpy, wants_program
+from ways import InProcess, InShards, OverTcp, crackd, np, wants_library, wants_numpy, wants_program, wants_shards
 
 WORKERS = 2
 ON_CLUSTERS = ("list of int", "int8", "uint64", "float64", "datetime64[M]", "datetime64[s]", "datetime64[ns]")
@@ -57,9 +57,9 @@ class OfKinds:
     kinds = KINDS
 
     @contextlib.contextmanager
-    def filled(self, kind):
+    def filled(self, kind, **options):
         """A table with a row for each key, and its model."""
-        with self.subTest(kind.name), self.table(key_type=kind.key_type) as table:
+        with self.subTest(kind.name), self.table(key_type=kind.key_type, **options) as table:
             model = Model()
             model.put(table.insert_many(kind.given(kind.keys), kind.payloads), kind.keys, kind.payloads)
             yield table, model
@@ -123,7 +123,8 @@ class OfKinds:
 
     def test_changes(self):
         for kind in self.kinds:
-            with self.filled(kind) as (table, model):
+            # (rows get keys that other partitions would have)
+            with self.filled(kind, partitions=1) as (table, model):
                 for key, payload in zip(kind.keys, kind.payloads):
                     model.put([table.insert(key, payload)], [key], [payload])
                 self.expect(table, model, kind)
@@ -273,7 +274,7 @@ class OfKinds:
         wrong += [(it, TypeError) for it in (None, "0", b"0", 0.0, True, False, [0])]
         if np is not None:
             wrong += [(np.int64(-1), OverflowError), (np.bool_(0), TypeError), (np.float64(0), TypeError)]
-        with self.table(key_type="int64") as table:
+        with self.table(key_type="int64", partitions=1) as table:
             row = int(table.insert_many([7], [70])[0])
             for it, error in wrong:
                 with self.subTest(row=it):
@@ -352,6 +353,11 @@ class OfKinds:
                 self.expect(table, model, kind)
 
 
+@wants_shards
+class InShardsKinds(OfKinds, InShards, unittest.TestCase):
+    """In the process, in several shards."""
+
+
 @wants_library
 class InProcessKinds(OfKinds, InProcess, unittest.TestCase):
     """In the process."""
@@ -391,8 +397,8 @@ class ClusterKinds(OfKinds, unittest.TestCase):
         cls.stack.close()
 
     @contextlib.contextmanager
-    def table(self, sample=(), rows=0, **options):
-        with cluster.Table(self.client, sample, rows, **options) as table:
+    def table(self, sample=(), rows=0, partitions=None, **options):
+        with cluster.Table(self.client, sample, rows, shards=partitions, **options) as table:
             yield table
 
     def test_saves(self):

@@ -2,12 +2,13 @@
 
 import re
 import unittest
+import xml.etree.ElementTree
 
 from ways import crackd, np, wants_numpy
 
 from crackd.arrays import SIGN, TOP
 from crackd.keys import Keys
-from crackd.layout import Layout, PartLayout, Piece, keys_text
+from crackd.layout import COLOURS, Layout, PartLayout, Piece, keys_text
 
 REPLY = [
     "layout 3 rows 11 column 12 out 2 in 1 cells 100 free 87 pieces 3",
@@ -101,29 +102,59 @@ class Images(unittest.TestCase):
     """Pictures as SVG."""
 
     def rectangles(self, layout):
-        """Each rectangle: left, top, width and title."""
-        form = r'<rect x="([\d.]+)" y="(\d+)" width="([\d.]+)" height="\d+" fill="(\S+)"><title>(.*?)</title>'
-        return [(float(x), int(y), float(w), fill, title) for x, y, w, fill, title in re.findall(form, layout.svg())]
+        """Each rectangle of a bar: left, top, width, class and title."""
+        form = r'<rect class="crackd-(\w+)" x="([\d.]+)" y="(\d+)" width="([\d.]+)" height="\d+"><title>(.*?)</title>'
+        return [(float(x), int(y), float(w), name, title) for name, x, y, w, title in re.findall(form, layout.svg())]
 
     def test_pieces_stand_beside_each_other_by_their_rows(self):
         layout = Layout((part([10, 30, 0], pending_in=20), part([30], partition=1)))
         first, second, third, pending, other, last = self.rectangles(layout)
-        # (60 rows, the most of a partition, take all of the 840 pixels beside the numbers)
-        self.assertEqual([it[0] for it in (first, second, third, pending)], [60, 200, 620, 620])
-        self.assertEqual([it[2] for it in (first, second, third, pending)], [140, 420, 0, 280])
-        self.assertEqual((other[0], other[2], last[0], last[2]), (60, 420, 480, 0))
-        self.assertEqual({it[1] for it in (first, second, third, pending)}, {8})
-        self.assertEqual({it[1] for it in (other, last)}, {38})
+        # (60 rows, the most of a partition, take all of the 762 pixels beside the numbers)
+        self.assertEqual([it[0] for it in (first, second, third, pending)], [130, 257, 638, 638])
+        self.assertEqual([it[2] for it in (first, second, third, pending)], [127, 381, 0, 254])
+        self.assertEqual((other[0], other[2], last[0], last[2]), (130, 381, 511, 0))
+        self.assertEqual({it[1] for it in (first, second, third, pending)}, {34})
+        self.assertEqual({it[1] for it in (other, last)}, {64})
         self.assertEqual(first[4], "0 to 9: 10 rows")
         self.assertEqual(pending[4], "not merged yet: 20 rows")
-        self.assertEqual((first[3], len({first[3], second[3], pending[3]})), (third[3], 3))
+        self.assertEqual([it[3] for it in (first, second, third, pending)], ["even", "odd", "even", "pending"])
 
     def test_a_notebook_shows_it(self):
         layout = Layout((part([1]), part([2], partition=1)))
         self.assertEqual(layout._repr_svg_(), layout.svg())
-        self.assertIn('height="68"', layout.svg())
-        self.assertEqual(re.findall(r">(\d+: \d+)<", layout.svg()), ["0: 1", "1: 2"])
+        self.assertIn('height="122"', layout.svg())
+        self.assertEqual(re.findall(r">(\d+: \d+ rows?)<", layout.svg()), ["0: 1 row", "1: 2 rows"])
         self.assertIn("<svg", Layout(()).svg())
+
+    def test_it_has_a_title_a_background_and_a_key(self):
+        for layout, title in [
+            (Layout((part([1, 2]), part([2], partition=1))), "5 rows in 2 partitions, 3 pieces"),
+            (Layout((part([1]),)), "1 row in 1 partition, 1 piece"),
+            (Layout(()), "0 rows in 0 partitions, 0 pieces"),
+        ]:
+            root = xml.etree.ElementTree.fromstring(layout.svg())
+            texts = [it.text for it in root.iter("{http://www.w3.org/2000/svg}text")]
+            self.assertEqual((root[0].text, texts[0]), (title, title))
+            self.assertEqual(texts[-3:], ["a piece", "the next piece", "not merged yet"])
+            page = dict(root.find("{http://www.w3.org/2000/svg}rect").attrib)
+            self.assertEqual(page, {"class": "crackd-page", "width": "900", "height": root.attrib["height"]})
+
+    def test_texts_are_legible_on_light_and_dark_pages(self):
+        def light(colour):
+            red, green, blue = (int(colour[at : at + 2], 16) / 255 for at in (1, 3, 5))
+            return sum(share * it**2.2 for share, it in ((0.2126, red), (0.7152, green), (0.0722, blue)))
+
+        def contrast(one, other):
+            dark, bright = sorted([light(one), light(other)])
+            return (bright + 0.05) / (dark + 0.05)
+
+        style = Layout((part([1]),)).svg().partition("<style>")[2].partition("</style>")[0]
+        for styles, at in zip(style.split("@media (prefers-color-scheme: dark)"), (0, 1)):
+            colours = dict(re.findall(r"\.crackd-(\w+)\{fill:(#\w{6})\}", styles))
+            self.assertEqual(colours, {name: them[at] for name, them in COLOURS.items()})
+            self.assertGreater(contrast(colours["text"], colours["page"]), 7)
+            for one, other in (("even", "odd"), ("even", "page"), ("pending", "page")):
+                self.assertGreater(contrast(colours[one], colours[other]), 1.5)
 
 
 if __name__ == "__main__":

@@ -9,7 +9,7 @@ import unittest
 from unittest import mock
 
 from kinds import GREATEST, LEAST, UNSIGNED
-from ways import InProcess, OverTcp, crackd, np, wants_library, wants_numpy, wants_program
+from ways import InProcess, InShards, OverTcp, crackd, np, wants_library, wants_numpy, wants_program, wants_shards
 
 from crackd import csvfile
 
@@ -207,7 +207,7 @@ class Into(WithFiles):
 
     def test_it_is_merged(self):
         for policy in ("ripple", "gradual", "complete", "auto"):
-            with self.subTest(policy), self.table(policy=policy) as table:
+            with self.subTest(policy), self.table(policy=policy, partitions=1) as table:
                 text = "".join(f"{it},{it}\n" for it in range(200))
                 self.assertIs(crackd.load_csv(self.path(text), into=table), table)
                 part = table.layout().parts[0]
@@ -230,6 +230,11 @@ class Into(WithFiles):
             with self.subTest(key_type), self.table(key_type=key_type) as table:
                 crackd.load_csv(self.path("".join(f"{it},7\n" for it in fields)), key_type=key_type, into=table)
                 self.assertEqual([str(it) for it in table.select().keys], [str(it) for it in fields])
+
+
+@wants_shards
+class IntoATableInShards(Into, InShards, unittest.TestCase):
+    """In the process, in several shards."""
 
 
 @wants_library

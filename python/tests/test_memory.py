@@ -8,7 +8,9 @@ import tempfile
 import unittest
 from unittest import mock
 
-from ways import crackd, refusing, wants_gcc, wants_library
+from ways import crackd, refusing, wants_gcc, wants_library, wants_numpy
+
+from crackd import library
 
 HERE = pathlib.Path(__file__).resolve().parent
 # fills memory with a table and then with blocks, and prints how many rows were placed, what `len` says where a count is
@@ -39,6 +41,14 @@ except crackd.OutOfMemory:
 resource.setrlimit(resource.RLIMIT_AS, (resource.RLIM_INFINITY, resource.RLIM_INFINITY))
 print(placed, length, table.count())
 """
+
+
+def resident():
+    """How many bytes of memory this process has."""
+    with open("/proc/self/statm", encoding="ascii") as file:
+        return int(file.read().split()[1]) * os.sysconf("SC_PAGE_SIZE")
+
+
 STEPS, ONE_IN, STEPS_IN_TURN, SECONDS = 100_000, 25, 40, 600
 # (a child looks for no program, and reports none that isn't proved)
 ENVIRONMENT = {**os.environ, "CRACKD": os.devnull}
@@ -66,6 +76,11 @@ class Refusals(unittest.TestCase):
         refused = self.run_refused(str(STEPS), "chance", REFUSE_ONE_IN=str(ONE_IN), REFUSE_SEED="7")
         self.assertGreater(refused, 1000)
 
+    @wants_numpy
+    def test_random_calls_in_several_shards_of_which_some_are_refused(self):
+        refused = self.run_refused(str(STEPS // 5), "chance", "3", REFUSE_ONE_IN=str(ONE_IN), REFUSE_SEED="8")
+        self.assertGreater(refused, 300)
+
     def test_each_allocation_refused_in_turn(self):
         self.assertGreater(self.run_refused(str(STEPS_IN_TURN), "turn"), 50)
 
@@ -75,11 +90,11 @@ class Lengths(unittest.TestCase):
     """What `len` returns where a query finds no memory."""
 
     def test_the_length_of_several_partitions(self):
-        with crackd.Table(splits=[10, 20]) as table:
+        with crackd.Table(splits=[10, 20], shards=1) as table:
             rows = table.insert_many([1, 2, 3, 11, 12, 25], range(6))
             table.settle()
             table.delete(rows[1])
-            with mock.patch.object(table._library, "count", lambda *_: 8):
+            with mock.patch.object(library.library(), "count", lambda *_: 8):
                 self.assertRaises(crackd.OutOfMemory, table.count)
                 self.assertEqual(len(table), 5)
 
@@ -97,13 +112,42 @@ class Lengths(unittest.TestCase):
 
 
 @wants_library
+class Kept(unittest.TestCase):
+    """What is kept of calls that have ended: nothing."""
+
+    def test_a_million_calls(self):
+        with crackd.Table(history=1000) as table:
+
+            def call(rounds):
+                """Five calls in each round, and some others now and then."""
+                gone = 0
+                for it in range(rounds):
+                    row = table.insert(it % 1000, 5)
+                    gone += table.update(row, it % 500, 7)
+                    table.count(it % 1000, it % 1000 + 5), table.sum(it % 1000)
+                    gone += table.delete(row)
+                    if it % 100 == 0:
+                        rows = table.insert_many([it % 1000] * 9, range(9))
+                        table.count_many([5], [6]), table.sum_many([5], [6])
+                        table.select(it % 1000), table.get(rows[0])
+                        self.assertTrue(all(table.delete_many(rows)))
+                self.assertEqual((gone, table.count()), (2 * rounds, 0))
+
+            call(10_000)
+            before = resident()
+            call(200_000)
+            self.assertLess(resident() - before, 5_000_000)
+
+
+@wants_library
 class Listed(unittest.TestCase):
     """When selects empty the histories, which keep the rows that they listed."""
 
     def test_selects_make_checkpoints_once_they_listed_more_than_the_rows_and_some(self):
-        with mock.patch.object(crackd.table, "LISTED", 10), crackd.Table() as table:
+        with mock.patch.object(crackd.local, "LISTED", 10), crackd.Table() as table:
             rows = table.insert_many(range(20), range(20))
-            with mock.patch.object(table._library, "checkpoint", wraps=table._library.checkpoint) as checkpoint:
+            loaded = library.library()
+            with mock.patch.object(loaded, "checkpoint", wraps=loaded.checkpoint) as checkpoint:
 
                 def expect(lists, made):
                     """The last of these selects makes a checkpoint, and none before it."""

@@ -1,5 +1,7 @@
 """The programs of docs/PYTHON.md, run one after the other over a server."""
 
+import asyncio
+import importlib.util
 import os
 import pathlib
 import re
@@ -23,18 +25,35 @@ FILES = {
 class Page(unittest.TestCase):
     """Its programs share their names, as in one session of Python."""
 
-    def test_its_programs_run(self):
-        programs = re.findall(r"```python\n(.*?)```", PAGE.read_text(encoding="utf-8"), re.DOTALL)
+    def setUp(self):
+        room = tempfile.TemporaryDirectory()
+        self.addCleanup(room.cleanup)
         self.addCleanup(os.chdir, os.getcwd())
-        names = {}
-        with tempfile.TemporaryDirectory() as folder, crackd.serve(workers=1) as server:
-            os.chdir(folder)
-            for name, text in FILES.items():
-                pathlib.Path(name).write_text(text, encoding="utf-8")
-            for program in programs:
-                exec(program.replace("4000", str(server.port)), names)
-            os.chdir("/")
-        self.assertEqual((len(programs), names["table"].count(), names["table"].sum()), (5, 3, 3724))
+        os.chdir(room.name)
+        for name, text in FILES.items():
+            pathlib.Path(name).write_text(text, encoding="utf-8")
+
+    def test_its_programs_run(self):
+        frames, files, rows, server, notebook = re.findall(
+            r"```python\n(.*?)```", PAGE.read_text(encoding="utf-8"), re.DOTALL
+        )
+        names = {"crackd": crackd}
+        if importlib.util.find_spec("pandas") is not None:
+            exec(frames, names)
+        exec(files, names)
+        self.assertEqual((names["table"].count(), names["table"].sum()), (3, 3724))
+        with crackd.Table.load("rows.npy") as loaded:
+            self.assertEqual((len(loaded), loaded.sum()), (500_000, 500_000 * 499_999 // 2))
+        exec(rows, names)
+        self.assertEqual(sorted(names["table"].select().keys.tolist()), [9, 10**9])
+        self.assertEqual((names["table"].sum(), len(names["old"]), len(names["new"])), (175, 2, 2))
+        with crackd.serve(workers=1) as served:
+            exec(server.replace("4000", str(served.port)), names)
+            names["table"].insert(5, 7)
+            exec(notebook, names)
+            self.assertTrue(names["image"].startswith("<svg "))
+            names["table"].close()
+            self.assertEqual(asyncio.run(names["ask"]()), 1)
 
 
 if __name__ == "__main__":

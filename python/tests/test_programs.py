@@ -2,6 +2,8 @@
 
 import os
 import pathlib
+import subprocess
+import sys
 import tempfile
 import time
 import unittest
@@ -103,6 +105,26 @@ class Programs(unittest.TestCase):
             self.assertEqual(server.find_program(), "/from/the/environment")
             self.assertEqual(server.find_program("/given"), "/given")
 
+    def test_the_command_of_the_package_is_not_taken_for_it(self):
+        self.program("")
+        folders = [self.room / it for it in ("scripts", "missing", "programs")]
+        for folder, text in ((folders[0], "#!/usr/bin/env python3\n"), (folders[2], "\x7fELF")):
+            folder.mkdir()
+            (folder / "crackd").write_text(text, encoding="ascii")
+            (folder / "crackd").chmod(0o755)
+        for paths, wanted in ((folders, str(folders[2] / "crackd")), (folders[:2], None)):
+            with mock.patch.dict(os.environ, {"PATH": os.pathsep.join(map(str, paths))}):
+                self.assertEqual(server.program_of_path(), wanted)
+
+    def test_the_command_of_the_package_hands_on_what_the_program_does(self):
+        path = pathlib.Path(self.program(""))
+        path.write_text("#!/bin/sh\necho program $*\nexit 7\n", encoding="ascii")
+        environment = {**os.environ, "CRACKD": str(path), "PYTHONPATH": str(pathlib.Path(crackd.__file__).parents[1])}
+        for words in (["script", "1", "2"], ["serve", "--help"], ["batch"], ["csv", "--cells", "5"]):
+            command = [sys.executable, "-m", "crackd", *words]
+            ran = subprocess.run(command, env=environment, capture_output=True, text=True, check=False)
+            self.assertEqual((ran.returncode, ran.stdout), (7, f"program {' '.join(words)}\n"))
+
 
 @wants_program
 @wants_library
@@ -132,7 +154,7 @@ class Openings(unittest.TestCase):
                     opened(**options).close()
 
     def test_limits_that_are_out_of_range(self):
-        for name, most in [("history", 10**6), ("cells", 2**20)]:
+        for name, most in [("history", 10**6), ("cells", 2**24 - 1)]:
             for limit in (0, -1, most + 1, 2**64, 2**64 + 5, -(2**64) + 5):
                 with self.subTest(name, limit=limit):
                     self.assertRaises(crackd.BadLimit, crackd.Table, **{name: limit})

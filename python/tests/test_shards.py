@@ -11,7 +11,7 @@ from clusters import cluster, wants_cluster
 from kinds import KINDS, value
 from ways import crackd, np, wants_library
 
-LOST = "its worker is gone"
+LOST, LAST = "its worker is gone", 2**64 - 1
 
 
 def numbers(it):
@@ -48,7 +48,7 @@ class Saves(unittest.TestCase):
 
     def shard(self, kind, keys, payloads, cuts=()):
         shard = crackd.shard.Shard(kind, list(cuts), {})
-        shard.table._insert_many(kind.many(keys), np.array(payloads, np.int64))
+        shard.rows.insert_many(kind.many(keys), np.array(payloads, np.int64))
         return shard
 
     def test_a_file_is_on_the_disk_before_it_has_its_name(self):
@@ -96,19 +96,19 @@ class Saves(unittest.TestCase):
                 self.assertEqual(shard.ask("load", (token, number, *words)), (token, None))
             else:
                 self.assertRaises(crackd.shard.ShardFailed, shard.ask, "load", (token, number, *words))
-            self.assertEqual(shard.ask("count", ()), (shard.token, wanted))
+            self.assertEqual(shard.ask("count", (0, 2**64 - 1)), (shard.token, wanted))
 
     def test_what_a_shard_refuses(self):
         shard = crackd.shard.Shard(crackd.keys.Keys("u"), [100], {"cells": 2})
         with self.assertRaises(crackd.Full) as caught:
-            shard.ask("_insert_many", (np.array([1, 2, 3], np.uint64), np.array([1, 2, 3])))
+            shard.ask("insert_many", (np.array([1, 2, 3], np.uint64), np.array([1, 2, 3])))
         self.assertEqual((caught.exception.code, caught.exception.done), (9, 2))
         with self.assertRaises(crackd.shard.ShardFailed) as caught:
-            shard.ask("_count", ("x", 1))
+            shard.ask("count", ("x", 1))
         self.assertIn("ArgumentError", str(caught.exception))
         self.assertEqual(shard.ask("begin", ()), (shard.token, 2))
         shard.ask("close", ())
-        self.assertRaises(crackd.Closed, shard.ask, "_count", (1, 2))
+        self.assertRaises(crackd.Closed, shard.ask, "count", (1, 2))
 
 
 @wants_cluster
@@ -120,7 +120,7 @@ class FirstErrors(unittest.TestCase):
 
     def first(self, errors):
         with self.assertRaises(crackd.Error) as caught:
-            cluster.raise_first(errors)
+            crackd.routing.raise_first(errors)
         return caught.exception
 
     def test_a_lost_shard_is_first(self):
@@ -139,18 +139,23 @@ class FirstErrors(unittest.TestCase):
         self.assertIs(self.first(errors), errors[1])
         errors[2] = crackd.LifeOver(10, 0)
         self.assertIs(self.first(errors), errors[2])
-        cluster.raise_first({})
+        crackd.routing.raise_first({})
 
     def test_a_call_for_many(self):
         shards, is_done = np.array([0, 1, 0, 2, 1, 0]), np.array([True, True, False, True, False, True])
         errors = {0: crackd.Full(9, 1), 1: crackd.OutOfMemory(8, 1)}
-        found = cluster.error_of(errors, shards, is_done, "rows")
+        found = crackd.routing.error_of(errors, shards, is_done, "rows")
         self.assertIsInstance(found, crackd.Full)
         self.assertEqual((found.code, found.done, found.later, found.answers), (9, 2, 2, "rows"))
-        found = cluster.error_of({**errors, 2: self.lost(2), 1: self.lost(1)}, shards, is_done, "rows")
+        found = crackd.routing.error_of({**errors, 2: self.lost(2), 1: self.lost(1)}, shards, is_done, "rows")
         self.assertEqual((type(found), found.shard, found.answers), (cluster.ShardLost, 1, "rows"))
+        # (an interrupted call may have done all rows)
+        stop = KeyError("a handler's")
+        for done in (is_done, np.ones(6, bool)):
+            found = crackd.routing.error_of({**errors, 2: stop}, shards, done, "rows")
+            self.assertEqual((found is stop, found.answers), (True, "rows"))
         failed = crackd.shard.ShardFailed("a full disk")
-        found = cluster.error_of({0: failed}, shards, is_done, "rows")
+        found = crackd.routing.error_of({0: failed}, shards, is_done, "rows")
         self.assertEqual((found is failed, found.answers), (True, "rows"))
 
 
@@ -165,10 +170,11 @@ class LostShards(unittest.TestCase):
         table._lost = {1: lost}
         table._start = lambda shard, *_: asked.append(shard) or shard
         table._result = lambda shard, _: (table._tokens[shard], 7)
-        self.assertEqual(table._ask({0: (), 1: ()}, "begin"), ({0: 7}, {1: lost}))
+        cuts = {0: crackd.routing.Cut(()), 1: crackd.routing.Cut(())}
+        self.assertEqual(table._ask(cuts, "begin"), ({0: 7}, {1: lost}))
         self.assertEqual(asked, [0])
         with self.assertRaises(cluster.ShardLost) as caught:
-            table._all({0: (), 1: ()}, "begin")
+            table._all(cuts, "begin")
         self.assertEqual((caught.exception.shard, caught.exception is lost), (1, False))
 
 
@@ -181,10 +187,10 @@ class Ranges(unittest.TestCase):
     def table(self, answers, errors):
         """A table of the shards 0 to 9, 10 to 19, and from 20, which give these answers and errors."""
         table = cluster.Table.__new__(cluster.Table)
-        table._cuts, table.shards, table.asked = np.array([10, 20], np.uint64), 3, {}
+        table._shard_cuts, table.shards, table.asked = np.array([10, 20], np.uint64), 3, {}
 
-        def ask(words, name):
-            table.asked = {shard: [it.tolist() for it in ends] for shard, ends in words.items()}
+        def ask(cuts, name):
+            table.asked = {shard: [it.tolist() for it in cut.words()] for shard, cut in cuts.items()}
             return answers, errors
 
         table._ask = ask
@@ -196,7 +202,8 @@ class Ranges(unittest.TestCase):
             table = self.table({it: np.array(found) for it, found in answers.items()}, {})
             found = getattr(table, call)(self.FIRSTS, self.LASTS)
             self.assertEqual(numbers(found), [1, 0, 12, 120, 200])
-            wanted = {0: [[0, 5], [9, 15]], 1: [[5, 12], [15, 29]], 2: [[12, 25], [29, 26]]}
+            # (a shard is asked for all keys on a side where the range ends in another)
+            wanted = {0: [[0, 5], [9, LAST]], 1: [[0, 12], [15, LAST]], 2: [[0, 25], [29, 26]]}
             self.assertEqual(table.asked, wanted)
 
     def test_the_first_range_that_was_refused(self):
@@ -215,21 +222,23 @@ class Parts(unittest.TestCase):
     def test_the_shard_of_each_key(self):
         cuts = np.array([1, 5, 2**63, 2**64 - 1], np.uint64)
         keys = np.array([0, 1, 4, 5, 6, 2**63 - 1, 2**63, 2**64 - 2, 2**64 - 1], np.uint64)
-        self.assertEqual(crackd.shard.shard_of(cuts, keys).tolist(), [0, 1, 1, 2, 2, 2, 3, 3, 4])
-        self.assertEqual(crackd.shard.shard_of(cuts[:0], keys).tolist(), [0] * 9)
+        self.assertEqual(crackd.routing.shard_of(cuts, keys).tolist(), [0, 1, 1, 2, 2, 2, 3, 3, 4])
+        self.assertEqual(crackd.routing.shard_of(cuts[:0], keys).tolist(), [0] * 9)
+        many = np.arange(1, 40, dtype=np.uint64)
+        self.assertEqual(crackd.routing.shard_of(many, keys[:6]).tolist(), [0, 1, 4, 5, 6, 39])
 
     def test_blocks_keep_the_order_of_rows(self):
         for shards in ([], [3], [0, 0, 0], [5, 0, 5, 1, 0, 5], [1023, 0, 1023], [it * 7919 % 3 for it in range(5000)]):
-            found = {it.shard: it.places.tolist() for it in crackd.shard.blocks_of(np.array(shards, np.int64))}
+            found = {it.shard: it.places.tolist() for it in crackd.routing.blocks_of(np.array(shards, np.int64))}
             wanted = {it: [at for at, shard in enumerate(shards) if shard == it] for it in sorted(set(shards))}
             self.assertEqual((found, list(found)), (wanted, list(wanted)))
 
     def test_splits(self):
         for cuts in ([], [1], [1, 2, 3], range(1, 1024)):
-            self.assertEqual(cluster.checked_splits(np.array(cuts, np.uint64)).tolist(), list(cuts))
+            self.assertEqual(crackd.routing.checked_splits(np.array(cuts, np.uint64)).tolist(), list(cuts))
         for cuts in ([0], [0, 1], [2, 2], [1, 3, 2]):
-            self.assertRaises(crackd.BadSplits, cluster.checked_splits, np.array(cuts, np.uint64))
-        self.assertRaises(ValueError, cluster.checked_splits, np.arange(1, 1025, dtype=np.uint64))
+            self.assertRaises(crackd.BadSplits, crackd.routing.checked_splits, np.array(cuts, np.uint64))
+        self.assertRaises(ValueError, crackd.routing.checked_splits, np.arange(1, 1025, dtype=np.uint64))
 
     def test_sums_are_exact(self):
         for payloads in ([], [2**63 - 1] * 9, [-(2**63)] * 9, [-1] * 5, [-(2**63), 2**63 - 1, 2**32, -(2**32), 2**31]):

@@ -9,9 +9,10 @@ from unittest import mock
 
 from ways import InProcess, crackd, standing_in, wants_library, wants_program
 
-from crackd import client
+from crackd import client, library, wire
 
-SECONDS = 20
+# how long a test may hang
+SECONDS = 120
 
 
 def setUpModule():
@@ -54,7 +55,7 @@ class InTheProcess(InProcess, unittest.TestCase):
     @contextlib.contextmanager
     def signalled(self, table, name, number):
         """Lets a signal interrupt a function of the library."""
-        with mock.patch.object(table._library, name, Signalling(getattr(table._library, name), number)):
+        with mock.patch.object(library.library(), name, Signalling(getattr(library.library(), name), number)):
             yield
 
     def test_a_handler_is_answered(self):
@@ -121,11 +122,11 @@ class OverTcp(unittest.TestCase):
         is_waiting, wait = threading.Event(), client.Channel.step
 
         def step(channel):
-            if channel._feeds == 1:
+            if channel._given.feeds == 1:
                 is_waiting.set()
             wait(channel)
 
-        with standing_in(play) as port, mock.patch.object(client, "STATEMENTS_AT_ONCE", 2):
+        with standing_in(play) as port, mock.patch.object(wire, "STATEMENTS_AT_ONCE", 2):
             table = crackd.connect(port=port)
             with mock.patch.object(client.Channel, "step", step), self.assertRaises(KeyboardInterrupt) as caught:
                 table.insert_many([1, 2, 3, 4], [1, 1, 1, 1])
@@ -139,7 +140,7 @@ class OverTcp(unittest.TestCase):
 
         with crackd.serve() as server, server.connect() as table:
             table.insert(1, 5)
-            with mock.patch.object(client, "joined_text", interrupt):
+            with mock.patch.object(wire, "joined_text", interrupt):
                 self.assertRaises(KeyboardInterrupt, table.count)
             self.assertEqual(table.sum(), 5)
 

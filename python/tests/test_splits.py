@@ -5,6 +5,7 @@ import io
 import pathlib
 import tempfile
 import unittest
+from unittest import mock
 
 from ways import crackd
 
@@ -53,6 +54,13 @@ class Program(unittest.TestCase):
             except SystemExit as end:
                 status = end.code
         return status, out.getvalue(), errors.getvalue()
+
+    def test_its_usage_names_the_command_that_was_called(self):
+        for path, name in (("/usr/bin/crackd", "crackd"), ("/lib/crackd/__main__.py", "python3 -m crackd")):
+            with mock.patch("sys.argv", [path]):
+                self.assertIn(f"usage: {name} COMMAND", self.run_program("--help")[1])
+                for command in ("splits", "picture", "shell"):
+                    self.assertIn(f"usage: {name} {command}", self.run_program(command, "--help")[1])
 
     def test_all_keys_of_a_file_count(self):
         # (each other key is large, so that a sample of every second one would see none of these)

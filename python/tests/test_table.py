@@ -4,7 +4,18 @@ import itertools
 import random
 import unittest
 
-from ways import InProcess, OverTcp, crackd, np, wants_library, wants_numpy, wants_program
+from ways import (
+    InProcess,
+    InShards,
+    OverAsyncio,
+    OverTcp,
+    crackd,
+    np,
+    wants_library,
+    wants_numpy,
+    wants_program,
+    wants_shards,
+)
 
 GREATEST = 2**63 - 1
 UNSIGNED = 2**64 - 1
@@ -96,7 +107,7 @@ class Cases:
             self.assertRaises(TypeError, table.count, 1, [2])
 
     def test_deletes_and_updates(self):
-        with self.table() as table:
+        with self.table(partitions=1) as table:
             rows = table.insert_many([1, 2, 3], [7, 8, 9])
             self.assertEqual(list(table.delete_many([rows[0], rows[0]])), [True, False])
             self.assertEqual(list(table.update_many([rows[1], rows[0]], [20, 1], [80, 1])), [True, False])
@@ -234,7 +245,7 @@ class Cases:
             self.assertEqual((caught.exception.code, caught.exception.done), (5, 1))
 
     def test_a_full_partition_tells_how_far_it_came(self):
-        with self.table(cells=3) as table:
+        with self.table(cells=3, partitions=1) as table:
             with self.assertRaises(crackd.Full) as caught:
                 table.insert_many([1, 2, 3, 4, 5], [1, 2, 4, 8, 16])
             self.assertEqual((caught.exception.code, caught.exception.done, len(caught.exception.answers)), (9, 3, 3))
@@ -242,7 +253,7 @@ class Cases:
             self.assertEqual(list(table.delete_many(caught.exception.answers)), [True] * 3)
 
     def test_a_partition_is_full_only_with_as_many_rows_as_cells(self):
-        with self.table(cells=1000) as table:
+        with self.table(cells=1000, partitions=1) as table:
             rows = table.insert_many(range(600), [1] * 600)
             for payload in (2, 3, 4):
                 table.settle()
@@ -261,7 +272,7 @@ class Cases:
     def test_bad_openings(self):
         for options, kind in [
             ({"history": 0}, crackd.BadLimit),
-            ({"cells": 2**21}, crackd.BadLimit),
+            ({"cells": 2**24}, crackd.BadLimit),
             ({"splits": [5, 5]}, crackd.BadSplits),
         ]:
             with self.subTest(options), self.assertRaises(kind), self.table(**options):
@@ -314,7 +325,7 @@ class Cases:
             "auto": [(100, 0), (100, 2)],
         }
         for policy, (name, query) in itertools.product(wanted, queries.items()):
-            with self.subTest(policy=policy, query=name), self.table(policy=policy) as table:
+            with self.subTest(policy=policy, query=name), self.table(policy=policy, partitions=1) as table:
                 table.insert_many(range(100), [1] * 100)
                 query(table)
                 first = table.layout().parts[0]
@@ -325,7 +336,7 @@ class Cases:
                 self.assertEqual(got, wanted[policy])
 
     def test_the_first_query_after_a_load_merges_all_rows(self):
-        with self.table() as table:
+        with self.table(partitions=1) as table:
             table.insert_many(range(100), [1] * 100)
             table.count(10, 20)
             part = table.layout().parts[0]
@@ -358,7 +369,7 @@ class Cases:
                 self.assertEqual([it.high for it in part.pieces[:-1]], [it.low for it in part.pieces[1:]])
             self.assertIn("partition 2: keys", str(layout))
             self.assertIn("to 99 ", str(layout))
-            self.assertEqual(layout.svg().count("<text"), 3)
+            self.assertEqual(layout.svg().count("<g><title>partition "), 3)
             self.assertTrue(layout.svg().startswith("<svg ") and layout.svg().endswith("</svg>\n"))
 
     def test_a_closed_table_says_so(self):
@@ -558,6 +569,42 @@ class Cases:
             self.assertIn("2020", str(table.layout()))
 
 
+@wants_shards
+class InShardsCases(Cases, InShards, unittest.TestCase):
+    """In the process, in several shards."""
+
+    def test_bad_openings(self):
+        wrong = [({"history": 0}, crackd.BadLimit), ({"cells": 2**24}, crackd.BadLimit)]
+        wrong += [({"splits": it}, crackd.BadSplits) for it in ([5, 5], [-(2**63)], [1, 3, 2], range(3 * 64))]
+        wrong += [({"sample": [5, 6], "partitions": it}, ValueError) for it in (0, 3 * 64 + 1)]
+        wrong += [({"sample": [5, 6], "shards": it}, ValueError) for it in (0, -1, 1025)]
+        wrong += [({"shards": it}, TypeError) for it in (1.0, "2", True)]
+        wrong += [({"policy": "none"}, ValueError), ({"splits": [2**63]}, OverflowError)]
+        for options, kind in wrong:
+            with self.subTest(options), self.assertRaises(kind), self.table(**options):
+                pass
+        with self.assertRaisesRegex(ValueError, "3 shards need a sample of the keys, or splits"):
+            crackd.Table(shards=3)
+
+    def test_layouts_add_up(self):
+        with self.table(range(1000), partitions=7) as table:
+            rows = table.insert_many(range(1000), range(1000))
+            table.count(100, 200), table.settle(), table.delete_many(rows[:3])
+            layout = table.layout()
+            self.assertEqual((layout.rows, table.partitions, table.shards), (997, 7, 3))
+            self.assertEqual([it.partition for it in layout.parts], [0, 1, 64, 65, 128, 129, 130])
+            ends = [it.ends for it in layout.parts]
+            self.assertEqual((ends[0][0], ends[-1][1]), (0, 2**64))
+            self.assertEqual([it[1] for it in ends[:-1]], [it[0] for it in ends[1:]])
+
+
+@wants_shards
+class FewItemsCases(InShardsCases):
+    """In several shards that do a few items one by one."""
+
+    AT_ONCE = False
+
+
 @wants_library
 class InProcessCases(Cases, InProcess, unittest.TestCase):
     """In the process."""
@@ -594,6 +641,11 @@ class BoundCases(InProcess, unittest.TestCase):
 @wants_program
 class OverTcpCases(Cases, OverTcp, unittest.TestCase):
     """Over TCP."""
+
+
+@wants_program
+class OverAsyncioCases(Cases, OverAsyncio, unittest.TestCase):
+    """Over TCP, by asyncio."""
 
 
 if __name__ == "__main__":

@@ -8,7 +8,7 @@ import threading
 import time
 import unittest
 
-from ways import InProcess, OverTcp, crackd, wants_library, wants_program
+from ways import InProcess, InShards, OverTcp, crackd, wants_library, wants_program, wants_shards
 
 THREADS, STEPS = 8, 100
 
@@ -72,6 +72,11 @@ class Sharing:
 @wants_program
 class SharingOverTcp(Sharing, OverTcp, unittest.TestCase):
     """Over TCP."""
+
+
+@wants_shards
+class SharingInShards(Sharing, InShards, unittest.TestCase):
+    """In the process, in several shards."""
 
 
 @wants_library
@@ -163,7 +168,7 @@ class SharingInProcess(Sharing, InProcess, unittest.TestCase):
 
     def test_partitions_by_the_number_of_rows(self):
         for rows, parts in [(0, 1), (4096, 1), (8192, 2), (10**6, 64), (None, 24)]:
-            with crackd.Table(range(100_000), rows) as table:
+            with crackd.Table(range(100_000), rows, shards=1) as table:
                 self.assertEqual(table.partitions, parts)
         with crackd.Table([7] * 100, partitions=8) as table:
             self.assertEqual(table.partitions, 2)

@@ -10,7 +10,7 @@ import unittest
 from ways import crackd, standing_in, wants_program
 
 # a timeout that a test waits for, a pause that is shorter, and the most that a wait may take
-SOON, PAUSE, MOST = 1, 0.15, 20
+SOON, PAUSE, MOST = 2, 0.3, 120
 
 
 class Silence(unittest.TestCase):

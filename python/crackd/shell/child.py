@@ -3,10 +3,10 @@
 import contextlib
 import signal
 import subprocess
-import tempfile
+from typing import Any, Iterator, Sequence
 
 from ..channel import Channel
-from ..server import TRIES, free_port
+from ..server import TRIES, free_port, output_of
 from .texts import Ended, Interrupted, complain, fault_text, in_words
 
 SECONDS_OF_AN_END = 60
@@ -15,25 +15,25 @@ SECONDS_OF_AN_END = 60
 class Interrupts:
     """Notes a control-C, so that what is running ends in order. A second one ends the shell at once."""
 
-    def __init__(self):
+    def __init__(self) -> None:
         self.noted, self.is_told = 0, False
         signal.signal(signal.SIGINT, self.note)
 
-    def note(self, *_):
+    def note(self, *_: Any) -> None:
         self.noted += 1
         if self.noted > 1:
             raise KeyboardInterrupt
 
-    def forget(self):
+    def forget(self) -> None:
         self.noted, self.is_told = 0, False
 
-    def check(self, left_undone):
+    def check(self, left_undone: str) -> None:
         """Ends what is running if a control-C was noted."""
         if self.noted:
             raise Interrupted(left_undone)
 
     @contextlib.contextmanager
-    def breaking_in(self):
+    def breaking_in(self) -> Iterator[None]:
         """While a person, a file or a program is waited for, the first control-C ends the waiting."""
         try:
             signal.signal(signal.SIGINT, signal.default_int_handler)
@@ -41,7 +41,7 @@ class Interrupts:
         finally:
             signal.signal(signal.SIGINT, self.note)
 
-    def tell_once(self):
+    def tell_once(self) -> None:
         """Says once that an answer is still missing."""
         if self.noted and not self.is_told:
             self.is_told = True
@@ -51,7 +51,7 @@ class Interrupts:
 class Server:
     """The shell's own server, for one session. It is in a session of its own, so that no control-C reaches it."""
 
-    def __init__(self, program, words):
+    def __init__(self, program: str, words: Sequence[str]):
         self.program = program
         for _ in range(TRIES):
             self.port = free_port()
@@ -64,7 +64,7 @@ class Server:
                 raise Ended(f"no server: {self.end_text(complaint)}")
         raise Ended("no server: no port was free")
 
-    def started(self, words):
+    def started(self, words: Sequence[str]) -> subprocess.Popen[str]:
         """The process of a server, as it begins."""
         command = [
             self.program,
@@ -92,15 +92,15 @@ class Server:
         except (OSError, ValueError) as error:
             raise Ended(f"no server: {fault_text(self.program, error)}") from error
 
-    def has_begun(self):
+    def has_begun(self) -> bool:
         """Waits until the process listens or ends. Returns whether it listens."""
         try:
-            return self.process.stdout.readline() == f"listening {self.port}\n"
+            return output_of(self.process).readline() == f"listening {self.port}\n"
         except BaseException:
             self.end()
             raise
 
-    def end_text(self, complaint):
+    def end_text(self, complaint: str) -> str:
         """The last line that the program wrote, in words, or else how it ended."""
         status = self.process.returncode
         if complaint:
@@ -111,7 +111,7 @@ class Server:
             else f"{self.program} ended with status {status}"
         )
 
-    def totals(self):
+    def totals(self) -> str:
         """The server's last line, once it has ended."""
         try:
             wrote, complaint = self.process.communicate(timeout=SECONDS_OF_AN_END)
@@ -121,21 +121,21 @@ class Server:
             raise Ended(self.end_text(complaint))
         return wrote.rstrip("\n")
 
-    def why(self):
+    def why(self) -> str:
         """Why the server left."""
         try:
             return self.end_text(self.process.communicate(timeout=1)[1])
         except subprocess.TimeoutExpired:
             return "it cut the session off"
 
-    def end(self):
+    def end(self) -> None:
         """Ends the server if it hasn't ended."""
         if self.process.poll() is None:
             self.process.kill()
         self.process.communicate()
 
 
-def channel_to(port, interrupts):
+def channel_to(port: int, interrupts: Interrupts) -> Channel:
     """A connection to the server on a port of this machine."""
     try:
         return Channel("127.0.0.1", port, interrupts.tell_once)

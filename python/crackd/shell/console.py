@@ -9,15 +9,17 @@ server left, or if a filter had a refused statement or a failed command; it is 2
 
 import argparse
 import contextlib
+import io
 import os
 import signal
 import sys
 import time
+from typing import IO, Any, Callable, Iterable, Iterator, Optional, Union
 
 from ..base import POLICIES
 from ..errors import Disconnected
 from ..layout import rows_text
-from ..server import NoServer, find_program
+from ..server import NoServer, called, find_program
 from . import modes, typing
 from .child import Interrupts, Server, channel_to
 from .session import HTTP, POLICY, Records, Reply, Session
@@ -31,7 +33,7 @@ SECONDS_OF_A_PROGRESS = 0.1
 
 
 @contextlib.contextmanager
-def of_file(path):
+def of_file(path: str) -> Iterator[None]:
     """Work with a file. Its errors are reported with its path."""
     try:
         yield
@@ -40,7 +42,7 @@ def of_file(path):
 
 
 @contextlib.contextmanager
-def replacing(path):
+def replacing(path: str) -> Iterator[IO[str]]:
     """A file that replaces another once all is written; until then the other stays as it is."""
     target = os.path.realpath(path)
     if os.path.exists(target) and not os.path.isfile(target):
@@ -61,16 +63,16 @@ def replacing(path):
 class Progress:
     """A line of a terminal that shows progress."""
 
-    def __init__(self, is_shown):
+    def __init__(self, is_shown: bool):
         self.is_shown, self.width, self.next = is_shown, 0, time.monotonic() + SECONDS_OF_A_PROGRESS
 
-    def show(self, text):
+    def show(self, text: str) -> None:
         if self.is_shown and time.monotonic() >= self.next:
             self.next = time.monotonic() + SECONDS_OF_A_PROGRESS
             self.width = max(self.width, len(text))
             print(f"\r{text:<{self.width}}", end="", flush=True)
 
-    def clear(self):
+    def clear(self) -> None:
         if self.width:
             print(f"\r{'':<{self.width}}\r", end="", flush=True)
 
@@ -78,19 +80,20 @@ class Progress:
 class Shell:
     """Runs lines, and shows the replies."""
 
-    def __init__(self, session, interrupts, is_terminal):
+    def __init__(self, session: Session, interrupts: Interrupts, is_terminal: bool):
         self.session, self.interrupts, self.is_terminal = session, interrupts, is_terminal
         # (faults are refused statements and failed commands)
         self.answered = self.refused = self.faults = 0
         self.has_ended = self.bails = False
-        self.mode, self.most_rows = "lines", None
+        self.mode = "lines"
+        self.most_rows: Optional[int] = None
         # (those whose lines are running)
-        self.files = []
-        self.of_files = {".load": self.load, ".save": self.save, ".read": self.read}
-        self.others = {".layout": self.layout, ".help": self.help, ".quit": self.quit}
+        self.files: list[str] = []
+        self.of_files: dict[str, Callable[[str], None]] = {".load": self.load, ".save": self.save, ".read": self.read}
+        self.others: dict[str, Callable[[str], None]] = {".layout": self.layout, ".help": self.help, ".quit": self.quit}
         self.others |= {".mode": self.set_mode, ".limit": self.set_limit, ".bail": self.set_bail}
 
-    def run(self, lines):
+    def run(self, lines: Iterable[bytes]) -> None:
         """Runs lines until one ends the session, or there are no more."""
         for line in lines:
             self.interrupts.forget()
@@ -109,7 +112,7 @@ class Shell:
                 break
         self.quit()
 
-    def obey(self, line):
+    def obey(self, line: bytes) -> None:
         """Runs a line."""
         text = line[:-1] if line.endswith(b"\r") else line
         name, _, argument = text.strip(b" ").partition(b" ")
@@ -122,7 +125,7 @@ class Shell:
             statement = ended(text) if text.rstrip(b" ").endswith(b";") else text
             self.statement(b"quit" if ended(text) == b"exit" else statement or text)
 
-    def command(self, name, argument):
+    def command(self, name: str, argument: str) -> None:
         """Runs a command. An error is reported, and the shell goes on."""
         try:
             if name in self.of_files and argument:
@@ -136,11 +139,11 @@ class Shell:
         except Fault as fault:
             self.fail(fault)
 
-    def fail(self, text):
+    def fail(self, text: Union[str, Fault]) -> None:
         self.faults += 1
         complain(text)
 
-    def statement(self, statement):
+    def statement(self, statement: bytes) -> None:
         # (a line at which the server would end the session isn't sent)
         is_http = HTTP.match(statement[:MOST_LINE_BYTES])
         reply = Reply(["refused 1"], 0.0) if is_http else self.session.ask(with_ends(statement))
@@ -151,7 +154,7 @@ class Shell:
         self.interrupts.check("the statement was answered; its reply isn't shown")
         self.show(reply)
 
-    def show(self, reply):
+    def show(self, reply: Reply) -> None:
         """Shows a reply in the current mode. On a terminal it also explains a refusal, and shows the time: after a
         reply of one line, below others."""
         lines = modes.shown(reply.lines, self.mode, self.most_rows)
@@ -170,12 +173,12 @@ class Shell:
                 else time_text(reply.seconds)
             )
 
-    def say(self, text, seconds):
+    def say(self, text: str, seconds: float) -> None:
         """Says what was done, and on a terminal how long it took."""
         print(f"{text}  {time_text(seconds)}" if self.is_terminal else text)
 
     @contextlib.contextmanager
-    def waiting_for(self, path):
+    def waiting_for(self, path: str) -> Iterator[None]:
         """While a file is opened or read, which may wait for another program, a control-C ends that."""
         try:
             with of_file(path), self.interrupts.breaking_in():
@@ -184,7 +187,7 @@ class Shell:
             self.interrupts.noted = 1
             raise Interrupted(f"{path} wasn't read") from None
 
-    def load(self, path):
+    def load(self, path: str) -> None:
         """Inserts the rows of a CSV file."""
         with self.waiting_for(path):
             file = open(path, encoding="utf-8-sig", errors="surrogateescape", newline="")
@@ -193,24 +196,23 @@ class Shell:
             records = Records(file)
             loaded = self.session.load(records, Progress(self.is_terminal))
         seconds = time.perf_counter() - begun
-        ended = loaded.end_text(records, self.interrupts.noted)
+        ended = loaded.end_text(records, self.interrupts.noted > 0)
         if ended:
             self.fail(ended)
         else:
             self.say(f"loaded {rows_text(loaded.placed)}", seconds)
 
-    def save(self, path):
+    def save(self, path: str) -> None:
         """Writes all rows to a CSV file."""
         begun = time.perf_counter()
         try:
             with of_file(path), replacing(path) as file:
-                rows, selects = self.session.save(file)
+                rows = self.session.save(file)
         except Fault as fault:
             raise Fault(f"not saved: {fault}") from fault
-        kept = "the select that listed them" if selects == 1 else f"the {selects} selects that listed them"
-        self.say(f"saved {rows_text(rows)} to {path}; the histories keep {kept}", time.perf_counter() - begun)
+        self.say(f"saved {rows_text(rows)} to {path}", time.perf_counter() - begun)
 
-    def read(self, path):
+    def read(self, path: str) -> None:
         """Runs the lines of a file."""
         if os.path.realpath(path) in self.files:
             raise Fault(f"{path}: it is already being read")
@@ -235,7 +237,7 @@ class Shell:
             self.say(f"{path}: statements {self.answered - answered}{told}", time.perf_counter() - begun)
 
     @contextlib.contextmanager
-    def within(self, path):
+    def within(self, path: str) -> Iterator[None]:
         """While the lines of a file run."""
         self.files.append(os.path.realpath(path))
         try:
@@ -243,48 +245,48 @@ class Shell:
         finally:
             self.files.pop()
 
-    def layout(self, partition):
+    def layout(self, partition: str) -> None:
         """Draws the column of one partition or of all."""
-        one = [self.session.layout(partition)] if partition else []
-        if None in one:
+        one = self.session.layout(partition) if partition else None
+        if partition and one is None:
             raise Fault(f"layout {partition}: {in_words('refused 5')}")
-        for it in one or self.session.layouts():
+        for it in self.session.layouts() if one is None else [one]:
             self.interrupts.check("the rest isn't shown")
             print("\n".join(it.drawn()))
 
-    def set_mode(self, name):
+    def set_mode(self, name: str) -> None:
         """Chooses how replies are shown."""
         if name not in modes.MODES:
             raise Fault(f".mode is one of {', '.join(modes.MODES)}")
         self.mode = name
 
-    def set_limit(self, number):
+    def set_limit(self, number: str) -> None:
         """Chooses how many rows a select shows."""
         if number != "off" and not (number.isascii() and number.isdigit()):
             raise Fault(".limit needs a number of rows, or off")
         self.most_rows = None if number == "off" else int(number)
 
-    def set_bail(self, word):
+    def set_bail(self, word: str) -> None:
         """Chooses whether a file or a pipe ends at the first fault."""
         if word not in ("on", "off"):
             raise Fault(".bail is on or off")
         self.bails = word == "on"
 
-    def help(self, _=""):
+    def help(self, _: str = "") -> None:
         print(HELP)
 
-    def quit(self, _=""):
+    def quit(self, _: str = "") -> None:
         """Ends the session."""
         self.session.ask("quit")
         self.has_ended = True
 
 
-def ended(text):
+def ended(text: bytes) -> bytes:
     """A line without spaces around it, and without one ; at its end."""
     return text.strip(b" ").removesuffix(b";").rstrip(b" ")
 
 
-def with_ends(statement):
+def with_ends(statement: bytes) -> bytes:
     """A statement with the number past the greatest key in place of the word `end` of a range."""
     words = statement.split(b" ")
     if ended(statement).split(b" ")[0] not in RANGED:
@@ -292,9 +294,10 @@ def with_ends(statement):
     return b" ".join(b"%d" % (GREATEST_KEY + 1) if it == b"end" else it for it in words)
 
 
-def typed_lines(interrupts):
+def typed_lines(interrupts: Interrupts) -> Iterator[bytes]:
     """The lines that a person types, until control-D. A control-C drops a half-typed line."""
-    sys.stdin.reconfigure(errors="surrogateescape")
+    if isinstance(sys.stdin, io.TextIOWrapper):
+        sys.stdin.reconfigure(errors="surrogateescape")
     with typing.edited():
         while True:
             try:
@@ -310,7 +313,7 @@ def typed_lines(interrupts):
             yield from os.fsencode(text).split(b"\n")
 
 
-def given_lines(interrupts):
+def given_lines(interrupts: Interrupts) -> Iterator[bytes]:
     """The lines of standard input."""
     while True:
         with interrupts.breaking_in():
@@ -320,12 +323,12 @@ def given_lines(interrupts):
         yield line[:-1] if line.endswith(b"\n") else line
 
 
-def is_with_a_person():
+def is_with_a_person() -> bool:
     """Whether a person types the lines and sees the answers."""
     return sys.stdin.isatty() and sys.stdout.isatty()
 
 
-def talk(port, policy, is_known, interrupts):
+def talk(port: int, policy: Optional[str], is_known: bool, interrupts: Interrupts) -> bool:
     """A session with the server at a port, whose policy is known or is set first. Returns whether all was done."""
     channel, is_terminal = channel_to(port, interrupts), is_with_a_person()
     session = Session(channel, interrupts, policy if is_known else None)
@@ -339,7 +342,7 @@ def talk(port, policy, is_known, interrupts):
     return is_terminal or not shell.faults
 
 
-def program_of(path):
+def program_of(path: Optional[str]) -> str:
     """The path of the program."""
     try:
         return find_program(path)
@@ -347,7 +350,7 @@ def program_of(path):
         raise Ended(f"no server: {error}") from error
 
 
-def talk_to_own(options, interrupts):
+def talk_to_own(options: Any, interrupts: Interrupts) -> bool:
     """A session with the shell's own server. Returns whether all was done."""
     policy = options.policy or POLICY
     named = {"--limit": options.limit, "--cells": options.cells, "--life": options.life, "--policy": policy}
@@ -366,10 +369,10 @@ def talk_to_own(options, interrupts):
         server.end()
 
 
-def options_of(words):
+def options_of(words: list[str]) -> Any:
     """The options of the command line."""
     parser = argparse.ArgumentParser(
-        prog="python3 -m crackd shell",
+        prog=f"{called()} shell",
         description="A shell over `crackd serve`. Without a port it starts a server of its own.",
     )
     parser.add_argument(
@@ -381,7 +384,7 @@ def options_of(words):
     parser.add_argument(
         "--limit", metavar="N", help="how many commands a partition answers between two checkpoints, 1 to 1000000"
     )
-    parser.add_argument("--cells", metavar="N", help="how many cells for rows a partition has, 1 to 1048576")
+    parser.add_argument("--cells", metavar="N", help="how many cells for rows a partition has, 1 to 16777215")
     parser.add_argument("--life", metavar="N", help="how many commands a partition answers in all, 1 to 1099511627776")
     parser.add_argument(
         "--policy",
@@ -403,9 +406,10 @@ def options_of(words):
     return options
 
 
-def main(words):
+def main(words: list[str]) -> int:
     options, interrupts = options_of(words), Interrupts()
-    sys.stdout.reconfigure(errors="backslashreplace")
+    if isinstance(sys.stdout, io.TextIOWrapper):
+        sys.stdout.reconfigure(errors="backslashreplace")
     try:
         is_done = (
             talk_to_own(options, interrupts)

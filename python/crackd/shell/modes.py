@@ -1,6 +1,7 @@
 """How replies are shown: as the server gives them, as CSV, or as JSON with one value per line."""
 
 import json
+from typing import Any, Optional, Sequence, Union
 
 from ..errors import REASONS
 
@@ -9,16 +10,16 @@ ROW = ("row", "key", "payload")
 PIECE = ("low", "high", "rows")
 
 
-def is_list_of_rows(lines):
+def is_list_of_rows(lines: Sequence[str]) -> bool:
     return lines[0].startswith("rows ")
 
 
-def hidden(lines, most):
+def hidden(lines: Sequence[str], most: Optional[int]) -> int:
     """How many rows of a reply aren't shown if at most `most` are."""
     return max(0, len(lines) - 1 - most) if most is not None and is_list_of_rows(lines) else 0
 
 
-def shown(lines, mode, most):
+def shown(lines: list[str], mode: str, most: Optional[int]) -> list[str]:
     """The lines that show a reply, with at most `most` of its rows, or all."""
     kept = lines[: len(lines) - hidden(lines, most)]
     if mode == "lines":
@@ -26,17 +27,17 @@ def shown(lines, mode, most):
     return [json.dumps(value(kept))] if mode == "json" else records(kept)
 
 
-def number(word):
+def number(word: str) -> Union[int, str]:
     """A word of a reply, as a number if it is one."""
     return int(word) if word.removeprefix("-").isdigit() else word
 
 
-def of_names(names, line):
+def of_names(names: Sequence[str], line: str) -> dict[str, Union[int, str]]:
     """The words of a line, by name."""
     return dict(zip(names, map(number, line.split(" "))))
 
 
-def value(lines):
+def value(lines: Sequence[str]) -> Any:
     """A reply as a value for JSON."""
     words = lines[0].split(" ")
     match words[0]:
@@ -54,7 +55,7 @@ def value(lines):
             return {words[0]: number(words[1]) if len(words) > 1 else True}
 
 
-def records(lines):
+def records(lines: Sequence[str]) -> list[str]:
     """A reply as records of CSV: rows and pieces after a header, any other reply as its words."""
     if is_list_of_rows(lines):
         return [",".join(ROW), *(line.replace(" ", ",") for line in lines[1:])]

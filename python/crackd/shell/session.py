@@ -6,7 +6,9 @@ import itertools
 import os
 import re
 import time
+from typing import IO, Any, Iterable, Iterator, Optional, Sequence, Union
 
+from ..channel import Channel
 from ..errors import Disconnected
 from ..layout import PartLayout, rows_text
 from .texts import GREATEST_KEY, GREATEST_PAYLOAD, LEAST_PAYLOAD, Fault, Left, in_words
@@ -30,34 +32,34 @@ ROWS_UNANSWERED = 20_000
 class Reply:
     """The lines of a reply, and the seconds until they came."""
 
-    lines: list
+    lines: list[str]
     seconds: float
 
     @property
-    def is_refusal(self):
+    def is_refusal(self) -> bool:
         return self.lines[0].startswith("refused")
 
 
-def is_key(text):
+def is_key(text: str) -> bool:
     return KEY.fullmatch(text) is not None and int(text) <= GREATEST_KEY
 
 
-def is_payload(text):
+def is_payload(text: str) -> bool:
     return PAYLOAD.fullmatch(text) is not None and LEAST_PAYLOAD <= int(text) <= GREATEST_PAYLOAD
 
 
-def is_row(record):
+def is_row(record: Sequence[str]) -> bool:
     """Whether a record is a key and a payload."""
     return len(record) == 2 and is_key(record[0]) and is_payload(record[1])
 
 
-def are_digits(texts):
+def are_digits(texts: Sequence[str]) -> bool:
     """Whether all texts are digits, and not too many."""
     digits = "".join(texts)
     return all(texts) and digits.isascii() and digits.isdigit() and max(map(len, texts)) <= MOST_DIGITS
 
 
-def are_rows(records):
+def are_rows(records: Sequence[Sequence[str]]) -> bool:
     """Whether all records are rows, and there are some: like `is_row` of each, in less time."""
     if set(map(len, records)) != {2}:
         return False
@@ -71,14 +73,15 @@ def are_rows(records):
 class Records:
     """The records of a CSV file, up to the first that isn't a row. `fault` then says which one that is, and why."""
 
-    def __init__(self, file):
+    def __init__(self, file: Iterable[str]):
         # (blank lines aren't records)
         self.records = filter(None, csv.reader(file))
         self.number, self.has_header, self.fault = 0, False, ""
 
-    def next_rows(self, interrupts):
+    def next_rows(self, interrupts: Any) -> list[list[str]]:
         """The next records that are rows. A control-C ends the waiting for another program."""
-        records, fault = [], ""
+        records: list[list[str]] = []
+        fault = ""
         try:
             with interrupts.breaking_in():
                 records.extend(itertools.islice(self.records, ROWS_AT_ONCE))
@@ -110,7 +113,7 @@ class Loaded:
     refusal: str = ""
     before: int = 0
 
-    def take(self, lines):
+    def take(self, lines: Sequence[str]) -> None:
         for line in lines:
             if line.startswith("row "):
                 self.placed += 1
@@ -118,7 +121,7 @@ class Loaded:
                 self.refusal, self.before = line, self.placed
         self.answered += len(lines)
 
-    def end_text(self, records, is_interrupted):
+    def end_text(self, records: Records, is_interrupted: bool) -> str:
         """What ended the load early, and which rows were loaded; empty if all were."""
         if self.refusal:
             later = self.placed - self.before
@@ -133,11 +136,11 @@ class Loaded:
 class Session:
     """A session with a server, over a channel."""
 
-    def __init__(self, channel, interrupts, policy):
+    def __init__(self, channel: Channel, interrupts: Any, policy: Optional[str]):
         # (None if the policy of a server isn't known)
         self.channel, self.interrupts, self.policy = channel, interrupts, policy
 
-    def ask(self, statement):
+    def ask(self, statement: Union[str, bytes]) -> Reply:
         """Sends a statement, and waits for all lines of its reply."""
         begun = time.perf_counter()
         self.channel.send(os.fsencode(statement) + b"\n")
@@ -150,14 +153,14 @@ class Session:
             self.policy = words[-1]
         return Reply(lines, time.perf_counter() - begun)
 
-    def demand(self, statement):
+    def demand(self, statement: str) -> Reply:
         """The reply to a statement that must not be refused."""
         reply = self.ask(statement)
         if reply.is_refusal:
             raise Fault(f"{statement}: {in_words(reply.lines[0])}")
         return reply
 
-    def load(self, records, progress):
+    def load(self, records: Records, progress: Any) -> Loaded:
         """Sends an insert for each row of the records, and counts the answers. A control-C ends it; what was sent is
         still answered. If the policy isn't known, it first sends `policy auto`, so that the next query merges all rows
         at once."""
@@ -182,13 +185,13 @@ class Session:
             progress.clear()
         return loaded
 
-    def settle(self, loaded, most):
+    def settle(self, loaded: Loaded, most: int) -> None:
         """Waits until all is sent, and at most `most` rows are unanswered."""
         while self.channel.unsent or loaded.sent - loaded.answered > most:
             self.channel.step()
             loaded.take(self.channel.lines_given())
 
-    def layout(self, partition):
+    def layout(self, partition: Union[int, str]) -> Optional[PartLayout]:
         """The layout of a partition, or None if there is no such partition."""
         reply = self.ask(f"layout {partition}")
         if reply.lines[0] == "refused 5":
@@ -197,12 +200,16 @@ class Session:
             raise Fault(f"layout {partition}: {in_words(reply.lines[0])}")
         return PartLayout.read(reply.lines)
 
-    def layouts(self):
+    def layouts(self) -> Iterator[PartLayout]:
         """The layout of each partition."""
-        return itertools.takewhile(lambda it: it is not None, map(self.layout, itertools.count()))
+        for partition in itertools.count():
+            found = self.layout(partition)
+            if found is None:
+                return
+            yield found
 
-    def save(self, file):
-        """Writes all rows as CSV, partition by partition. Returns how many, and how many selects listed them."""
+    def save(self, file: IO[str]) -> int:
+        """Writes all rows as CSV, partition by partition. Returns how many."""
         ends = [it.ends for it in self.layouts()]
         rows = 0
         file.write(",".join(HEADER) + "\n")
@@ -211,4 +218,4 @@ class Session:
             self.interrupts.check("nothing is saved")
             file.writelines("{1},{2}\n".format(*line.split(" ")) for line in lines)
             rows += len(lines)
-        return rows, len(ends)
+        return rows

@@ -2,6 +2,7 @@
 
 import re
 import sys
+from typing import Any
 
 from ..errors import Disconnected
 
@@ -23,7 +24,7 @@ MEANINGS = {
     "11": "the splits don't rise, or one isn't 1 to 18446744073709551615",
     "12": "there are more than 63 splits",
     "13": "the number of workers isn't 1 to 64",
-    "14": "a limit is out of its range: histories 1 to 1000000, cells 1 to 1048576, lives 1 to 1099511627776",
+    "14": "a limit is out of its range: histories 1 to 1000000, cells 1 to 16777215, lives 1 to 1099511627776",
     "15": "a worker's receipts are missing",
     "16": "receipts and histories don't agree",
     "17": "reading failed, or the server can't listen on the port",
@@ -48,7 +49,7 @@ A ; at the end of a statement is ignored. Keys are whole numbers from 0 to 18446
 payloads from -9223372036854775808 to 9223372036854775807.
 
 .load FILE        inserts the rows of CSV, with or without the header key,payload
-.save FILE        writes all rows as CSV; the histories keep the selects that list them
+.save FILE        writes all rows as CSV
 .read FILE        runs the lines of a file
 .layout [P]       draws the columns of all partitions, or of one
 .mode NAME        how replies are shown: lines as the server gives them, csv, or json with a value a line
@@ -76,22 +77,22 @@ class Left(Disconnected):
     """The server closed the connection. What had been done by then, in words."""
 
 
-def complain(text):
+def complain(text: object) -> None:
     """Writes a line to standard error."""
     sys.stdout.flush()
     print(f"shell: {text}", file=sys.stderr, flush=True)
 
 
-def in_words(line):
+def in_words(line: str) -> str:
     """A reply, followed by what it means if it is a refusal."""
     refused = REFUSED.match(line)
     return f"{line}: {MEANINGS[refused[1]]}" if refused and refused[1] in MEANINGS else line
 
 
-def fault_text(path, error):
+def fault_text(path: Any, error: Any) -> str:
     """What went wrong with a file or a program."""
     return f"{getattr(error, 'filename', None) or path}: {getattr(error, 'strerror', None) or error}"
 
 
-def time_text(seconds):
+def time_text(seconds: float) -> str:
     return f"({seconds:.2f} s)" if seconds >= 1 else f"({seconds * 1000:.3f} ms)"

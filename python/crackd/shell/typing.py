@@ -3,6 +3,7 @@
 import contextlib
 import glob
 import os
+from typing import Iterator, Optional
 
 from ..base import POLICIES
 from .modes import MODES
@@ -28,12 +29,12 @@ OF_FILES = (".load", ".save", ".read")
 MOST_KEPT = 1000
 
 
-def history_file():
+def history_file() -> str:
     """The file for typed lines: what CRACKD_HISTORY says, none if that is empty, or else ~/.crackd_history."""
     return os.environ.get("CRACKD_HISTORY", os.path.expanduser("~/.crackd_history"))
 
 
-def completions(line, word):
+def completions(line: str, word: str) -> list[str]:
     """What the last word of a line can be completed to."""
     before = line[: len(line) - len(word)].split()
     if not before:
@@ -45,7 +46,7 @@ def completions(line, word):
 
 
 @contextlib.contextmanager
-def edited():
+def edited() -> Iterator[None]:
     """While lines are typed: earlier lines can be recalled, and new ones are kept."""
     try:
         import readline
@@ -53,9 +54,12 @@ def edited():
         yield
         return
     readline.set_completer_delims(" ")
-    readline.set_completer(
-        lambda word, at: [*completions(readline.get_line_buffer()[: readline.get_endidx()], word), None][at]
-    )
+
+    def completed(word: str, at: int) -> Optional[str]:
+        found = completions(readline.get_line_buffer()[: readline.get_endidx()], word)
+        return found[at] if at < len(found) else None
+
+    readline.set_completer(completed)
     readline.parse_and_bind("bind ^I rl_complete" if "libedit" in (readline.__doc__ or "") else "tab: complete")
     path = history_file()
     if path:

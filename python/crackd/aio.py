@@ -1,0 +1,387 @@
+"""A table on a server for asyncio: many tasks share a connection, and none waits for the replies to another's calls."""
+
+from __future__ import annotations
+
+import asyncio
+import collections
+import contextlib
+import fractions
+import inspect
+from typing import Any, AsyncIterator, Optional, Sequence
+
+from . import wire
+from .base import POLICIES, POLICY
+from .channel import BYTES_AT_ONCE, LEFT, Lines, checked_timeout
+from .errors import Closed, Disconnected, Error, Forked, TimedOut
+from .forks import OF_THE_PARENT
+from .keys import Keys
+from .layout import Layout
+from .primitives import Answer, Steps
+from .remote import RemoteTable
+from .rows import CHUNK, Rebalanced, Row, Rows, checked_size
+from .typed import Counts, Flags, Progress, RowNumbers, Self, Sums
+
+
+class Waiting:
+    """Statements whose replies haven't all come: how many lines these have, and the future that gets them."""
+
+    def __init__(self, lines: int, loop: asyncio.AbstractEventLoop):
+        self.lines, self.said, self.replies = lines, b"", loop.create_future()
+
+    def take(self, lines: Lines) -> bool:
+        """Takes the lines that are there, if they are enough. Returns whether all have come."""
+        while self.lines and lines.feeds >= self.lines:
+            said = lines.taken(self.lines)
+            self.said, self.lines = self.said + said, wire.listed(said) if not self.said else 0
+        if not self.lines and not self.replies.done():
+            # (a task that was cancelled no longer waits)
+            self.replies.set_result(self.said)
+        return not self.lines
+
+    def fail(self, error: Disconnected, given: bytes) -> None:
+        """Raises an error where the replies are waited for, with the lines that had come."""
+        if not self.replies.done():
+            fault: Any = type(error)(str(error))
+            fault.given = self.said + given
+            self.replies.set_exception(fault)
+
+
+class Line:
+    """A connection: statements go out at once, and replies come back in their order."""
+
+    def __init__(self, reader: asyncio.StreamReader, writer: asyncio.StreamWriter, timeout: Optional[float]):
+        self._timeout, self._reader, self._writer = timeout, reader, writer
+        self._lines, self._waiting = Lines(), collections.deque[Waiting]()
+        self._unsent: list[bytes] = []
+        # (why nothing can be sent any more)
+        self._fault: Optional[Error] = None
+        # (since when the server is silent, and the call that looks whether this is too long)
+        self._loop, self._since = asyncio.get_running_loop(), 0.0
+        self._look: Optional[asyncio.TimerHandle] = None
+        self._receiving = asyncio.ensure_future(self._receive())
+
+    @property
+    def timeout(self) -> Optional[float]:
+        """How many seconds the server may be silent while replies are waited for."""
+        return self._timeout
+
+    @timeout.setter
+    def timeout(self, seconds: Optional[float]) -> None:
+        self._timeout = checked_timeout(seconds)
+        if self._look is not None:
+            self._look.cancel()
+        self._watch()
+
+    def check_open(self) -> None:
+        """Raises `Closed` or `Forked` if nothing can be sent."""
+        if self._fault is not None:
+            raise type(self._fault)(str(self._fault))
+
+    def leave(self) -> None:
+        """Lets go of the connection in a forked child. (It shares the loop's list of connections with its parent.)"""
+        self._fault = Forked(OF_THE_PARENT)
+
+    async def exchange(self, text: bytes, lines: int) -> bytes:
+        """Sends statements, and returns that many lines of replies, and those that the last one announces."""
+        self.check_open()
+        if not self._waiting:
+            self._since = self._loop.time()
+        waiting = Waiting(lines, self._loop)
+        self._waiting.append(waiting)
+        # (what the tasks of a turn of the loop say is sent at once)
+        if not self._unsent:
+            self._loop.call_soon(self._send)
+        self._unsent.append(text)
+        if self._look is None:
+            self._watch()
+        said: bytes = await waiting.replies
+        return said
+
+    def _send(self) -> None:
+        text = b"".join(self._unsent)
+        self._unsent.clear()
+        if self._fault is None:
+            self._writer.write(text)
+
+    def _watch(self) -> None:
+        """Ends the connection if the server has been silent for too long, and else looks again in time."""
+        self._look = None
+        if self._timeout is None or not self._waiting:
+            return
+        left = self._since + self._timeout - self._loop.time()
+        if left > 0:
+            self._look = self._loop.call_later(left, self._watch)
+            return
+        said = f"the server was silent for {self._timeout} seconds; the connection is closed, connect again"
+        self._end(TimedOut(said))
+
+    async def _receive(self) -> None:
+        """Gives lines to those who wait for them, until the server or this side closes the connection."""
+        with contextlib.suppress(OSError):
+            while given := await self._reader.read(BYTES_AT_ONCE):
+                self._since = self._loop.time()
+                self._lines.add(given)
+                self._give()
+        self._end(Disconnected(LEFT))
+
+    def _give(self) -> None:
+        while self._waiting and self._waiting[0].take(self._lines):
+            self._waiting.popleft()
+
+    def _end(self, error: Disconnected) -> None:
+        """Closes the connection, and tells those who wait why."""
+        self._fault = Closed("the connection is closed; connect again")
+        given = self._lines.taken(self._lines.feeds)
+        while self._waiting:
+            self._waiting.popleft().fail(error, given)
+            given = b""
+        if self._look is not None:
+            self._look.cancel()
+        self._writer.close()
+
+    async def close(self) -> None:
+        """Ends the session with the server, after what was asked before."""
+        try:
+            await self.exchange(b"quit\n", 1)
+        except (Disconnected, Closed):
+            pass
+        self._end(Disconnected(LEFT))
+        self._receiving.cancel()
+        with contextlib.suppress(OSError, asyncio.CancelledError):
+            await self._writer.wait_closed()
+
+
+class Shared(RemoteTable):
+    """A table over a line. Its methods are those of `AnyTable`, and what they return can be awaited."""
+
+    def __init__(self, line: Line, keys: Keys, policy: str, peer: str):
+        self.line, self._keys, self._policy, self._peer, self._lock = line, keys, policy, peer, None
+
+    async def _say(self, steps: wire.Exchanges) -> Any:
+        """Drives a conversation with the server. Those of other tasks go on beside it."""
+        try:
+            request = next(steps)
+            while True:
+                try:
+                    said = await self.line.exchange(*request)
+                except BaseException as error:
+                    request = steps.throw(error)
+                else:
+                    request = steps.send(said)
+        except StopIteration as done:
+            return done.value
+
+    def _drive(self, steps: Steps[Any]) -> Any:
+        return self._driven(steps)
+
+    async def _driven(self, steps: Steps[Any]) -> Any:
+        """What a method returns that is written as steps."""
+        try:
+            asked = next(steps)
+            while True:
+                try:
+                    answer = await asked if inspect.isawaitable(asked) else asked
+                except BaseException as error:
+                    asked = steps.throw(error)
+                else:
+                    asked = steps.send(answer)
+        except StopIteration as done:
+            return done.value
+
+    def _check_open(self) -> None:
+        self.line.check_open()
+
+    def _leave(self) -> None:
+        super()._leave()
+        if getattr(self, "line", None) is not None:
+            self.line.leave()
+
+    def _nothing(self, answer: Any) -> Any:
+        return self._nothing_later(answer)
+
+    async def _nothing_later(self, answer: Any) -> Any:
+        self._check_open()
+        return answer
+
+    def close(self) -> Any:
+        return self.line.close()
+
+
+class AsyncTable:
+    """A table on a server for the tasks of an event loop: see `connect_async`.
+
+    Its methods are those of `crackd.Client`, and are awaited; their arguments, answers and errors are the same. Calls
+    of several tasks are sent as they come, without waiting for each other's replies. A task that is cancelled leaves
+    the connection as it is: what it had sent is done nevertheless, and a move to its end.
+    """
+
+    def __init__(self, table: Shared):
+        self._table = table
+        self._moving: set[asyncio.Future[Any]] = set()
+
+    @property
+    def key_type(self) -> str:
+        """The type of the keys."""
+        return self._table.key_type
+
+    @property
+    def policy(self) -> str:
+        """How rows are merged."""
+        return self._table.policy
+
+    @property
+    def timeout(self) -> Optional[float]:
+        """How many seconds a call waits for a server that is silent, or None for ever; it may be changed."""
+        return self._table.line.timeout
+
+    @timeout.setter
+    def timeout(self, seconds: Optional[float]) -> None:
+        self._table.line.timeout = seconds
+
+    async def ping(self) -> None:
+        """Asks the server for a sign of life."""
+        await _awaited(self._table.ping())
+
+    async def insert(self, key: Any, payload: int) -> int:
+        return await _awaited(self._table.insert(key, payload))
+
+    async def insert_many(self, keys: Any, payloads: Any) -> RowNumbers:
+        return await _awaited(self._table.insert_many(keys, payloads))
+
+    async def insert_rows(self, keys: Any, payloads: Any, *, progress: Progress = None) -> RowNumbers:
+        return await _awaited(self._table.insert_rows(keys, payloads, progress=progress))
+
+    async def insert_frame(
+        self, frame: Any, key: Any = None, payload: Any = None, *, progress: Progress = None
+    ) -> RowNumbers:
+        return await _awaited(self._table.insert_frame(frame, key, payload, progress=progress))
+
+    async def delete(self, row: int) -> bool:
+        return await _awaited(self._table.delete(row))
+
+    async def delete_many(self, rows: Any) -> Flags:
+        return await _awaited(self._table.delete_many(rows))
+
+    async def delete_range(self, low: Any = None, high: Any = None) -> int:
+        return await _awaited(self._table.delete_range(low, high))
+
+    async def update(self, row: int, key: Any, payload: int) -> bool:
+        return await _awaited(self._table.update(row, key, payload))
+
+    async def update_many(self, rows: Any, keys: Any, payloads: Any) -> Flags:
+        return await _awaited(self._table.update_many(rows, keys, payloads))
+
+    async def move(self, row: int, key: Any) -> Optional[int]:
+        # (a task that is cancelled between the deletion and the insertion would lose the row)
+        moving = asyncio.ensure_future(_awaited(self._table.move(row, key)))
+        self._moving.add(moving)
+        moving.add_done_callback(self._moving.discard)
+        return await asyncio.shield(moving)
+
+    async def get(self, row: int) -> Optional[Row]:
+        return await _awaited(self._table.get(row))
+
+    async def count(self, low: Any = None, high: Any = None) -> int:
+        return await _awaited(self._table.count(low, high))
+
+    async def count_many(self, lows: Optional[Sequence[Any]], highs: Optional[Sequence[Any]]) -> Counts:
+        return await _awaited(self._table.count_many(lows, highs))
+
+    async def count_by(self, edges: Sequence[Any]) -> Counts:
+        return await _awaited(self._table.count_by(edges))
+
+    async def sum(self, low: Any = None, high: Any = None) -> int:
+        return await _awaited(self._table.sum(low, high))
+
+    async def sum_many(self, lows: Optional[Sequence[Any]], highs: Optional[Sequence[Any]]) -> list[int]:
+        return await _awaited(self._table.sum_many(lows, highs))
+
+    async def sum_by(self, edges: Sequence[Any]) -> Sums:
+        return await _awaited(self._table.sum_by(edges))
+
+    async def mean(self, low: Any = None, high: Any = None) -> Optional[fractions.Fraction]:
+        return await _awaited(self._table.mean(low, high))
+
+    async def select(self, low: Any = None, high: Any = None) -> Rows:
+        return await _awaited(self._table.select(low, high))
+
+    async def settle(self) -> None:
+        settled: Any = self._table._settle()
+        await settled
+
+    async def checkpoint(self) -> int:
+        return await _awaited(self._table.checkpoint())
+
+    async def layout(self) -> Layout:
+        return await _awaited(self._table.layout())
+
+    async def save(self, path: Any) -> int:
+        return await _awaited(self._table.save(path))
+
+    async def rebalanced(self, into: Any = None, **options: Any) -> Rebalanced:
+        return await _awaited(self._table.rebalanced(into, **options))
+
+    async def close(self) -> None:
+        await _awaited(self._table.close())
+
+    async def select_chunks(self, low: Any = None, high: Any = None, size: int = CHUNK) -> AsyncIterator[Rows]:
+        first, end = self._table._keys.ends(low, high)
+        checked_size(size)
+        if first >= end:
+            await self._table._nothing(None)
+            return
+        for part in await self._table._drive(self._table._parts_steps(first, end)):
+            rows, keys, payloads = await self._table._select(*part)
+            for chunk in Rows(rows, self._table._keys.back(keys), payloads).chunks(size):
+                yield chunk
+
+    def __repr__(self) -> str:
+        return repr(self._table).replace("Shared", "AsyncTable", 1)
+
+    async def __aenter__(self) -> Self:
+        return self
+
+    async def __aexit__(self, *_: Any) -> None:
+        await self.close()
+
+
+async def _awaited(asked: Answer) -> Answer:
+    """The answer of a call, whose type is that of the method that isn't awaited."""
+    awaited: Any = asked
+    answer: Answer = await awaited
+    return answer
+
+
+for _name, _method in vars(AsyncTable).items():
+    # (a method's documentation is that of the one that isn't awaited)
+    if not _name.startswith("_") and inspect.isfunction(_method) and not _method.__doc__:
+        _method.__doc__ = getattr(RemoteTable, _name).__doc__
+
+
+async def connect_async(
+    host: str = "127.0.0.1",
+    port: int = 4000,
+    *,
+    key_type: Any = "uint64",
+    policy: str = POLICY,
+    timeout: Optional[float] = None,
+) -> AsyncTable:
+    """Connects to the table of a `crackd serve`, for the tasks of the running event loop.
+
+    Parameters, errors and the table's methods are those of `connect`; methods are awaited.
+    """
+    if policy not in POLICIES:
+        raise ValueError(f"policy must be one of {', '.join(POLICIES)}, not {policy}")
+    kind, timeout = Keys.named(key_type), checked_timeout(timeout)
+    try:
+        reader, writer = await asyncio.wait_for(asyncio.open_connection(host, port), timeout)
+    except (OSError, asyncio.TimeoutError) as error:
+        fault = TimedOut if isinstance(error, (TimeoutError, asyncio.TimeoutError)) else Disconnected
+        raise fault(f"no server at {host}, port {port}: {getattr(error, 'strerror', None) or error}") from error
+    table = AsyncTable(Shared(Line(reader, writer, timeout), kind, policy, f"{host}:{port}"))
+    try:
+        await table.ping()
+    except BaseException:
+        await table.close()
+        raise
+    return table

@@ -1,0 +1,176 @@
+"""Reads columns of numbers and dates from Arrow's C stream interface, which needs no library.
+
+https://arrow.apache.org/docs/format/CStreamInterface.html has the structures, and the page beside it the formats.
+"""
+
+from __future__ import annotations
+
+import contextlib
+import ctypes
+from ctypes import POINTER, byref, c_char_p, c_int, c_int64, c_void_p
+from typing import Any, Iterator, Optional, Sequence, Union
+
+from .arrays import np, whole
+
+# the formats of columns that can be keys or payloads, and the type of their items in numpy
+NUMBERS = {"c": "i1", "C": "u1", "s": "i2", "S": "u2", "i": "i4", "I": "u4", "l": "i8", "L": "u8", "e": "f2"}
+NUMBERS |= {"f": "f4", "g": "f8"}
+DATES = {"tdD": ("i4", "D"), "tdm": ("i8", "ms")}
+DATES |= {f"ts{letter}": ("i8", unit) for letter, unit in (("s", "s"), ("m", "ms"), ("u", "us"), ("n", "ns"))}
+STRUCT = "+s"
+
+
+class Schema(ctypes.Structure):
+    """ArrowSchema: the type of a column."""
+
+
+Schema._fields_ = [
+    ("format", c_char_p),
+    ("name", c_char_p),
+    ("metadata", c_void_p),
+    ("flags", c_int64),
+    ("n_children", c_int64),
+    ("children", POINTER(POINTER(Schema))),
+    ("dictionary", POINTER(Schema)),
+    ("release", ctypes.CFUNCTYPE(None, POINTER(Schema))),
+    ("private_data", c_void_p),
+]
+
+
+class Array(ctypes.Structure):
+    """ArrowArray: the items of a column."""
+
+
+Array._fields_ = [
+    ("length", c_int64),
+    ("null_count", c_int64),
+    ("offset", c_int64),
+    ("n_buffers", c_int64),
+    ("n_children", c_int64),
+    ("buffers", POINTER(c_void_p)),
+    ("children", POINTER(POINTER(Array))),
+    ("dictionary", POINTER(Array)),
+    ("release", ctypes.CFUNCTYPE(None, POINTER(Array))),
+    ("private_data", c_void_p),
+]
+
+
+class Stream(ctypes.Structure):
+    """ArrowArrayStream: batches of rows."""
+
+
+Stream._fields_ = [
+    ("get_schema", ctypes.CFUNCTYPE(c_int, POINTER(Stream), POINTER(Schema))),
+    ("get_next", ctypes.CFUNCTYPE(c_int, POINTER(Stream), POINTER(Array))),
+    ("get_last_error", ctypes.CFUNCTYPE(c_void_p, POINTER(Stream))),
+    ("release", ctypes.CFUNCTYPE(None, POINTER(Stream))),
+    ("private_data", c_void_p),
+]
+
+
+@contextlib.contextmanager
+def released(it: Any) -> Iterator[Any]:
+    """A structure that is released at the end, if there is something in it."""
+    try:
+        yield it
+    finally:
+        if it.release:
+            it.release(byref(it))
+
+
+def stream_of(capsule: Any) -> Stream:
+    """The stream in a capsule, which owns it until it is released."""
+    pointer_of = ctypes.pythonapi.PyCapsule_GetPointer
+    pointer_of.argtypes, pointer_of.restype = [ctypes.py_object, c_char_p], c_void_p
+    return Stream.from_address(pointer_of(capsule, b"arrow_array_stream"))
+
+
+def filled(stream: Stream, call: Any, it: Any) -> Any:
+    """A structure that a function of a stream fills. A status of the function other than 0 is an error."""
+    code = call(byref(stream), byref(it))
+    if code:
+        at = stream.get_last_error(byref(stream)) if stream.get_last_error else None
+        said = ctypes.string_at(at).decode("utf-8", "replace") if at else "no reason"
+        raise OSError(code, f"the Arrow stream ended: {said}")
+    return it
+
+
+def columns_of_stream(data: Any, wanted: Sequence[Union[str, int]]) -> list[Any]:
+    """These columns, by name or number, as arrays of numpy. A missing item is an error that names the first."""
+    # (the capsule must live as long as the stream)
+    capsule = data.__arrow_c_stream__()
+    with released(stream_of(capsule)) as stream:
+        with released(filled(stream, stream.get_schema, Schema())) as schema:
+            columns = [Column(schema, it) for it in wanted]
+        parts: list[Sequence[Any]] = [[it.empty() for it in columns]]
+        before = 0
+        while True:
+            with released(filled(stream, stream.get_next, Array())) as batch:
+                if not batch.release:
+                    return [np.concatenate(it) for it in zip(*parts)]
+                parts.append([it.items(batch, before) for it in columns])
+                before += batch.length
+
+
+class Column:
+    """A column of a stream: where its items are in a batch, and what they are."""
+
+    def __init__(self, schema: Schema, wanted: Union[str, int]):
+        self.is_of_struct = text_of(schema.format) == STRUCT
+        schemas = [it.contents for it in schema.children[: schema.n_children]] if self.is_of_struct else [schema]
+        names = [text_of(it.name) for it in schemas]
+        self.place = place_of(names, wanted)
+        own = schemas[self.place]
+        self.name, form = names[self.place] or self.place, text_of(own.format)
+        self.dtype, self.unit = NUMBERS.get(form), None
+        if self.dtype is None:
+            self.dtype, self.unit = DATES.get(form.partition(":")[0], (None, None))
+        if self.dtype is None or own.dictionary:
+            raise TypeError(f"column {self.name!r} has the Arrow type {form!r}, which is no number and no date")
+
+    def empty(self) -> Any:
+        return self.typed(np.empty(0, self.dtype))
+
+    def typed(self, items: Any) -> Any:
+        """Items as numbers, or as dates of their unit."""
+        return items if self.unit is None else items.astype("i8").view(f"datetime64[{self.unit}]")
+
+    def items(self, batch: Array, before: int) -> Any:
+        """A copy of the items of a batch, which `before` rows precede."""
+        own = batch.children[self.place].contents if self.is_of_struct else batch
+        if self.is_of_struct:
+            self.check_whole(batch, 0, batch.length, before)
+        offset = own.offset + (batch.offset if self.is_of_struct else 0)
+        self.check_whole(own, offset - own.offset, batch.length, before)
+        if not batch.length:
+            return self.empty()
+        size = np.dtype(self.dtype).itemsize
+        text = ctypes.string_at(own.buffers[1] + offset * size, batch.length * size)
+        return self.typed(np.frombuffer(text, self.dtype))
+
+    def check_whole(self, own: Array, more: int, length: int, before: int) -> None:
+        """Raises an error if one of some items is missing: those from the offset of an array and `more` on."""
+        valid = own.buffers[0] if own.n_buffers else None
+        if own.null_count == 0 or not valid or not length:
+            return
+        first = own.offset + more
+        bits = np.frombuffer(ctypes.string_at(valid, (first + length + 7) // 8), np.uint8)
+        is_there = np.unpackbits(bits, bitorder="little")[first : first + length]
+        if not is_there.all():
+            raise ValueError(f"column {self.name!r} has a gap at row {before + int(np.argmin(is_there))}")
+
+
+def text_of(text: Optional[bytes]) -> str:
+    return (text or b"").decode("utf-8")
+
+
+def place_of(names: list[str], wanted: Union[str, int]) -> int:
+    """The place of a column that is wanted by its name or number."""
+    if isinstance(wanted, str):
+        if names.count(wanted) != 1:
+            raise KeyError(f"there are {names.count(wanted)} columns {wanted!r}; the names are {', '.join(names)}")
+        return names.index(wanted)
+    place = whole(wanted, "a column")
+    if not 0 <= place < len(names):
+        raise KeyError(f"there is no column {place}; there are {len(names)}")
+    return place

@@ -1,0 +1,168 @@
+"""Where the library writes the numbers of the rows that it places.
+
+A method that inserts rows makes this before the library is called, so that it has the numbers of all placed rows
+whatever ends the call, and wherever: the interpreter looks for signals between almost any two steps.
+"""
+
+from __future__ import annotations
+
+import functools
+import inspect
+from ctypes import byref, c_int64, c_uint8, c_uint32, c_uint64
+from typing import Any, Callable, Concatenate, Optional, ParamSpec, Sequence, TypeVar
+
+from .arrays import empty, from_ints, np, plain
+from .errors import refused
+from .routing import SHARD_SHIFT, blocks_of, error_of, known_rows
+from .rows import SHIFT
+from .typed import RowNumbers
+
+# (no partition has this number: the library hasn't written one)
+NOWHERE = 0xFFFF_FFFF
+
+Words = ParamSpec("Words")
+Answer = TypeVar("Answer")
+
+
+class Placed:
+    """The rows that one call of the library places: their partitions and serials, and how many they are."""
+
+    def __init__(self, size: int):
+        self.parts, self.serials, self.done = empty("I", size), empty("Q", size), c_uint64()
+        # (after a refusal there may be no memory for the row numbers)
+        self._rows = empty("Q", size)
+
+    def rows(self) -> RowNumbers:
+        """The numbers of the rows that are placed."""
+        found: RowNumbers = joined(self.parts, self.serials, self._rows, self.done.value)
+        return found
+
+
+class PlacedOne:
+    """The row that one call of the library places."""
+
+    def __init__(self, shard: int):
+        self.shard, self.part, self.serial = shard, c_uint32(NOWHERE), c_uint64()
+
+    def at(self) -> tuple[Any, Any]:
+        """Where the library writes."""
+        return byref(self.part), byref(self.serial)
+
+    @property
+    def is_done(self) -> bool:
+        """Whether the row is placed."""
+        return self.part.value != NOWHERE
+
+    @property
+    def row(self) -> int:
+        """The row's number."""
+        return self.shard << SHARD_SHIFT | self.part.value << SHIFT | self.serial.value
+
+
+class PlacedInTurn:
+    """Rows that are placed one after the other in these shards."""
+
+    def __init__(self, shards: Sequence[int]):
+        self.each = [PlacedOne(it) for it in shards]
+
+    def rows(self) -> RowNumbers:
+        """The numbers of the rows that are placed."""
+        found: RowNumbers = from_ints("Q", [it.row for it in self.each if it.is_done], "row numbers")
+        return found
+
+
+class PlacedInShards:
+    """Rows that are placed by these shards, each of which has one call of the library for its own."""
+
+    def __init__(self, shards: Any):
+        self.shards, self.blocks = shards, list(blocks_of(shards))
+        self.each = {it.shard: Placed(len(it.places)) for it in self.blocks}
+
+    def _known(self) -> tuple[Any, Any]:
+        answers = {shard: it.rows() for shard, it in self.each.items()}
+        return known_rows(self.blocks, answers, {}, len(self.shards))
+
+    def rows(self) -> RowNumbers:
+        """The numbers of the rows that are placed."""
+        rows, is_done = self._known()
+        found: RowNumbers = rows[is_done]
+        return found
+
+    def error(self, errors: dict[int, Any]) -> Any:
+        """The error of the call, of those of the shards."""
+        return error_of(errors, self.shards, self._known()[1])
+
+
+class Taken:
+    """The row that a call of the library deletes, if there is one."""
+
+    def __init__(self) -> None:
+        self.gone, self._key, self._payload = c_uint8(), c_uint64(), c_int64()
+
+    def at(self) -> tuple[Any, Any, Any]:
+        """Where the library writes."""
+        return byref(self.gone), byref(self._key), byref(self._payload)
+
+    @property
+    def row(self) -> Optional[tuple[int, int]]:
+        """The row's key and payload."""
+        return (self._key.value, self._payload.value) if self.gone.value else None
+
+
+def joined(parts: Any, serials: Any, rows: Any, count: int) -> Any:
+    """The row numbers of this many partitions and serials, in an array that is given: that takes hardly any memory."""
+    if np is not None:
+        found = rows[:count]
+        found[:] = parts[:count]
+        found <<= np.uint64(SHIFT)
+        found |= serials[:count]
+        return found
+    for at in range(count):
+        rows[at] = parts[at] << SHIFT | serials[at]
+    del rows[count:]
+    return rows
+
+
+def rows_of(placed: Sequence[Any]) -> RowNumbers:
+    """The numbers of the rows of several calls."""
+    found: Any = [it.rows() for it in placed]
+    rows: RowNumbers = found[0] if len(found) == 1 else joined_rows(found)
+    return rows
+
+
+def joined_rows(found: Sequence[Any]) -> Any:
+    """One array of row numbers."""
+    if np is not None:
+        return np.concatenate([np.empty(0, np.uint64), *found])
+    return from_ints("Q", [it for each in found for it in plain(each)], "row numbers")
+
+
+def telling(method: Callable[Concatenate[Any, list[Any], Words], Answer]) -> Callable[Concatenate[Any, Words], Answer]:
+    """A method that inserts rows, of one that also gets a list, to which it adds where they are placed before they are.
+
+    An error that ends it has in `answers` the numbers of the rows that are placed.
+    """
+
+    @functools.wraps(method)
+    def call(self: Any, /, *words: Words.args, **options: Words.kwargs) -> Answer:
+        placed: list[Any] = []
+        told: Any = None
+        try:
+            try:
+                return method(self, placed, *words, **options)
+            except BaseException as error:
+                error.answers = rows_of(placed)  # type: ignore[attr-defined]
+                told = error
+                raise
+        except BaseException as error:
+            # (a signal may have come while a refusal was handled)
+            if error is not told:
+                error.answers = rows_of(placed)  # type: ignore[attr-defined]
+            # (else the error would refer to itself)
+            told = None
+            raise
+
+    found = inspect.signature(method)
+    parameters = [it for at, it in enumerate(found.parameters.values()) if at != 1]
+    call.__signature__ = found.replace(parameters=parameters)  # type: ignore[attr-defined]
+    return call

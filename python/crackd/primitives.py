@@ -1,0 +1,138 @@
+"""What each kind of table does, over keys that are numbers of 64 bits. The methods of tables are made of it."""
+
+from __future__ import annotations
+
+import abc
+from typing import Any, Generator, Iterable, Optional, TypeVar
+
+from .arrays import ints
+from .forks import NoLock, leave_in_children
+from .keys import Keys
+from .layout import PartLayout
+from .rows import Rows
+from .typed import Counts, RowNumbers
+
+Answer = TypeVar("Answer")
+# a method that asks more than once, or that makes something of an answer: it yields what primitives return, and gets
+# the answer
+Steps = Generator[Any, Any, Answer]
+
+
+class Primitives(abc.ABC):
+    """A table's own calls. Ranges have a first and a last key."""
+
+    _keys: Keys
+    _lock: Any
+    # (whether the rows are in this process, and can be counted without asking another one)
+    _is_here = False
+    # (the ends of each partition's keys, by its number; they never change)
+    _ends: Optional[dict[int, tuple[int, int]]] = None
+
+    def __new__(cls, *_: Any, **__: Any) -> Any:
+        table = super().__new__(cls)
+        leave_in_children(table)
+        return table
+
+    @property
+    def key_type(self) -> str:
+        """The type of the keys, such as "int64" or "datetime64[us]"."""
+        return self._keys.name
+
+    @property
+    @abc.abstractmethod
+    def policy(self) -> str:
+        """How rows are merged."""
+
+    def _drive(self, steps: Steps[Answer]) -> Answer:
+        """What a method returns that is written as steps."""
+        given: Any = None
+        try:
+            while True:
+                try:
+                    given = steps.send(given)
+                except StopIteration as done:
+                    answer: Answer = done.value
+                    return answer
+        except BaseException:
+            # (a signal may have come between two steps, which hold locks)
+            steps.close()
+            raise
+
+    def _alone_steps(self, steps: Steps[Answer]) -> Steps[Answer]:
+        """Steps between which other threads are kept from the table, if it is in this process."""
+        return steps
+
+    def _leave(self) -> None:
+        """Lets go of the table in a forked child: each call that takes its lock raises `Forked`."""
+        self._lock = NoLock()
+
+    def _nothing(self, answer: Answer) -> Answer:
+        """The answer to an empty range, if the table is open."""
+        self._check_open()
+        return answer
+
+    @staticmethod
+    def _no_rows() -> tuple[Any, Any, Any]:
+        return ints("Q", [], ""), ints("Q", [], ""), ints("q", [], "")
+
+    def _delete(self, row: int) -> bool:
+        return bool(self._delete_many(ints("Q", [row], "row numbers"))[0])
+
+    def _update(self, row: int, key: int, payload: int) -> bool:
+        words = ints("Q", [row], "row numbers"), ints("Q", [key], "keys"), ints("q", [payload], "payloads")
+        return bool(self._update_many(*words)[0])
+
+    @abc.abstractmethod
+    def select(self, low: Any = None, high: Any = None) -> Rows:
+        """The rows with keys in the range."""
+
+    @abc.abstractmethod
+    def _facts(self) -> Iterable[tuple[str, str]]:
+        """What there is to say of the table beside its rows and keys, with the names of these facts."""
+
+    @abc.abstractmethod
+    def _rows(self) -> int:
+        """How many rows there are. Merges nothing, so that it needs little memory."""
+
+    @abc.abstractmethod
+    def _check_open(self) -> None: ...
+
+    @abc.abstractmethod
+    def _insert(self, key: int, payload: int) -> int: ...
+
+    @abc.abstractmethod
+    def _insert_many(self, keys: Any, payloads: Any) -> RowNumbers: ...
+
+    @abc.abstractmethod
+    def _take(self, row: int) -> Optional[tuple[int, int]]:
+        """Deletes a row. Returns its key and payload, if it existed."""
+
+    @abc.abstractmethod
+    def _delete_many(self, rows: Any) -> Any: ...
+
+    @abc.abstractmethod
+    def _update_many(self, rows: Any, keys: Any, payloads: Any) -> Any: ...
+
+    @abc.abstractmethod
+    def _count(self, first: int, last: int) -> int: ...
+
+    @abc.abstractmethod
+    def _count_many(self, firsts: Any, lasts: Any) -> Counts: ...
+
+    @abc.abstractmethod
+    def _sum(self, first: int, last: int) -> int: ...
+
+    @abc.abstractmethod
+    def _sum_many(self, firsts: Any, lasts: Any) -> list[int]: ...
+
+    @abc.abstractmethod
+    def _select(self, first: int, last: int) -> tuple[Any, Any, Any]: ...
+
+    @abc.abstractmethod
+    def _settle(self) -> None: ...
+
+    @abc.abstractmethod
+    def _checkpoint(self) -> int: ...
+
+    @abc.abstractmethod
+    def _layouts(self) -> Iterable[PartLayout]: ...

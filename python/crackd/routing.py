@@ -1,0 +1,315 @@
+"""Which shard has which keys and rows, and what a table makes of the answers of several.
+
+It needs numpy, except for a table with one shard.
+"""
+
+from __future__ import annotations
+
+import abc
+import dataclasses
+from typing import Any, Iterator, NamedTuple, Optional, Sequence
+
+from .arrays import TOP, np
+from .base import MOST_PARTS, SHIFT, AnyTable
+from .errors import BadSplits, Error, Refused, ShardLost, refused
+from .layout import PartLayout
+
+# a row's number is its shard, its partition there in the 6 bits below, and its serial
+SHARD_SHIFT = SHIFT + 6
+MOST_SHARDS = 1 << (16 - 6)
+IN_SHARD = (1 << SHARD_SHIFT) - 1
+# up to this many shards, keys are compared with each split, and rows are looked up shard by shard
+FEW_SHARDS = 16
+
+
+class Block(NamedTuple):
+    """Rows of one shard: their places among all given rows, in order."""
+
+    shard: int
+    places: Any
+
+
+class Cut(NamedTuple):
+    """What a shard is asked: words, or the items of arrays at these places, and further words."""
+
+    columns: tuple[Any, ...]
+    places: Any = None
+    further: tuple[Any, ...] = ()
+
+    @property
+    def items(self) -> int:
+        """How many items a call for many has here."""
+        return len(self.columns[0] if self.places is None else self.places)
+
+    def words(self) -> tuple[Any, ...]:
+        return self.columns if self.places is None else (*(it[self.places] for it in self.columns), *self.further)
+
+
+def shard_of(cuts: Any, keys: Any) -> Any:
+    """The shard of each key."""
+    if len(cuts) >= FEW_SHARDS:
+        return np.searchsorted(cuts, keys, side="right")
+    found = np.zeros(len(keys), np.uint8)
+    for cut in cuts:
+        found += keys >= cut
+    return found
+
+
+def blocks_of(shards: Any) -> Iterator[Block]:
+    """The rows of each shard, of the shards of all rows."""
+    most = int(shards.max()) + 1 if len(shards) else 0
+    if most <= FEW_SHARDS:
+        found = (Block(shard, np.flatnonzero(shards == shard)) for shard in range(most))
+        yield from (it for it in found if len(it.places))
+        return
+    # (numbers of 16 bits are sorted by radix, in linear time)
+    order = np.argsort(shards.astype(np.uint16), kind="stable")
+    counts = np.bincount(shards)
+    ends = np.cumsum(counts)
+    for shard in np.flatnonzero(counts).tolist():
+        yield Block(shard, order[ends[shard] - counts[shard] : ends[shard]])
+
+
+class Sharded(AnyTable):
+    """A table whose rows are in shards, each of which has a range of the keys.
+
+    Calls over several shards don't see one moment. `shards` is how many there are.
+    """
+
+    shards: int
+    # where the keys of each shard but the first begin
+    _shard_cuts: Any
+    # how many partitions each shard has, and then 0, for those that don't exist
+    _parts: Any
+
+    @abc.abstractmethod
+    def _gather(self, cuts: dict[int, Cut], name: str, answers: dict[int, Any], errors: dict[int, Error]) -> None:
+        """Asks shards. Adds what comes to the answers and errors, until all of it has come."""
+
+    def _ask(self, cuts: dict[int, Cut], name: str) -> tuple[dict[int, Any], dict[int, Error]]:
+        """Asks shards. Returns the answers, and the errors of those that have none."""
+        answers: dict[int, Any] = {}
+        errors: dict[int, Error] = {}
+        self._gather(cuts, name, answers, errors)
+        return answers, errors
+
+    def _all(self, cuts: dict[int, Cut], name: str) -> dict[int, Any]:
+        """The answers of shards, by their order; an error where one has none, a lost one first."""
+        answers, errors = self._ask(cuts, name)
+        raise_first(errors)
+        return dict(sorted(answers.items()))
+
+    def _every(self, *words: Any) -> dict[int, Cut]:
+        return {it: Cut(words) for it in range(self.shards)}
+
+    def _ends_of(self, shard: int) -> tuple[int, int]:
+        """The numbers of a shard's keys, from the first up to but not including the second."""
+        low = int(self._shard_cuts[shard - 1]) if shard else 0
+        return low, int(self._shard_cuts[shard]) if shard < self.shards - 1 else TOP
+
+    def _met(self, first: int, last: int) -> range:
+        """The shards that have keys of a range."""
+        ends = np.searchsorted(self._shard_cuts, np.array([first, last], np.uint64), side="right").tolist()
+        return range(ends[0], ends[1] + 1)
+
+    def _asked(self, first: int, last: int) -> list[tuple[int, int, int]]:
+        """The shards that have keys of a range, each with the range that it is asked for: without an end that is in
+        another shard, so that no piece begins there."""
+        met = self._met(first, last)
+        return [(it, first if it == met[0] else 0, last if it == met[-1] else TOP - 1) for it in met]
+
+    # What a table does
+
+    def _insert_many(self, keys: Any, payloads: Any) -> Any:
+        shards = shard_of(self._shard_cuts, keys)
+        blocks = list(blocks_of(shards))
+        answers: dict[int, Any] = {}
+        errors: dict[int, Error] = {}
+        try:
+            self._gather({it: Cut((keys, payloads), places) for it, places in blocks}, "insert_many", answers, errors)
+            if not errors:
+                return placed_rows(blocks, answers, len(keys))
+        except BaseException as error:
+            # (the handler of a signal may raise anything)
+            rows, is_done = known_rows(blocks, answers, errors, len(keys))
+            error.answers = rows[is_done]  # type: ignore[attr-defined]
+            raise
+        rows, is_done = known_rows(blocks, answers, errors, len(keys))
+        raise error_of(errors, shards, is_done, rows[is_done])
+
+    def _faults(self, rows: Any, keys: Any = None) -> Any:
+        """The code of the refusal of each row, or 0: its partition doesn't exist, or its new key is of another
+        shard."""
+        shards = rows >> np.uint64(SHARD_SHIFT)
+        parts = rows >> np.uint64(SHIFT) & np.uint64(MOST_PARTS - 1)
+        is_nowhere = parts >= self._parts[np.minimum(shards, np.uint64(self.shards)).astype(np.int64)]
+        is_elsewhere = False if keys is None else shard_of(self._shard_cuts, keys) != shards
+        return np.where(is_nowhere, 5, np.where(is_elsewhere, 4, 0))
+
+    def _flags(self, name: str, rows: Any, *columns: Any) -> Any:
+        """The flag of each row, of a call for many. No row after one that is refused for its number or key is sent."""
+        faults = self._faults(rows, *columns[:1])
+        end = int(np.argmax(faults != 0)) if faults.any() else len(rows)
+        found = self._flags_of(name, rows[:end], *(it[:end] for it in columns))
+        if end < len(rows):
+            raise refused(int(faults[end]), end)
+        return found
+
+    def _flags_of(self, name: str, rows: Any, *columns: Any) -> Any:
+        shards = (rows >> np.uint64(SHARD_SHIFT)).astype(np.int64)
+        words = rows & np.uint64(IN_SHARD), *columns
+        blocks = list(blocks_of(shards))
+        answers, errors = self._ask({shard: Cut(words, places) for shard, places in blocks}, name)
+        found, is_done = np.zeros(len(rows), np.uint8), np.zeros(len(rows), bool)
+        for shard, places in blocks:
+            error = errors.get(shard)
+            if shard in answers:
+                found[places], is_done[places] = answers[shard], True
+            elif isinstance(error, Refused):
+                is_done[places[: error.done]] = True
+        if errors:
+            raise error_of(errors, shards, is_done)
+        return found
+
+    def _take(self, row: int) -> Optional[tuple[int, int]]:
+        code = int(self._faults(np.array([row], np.uint64))[0])
+        if code:
+            raise refused(code)
+        shard = row >> SHARD_SHIFT
+        taken: Optional[tuple[int, int]] = self._all({shard: Cut((row & IN_SHARD,))}, "take")[shard]
+        return taken
+
+    def _delete_many(self, rows: Any) -> Any:
+        return self._flags("delete_many", rows)
+
+    def _update_many(self, rows: Any, keys: Any, payloads: Any) -> Any:
+        return self._flags("update_many", rows, keys, payloads)
+
+    def _count(self, first: int, last: int) -> int:
+        cuts = {shard: Cut(tuple(ends)) for shard, *ends in self._asked(first, last)}
+        return sum(self._all(cuts, "count").values())
+
+    def _sum(self, first: int, last: int) -> int:
+        cuts = {shard: Cut(tuple(ends)) for shard, *ends in self._asked(first, last)}
+        return sum(self._all(cuts, "sum").values())
+
+    def _ranges(self, firsts: Any, lasts: Any) -> Iterator[tuple[int, Any, Cut]]:
+        """Which ranges, by their places, each shard has keys of, and how it is asked for them."""
+        begins, ends = shard_of(self._shard_cuts, firsts), shard_of(self._shard_cuts, lasts)
+        is_whole = firsts <= lasts
+        for shard in range(self.shards):
+            places = np.flatnonzero(is_whole & (begins <= shard) & (shard <= ends))
+            if len(places):
+                starts = np.where(begins[places] < shard, np.uint64(0), firsts[places])
+                stops = np.where(ends[places] > shard, np.uint64(TOP - 1), lasts[places])
+                yield shard, places, Cut((starts, stops))
+
+    def _ask_ranges(self, name: str, firsts: Any, lasts: Any) -> Iterator[tuple[Any, Any]]:
+        """Asks each shard about the ranges that meet it. Yields their places, and the shard's answers."""
+        found = list(self._ranges(firsts, lasts))
+        places = {shard: at for shard, at, _ in found}
+        answers, errors = self._ask({shard: cut for shard, _, cut in found}, name)
+        for shard, error in errors.items():
+            if isinstance(error, Refused):
+                errors[shard] = refused(error.code, int(places[shard][error.done]))
+        raise_first(errors)
+        for shard, each in answers.items():
+            yield places[shard], each
+
+    def _count_many(self, firsts: Any, lasts: Any) -> Any:
+        counts = np.zeros(len(firsts), np.int64)
+        for places, each in self._ask_ranges("count_many", firsts, lasts):
+            counts[places] += each
+        return counts
+
+    def _sum_many(self, firsts: Any, lasts: Any) -> list[int]:
+        sums = [0] * len(firsts)
+        for places, each in self._ask_ranges("sum_many", firsts, lasts):
+            for at, more in zip(places.tolist(), each):
+                sums[at] += more
+        return sums
+
+    def _select(self, first: int, last: int) -> tuple[Any, Any, Any]:
+        cuts = {shard: Cut(tuple(ends)) for shard, *ends in self._asked(first, last)}
+        answers = self._all(cuts, "select")
+        rows = [it[0] | np.uint64(shard << SHARD_SHIFT) for shard, it in answers.items()]
+        keys, payloads = ([it[at] for it in answers.values()] for at in (1, 2))
+        return np.concatenate(rows), np.concatenate(keys), np.concatenate(payloads)
+
+    def _settle(self) -> None:
+        self._all(self._every(), "settle")
+
+    def _checkpoint(self) -> int:
+        return sum(self._all(self._every(), "checkpoint").values())
+
+    def _rows(self) -> int:
+        return sum(self._all(self._every(), "rows").values())
+
+    def _layouts(self) -> Iterator[PartLayout]:
+        for shard, parts in self._all(self._every(), "layouts").items():
+            for part in parts:
+                yield self._placed(shard, part)
+
+    def _placed(self, shard: int, part: PartLayout) -> PartLayout:
+        """A partition's layout in the whole table: its number there, and no keys but those of its shard."""
+        low, high = self._ends_of(shard)
+        pieces = [it for it in part.pieces if low < it.high and it.low < high]
+        pieces[0] = dataclasses.replace(pieces[0], low=max(low, pieces[0].low))
+        pieces[-1] = dataclasses.replace(pieces[-1], high=min(high, pieces[-1].high))
+        number = shard * MOST_PARTS + part.partition
+        return dataclasses.replace(part, partition=number, keys=self._keys, pieces=tuple(pieces))
+
+
+def checked_splits(cuts: Any) -> Any:
+    """Splits that rise and aren't too many."""
+    if len(cuts) >= MOST_SHARDS:
+        raise ValueError(f"there can be {MOST_SHARDS - 1} splits, not {len(cuts)}")
+    if np.any(cuts[1:] <= cuts[:-1]) or np.any(cuts == 0):
+        raise BadSplits(11)
+    return cuts
+
+
+def placed_rows(blocks: Sequence[Block], answers: dict[int, Any], count: int) -> Any:
+    """The numbers of the rows that shards placed, by the places of these among all that were given."""
+    rows = np.empty(count, np.uint64)
+    for shard, places in blocks:
+        rows[places] = answers[shard] | np.uint64(shard << SHARD_SHIFT)
+    return rows
+
+
+def known_rows(
+    blocks: Sequence[Block], answers: dict[int, Any], errors: dict[int, Error], count: int
+) -> tuple[Any, Any]:
+    """The same of those that are known to be placed, and which of the places have one."""
+    rows, is_done = np.zeros(count, np.uint64), np.zeros(count, bool)
+    for shard, places in blocks:
+        placed = answers.get(shard, getattr(errors.get(shard), "answers", None))
+        if placed is not None:
+            some = places[: len(placed)]
+            rows[some], is_done[some] = placed | np.uint64(shard << SHARD_SHIFT), True
+    return rows, is_done
+
+
+def error_of(errors: dict[int, Any], shards: Any, is_done: Any, answers: Any = None) -> Any:
+    """The error of a call for many: of a lost shard, or else of the first row that wasn't done. One that isn't this
+    package's, as the handler of a signal may raise, comes before the latter.
+
+    A refusal says how many were done before that row, and how many after it, in other shards.
+    """
+    lost = [errors[it] for it in sorted(errors) if isinstance(errors[it], ShardLost)]
+    if lost:
+        return lost[0].copied(answers)
+    first = int(np.argmin(is_done))
+    error: Any = next((it for it in errors.values() if not isinstance(it, Error)), errors.get(int(shards[first])))
+    if isinstance(error, Refused):
+        error = refused(error.code, first, int(np.count_nonzero(is_done[first:])))
+    error.answers = answers
+    return error
+
+
+def raise_first(errors: dict[int, Any]) -> None:
+    """Raises the error of the first lost shard, or else the one of the first item."""
+    if errors:
+        order = {it: (not isinstance(error, ShardLost), getattr(error, "done", 0), it) for it, error in errors.items()}
+        error = errors[min(errors, key=lambda it: order[it])]
+        raise error.copied() if isinstance(error, ShardLost) else error

@@ -1,0 +1,91 @@
+"""Files of rows, as arrays of numpy with the fields `key` and `payload`."""
+
+from __future__ import annotations
+
+import contextlib
+import os
+import pathlib
+import struct
+from typing import Any, Iterator
+
+from .arrays import np
+from .errors import Error
+from .keys import Keys
+
+# how many bytes there are before the rows, whatever their type and number
+HEAD = 192
+
+
+class BadSave(Error, ValueError):
+    """What is read isn't what was saved."""
+
+
+def row_dtype(kind: Keys) -> Any:
+    """The type of the rows in a file."""
+    return np.dtype([("key", kind.name), ("payload", "int64")])
+
+
+def head_of(dtype: Any, rows: int) -> bytes:
+    """The first bytes of a file with this many rows, by the format 1.0 of numpy."""
+    said = repr({"descr": dtype.descr, "fortran_order": False, "shape": (rows,)}).encode("ascii")
+    magic = b"\x93NUMPY\x01\x00" + struct.pack("<H", HEAD - 10)
+    return magic + said.ljust(HEAD - len(magic) - 1) + b"\n"
+
+
+class Writing:
+    """A file of rows that is being written. `rows` is how many it has."""
+
+    def __init__(self, file: Any, kind: Keys):
+        self._file, self._kind, self.rows = file, kind, 0
+        file.write(head_of(row_dtype(kind), 0))
+
+    def add(self, keys: Any, payloads: Any) -> None:
+        """Writes some rows; the keys are numbers."""
+        block = np.empty(len(keys), row_dtype(self._kind))
+        block["key"], block["payload"] = self._kind.back(keys), payloads
+        self._file.write(block.tobytes())
+        self.rows += len(keys)
+
+    def end(self) -> None:
+        """Writes how many rows there are, which wasn't known before, and has all written to the disk."""
+        self._file.seek(0)
+        self._file.write(head_of(row_dtype(self._kind), self.rows))
+        self._file.flush()
+        os.fsync(self._file.fileno())
+
+
+@contextlib.contextmanager
+def writing(path: Any, kind: Keys) -> Iterator[Writing]:
+    """A file of rows to write, which replaces another once the block ends; until then the other stays as it is."""
+    if np is None:
+        raise ImportError("files of rows need numpy: pip install numpy")
+    path = pathlib.Path(path)
+    part = path.with_name(path.name + ".part")
+    try:
+        with open(part, "wb") as file:
+            written = Writing(file, kind)
+            yield written
+            written.end()
+        os.replace(part, path)
+    except BaseException:
+        part.unlink(missing_ok=True)
+        raise
+
+
+def read_rows(path: Any) -> tuple[Keys, Any]:
+    """The rows of a file, which are read as they are used, and the kind of their keys."""
+    if np is None:
+        raise ImportError("files of rows need numpy: pip install numpy")
+    try:
+        rows = np.load(path, mmap_mode="r")
+    except (ValueError, EOFError) as error:
+        raise BadSave(f"{path} can't be read: {error}") from error
+    names = rows.dtype.names if isinstance(rows, np.ndarray) else None
+    try:
+        kind = Keys.of_dtype(rows.dtype["key"])
+        is_whole = names == ("key", "payload") and rows.dtype == row_dtype(kind) and rows.ndim == 1
+    except (KeyError, TypeError, AttributeError) as error:
+        raise BadSave(f"{path} has no rows of a table: {error}") from error
+    if not is_whole:
+        raise BadSave(f"{path} has no rows of a table, but {rows.dtype}")
+    return kind, rows

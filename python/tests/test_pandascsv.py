@@ -1,0 +1,166 @@
+"""Files as pandas reads them: the cases of files again, and field by field what is read without it."""
+
+import array
+import contextlib
+import itertools
+import pathlib
+import random
+import tempfile
+import unittest
+from unittest import mock
+
+import test_files
+import test_lines
+from clusters import wants_pandas
+from ways import crackd, np, wants_library
+
+from crackd import csvfile, pandascsv
+
+FIELDS = ["0", "-0", "+7", " 5", "5 ", "\t5", "5\v", "007", str(2**63 - 1), str(2**63), str(-(2**63))]
+FIELDS += [str(-(2**63) - 1), str(2**64 - 1), str(2**64), "9" * 400, "1.0", "1.", ".5", "-.5", "1e3", "1E-3", "1e"]
+FIELDS += ["e1", "1e400", "-1e400", "5e-324", "1e-400", "0.1", "1.7976931348623157e308", "2.2250738585072011e-308"]
+FIELDS += ["9007199254740993", "inf", "-inf", "Infinity", "nan", "NaN", "", " ", "NA", "null", "None", "#1", "1#"]
+FIELDS += ["1_0", "1,0", "1 2", "0x10", "0b1", "True", "true", "--1", "+-1", "+", "-", "٣", "1\0", "\0001", "\0"]
+FIELDS += ['"5"', '"5', '5"', '"5"6', '5"6"', '""', '"5\n"', '"5,6"', "1j", "1L", "1f", "1d", "$1", "1%", "(1)", "−1"]
+FIELDS += ["\u00a05"]
+FIELDS += ["1.00", "-0.01", "+12.34", "12.345", "12.3", " 1.25", "1.25\n", '"1.25"', "-1.5e1", "0.000000000000000001"]
+FIELDS += ["9" * 16 + ".99", "-" + "9" * 16 + ".99", "9" * 17 + ".99", "92233720368547758.07", "92233720368547758.08"]
+FIELDS += ["1\x1a", "\x1a", "1;2", "'1'"]
+DATES = ["2020-01-02", "2020-1-2", "2020-01-02 ", " 2020-01-02", "20200102", "2020-02-30", "0000-01-01", "0001-01-01"]
+DATES += ["9999-12-31", "2020-01-02T03", "", "nan", "NaT", "now", '"2020-01-02"', "2020-01-0x", "2020/01/02"]
+AROUND = ["1,2\n", "1,2\r\n", "1,2\r", "\n", "\r\n", "", "key,payload\n", "1\n", "1,2,3\n", "x,2\n", "1,y\n", " \n"]
+AROUND += [",\n", "#1,2\n", "1.0,2\n"]
+# the beginnings of files, with and without headers, and what is no text
+HEADS = ["key,payload\n1,2\n3,4\n", "1,2\n3,4", '"key",payload\r\n1,"2"\r\n', '"k\ney",p\n1,2\n', "\n1,2\n"]
+CODES = [b"\xef\xbb\xbf1,2\n", b"1,2\n\xff,4\n", b"1,2,\xff\n3,4,x\n", b"1,2,\xc3\xa9\n3,4,x\n", b"1,2\0\n3\n"]
+
+
+@contextlib.contextmanager
+def by_pandas(is_there=True):
+    """Files are read by pandas, however small they are, or never."""
+    found = __import__("pandas") if is_there else None
+    with mock.patch.object(pandascsv, "pandas_for", lambda _: found):
+        yield
+
+
+class ByPandas:
+    """Cases in which pandas reads what it can."""
+
+    def setUp(self):
+        super().setUp()
+        stack = contextlib.ExitStack()
+        stack.enter_context(by_pandas())
+        self.addCleanup(stack.close)
+
+
+@wants_pandas
+class FilesByPandas(ByPandas, test_files.Files):
+    """The cases of files."""
+
+
+@wants_library
+@wants_pandas
+class LinesByPandas(ByPandas, test_lines.Lines):
+    """The cases of lines."""
+
+
+@wants_library
+@wants_pandas
+class FieldsByPandas(ByPandas, test_lines.Fields):
+    """The cases of fields."""
+
+
+@wants_pandas
+class Alike(unittest.TestCase):
+    """Whatever is in a file, it is read as it is without pandas."""
+
+    COLUMNS = {
+        "int64": csvfile.Column(),
+        "uint64": csvfile.Column(least=0, most=2**64 - 1),
+        "float64": csvfile.Column(is_float=True),
+        "date": csvfile.Column(format="%Y-%m-%d"),
+        "decimals": csvfile.Column(decimals=2),
+        "many decimals": csvfile.Column(decimals=18, least=0, most=2**64 - 1),
+    }
+
+    def setUp(self):
+        room = tempfile.TemporaryDirectory()
+        self.addCleanup(room.cleanup)
+        self.path, self.read = pathlib.Path(room.name) / "rows.csv", 0
+
+    def found(self, column, place, delimiter, header, is_there):
+        """What is read of the file: lists of numbers, or an error."""
+        file = csvfile.CsvFile(self.path, delimiter, header, "utf-8-sig")
+        with by_pandas(is_there):
+            try:
+                them = csvfile.read_columns(file, place, column, 1 - place, csvfile.Column())
+            except (crackd.CsvError, UnicodeDecodeError) as error:
+                return str(error)
+        return [repr(np.asarray(it).tolist()).replace("-0.0", "0.0") for it in them]
+
+    def expect(self, text, column, place=0, delimiter=",", header=None):
+        self.path.write_bytes(text if isinstance(text, bytes) else text.encode("utf-8", "surrogatepass"))
+        wanted = self.found(column, place, delimiter, header, False)
+        self.assertEqual(self.found(column, place, delimiter, header, True), wanted, text)
+        file = csvfile.CsvFile(self.path, delimiter, header, "utf-8-sig")
+        with by_pandas(), contextlib.suppress(crackd.CsvError, UnicodeDecodeError):
+            self.read += pandascsv.columns_of_pandas(file, [(place, column), (1 - place, csvfile.Column())]) is not None
+
+    def test_each_field(self):
+        for name, column in self.COLUMNS.items():
+            good = "2020-01-01" if name == "date" else "3"
+            self.read = 0
+            for field, place in itertools.product(DATES if name == "date" else FIELDS, (0, 1)):
+                for before, after in itertools.product((0, 2), (0, 1)):
+                    lines = [[good, "4"]] * before + [[field, "5"]] + [[good, "6"]] * after
+                    with self.subTest(name, field=field, place=place, before=before, after=after):
+                        self.expect("".join(",".join(it[:: 1 - 2 * place]) + "\n" for it in lines), column, place)
+            self.assertGreater(self.read, 20)
+
+    def test_each_line(self):
+        for lines in [*itertools.product(AROUND, repeat=2), *itertools.product(AROUND[::3], repeat=3)]:
+            with self.subTest(lines):
+                self.expect("".join(lines), csvfile.Column())
+        self.assertGreater(self.read, 20)
+
+    def test_headers_delimiters_and_encodings(self):
+        for delimiter, header in itertools.product(",;\t| a.é'", (None, True, False)):
+            for text in HEADS:
+                with self.subTest(delimiter, header=header, text=text):
+                    self.expect(text.replace(",", delimiter), csvfile.Column(), 0, delimiter, header)
+        self.assertGreater(self.read, 20)
+        for text in CODES:
+            self.expect(text, csvfile.Column())
+
+    def test_names_of_files_do_not_matter(self):
+        for name in ("rows.csv.gz", "rows.zip", "~rows", "file:rows"):
+            self.path = self.path.with_name(name)
+            self.expect("1,2\n3,4\n", csvfile.Column())
+        self.assertEqual(self.read, 4)
+
+    def test_random_files(self):
+        drawn = random.Random(7)
+        for _ in range(600):
+            text = "".join(drawn.choice('01239.-+e" ,,,\n\n\r\0#') for _ in range(drawn.randrange(40)))
+            for column in (csvfile.Column(), csvfile.Column(is_float=True)):
+                self.expect(text, column, drawn.randrange(2))
+
+    def test_small_files_do_not_import_pandas(self):
+        self.path.write_text("1,2\n", encoding="ascii")
+        with mock.patch.dict("sys.modules"):
+            pandascsv.sys.modules.pop("pandas", None)
+            self.assertIsNone(pandascsv.pandas_for(self.path))
+            with mock.patch.object(pandascsv, "LEAST_BYTES", 1), mock.patch("importlib.import_module") as imported:
+                self.assertIs(pandascsv.pandas_for(self.path), imported.return_value)
+
+    def test_the_types_of_what_is_read(self):
+        self.path.write_text("2020-01-01,5\n2020-01-02,6\n", encoding="ascii")
+        for key_format, key_type in (("%Y-%m-%d", "datetime64[us]"),):
+            with by_pandas(), crackd.load_csv(self.path, key_format=key_format) as table:
+                self.assertEqual((table.key_type, table.sum("2020-01-02")), (key_type, 6))
+        found = csvfile.Column(format="%Y-%m-%d").read_all(["1970-01-02"])
+        self.assertEqual(found, array.array("q", [86_400_000_000]))
+
+
+if __name__ == "__main__":
+    unittest.main()
