@@ -60,8 +60,8 @@ def built(name: str = "crackd", top: pathlib.Path | None = None) -> str:
 
 
 def sections(name: str) -> dict[str, str]:
-    """The sections of a text in this folder, without its comments. Each begins with a line `---- NAME`."""
-    text = re.sub(r"^#.*\n", "", (TOP / "acceptance" / name).read_text(encoding="utf-8"), flags=re.MULTILINE)
+    """The sections of a text of data/, without its comments. Each begins with a line `---- NAME`."""
+    text = re.sub(r"^#.*\n", "", (TOP / "acceptance" / "data" / name).read_text(encoding="utf-8"), flags=re.MULTILINE)
     return dict(it.strip().split("\n", 1) for it in f"\n{text}".split("\n---- ")[1:])
 
 
@@ -293,15 +293,20 @@ def served_bytes(program: str, limit: int, *commands: int) -> list[int]:
 
 
 @functools.cache
-def refusing_library() -> str | None:
-    """The library that refuses memory, compiled from refusing.c; None if that can't be done."""
-    room = tempfile.mkdtemp(prefix="crackd-refusing-")
+def library(source: str) -> str | None:
+    """The library of a file of C in acceptance/c/, to be preloaded; None if it can't be compiled."""
+    room = tempfile.mkdtemp(prefix="crackd-library-")
     atexit.register(shutil.rmtree, room, ignore_errors=True)
-    made, source = pathlib.Path(room) / "refusing.so", TOP / "acceptance" / "refusing.c"
+    made = pathlib.Path(room) / f"{source}.so"
     for compiler in filter(shutil.which, COMPILERS):
-        if ran([compiler, "-O2", "-shared", "-fPIC", "-o", made, source, "-ldl"])[0] == 0:
+        if ran([compiler, "-O2", "-shared", "-fPIC", "-o", made, TOP / "acceptance" / "c" / source, "-ldl"])[0] == 0:
             return str(made)
     return None
+
+
+def refusing_library() -> str | None:
+    """The library that refuses memory; None if that can't be done."""
+    return library("refusing.c")
 
 
 @contextlib.contextmanager

@@ -19,7 +19,7 @@ import typing
 # the least and greatest keys and payloads; a range may end at the first number above all keys
 MOST, LEAST_PAYLOAD, MOST_PAYLOAD = 2**64, -(2**63), 2**63 - 1
 LINE_BYTES, DIGITS = 200, 20
-MOST_ENTRIES, MOST_CELLS, MOST_LIFE = 1000000, 1048576, 1099511627776
+MOST_ENTRIES, DEFAULT_CELLS, MOST_LIFE = 1000000, 1048576, 1099511627776
 POLICIES = ["complete", "gradual", "ripple", "auto"]
 RANGES = ("count", "sum", "select")
 BLANK, NO_CELL = "blank", "refused 9"
@@ -53,7 +53,7 @@ class Limits(typing.NamedTuple):
     """The limits of each partition, and whether it makes checkpoints that are due by itself."""
 
     history: int = MOST_ENTRIES
-    cells: int = MOST_CELLS
+    cells: int = DEFAULT_CELLS
     life: int = MOST_LIFE
     is_automatic: bool = False
 

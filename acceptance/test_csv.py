@@ -5,7 +5,7 @@ import typing
 
 import fixtures
 import random_script
-import run
+import run_cases
 from fixtures import expect
 from plain_session import HEADER, MARK, Limits, exported
 
@@ -82,7 +82,7 @@ class Csv(fixtures.Case):
 
     def test_quotes_and_ends_of_all_kinds(self) -> None:
         """Quotes, line ends, byte order marks and signs, where they are allowed and where not, cut after each byte."""
-        for it in run.inputs("csv"):
+        for it in run_cases.inputs("csv"):
             for size in range(1, len(it) + 1):
                 check_input(self.program, it[:size])
 

@@ -1,4 +1,4 @@
-"""Runs the commands of README, the guide, docs/C.md and the pages of this folder, one check per section, and compares
+"""Runs the commands of README, the guide, docs/C.md and the pages of pages/, one check per section, and compares
 their output with what the page says.
 
 These fenced blocks of a page are run, those of a section in one shell, in a folder that has `events.csv`, `examples`,
@@ -32,7 +32,7 @@ import package
 from fixtures import TOP
 
 PAGES = ["README.md", "docs/GUIDE.md", "docs/C.md"]
-PAGES += [f"acceptance/{name}.txt" for name in ("examples", "library", "devices", "bounds")]
+PAGES += [f"acceptance/pages/{name}.txt" for name in ("examples", "library", "devices", "bounds")]
 SECONDS, PORT = 120, "4000"
 FENCE = re.compile(r"^```(\w+)(.*)\n((?:.*\n)*?)```$(?:\n+```text\n((?:.*\n)*?)```$)?", re.MULTILINE)
 COMMAND = re.compile(r"^\$ (.*\n(?:> .*\n)*)((?:(?!\$ ).*\n)*)", re.MULTILINE)
@@ -140,7 +140,7 @@ def run(blocks: list[Block], program: str) -> tuple[int, list[str], list[str]]:
     return len(asked) - len(faults), faults, skipped
 
 
-PAGE = (TOP / "acceptance" / "page.txt").read_text(encoding="utf-8")
+PAGE = (TOP / "acceptance" / "pages" / "page.txt").read_text(encoding="utf-8")
 
 
 class Checker(unittest.TestCase):

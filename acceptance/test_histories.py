@@ -11,7 +11,8 @@ on the schedule, and is not checked.
 A checkpointed partition is printed with its base, `partition P folded N inserted I deleted D rows R` and R lines `P.S K
 V`, and then with the entries that it has kept since. The removed entries are those of the receipts at earlier places:
 each has exactly one, they are answered and ordered like all others, they lead to the base's rows and counts, and there
-are as many as all checkpoints of the partition reported. The texts of histories.txt pass, or are found to be wrong.
+are as many as all checkpoints of the partition reported. The texts of data/histories.txt pass, or are found to be
+wrong.
 """
 
 import collections
@@ -33,7 +34,7 @@ SECTION = re.compile(
     r"^(worker|receipts|partition) (\d+)(?: folded (\d+) inserted (\d+) deleted (\d+) rows (\d+))?\n", re.MULTILINE
 )
 ENTRY = re.compile(r"^((?:\d+ )+)([a-z]+ .*)\n(.*(?:\n\d+\.\d+ .*)*)\n", re.MULTILINE)
-# the head of a text of histories.txt, or of a change to it: a name, how many statements there were, and limits
+# the head of a text of data/histories.txt, or of a change to it: a name, how many statements there were, and limits
 HEAD = re.compile(r"(.*?)(?:: (\d+))?(?:[:,] (\w+ \d+.*))?\n")
 STATEMENTS, STATEMENTS_OF_A_SOAK = 1000, 10000
 SEEDS = range(1, 11)
@@ -286,7 +287,7 @@ class Histories(fixtures.Case):
 
 
 class Texts(unittest.TestCase):
-    """The texts of histories.txt, which are of two workers."""
+    """The texts of data/histories.txt, which are of two workers."""
 
     def assert_passes(self, text: str, changes: str, asked: str, bounds: str) -> None:
         """A text passes with changes, each of two lines: the old text and the new one."""
@@ -301,7 +302,7 @@ class Texts(unittest.TestCase):
         self.assertRaises(Wrong, self.assert_passes, *given)
 
 
-# a check for each text of histories.txt, and for each change that makes it wrong
+# a check for each text of data/histories.txt, and for each change that makes it wrong
 for head, texts in fixtures.sections("histories.txt").items():
     right, *altered = texts.split("\n== ")
     name, asked, bounds = HEAD.match(f"{head}\n").groups()

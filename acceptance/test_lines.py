@@ -12,7 +12,7 @@ import sys
 import fixtures
 import ordered_script
 import random_script
-import run
+import run_cases
 from plain_session import FIELDS, LAST, POLICIES, Limits, Session, read_line, replies, statements
 
 SESSION_LINES = 5000
@@ -133,7 +133,7 @@ class Lines(fixtures.Case):
 
     def test_each_line_on_a_fresh_table(self) -> None:
         """Each line at the limits of words is the whole input, alone, and followed by a question for all rows."""
-        lines = [line for it in run.all_cases("words") for line in it.given.split(b"\n")[:-1]]
+        lines = [line for it in run_cases.all_cases("words") for line in it.given.split(b"\n")[:-1]]
         for it in lines:
             for end in [b"\n", ASKED]:
                 self.assert_answered(it + end)
@@ -142,7 +142,7 @@ class Lines(fixtures.Case):
 
     def test_cut_anywhere(self) -> None:
         """Statements are cut after each byte: each breaks off or ends a session there, and all are one session."""
-        whole = run.inputs("statements")
+        whole = run_cases.inputs("statements")
         cuts = [it[:size] for it in whole for size in range(len(it) + 1)]
         for cut in cuts:
             for end in [b"", b"\r"]:

@@ -4,7 +4,7 @@ Each call for memory in a run is refused in turn, from the first on until a run 
 alone; with the next three; with all later ones; and each by chance, one in fifty. The answers must be those of the
 lists of plain_session.py that never saw the statements refused with 8, and no more statements may be refused than calls
 were. A run may also end with 8 when the program opens the table; one of CSV anywhere, after a prefix of its text. A
-small library, refusing.c, refuses the calls; without a C compiler these checks are skipped.
+small library, c/refusing.c, refuses the calls; without a C compiler these checks are skipped.
 
 Each worker of a batch has its own partitions, so its replies are those of a list whatever the other threads do; the
 clients of a server come one after another. If a totals line is printed it must agree with the replies.
@@ -23,7 +23,7 @@ import typing
 
 import fixtures
 import random_script
-import run
+import run_cases
 from compare import SHORT, Seen, check_totals, compare
 from fixtures import CRATES, Wrong, expect, refusing
 from plain_session import POLICIES, Limits, Part, Session, bounds_of, statements
@@ -56,9 +56,9 @@ Check = typing.Callable[[bytes, int], object]
 
 
 @functools.cache
-def scripts() -> dict[str, run.Case]:
+def scripts() -> dict[str, run_cases.Case]:
     """The scripts of merges_and_checkpoints.cases."""
-    return {it.name.replace("-", " "): it for it in run.all_cases("merges_and_checkpoints")}
+    return {it.name.replace("-", " "): it for it in run_cases.all_cases("merges_and_checkpoints")}
 
 
 def with_layouts(given: bytes, after: bytes = b"\n") -> bytes:
@@ -112,21 +112,20 @@ def check_layouts(said: list, seen: Seen, whole: Seen) -> None:
 
 
 def sweep_script(program: str, words: list[str], given: bytes, way: str) -> None:
-    """Sweeps in one way over a session of one partition. If calls are refused alone each checkpoint must be, once."""
-    said, bounds, refused_once = statements(given), bounds_of(words), set()
+    """Sweeps in one way over a session of one partition, in which no checkpoint may be refused."""
+    said, bounds = statements(given), bounds_of(words)
     status, wrote, _ = fixtures.ran([program, *words], given, SECONDS)
     expect("status where no memory is refused", 0, status)
     whole = compare(said, wrote, Session(*bounds))
 
     def check(wrote: bytes, refused: int) -> None:
         seen = compare(said, wrote, Session(*bounds), refused)
-        refused_once.update(number for number, lines in enumerate(seen.answers) if lines == [SHORT])
+        pairs = enumerate(zip(said, seen.answers))
+        short = [at for at, (one, got) in pairs if one[0] == "checkpoint" and got == [SHORT]]
+        expect("checkpoints that were refused", [], short)
         check_layouts(said, seen, whole)
 
     sweep_runs(program, words, given, check, way)
-    folds = {at for at, one in enumerate(said) if one[0] == "checkpoint" and whole.answers[at] != ["folded 0"]}
-    if way == "alone":
-        expect("checkpoints that were never refused", [], sorted(folds - refused_once))
 
 
 def check_script(program: str, way: str, policy: str, name: str) -> None:

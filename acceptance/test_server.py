@@ -1,7 +1,7 @@
 """Servers with many clients, and servers that end when their input ends or a client is silent.
 
 The expected results are from docs/SPECIFICATION.md. The answers to clients one after the other are in
-cases/clients.cases and cases/ends.cases, batches at their bounds in bounds.txt.
+cases/clients.cases and cases/ends.cases, batches at their bounds in pages/bounds.txt.
 """
 
 import contextlib
@@ -9,6 +9,7 @@ import os
 import resource
 import signal
 import time
+import unittest
 
 import fixtures
 from fixtures import Client, Server, expect, serving, side_by_side
@@ -141,6 +142,21 @@ class Servers(fixtures.Case):
                 expect("lines", 2_000 + 300 * 2_002, sum(1 for _ in deaf.lines))
             it.close()
             it.wait((2_302, 2_001, 0, 2_001), *it.notes(2))
+
+    @unittest.skipUnless(fixtures.library("unsent.c"), "no C compiler")
+    def test_nothing_is_sent_after_a_fault(self) -> None:
+        """Once a reply couldn't be sent the connection is shut down: the session ends without trying it again."""
+        failing = {"LD_PRELOAD": fixtures.library("unsent.c"), "UNSENT": "2"}
+        with Server(self.program, 1, "--until-eof", environment=failing) as it:
+            with Client(it.port) as unlucky:
+                unlucky.ask("insert 1 1", "row 0.0")
+                unlucky.send("insert 2 2\n")
+                unlucky.is_at_end()
+            with Client(it.port) as next_one:
+                next_one.ask(ALL, "count 2")
+                next_one.end()
+            it.close()
+            it.wait((3, 2, 0, 2), *it.notes(2, CUT_OFF))
 
     def test_a_client_that_takes_nothing_is_let_go(self) -> None:
         """With --idle a client that reads no reply is disconnected, once no more replies fit."""

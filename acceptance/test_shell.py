@@ -1,6 +1,6 @@
 """`python3 -m crackd shell` on a terminal, by docs/SPECIFICATION.md, and the shell's own texts.
 
-Most of it is in shell.txt; what the shell writes as a filter is in cases/shell.cases.
+Most of it is in data/shell.txt; what the shell writes as a filter is in cases/shell.cases.
 """
 
 import contextlib
@@ -18,7 +18,7 @@ import typing
 import fixtures
 from fixtures import CONTROL_C, CONTROL_D, SECONDS, expect
 from plain_session import MOST
-from run import SHELL, SHELL_ENVIRONMENT
+from run_cases import SHELL, SHELL_ENVIRONMENT
 
 PROMPT = "crackd> "
 TIME = r"  \([0-9.]+ m?s\)\n"
@@ -93,7 +93,7 @@ def pattern_of(shown: str) -> str:
 
 
 class Sessions(fixtures.Case):
-    """The sessions of shell.txt, with servers of the program or by hand."""
+    """The sessions of data/shell.txt, with servers of the program or by hand."""
 
     def assert_shows(self, words: list[str], lines: list[str]) -> None:
         files = {mark: dict(it[2:].split(" ", 1) for it in lines if it.startswith(mark)) for mark in "<>"}

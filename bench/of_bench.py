@@ -187,6 +187,33 @@ def measure_orders(table, runs):
     table.line(f"{what}, beside a tree", rising, tree)
 
 
+def workloads():
+    """The workloads in which policies are compared: what each is, its command, its numbers, and its time's name."""
+    rows = sizes.PART_ROWS
+    yield f"{sizes.RANGES} sums, all rows pending", "cold", [rows, sizes.RANGES], "cold"
+    for batches, size in sizes.BATCHES:
+        yield f"{batches} sums, {size} deletes and inserts before each", "updates", [rows, batches, size], "updates"
+    batches, size = sizes.BATCHES[0]
+    yield f"{batches} rising sums, {size} deletes and inserts before each", "climb", [rows, batches, size], "climb"
+    rounds, size = sizes.OLD
+    what = f"the last tenth of {rounds} rounds of {size} deletes, {size} inserts and a sum of a thousandth"
+    yield what, "ageing", [rows, rounds, size], "last"
+
+
+def policies(runs):
+    """What each workload takes under each policy, in seconds."""
+    every = [*sizes.POLICIES, "auto"]
+    for what, word, numbers, name in workloads():
+        reported = compare([[BENCH, word, policy, *map(str, numbers)] for policy in every], runs)
+        yield what, {policy: middle_of(it, name) for policy, it in zip(every, reported)}
+
+
+def measure_policies(table, runs):
+    for what, times in policies(runs):
+        best = min(sizes.POLICIES, key=times.get)
+        table.line(f"auto: {what}, beside {best}, the best of the others", times["auto"], times[best], 1.1)
+
+
 # what a step belongs to, the command that takes steps, and the name of their number
 STEPS = [("a carry", "merge", "moved"), ("a pull", "pulls", "pulled")]
 
@@ -242,6 +269,7 @@ MEASURES = {
     "cold": [measure_cold],
     "updates": [measure_updates],
     "ageing": [measure_ageing, measure_orders],
+    "policies": [measure_policies],
     "steps": [measure_steps],
     "folds": [measure_folds],
     "growth": [measure_growth],

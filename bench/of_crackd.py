@@ -181,11 +181,11 @@ def measure_splits(table, _runs):
 
 # the lines after the inserts, by where the rows then are, which memory is read, and how many bytes a row may take
 HELD = {
-    "pending": ([], "VmHWM", 210),
-    "in the column": ([f"count {sizes.EVERYTHING}"], "VmRSS", 200),
-    "in the column, while they were put in": ([f"count {sizes.EVERYTHING}"], "VmHWM", 240),
-    "pending, after a checkpoint": (["checkpoint 0"], "VmRSS", 140),
-    "in the column, after a checkpoint": ([f"count {sizes.EVERYTHING}", "checkpoint 0"], "VmRSS", 145),
+    "pending": ([], "VmHWM", 125),
+    "in the column": ([f"count {sizes.EVERYTHING}"], "VmRSS", 125),
+    "in the column, while they were put in": ([f"count {sizes.EVERYTHING}"], "VmHWM", 160),
+    "pending, after a checkpoint": (["checkpoint 0"], "VmRSS", 125),
+    "in the column, after a checkpoint": ([f"count {sizes.EVERYTHING}", "checkpoint 0"], "VmRSS", 125),
 }
 
 

@@ -304,14 +304,14 @@ def rival_text(measured):
     load, everything, *queries = rivals.queries.values()
     *merges, passing = rivals.merges
     carry, pull = rivals.steps
-    return f"""- **Inserts: {load.ratio():.1f} times as long.** `crackd` keeps each command with its reply in a history, a number for each row as long as it
-  lives, and a map from these numbers to cells; the column has none of these. A pending row takes {measured.memory["pending"]:.0f} bytes of `crackd`'s memory, and
+    return f"""- **Inserts: {load.ratio():.1f} times as long.** `crackd` keeps a number for each row as long as it lives,
+  and a map from these numbers to cells; the column has none of these. A pending row takes {measured.memory["pending"]:.0f} bytes of `crackd`'s memory, and
   {FAST_BYTES} of the column's lists. The system supplies memory page by page when it is first written.
 - **A first count of everything: {everything.ratio():.1f} times as long.** Each row is read through its handle, whose generation says that the cell is still
   its own; then a separate step writes what the column needs of it, and its generation. The other column reads each row by its slot alone.
 - **Counts and sums with nothing pending: {spread(queries)} times as long.** Both crack by the same loop, which moves 24 bytes a row in `crackd`, and 20 in the
   column. There a payload is beside its key, and a sum reads 16 bytes a row; `crackd` stores payloads separately, and reads 8. Also,
-  each query is clipped to the partition's keys, and kept in the history with its reply.
+  each query is clipped to the partition's keys.
 - **A crack in three.** If both ends of a range are missing and fall into one piece, `crackd` and the column divide it by both in one pass. A step writes
   three rows, and a step of a crack by one bound two; this saves the second pass, mostly over a quarter of the piece. Compared with an earlier `crackd` that
   cracked by one end after the other, the first count over half a million rows took as long, over 10,000 rows 1.5 times, 1,000 counts 1.1 times as long.
@@ -319,7 +319,7 @@ def rival_text(measured):
   and moves a bound. In the other column bounds are adjacent, and one loop does all steps. In `crackd` a bound is a node of a tree, so that many of them
   can be added, and one recursion visits the nodes in order, with the row in hand in memory beside the column.
 - **Sums that merge: {spread(merges)} times as long.** These are such steps, and more work for each row: a delete looks the row's
-  number up and removes it from the map, its reply has the row, and the history keeps that; a row that is put in is read through its handle.
+  number up and removes it from the map, and its reply has the row; a row that is put in is read through its handle.
 - **A pass over pending keys that finds none: {passing.ratio():.1f} times as long.** `crackd` compares codes of 2 bytes, 128 at a time, and reads a key only if its
   code is that of an end of the range, or of a key that isn't known yet. The column compares floats of 4 bytes, 16 at a time, and reads a key only if its
   float lies between those of the ends.
@@ -394,13 +394,14 @@ def write(folder, bench, peers, measured):
     ways = {name: measured.rows / seconds / 1000 for name, seconds in measured.loading.items()}
     rates = [(count, where, it) for where, rates in measured.workers.items() for count, it, _ in rates]
     workers = {f"{count} {'worker' if count == 1 else 'workers'}, {where}": it / 1000 for count, where, it in rates}
+    loads = {name: (it.load + it.everything) / 1e6 for name, it in series.items()}
     plots = {
-        "queries": curves({name: it.sums for name, it in series.items()}),
-        "loading": bars({name: (it.load + it.everything) / 1e6 for name, it in series.items()}, "ms"),
-        "ways": bars(ways, "rows a millisecond"),
-        "workers": bars(workers, "statements a millisecond"),
-        "memory": bars(measured.memory, "bytes"),
-        "moves": bars(measured.moves, "million steps"),
+        "queries": curves("Time of each query", {name: it.sums for name, it in series.items()}),
+        "loading": bars("Loading, with the first count of everything", loads, "ms"),
+        "ways": bars("Rows loaded in a millisecond", ways, "rows a millisecond"),
+        "workers": bars("Statements answered in a millisecond", workers, "statements a millisecond"),
+        "memory": bars("Memory of a row", measured.memory, "bytes"),
+        "moves": bars("Steps of rows under each policy", measured.moves, "million steps"),
     }
     folder.mkdir(parents=True, exist_ok=True)
     for name, plot in plots.items():
@@ -445,8 +446,8 @@ rising query cracks again.
 
 ## Memory a row
 
-A key and a payload are 16 bytes, and a sorted array needs no more. `crackd` also keeps the row's cell, its number, its place in the column or among
-the pending rows, and the insert with its reply in the history; a checkpoint replaces the latter by 24 bytes:
+A key and a payload are 16 bytes, and a sorted array needs no more. `crackd` also keeps the row's cell, its number, and its place in the column or among
+the pending rows:
 
 ![bytes a row](memory.svg)
 

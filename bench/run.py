@@ -2,14 +2,14 @@
 """Measures the proved programs and others, and compares the ratios with their bounds: run.py [--once] [--small]
 [--report] [--before FOLDER] [WHAT ..]
 
-WHAT is session, tcp, csv, batch, instructions, splits, memory, served, arena, column, partition, cold, updates,
-ageing, steps, folds, growth, workers, asking, gathering, witnessed or python; without a word, all of them. python is
-the package's table in the process, if numpy and libcrackd.so are there; its times also go into docs/PYTHON.md. It needs
-a quiet machine, rustc, and the programs, which are built (and first proved, if they aren't) as `make run` does it. Each
-number is the median of five runs; with --once of one. The programs and their peers run in turn, so that all meet the
-same machine. Instructions are counted by valgrind if it is installed, and only once, since they are the same each time.
-It prints a table, and ends with status 1 if a ratio is above its bound, or a gain below it, or if a program and its
-peer don't compute the same.
+WHAT is session, tcp, latency, csv, batch, instructions, splits, memory, served, arena, column, partition, cold,
+updates, ageing, policies, steps, folds, growth, workers, asking, gathering, witnessed or python; without a word, all of
+them. python is the package's table in the process, if numpy and libcrackd.so are there; its times also go into
+docs/PYTHON.md. It needs a quiet machine, rustc, and the programs, which are built (and first proved, if they aren't) as
+`make run` does it. Each number is the median of five runs; with --once of one. The programs and their peers run in
+turn, so that all meet the same machine. Instructions are counted by valgrind if it is installed, and only once, since
+they are the same each time. It prints a table, and ends with status 1 if a ratio is above its bound, or a gain below
+it, or if a program and its peer don't compute the same.
 
 With --before it compares crackd and crack_bench with those of another checkout, FOLDER, whose programs are built: both
 in turn, with the same arguments and the same files. It prints the ratio of this checkout's figures to those of FOLDER,
@@ -29,20 +29,27 @@ import before
 import contests
 import of_bench
 import of_crackd
+import of_latency
 import of_python
 import of_workers
 import sizes
 from programs import OUT, TOP, build
 from table import Table
 
-MEASURES = {**of_crackd.MEASURES, **of_bench.MEASURES, **of_workers.MEASURES, **of_python.MEASURES}
+MEASURES = {
+    **of_crackd.MEASURES,
+    **of_latency.MEASURES,
+    **of_bench.MEASURES,
+    **of_workers.MEASURES,
+    **of_python.MEASURES,
+}
 
 
 def program_of(word):
     """The program that a word runs, if any."""
     if word in of_python.MEASURES:
         return None
-    return "crackd" if word in of_crackd.MEASURES else "crack_bench"
+    return "crackd" if word in of_crackd.MEASURES or word in of_latency.MEASURES else "crack_bench"
 
 
 def measure(words, runs):

@@ -13,6 +13,8 @@ BATCHES = [(1000, 10), (100, 1000)]
 # how many rounds of updates with a sum, a tenth of which is compared with another tenth, and how many deletes and
 # inserts each has
 AGEING = (20_000, 10)
+# the rounds after which a table is old where policies are compared
+OLD = (4_000, 10)
 # how many deletes and inserts there are between two checkpoints; and, as crack_bench counts them, commands of one kind
 # before one and after it
 CHANGES, NEXT = 100_000, 1000
@@ -34,6 +36,8 @@ WITNESSED_ROWS = (125, 12_500, GATHER_ROWS)
 MOST_PART_ROWS = 998_000
 # statements that each wait for the previous reply, and counts of one key each
 TURNS, LOOKUPS = 20_000, 10_000
+# rounds of four requests that each wait for the previous reply, while other clients load the server
+LATENCY_ROUNDS = 30_000
 EVERYTHING = f"0 {2**64}"
 # for a server whose clients count at full speed: how long its histories are, and after how many commands its memory is
 # read
@@ -58,6 +62,7 @@ def shrink():
         "RANGES": 100,
         "BATCHES": [(50, 10), (10, 100)],
         "AGEING": (100, 10),
+        "OLD": (100, 10),
         "CHANGES": 800,
         "PIECES": 40,
         "PENDING": 100,
@@ -69,6 +74,7 @@ def shrink():
         "WITNESSED_ROWS": (5, 50, 500),
         "MOST_PART_ROWS": 8000,
         "TURNS": 200,
+        "LATENCY_ROUNDS": 100,
         "LOOKUPS": 100,
     }
     globals().update(small)

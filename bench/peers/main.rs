@@ -8,7 +8,8 @@
 //! `through`, `rows`, `sorted`, `rebuilt` or `overlay`, which do the same in other ways. `peers own WORKERS ROWS STEPS`
 //! and `peers shared WORKERS ROWS STEPS` have workers on threads, and `peers copies WORKERS ROWS` copies what they did.
 //! `peers client PORT FILE` and `peers turns PORT FILE` send a file's statements to a server on this machine, all at
-//! once or one by one, and `peers echo PORT` is such a server.
+//! once or one by one, and `peers echo PORT` is such a server. `peers crackd|redis PORT ROWS ROUNDS` inserts rows into
+//! a server, and then measures single requests while other clients load it.
 //!
 //! What a run computes goes to standard output, and must be what the measured program writes there. Times go to
 //! standard error, in nanoseconds, a line `NAME NUMBER` each, followed by what the merges did, if that is counted.
@@ -20,6 +21,7 @@ mod fast;
 mod fold;
 mod index;
 mod inline;
+mod latency;
 mod numbers;
 mod overlay;
 mod pairs;
@@ -75,6 +77,11 @@ fn main() {
         Some("copies") => {
             let workers = number(words.next()) as u32;
             workers::copies(workers, number(words.next()) as u32);
+        }
+        Some(word @ ("crackd" | "redis")) => {
+            let server = if word == "crackd" { latency::Server::Crackd } else { latency::Server::Redis };
+            let (port, rows) = (port(words.next()), number(words.next()));
+            latency::run(server, port, rows, number(words.next())).expect("a server answers");
         }
         Some(word @ ("client" | "turns")) => {
             let send = if word == "client" { client::pipeline } else { client::take_turns };

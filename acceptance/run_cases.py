@@ -1,4 +1,4 @@
-"""Runs the program on the acceptance cases: run.py PROGRAM [WORD ..]
+"""Runs the program on the acceptance cases: run_cases.py PROGRAM [WORD ..]
 
 With words, only the cases whose name or file name contains one of them; cases/README.txt describes the format. For each
 case that fails it prints the file, the first line that differs, what was wanted there and what came, and last
@@ -90,7 +90,7 @@ def unescaped(text: str) -> bytes:
 
 
 def inputs(section: str) -> list[bytes]:
-    """The inputs of a section of cut.txt."""
+    """The inputs of a section of data/cut.txt."""
     return list(map(unescaped, fixtures.sections("cut.txt")[section].splitlines()))
 
 

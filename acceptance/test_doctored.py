@@ -13,7 +13,7 @@ import unittest.mock
 import fixtures
 import plain_session
 import random_script
-import run
+import run_cases
 import soak
 import test_csv
 import test_devices
@@ -30,7 +30,7 @@ FOUND, FAULTS = (Wrong, ValueError, IndexError), ["drop", "double", "change", "s
 
 
 class Kind(typing.NamedTuple):
-    """A kind of doctored.txt: its name, the limits of the partitions, and its lines, each with its mark."""
+    """A kind of data/doctored.txt: its name, the limits of the partitions, and its lines, each with its mark."""
 
     name: str
     bounds: dict[str, int]
@@ -73,7 +73,7 @@ def answered(one: Own, asked: str, told: str) -> Own:
 
 
 class Replies(unittest.TestCase):
-    """The kinds of replies in doctored.txt."""
+    """The kinds of replies in data/doctored.txt."""
 
     def hold(self, mark: str, check: typing.Callable, *given: object) -> typing.Any:
         """What a check returns for lines marked +; it must find all others wrong."""
@@ -149,7 +149,7 @@ class Reference(unittest.TestCase):
     """The lists in Python answer the acceptance cases as these say."""
 
     def test_scripts(self) -> None:
-        scripts = [it for it in run.all_cases() if "script" in it.words and it.wanted and not it.status]
+        scripts = [it for it in run_cases.all_cases() if "script" in it.words and it.wanted and not it.status]
         self.assertGreater(len(scripts), 150)
         for it in scripts:
             with self.subTest(it.name):
@@ -157,7 +157,7 @@ class Reference(unittest.TestCase):
                 compare(statements(it.given), wrote, Session(*bounds_of(it.words)))
 
     def test_csv(self) -> None:
-        exports = [it for it in run.all_cases() if "csv" in it.words and not (it.source or it.target or it.texts)]
+        exports = [it for it in run_cases.all_cases() if "csv" in it.words and not (it.source or it.target or it.texts)]
         exports = [it for it in exports if it.given or not it.complaints]
         self.assertGreater(len(exports), 20)
         for it in exports:
@@ -166,7 +166,7 @@ class Reference(unittest.TestCase):
             self.assertEqual(exported(it.given, *bounds_of(it.words)), right, it.name)
 
     def test_payloads_are_read_alike_in_csv(self) -> None:
-        (typed,) = run.all_cases("payloads-that-are-typed")
+        (typed,) = run_cases.all_cases("payloads-that-are-typed")
         for line in typed.given.splitlines()[:-1]:
             word, said = line.removeprefix(b"insert 7 "), plain_session.read_line(line)
             wrote = (1, b"", b"crackd: refused 19 1\n")
@@ -324,12 +324,11 @@ class StandIns(fixtures.Case):
         which = {"from": test_memory.FOR_EVER, "to": test_memory.FOR_EVER}
         self.assert_finds(test_memory.run_once, ["script"], given, check, which)
 
-    @unittest.skipUnless(fixtures.refusing_library(), "no C compiler works here")
-    def test_a_sweep_that_refuses_no_checkpoint_is_found(self) -> None:
-        it, far = test_memory.scripts()["checkpoints of a full history"], test_memory.FOR_EVER
-        with unittest.mock.patch.dict(test_memory.WAYS, alone=lambda _: {"from": far, "to": far}):
-            with self.assertRaisesRegex(Wrong, r"checkpoints that were never refused: wanted '\[\]', got '\[8"):
-                test_memory.sweep_script(self.program, it.words, test_memory.with_layouts(it.given), "alone")
+    def test_a_sweep_that_refuses_a_checkpoint_is_found(self) -> None:
+        run_once = lambda _program, _words, _given, check, _which, _text: check(b"row 0.0\nrefused 8\n", 1)
+        with unittest.mock.patch.object(test_memory, "run_once", run_once):
+            with self.assertRaisesRegex(Wrong, r"checkpoints that were refused: wanted '\[\]', got '\[1\]'"):
+                test_memory.sweep_script(self.program, ["script"], b"insert 1 1\ncheckpoint 0\n", "alone")
 
 
 class Soak(unittest.TestCase):

@@ -6,9 +6,7 @@ import os
 import typing
 import unittest
 
-from fixtures import TOP
-
-FOLDERS = [TOP / "acceptance", TOP / "tools"]
+FOLDER = os.path.dirname(os.path.abspath(__file__))
 # the module whose checks take longest, so they are started first
 LONGEST = "test_memory"
 
@@ -38,9 +36,9 @@ def outcomes(checks: list[unittest.TestCase]) -> typing.Iterator[tuple[str, str,
 
 def run_all() -> tuple[int, int]:
     """Runs all checks. Returns how many passed, and how many failed."""
-    suites = [unittest.TestLoader().discover(str(it), top_level_dir=str(it)) for it in FOLDERS]
+    suite = unittest.TestLoader().discover(FOLDER, top_level_dir=FOLDER)
     passed, failed = collections.Counter(), collections.Counter()
-    for name, wrong, skipped in outcomes([check for suite in suites for check in flat(suite)]):
+    for name, wrong, skipped in outcomes(list(flat(suite))):
         if wrong or skipped:
             print(f"{name} FAILED\n{wrong}" if wrong else f"{name} skipped, since {skipped}", flush=True)
         module = name.split(".")[0].removeprefix("test_")

@@ -1,10 +1,10 @@
-"""What run.py reads as a case, and which line of its file it names if the output differs."""
+"""What run_cases.py reads as a case, and which line of its file it names if the output differs."""
 
 import pathlib
 import tempfile
 import unittest
 
-import run
+import run_cases
 
 BATCH = """# Two workers.
 
@@ -34,12 +34,12 @@ WRONG = {
 }
 
 
-def cases(text: str) -> list[run.Case]:
+def cases(text: str) -> list[run_cases.Case]:
     """The cases of a file with this text."""
     with tempfile.TemporaryDirectory() as room:
         path = pathlib.Path(room) / "batches.cases"
         path.write_text(text, encoding="utf-8")
-        return list(run.cases_of(path))
+        return list(run_cases.cases_of(path))
 
 
 class Cases(unittest.TestCase):
@@ -54,18 +54,18 @@ class Cases(unittest.TestCase):
     def test_the_line_that_first_differs_is_named(self) -> None:
         (case,) = cases(BATCH)
         lines = WROTE.splitlines(keepends=True)
-        case.path = run.CASES / "batches.cases"
-        self.assertEqual(run.first_difference(case, "output", case.output(), WROTE), [])
+        case.path = run_cases.CASES / "batches.cases"
+        self.assertEqual(run_cases.first_difference(case, "output", case.output(), WROTE), [])
         for at, line in enumerate(LINES):
             for put in [[], [lines[at][:-1]], [b"x\n"]]:
                 wrote = b"".join([*lines[:at], *put, *lines[at + 1 :]])
-                (fault,) = run.first_difference(case, "output", case.output(), wrote)
+                (fault,) = run_cases.first_difference(case, "output", case.output(), wrote)
                 place = f"acceptance/cases/batches.cases:{line}: output: wanted {lines[at]!r}"
                 self.assertTrue(fault.startswith(place), fault)
-        (more,) = run.first_difference(case, "output", case.output(), WROTE + b"more\n")
+        (more,) = run_cases.first_difference(case, "output", case.output(), WROTE + b"more\n")
         self.assertIn("1 lines more than are wanted, the first b'more\\n'", more)
 
     def test_what_is_no_case_is_named_with_its_line(self) -> None:
         for text, line in WRONG.items():
-            with self.assertRaisesRegex(run.Misfit, f"batches.cases:{line}: "):
+            with self.assertRaisesRegex(run_cases.Misfit, f"batches.cases:{line}: "):
                 cases(text)
