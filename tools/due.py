@@ -33,15 +33,11 @@ def git(*words):
     return ran.stdout if ran.returncode == 0 else b""
 
 
-def without_comments(text):
-    """A file's lines without comments, on which no proof depends, and without blank ones."""
-    return "".join(f"{it.rstrip()}\n" for it in COMMENT.sub("", text).splitlines() if it.strip())
-
-
 def texts(folder):
-    """The texts of a crate's files, by path, without comments."""
+    """The texts of a crate's files, by path, without blank lines and comments, on which no proof depends."""
     files = [it for part in crates.PARTS for it in (folder / part).rglob("*") if it.is_file()]
-    return {str(it.relative_to(folder)): without_comments(it.read_text(errors="replace")) for it in files}
+    lines = lambda it: (line.rstrip() for line in COMMENT.sub("", it.read_text(errors="replace")).splitlines())
+    return {str(it.relative_to(folder)): "".join(f"{line}\n" for line in lines(it) if line) for it in files}
 
 
 def stated(of_files):

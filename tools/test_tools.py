@@ -158,12 +158,6 @@ size-nil = refl
 }
 
 
-def function(path, text):
-    lines = SHELF[path].splitlines()
-    at = next(at for at, line in enumerate(lines) if text in line)
-    return sources.Source("a", pathlib.Path(f"crates/a/{path}"), lines).function_at(at)
-
-
 def folder_with(case, files):
     """A folder with these files, by path, which is removed after the test."""
     folder = tempfile.TemporaryDirectory()
@@ -185,26 +179,19 @@ class Edits(unittest.TestCase):
         of_hint = ["inside::Hint::len", "a::Hint::len::closure", "inside::Thing::len"]
         of_trait = ["inside::HintScale::weigh", "inside::HintOther::weigh", "inside::Hint::weigh"]
         for path, line, wanted, names, right in [
-            ("src/inside.rt", "fn len", (("inside",), "Hint", "", "len"), of_hint, 2),
-            ("src/inside.rt", "self.0 + 1", (("inside",), "Hint", "Scale", "weigh"), of_trait, 1),
-            ("src/lib.rt", "return 0;", ((), "", "", "first"), ["first", "first::closure", "inside::first"], 2),
-            ("src/lib.rt", "fn find", ((), "", "", "find"), ["find", "first"], 1),
+            ("src/inside.rt", "fn len", (("inside",), "Hint", "", "len"), of_hint, of_hint[:2]),
+            ("src/inside.rt", "self.0 + 1", (("inside",), "Hint", "Scale", "weigh"), of_trait, of_trait[:1]),
+            ("src/lib.rt", "return 0;", ((), "", "", "first"), ["first::closure", "inside::first"], ["first::closure"]),
+            ("src/lib.rt", "fn find", ((), "", "", "find"), ["find", "first"], ["find"]),
         ]:
-            found = function(path, line)
-            self.assertEqual((found, [found.is_named(it.split("::")) for it in names].count(True)), (wanted, right))
-            self.assertTrue(found.is_named(names[0].split("::")))
-        self.assertIsNone(function("src/inside.rt", "things: Vec"))
-
-    def test_a_function_reaches_what_it_calls_and_what_that_calls(self):
-        files = sources.Names().read(shelf(self))
-        found = {(it.owner, it.name): {of.name for of in of} for it, of in sources.reached(files).items()}
-        self.assertEqual(found[("", "first")], {"find", "weigh"})
-        self.assertEqual((found[("", "find")], found[("Hint", "len")]), ({"weigh"}, set()))
+            lines = SHELF[path].splitlines()
+            source = sources.Source("a", pathlib.Path(f"crates/a/{path}"), lines)
+            found = source.function_at(next(at for at, it in enumerate(lines) if line in it))
+            self.assertEqual((found, [it for it in names if found.is_named(it.split("::"))]), (wanted, right))
 
     def test_each_edit_can_be_applied_and_those_of_one_function_are_tried_apart(self):
         for crate in crates.listed().values():
             every = edits.edits_of(crate)
-            self.assertEqual([it.label for it in every if it.fault], [])
             made = edits.batches(crate, every, 8)
             self.assertEqual(sorted(it.name for batch in made for it in batch), sorted(it.name for it in every))
             self.assertTrue(all(len(batch) <= 8 for batch in made))
@@ -245,12 +232,13 @@ class Due(unittest.TestCase):
     }
 
     def test_clauses_types_definitions_and_statements_alone_have_a_meaning_for_the_crates_above(self):
-        for files, is_told in ((self.TOLD, True), (self.PASSED_OVER, False)):
-            for path, old, new in ((path, *it) for path, changes in files.items() for it in changes.items()):
-                text = SHELF[path.replace("f/Answers", "Laws")]
-                self.assertIn(old, text)
-                before, after = (due.stated({path: due.without_comments(it)}) for it in (text, text.replace(old, new)))
-                self.assertEqual(before != after, is_told, (path, old))
+        files = {**SHELF, "proofs/f/Answers.antt": SHELF["proofs/Laws.antt"]}
+        stated = lambda files: due.stated(due.texts(folder_with(self, files)))
+        for changes, is_told in ((self.TOLD, True), (self.PASSED_OVER, False)):
+            for path, old, new in ((path, *it) for path, them in changes.items() for it in them.items()):
+                self.assertIn(old, files[path])
+                changed = {**files, path: files[path].replace(old, new)}
+                self.assertEqual(stated(changed) != stated(files), is_told, (path, old))
 
     def test_without_a_commit_all_are_due_and_since_this_one_a_tenth(self):
         every = [edits.Edit("crack_row", f"no_{number}.edit") for number in range(400)]
@@ -261,44 +249,40 @@ class Due(unittest.TestCase):
 
 class Reading(unittest.TestCase):
     def setUp(self):
-        self.shelf = promises.Reading(promises.all_items([shelf(self)]), ["a"])
+        self.shelf = promises.Reading([shelf(self)])
 
     def read(self, call, *clauses):
         """What is read for these clauses of a call, or for all: its lines by name."""
         items = self.shelf.read_for([(call, clauses)])
         return {it.name: [line for _, line in it.lines] for it in items}
 
-    def misplaced(self):
-        """What no clause reaches, what is misplaced for private clauses, and what for public ones."""
-        return [[it.short for it in items] for items in trust.misplaced(self.shelf).values()]
-
-    def test_those_clauses_of_a_call_that_are_asked_for_are_read_behind_what_they_cite(self):
+    def test_a_call_is_read_behind_what_its_clauses_cite(self):
         wanted = ["a.Sizes.IsThing", "a.Sizes.count", "a::PLACES", "a.Sizes.IsFull", "a::inside::Thing"]
         wanted += [f"a::inside::Shelf{it}" for it in ("", " as Model::Value", " as Model::view")]
         self.assertEqual(list(self.read("a::put")), [*wanted, "a::put"])
         read = self.read("a::put", "size")
         wanted = ["    requires { size < PLACES }", "    ensures size { shelf.new.size ≡ size }"]
         self.assertEqual((read["a::put"], "a.Sizes.IsFull" in read), (wanted, False))
+        # (a trait is read with what public types have of it)
+        had = [it for it in self.read("a::inside::Scale::weigh") if " as Scale" in it]
+        self.assertEqual(had, ["a::inside::Shelf as Scale"])
+
+    def test_of_a_type_no_field_is_read_that_nothing_reads_nor_its_model(self):
+        label = self.read("a::inside::read")
+        self.assertEqual(label["a::inside::Label"], ["pub struct Label {", "    text: u64,", "}"])
+        self.assertNotIn("a::inside::Hint", label)
+        shelf = self.shelf.items["a::inside::Shelf"]
+        said = [[line for _, line in it] for it in (shelf.lines, shelf.beside)]
+        self.assertEqual(said, [["pub struct Shelf {", "    things: Vec<Thing>,", "}"], ["/// What stands on it."]])
 
     def test_what_no_clause_and_what_private_ones_alone_reach(self):
         # (a name that a text binds itself cites nothing: a definition is called `size`, as some variables are)
-        self.assertEqual(self.misplaced(), [["size", "stray"], [], []])
+        found = lambda: [[it.short for it in items] for items in trust.misplaced(self.shelf).values()]
+        self.assertEqual(found(), [["size", "stray"], [], []])
         path = self.shelf.items["a.Other.size"].path
         path.write_text(path.read_text().replace(definitions.PRIVATE, "-- Others."))
         # (of a private function, of what a type keeps of its own fields, and of a private type)
-        self.assertEqual(self.misplaced()[1], ["size", "AreLight", "in_ounces"])
-
-    def test_of_a_type_no_field_is_read_that_nothing_reads_nor_its_model(self):
-        label, shelf = self.shelf.items["a::inside::Label"], self.shelf.items["a::inside::Shelf"]
-        said = [[line for _, line in it] for it in (label.lines, shelf.lines, shelf.beside)]
-        self.assertEqual(said[0], ["pub struct Label {", "    text: u64,", "}"])
-        self.assertEqual(said[1:], [["pub struct Shelf {", "    things: Vec<Thing>,", "}"], ["/// What stands on it."]])
-        self.assertEqual(label.cites, frozenset())
-
-    def test_a_trait_is_read_with_what_public_types_have_of_it(self):
-        names = self.read("a::inside::Scale::weigh")
-        self.assertEqual([it for it in names if " as Scale" in it], ["a::inside::Shelf as Scale"])
-        self.assertNotIn("a.Other.in_ounces", names)
+        self.assertEqual(found(), [["size", "stray"], ["size", "AreLight", "in_ounces"], []])
 
     def test_each_promise_names_its_calls_and_each_definition_stands_where_a_reader_is_sent(self):
         with contextlib.redirect_stdout(io.StringIO()) as said:

@@ -72,7 +72,7 @@ def misplaced(whole):
 
 
 def main(words):
-    whole = promises.whole()
+    whole = promises.Reading([it.folder for it in crates.listed().values()])
     every = promises.roots_in(crates.read(crates.TOP / "docs" / "PROOFS.md"))
     chosen = [it for it in words if it != "--count"] or list(every)
     unknown = [it for it in chosen if it not in every]

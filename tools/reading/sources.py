@@ -12,7 +12,6 @@ from reading import definitions
 GHOST = re.compile(r"^    ghost (?!use\b)(\w+)\s*[=:]")
 GHOST_USE = re.compile(r"^    ghost use\b")
 TYPE = re.compile(r"^(pub(?:\([a-z]+\))? )?(struct|enum|union|type|const|static|trait) (\w+)")
-FIELD = re.compile(r"(?m)^\s+(?:pub(?:\([a-z]+\))? )?(\w+): (.*)$")
 RUST_USE = re.compile(r"(?m)^(?:pub(?:\([a-z]+\))? )?use ([\w:]+)::(?:\{([^}]*)\}|([\w ]+))")
 IMPORTED = re.compile(r"(\w+)(?: as (\w+))?")
 FUNCTION = re.compile(r"^(\s*)(?:pub(?:\([^)]*\))?\s+)?(?:const\s+)?(?:unsafe\s+)?(?:extern\s+\S+\s+)?fn\s+(\w+)")
@@ -65,10 +64,6 @@ class Source:
     lines: list
     is_open: bool = False
     scope: dict = dataclasses.field(default_factory=dict)
-
-    @property
-    def text(self):
-        return "\n".join(self.lines)
 
     @property
     def module(self):
@@ -136,20 +131,12 @@ class Source:
                 return range(first, at + 1)
         raise ValueError(f"{self.path}: what begins in line {first + 1} doesn't end")
 
-    def item(self, name, kind, lines, beside, cites, is_public):
-        """An item of the file."""
-        return definitions.Item(name, kind, self.crate, self.path, lines, beside, frozenset(cites), is_public)
-
     def imported(self, items):
         """Those of these items, by path, that the file's `use` lines import, by name."""
-        uses = ((path, it) for path, *names in RUST_USE.findall(self.text) for it in IMPORTED.findall(" ".join(names)))
-        paths = {other or name: re.sub(r"^crate\b", self.crate, f"{path}::{name}") for path, (name, other) in uses}
+        uses = ((path, " ".join(names)) for path, *names in RUST_USE.findall("\n".join(self.lines)))
+        found = ((path, *it) for path, names in uses for it in IMPORTED.findall(names))
+        paths = {other or name: re.sub(r"^crate\b", self.crate, f"{path}::{name}") for path, name, other in found}
         return {name: items[path] for name, path in paths.items() if path in items}
-
-    def fields(self, name):
-        """The fields of a struct of the file by name, each with the text of its type."""
-        spans = [self.whole(at, ("}", ";")) for at, (_, _, of) in self.types().items() if of == name]
-        return dict(FIELD.findall("\n".join(self.lines[it] for span in spans for it in span)))
 
 
 class Names:
