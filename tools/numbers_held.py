@@ -13,7 +13,7 @@ from crates import TOP, read
 CONSTANT = re.compile(r"^(?:(?:pub(?:\(crate\))? )?const )?([A-Z_]+)(?:: \w+)? =\s+(-?[0-9_]+);?$", re.MULTILINE)
 NUMBER = r"(-?\d[\d,]*(?:\.\d+)?)"
 # where limits are written
-DOCUMENTS = ["*.md", "docs/*.md", "Makefile", "crates/crack_arguments/src/*.rt", "python/crackd/**/*.py"]
+DOCUMENTS = ["*.md", "docs/*.md", "crates/crack_arguments/src/*.rt", "python/crackd/**/*.py"]
 # for each limit its crate or file, its constant, and the texts around it, each of which some document has
 LIMITS = [
     ("crack_arena", "CELLS", ["An arena's cells are in pages of {}."]),
@@ -59,12 +59,9 @@ LIMITS = [
     ("python/crackd/table.py", "ROWS_A_SHARD", ["one for each {} rows, at most one for each"]),
     ("python/crackd/table.py", "MOST_BY_DEFAULT", ["processor and {}, and each shard"]),
     ("python/crackd/local.py", "HISTORY", ["a partition ({} by default)"]),
-    # how many minutes commands take, which is measured and no constant: all pages must say the same
-    ("", "make run", ["and answers: {} minutes the first time", "`make run` took {} minutes from nothing",
-     "standard input:' @echo ' {} minutes the first time on 4"]),
-    ("", "make test", ["and runs all tests: {} minutes", "from nothing, `make test` {} and",
-     "the acceptance cases:' @echo ' {} minutes on 4"]),
-    ("", "make edits", ["and then `make edits` {}. `.ci/run`", "after make test {} minutes on 4"]),
+    ("Makefile", "RUN_MINUTES", ["and answers: {} minutes the first time", "`make run` took {} minutes from nothing"]),
+    ("Makefile", "TEST_MINUTES", ["and runs all tests: {} minutes", "from nothing, `make test` {} and"]),
+    ("Makefile", "EDITS_MINUTES", ["and then `make edits` {}. `.ci/run`"]),
 ]
 
 # the tables of docs/BENCHMARKS.md, by the first cells of their heads
@@ -111,8 +108,8 @@ def written(path):
     return " ".join(read(path).split())
 
 
-def constants(source, top=TOP):
-    """The constants of a crate or of a file of Python that are whole numbers, by name: all values that a name has."""
+def constants(source, top):
+    """The constants of a crate or of a file that are whole numbers, by name: all values that a name has."""
     found, path = {}, top / source
     for it in [path] if path.is_file() else sorted((top / "crates" / source / "src").rglob("*.rt")):
         for name, number in CONSTANT.findall(read(it)):
@@ -137,8 +134,7 @@ def limit_faults(limits=LIMITS, top=TOP):
     wrong = []
     for source, name, texts in limits:
         found = [(page, text, it) for text in texts for page, (it,) in found_in(pages, text)]
-        first = {int(it.replace(",", "")) for _, _, it in found[:1]}
-        values = constants(source, top).get(name, set()) if source else first
+        values = constants(source, top).get(name, set())
         if len(values) != 1:
             wrong.append(f"{source} has {len(values)} values of {name}")
         else:

@@ -26,7 +26,6 @@ from reading import definitions, promises, sources
 SHELF = {
     "src/lib.rt": """ghost use Rattle.a.specs.Sizes.{size, IsFull as IsLaden};
 ghost use Rattle.a.specs.Other.{size as other_size};
-mod inside;
 pub use inside::{Scale, Shelf};
 
 /// How many places it has.
@@ -45,13 +44,6 @@ pub fn put(shelf: &mut Shelf, size: u64)
 fn first(shelf: &Shelf) -> u64
     ensures { result ≡ other_size shelf.now.items }
 {
-    if shelf.is_empty() {
-        return 0;
-    }
-    find(shelf)
-}
-
-fn find(shelf: &Shelf) -> u64 {
     shelf.weigh()
 }
 """,
@@ -149,12 +141,6 @@ AreLight xs = count xs ≤ 8
 abbrev pub in_ounces : ℕ → ℕ
 in_ounces size = size
 """,
-    "proofs/Laws.antt": """-- how long it is
-use Rattle.a.specs.Sizes.{size}
-
-size-nil : size [] ≡ 0
-size-nil = refl
-""",
 }
 
 
@@ -181,8 +167,8 @@ class Edits(unittest.TestCase):
         for path, line, wanted, names, right in [
             ("src/inside.rt", "fn len", (("inside",), "Hint", "", "len"), of_hint, of_hint[:2]),
             ("src/inside.rt", "self.0 + 1", (("inside",), "Hint", "Scale", "weigh"), of_trait, of_trait[:1]),
-            ("src/lib.rt", "return 0;", ((), "", "", "first"), ["first::closure", "inside::first"], ["first::closure"]),
-            ("src/lib.rt", "fn find", ((), "", "", "find"), ["find", "first"], ["find"]),
+            ("src/lib.rt", "shelf.weigh()", ((), "", "", "first"), ["first::closure", "put"], ["first::closure"]),
+            ("src/lib.rt", "fn first", ((), "", "", "first"), ["first", "inside::first"], ["first"]),
         ]:
             lines = SHELF[path].splitlines()
             source = sources.Source("a", pathlib.Path(f"crates/a/{path}"), lines)
@@ -216,29 +202,24 @@ class Edits(unittest.TestCase):
 
 
 class Due(unittest.TestCase):
-    # changes of a crate's text, by file, that change what it states for the crates above, and that don't
-    TOLD = {
-        "src/lib.rt": {"size < PLACES": "size ≤ PLACES", "u64 = 8": "u64 = 9"},
-        "src/inside.rt": {"Vec<Thing>": "List<Thing>", "(&self)": "(self)"},
-        "specs/Sizes.antt": {"size [] = 0": "size [] = 1", "List ℕ": "List ℤ"},
-        "proofs/Laws.antt": {"size [] ≡ 0": "size [] ≡ 1"},
-    }
-    PASSED_OVER = {
-        "src/lib.rt": {"return 0;": "return 1;", "shelf.weigh()": "0", "/// Puts": "/// Sets", "mod inside;": "",
-                       "u64\n    ensures": "u64 ensures", "    // and it is told\n": ""},
-        "src/inside.rt": {"self.0 + 1": "self.0"},
-        "proofs/Laws.antt": {"= refl": "= search", "-- how": "-- so"},
-        "proofs/f/Answers.antt": {"size [] ≡ 0": "size [] ≡ 1"},
-    }
+    def assert_meaning(self, file, text, changed, is_told):
+        """Whether a change of a file has a meaning for the crates above."""
+        self.assertEqual(due.stated({file: text}) != due.stated({file: changed}), is_told, (file, changed))
 
-    def test_clauses_types_definitions_and_statements_alone_have_a_meaning_for_the_crates_above(self):
-        files = {**SHELF, "proofs/f/Answers.antt": SHELF["proofs/Laws.antt"]}
-        stated = lambda files: due.stated(due.texts(folder_with(self, files)))
-        for changes, is_told in ((self.TOLD, True), (self.PASSED_OVER, False)):
-            for path, old, new in ((path, *it) for path, them in changes.items() for it in them.items()):
-                self.assertIn(old, files[path])
-                changed = {**files, path: files[path].replace(old, new)}
-                self.assertEqual(stated(changed) != stated(files), is_told, (path, old))
+    def test_a_clause_is_stated_and_a_body_is_not(self):
+        for crate in crates.listed().values():
+            texts = due.texts(crate.folder)
+            changes = [change for it in edits.edits_of(crate) if it.function for change in it.changes]
+            for file, old, new in changes:
+                is_told = "ensures" in old or "fn " in old
+                self.assert_meaning(file, texts[file], texts[file].replace(old, new), is_told)
+
+    def test_a_law_is_stated_and_imports_and_proofs_are_not(self):
+        self.assert_meaning("src/lib.rt", "mod inside;\nfn one() {\n    1\n}\n", "fn one() {\n    2\n}\n", False)
+        law = "size-nil : size [] ≡ 0\nsize-nil = refl\n"
+        self.assert_meaning("proofs/Laws.antt", law, law.replace("= refl", "= search"), False)
+        self.assert_meaning("proofs/Laws.antt", law, law.replace("≡ 0", "≡ 1"), True)
+        self.assert_meaning("proofs/f/Answers.antt", law, law.replace("≡ 0", "≡ 1"), False)
 
     def test_without_a_commit_all_are_due_and_since_this_one_a_tenth(self):
         every = [edits.Edit("crack_row", f"no_{number}.edit") for number in range(400)]
@@ -277,12 +258,12 @@ class Reading(unittest.TestCase):
 
     def test_what_no_clause_and_what_private_ones_alone_reach(self):
         # (a name that a text binds itself cites nothing: a definition is called `size`, as some variables are)
-        found = lambda: [[it.short for it in items] for items in trust.misplaced(self.shelf).values()]
-        self.assertEqual(found(), [["size", "stray"], [], []])
+        self.assertEqual([it.name for it, _ in trust.misplaced(self.shelf)], ["a.Sizes.size", "a.Sizes.stray"])
         path = self.shelf.items["a.Other.size"].path
         path.write_text(path.read_text().replace(definitions.PRIVATE, "-- Others."))
         # (of a private function, of what a type keeps of its own fields, and of a private type)
-        self.assertEqual(found(), [["size", "stray"], ["size", "AreLight", "in_ounces"], []])
+        found = [it.short for it, fault in trust.misplaced(self.shelf) if fault.startswith("private clauses alone")]
+        self.assertEqual(found, ["size", "AreLight", "in_ounces"])
 
     def test_each_promise_names_its_calls_and_each_definition_stands_where_a_reader_is_sent(self):
         with contextlib.redirect_stdout(io.StringIO()) as said:
@@ -302,8 +283,6 @@ class Numbers(unittest.TestCase):
         limits = [("a", "PLACES", ["has {} places", "and {} names", "of {} places"]), ("a", "NAMES", ["has {}"])]
         wanted = ["page.md says 'and 4097 names'", "no page says 'of {} places'", "a has 0 values of NAMES"]
         self.assertEqual(numbers_held.limit_faults(limits, top), wanted)
-        differing = [("", "places", ["It has {}", "and {} names"])]
-        self.assertEqual(numbers_held.limit_faults(differing, top), wanted[:1])
 
     def test_a_number_has_as_many_digits_as_its_page_needs(self):
         said = {"1,048,576": 2**20, "18446744073709551615": 2**64 - 1, "0.09": 0.0932, "0.094": 0.0932}

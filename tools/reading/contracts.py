@@ -47,9 +47,8 @@ def type_items(source, names, models, read):
         fields = [it for it in span if keyword == "struct" and HIDDEN.match(source.lines[it])]
         unread = [it for it in fields if HIDDEN.match(source.lines[it])[1] not in seen]
         hidden = {it + 1 for it in unread} | {number for it in unread for number, _ in source.remarks([it])}
-        lines, beside = (
-            tuple(it for it in these if it[0] not in hidden) for these in (source.said(span), source.remarks(span))
-        )
+        shown = lambda lines: tuple(it for it in lines if it[0] not in hidden)
+        lines, beside = shown(source.said(span)), shown(source.remarks(span))
         text = (VARIANT.sub("", text_of(lines)) if keyword == "enum" else text_of(lines)).partition(name)[2]
         ghost = "".join(it for it in text.splitlines() if sources.GHOST.match(it))
         cites = types_cited(text, source.scope) | definitions.cited(ghost, source.scope, set())
@@ -119,20 +118,11 @@ def call_at(source, span, names):
     text, short = text_of(lines), sources.FUNCTION.match(source.lines[span[0]])[2]
     scope, heading = (block.scope, source.lines[block.span[0]]) if block else (source.scope, "")
     clauses, comments = clauses_from(source, span[-1] + 1, scope, set(PARAMETER.findall(text)))
+    of = source.named(*([block.title] if block else []), short), "call", source.crate, source.path
+    is_public, called = is_call_public(source, text, short, block, names), (block.owner, short) if block else (short,)
     signature = types_cited(heading + text, scope)
-    return definitions.Item(
-        source.named(*([block.title] if block else []), short),
-        "call",
-        source.crate,
-        source.path,
-        lines=tuple(line for it in clauses for line in it.lines),
-        beside=(*lines, *comments),
-        cites=signature.union(*(it.cites for it in clauses)),
-        is_public=is_call_public(source, text, short, block, names),
-        called=(block.owner, short) if block else (short,),
-        signature=signature,
-        clauses=clauses,
-    )
+    call = definitions.Item(*of, (), (*lines, *comments), frozenset(), is_public, called, signature)
+    return definitions.with_clauses(call, clauses)
 
 
 def items_of(files, names, others):

@@ -66,6 +66,12 @@ class Item:
         return self.name.rpartition(".")[2]
 
 
+def with_clauses(call, clauses):
+    """A call with these clauses."""
+    lines, cites = tuple(line for it in clauses for line in it.lines), (it.cites for it in clauses)
+    return dataclasses.replace(call, lines=lines, cites=call.signature.union(*cites), clauses=clauses)
+
+
 def is_private(path):
     """Whether a module of definitions says in its first line that only private clauses cite it."""
     return path.read_text(encoding="utf-8").startswith(PRIVATE + "\n")

@@ -8,7 +8,6 @@ members are read with those of each public type that implements it.
 """
 
 import collections
-import dataclasses
 import re
 import sys
 
@@ -100,8 +99,7 @@ def narrowed(call, names):
     missing = set(names) - {it.name for it in kept}
     if missing:
         sys.exit(f"docs/PROOFS.md: {call.name} has no clause {sorted(missing)[0]}")
-    lines = tuple(line for it in kept for line in it.lines)
-    return dataclasses.replace(call, lines=lines, cites=call.signature.union(*(it.cites for it in kept)), clauses=kept)
+    return definitions.with_clauses(call, kept)
 
 
 def roots_in(text):

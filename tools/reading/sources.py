@@ -10,7 +10,6 @@ import typing
 from reading import definitions
 
 GHOST = re.compile(r"^    ghost (?!use\b)(\w+)\s*[=:]")
-GHOST_USE = re.compile(r"^    ghost use\b")
 TYPE = re.compile(r"^(pub(?:\([a-z]+\))? )?(struct|enum|union|type|const|static|trait) (\w+)")
 RUST_USE = re.compile(r"(?m)^(?:pub(?:\([a-z]+\))? )?use ([\w:]+)::(?:\{([^}]*)\}|([\w ]+))")
 IMPORTED = re.compile(r"(\w+)(?: as (\w+))?")
@@ -90,7 +89,7 @@ class Source:
             owner = type_in(match[2].partition(":")[0] if is_trait else match[2])
             inner = [self.lines[it] for it in span]
             scope = {**self.scope, **{it[1]: self.named(owner) for it in map(GHOST.match, inner) if it and is_trait}}
-            for it in filter(GHOST_USE.match, inner):
+            for it in inner:
                 scope.update(definitions.used(it))
             found.append(Block(span, is_trait, owner, TRAIT.match(match[2])[1] or "", scope))
         return found
