@@ -36,17 +36,12 @@ def sentence(text):
     return begun.replace("|", "\\|") + ("" if not text or begun.endswith((".", ":")) else ".")
 
 
-def files_of(crate):
-    """The files of a crate's definitions that are on the page, each with these."""
-    by_file = itertools.groupby(definitions.definitions_of(crate.folder), lambda it: it.path)
-    found = [(path, list(items)) for path, items in by_file if not definitions.is_private(path)]
-    return found if crate.name not in promises.LEFT_OUT else []
-
-
 def page():
     """The whole page: for each file what its first comment says, and a table of its definitions."""
     parts = [HEAD]
-    for crate, files in ((it, files_of(it)) for it in crates.listed().values()):
+    for crate in (it for it in crates.listed().values() if it.name not in promises.LEFT_OUT):
+        by_file = itertools.groupby(definitions.definitions_of(crate.folder), lambda it: it.path)
+        files = [(path, list(items)) for path, items in by_file if not definitions.is_private(path)]
         parts += [f"## {crate.name}\n"] if files else []
         for path, items in files:
             lines = itertools.takewhile(lambda line: line.startswith("--"), crates.read(path).splitlines())
@@ -55,12 +50,6 @@ def page():
             parts += [f"**{link}** {purpose}".rstrip(), "", "| Name | What it is |", "|---|---|"]
             parts += [*(f"| `{it.short}` | {sentence(said(it))} |" for it in items), ""]
     return "\n".join(parts)
-
-
-def uncommented():
-    """The definitions on the page without a comment of their own."""
-    every = (it for crate in crates.listed().values() for _, items in files_of(crate) for it in items)
-    return [it.name for it in every if not said(it)]
 
 
 if __name__ == "__main__":

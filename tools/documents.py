@@ -19,12 +19,11 @@ from crates import PARTS, TOP, read
 RULES, PROOFS = "docs/SPECIFICATION.md", "docs/PROOFS.md"
 MARK = re.compile(r"§([\w-]+)")
 # where names that show rules are
-TEST, NAMED = r"^\s*def test_(\w+)", r"^\s*(?:#\[test\]\s*fn |name: \")(\w[\w ]*)"
 SHOWN = {
     "acceptance/cases/*.cases": r"^== (\S+)",
     "acceptance/pages/*.txt": r"^## (.+)",
-    "acceptance/test_*.py": TEST,
-    "crates/*_tests/src/**/*.rt": NAMED,
+    "acceptance/test_*.py": r"^\s*def test_(\w+)",
+    "crates/*_tests/src/**/*.rt": r"^\s*(?:#\[test\]\s*fn |name: \")(\w[\w ]*)",
 }
 # the first cells of the tables whose rows are rules
 TABLES = ("No.", "Statement", "Exit", "Step")

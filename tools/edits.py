@@ -19,7 +19,6 @@ import functools
 import os
 import pathlib
 import re
-import resource
 import shutil
 import sys
 import tempfile
@@ -54,15 +53,10 @@ class Edit:
 
 
 @functools.lru_cache(maxsize=None)
-def sources_of(crate):
-    """The files of src/ of a crate, by path."""
-    return {str(it.path.relative_to(crate.folder)): it for it in sources.Names().read(crate.folder)}
-
-
-@functools.lru_cache(maxsize=None)
-def reached_in(name):
-    """For each function of a crate those that it may call, directly or not."""
-    return sources.reached(sources_of(crates.listed()[name]).values())
+def sources_of(name):
+    """The files of src/ of a crate by path, and for each of its functions those that it may call, directly or not."""
+    files = sources.Names().read(crates.listed()[name].folder)
+    return {f"src/{it.path.as_posix().rpartition('/src/')[2]}": it for it in files}, sources.reached(files)
 
 
 def applied(crate, edits):
@@ -92,7 +86,7 @@ def read(path, crate):
         elif word == "new" and file and old:
             changes.append((file, old, text.removeprefix(" ")))
             old = None
-    found, files = Edit(crate.name, path.name, tuple(changes)), sources_of(crate)
+    found, (files, _) = Edit(crate.name, path.name, tuple(changes)), sources_of(crate.name)
     _, places, fault = applied(crate, [found])
     if path.suffix != ".edit" or not changes or old:
         fault = "an edit is a file NAME.edit with the names of files, each with pairs of 'old:' and 'new:'"
@@ -112,7 +106,7 @@ def are_apart(one, other):
     """Whether two edits of a crate change one function each, two different ones of which neither may call the other."""
     if not one.function or not other.function or one.function == other.function:
         return False
-    reached = reached_in(one.crate)
+    _, reached = sources_of(one.crate)
     return other.function not in reached.get(one.function, ()) and one.function not in reached.get(other.function, ())
 
 
@@ -231,13 +225,9 @@ def side_by_side(tasks, is_over):
 class Trials:
     """Tries edits in rounds, until each has ended or the time is over."""
 
-    def __init__(self, edits, ends=None):
+    def __init__(self, edits, ends):
         # those that wait, and of each that has ended whether it was refused
         self.ends, self.waiting, self.verdicts = ends, edits, []
-
-    def is_over(self):
-        """Whether it is too late to begin a check."""
-        return self.ends is not None and time.monotonic() > self.ends
 
     def keep(self, crate):
         """Checks a crate without edits, for what is kept of that."""
@@ -256,21 +246,22 @@ class Trials:
 
     def run(self):
         """Tries all that wait, each round among at most so many. Those for which there was no time stay in the list."""
+        is_over = lambda: time.monotonic() > self.ends
         for size in SIZES:
             of_crate = lambda crate: [it for it in self.waiting if it.crate == crate.name]
             every = [(crate, it) for crate in crates.listed().values() for it in batches(crate, of_crate(crate), size)]
             # (a single check gains nothing from one without edits before it)
             many = {crate for crate, it in every if len(it) < len(of_crate(crate))}
             bare = sorted((it for it in many if not Check.kept_of(it).exists()), key=need_of, reverse=True)
-            side_by_side([(it, functools.partial(self.keep, it)) for it in bare], self.is_over)
+            side_by_side([(it, functools.partial(self.keep, it)) for it in bare], is_over)
             every.sort(key=lambda it: min(map(self.waiting.index, it[1])))
             tasks = [(crate, functools.partial(self.try_batch, crate, batch)) for crate, batch in every]
-            results = zip(every, side_by_side(tasks, self.is_over))
+            results = zip(every, side_by_side(tasks, is_over))
             self.waiting = [edit for (_, batch), left in results for edit in (batch if left is None else left)]
 
 
 def main(names):
-    ends, edits = None, [edit for it in crates.listed().values() for edit in edits_of(it)]
+    ends, edits = float("inf"), [edit for it in crates.listed().values() for edit in edits_of(it)]
     if len(names) == 2 and names[0] == "--due":
         ends = time.monotonic() + int(names[1])
         edits, said = due.due(edits, TRIED)
@@ -280,11 +271,10 @@ def main(names):
     if not prove.prove_names(sorted({it.crate for it in edits})):
         print("edits: a crate isn't proved, so none was tried\n0 passed, 1 failed")
         return 1
-    trials, before = Trials(edits, ends), resource.getrusage(resource.RUSAGE_CHILDREN)
+    trials, before = Trials(edits, ends), os.times()
     trials.run()
-    after, tried = resource.getrusage(resource.RUSAGE_CHILDREN), len(edits) - len(trials.waiting)
-    seconds = after.ru_utime + after.ru_stime - before.ru_utime - before.ru_stime
-    print(f"edits: {tried} were tried of {len(edits)}, in {seconds:.0f} processor seconds")
+    seconds = sum(os.times()[2:4]) - sum(before[2:4])
+    print(f"edits: {len(trials.verdicts)} were tried of {len(edits)}, in {seconds:.0f} processor seconds")
     if trials.waiting:
         print(f"edits: left, for lack of time: {', '.join(it.label for it in trials.waiting)}")
     is_commit = not due.git("status", "--porcelain", "--", "crates", "crates.txt")

@@ -68,26 +68,11 @@ LIMITS = [
 QUERIES = ("What", "loading", "first count of everything")
 BETWEEN = ("What", "crackd", "a BTreeMap")
 RIVALS = ("What", "crackd", "a cracker column for speed alone")
-AFTER_A_LOAD = ("What", "time")
-OVER_TCP = ("What", "crackd", "Redis")
-MILLISECONDS = re.compile(rf"{NUMBER}(?: ms)?$")
-UNITS = {"": 1, "ns": 1e-9, "µs": 1e-6, "ms": 1e-3, "s": 1}
-AGAIN, AT_ONCE = "each of the same counts again", "each count at once, under `ripple`, the policy of the start"
-# a text of the guide, the unit of its figures, a table, and the row and the column of each figure
-GUIDE, RATIO = "docs/GUIDE.md", "times as fast as Redis"
-FIGURES = [
-    ("took {} ms each, and {} ms each once the rows were merged", "ms", AFTER_A_LOAD,
-     [(AT_ONCE, "time"), ("each count after that", "time")]),
-    ("a round trip takes {} µs, a repeated count {} µs.", "µs", OVER_TCP,
-     [("a round trip of one of them", "crackd"), (AGAIN, "crackd")]),
-    ("it takes {} times as long for a load and {} times for a repeated count", "", OVER_TCP,
-     [("500000 inserts", RATIO), (AGAIN, RATIO)]),
-]
-LATER = {
-    "load and first count of everything": ["loading", "first count of everything"],
-    "first sum": ["first sum"],
-    "median of the last hundred of 1,000 sums": ["median of the last hundred"],
-}
+# how many milliseconds a unit of theirs has, and what is a figure of other tables
+UNITS = {"ns": 1e-6, "µs": 1e-3, "ms": 1, "s": 1e3}
+FIGURE = re.compile(rf"{NUMBER}(?: ms)?$")
+LATER = {"first sum": ["first sum"], "median of the last hundred of 1,000 sums": ["median of the last hundred"]}
+LATER["load and first count of everything"] = ["loading", "first count of everything"]
 # tables that have milliseconds of docs/BENCHMARKS.md: the document, the first cells of the head, the table there, and
 # for a row and a column the row there and the columns whose sum the cell is
 TABLES = [
@@ -98,8 +83,7 @@ TABLES = [
      lambda row, column: (f"{row}: {column}", "crackd")),
 ]
 # the bytes that a row takes, by the bars of docs/memory.svg
-BYTES = "A row takes {} bytes while it is pending and {} in the column."
-BARS = ("pending", "in the column")
+GUIDE, BYTES = "docs/GUIDE.md", "A row takes {} bytes while it is pending and {} in the column."
 BAR = re.compile(r">([^<>]+)</text>\n<rect[^>]*>\n<text[^>]*>([\d.]+) bytes<")
 
 
@@ -153,26 +137,22 @@ def table(text, first):
     return {row[0]: dict(zip(rows[start][1:], row[1:])) for row in body}
 
 
-def in_unit(unit, rows, row, *columns):
-    """The sum of cells of a table of times or ratios, in a unit."""
-    cells = [rows[row][it].partition(" ") for it in columns]
-    return sum(float(number.replace(",", "")) * UNITS[of] for number, _, of in cells) / UNITS[unit]
+def milliseconds(rows, row, *columns):
+    """The sum of cells of a table of times."""
+    cells = (rows[row][it].split(" ") for it in columns)
+    return sum(float(number.replace(",", "")) * UNITS[unit] for number, unit in cells)
 
 
 def figure_faults(top=TOP):
-    """The texts and cells whose figures aren't those of docs/BENCHMARKS.md or docs/memory.svg, with what these are."""
+    """The cells whose figures aren't those of docs/BENCHMARKS.md, and the text that docs/memory.svg contradicts."""
     measured, bars = read(top / "docs" / "BENCHMARKS.md"), dict(BAR.findall(read(top / "docs" / "memory.svg")))
-    said, wrong = [(BYTES, [float(bars[it]) for it in BARS])], []
-    for text, unit, head, cells in FIGURES:
-        said.append((text, [in_unit(unit, table(measured, head), *it) for it in cells]))
-    for text, values in said:
-        found = found_in({GUIDE: written(top / GUIDE)}, text)
-        if len(found) != 1 or not all(map(is_said, found[0][1], values)):
-            wrong.append(f"{GUIDE} doesn't say {text!r} with {values}")
+    said, wrong = [it for _, numbers in found_in({GUIDE: written(top / GUIDE)}, BYTES) for it in numbers], []
+    if len(said) != 2 or not all(map(is_said, said, (float(bars[it]) for it in ("pending", "in the column")))):
+        wrong.append(f"{GUIDE} doesn't say what docs/memory.svg does: {BYTES}")
     for document, head, of_table, place in TABLES:
         rows = table(measured, of_table)
         every = [(row, *it) for row, cells in table(read(top / document), head).items() for it in cells.items()]
-        for row, column, number in ((*it, MILLISECONDS.match(cell)) for *it, cell in every):
-            if number and not is_said(number[1], in_unit("ms", rows, *place(row, column))):
+        for row, column, number in ((*it, FIGURE.match(cell)) for *it, cell in every):
+            if number and not is_said(number[1], milliseconds(rows, *place(row, column))):
                 wrong.append(f"{document} doesn't say in {row!r} under {column!r} what the benchmark does")
     return wrong

@@ -32,10 +32,6 @@ def stamp_of(crate, told):
     return f"{told} {hashlib.sha256(made.read_bytes()).hexdigest()}\n" if made.exists() else ""
 
 
-def is_up_to_date(crate):
-    return crate.stamp.exists() and crate.stamp.read_text() == stamp_of(crate, crates.sum_of(crate.name))
-
-
 def copy(top, wanted):
     """Copies these crates to a folder that `rt ci` takes for the top of a repository. Returns the sums of those that
     weren't changed meanwhile."""
@@ -102,7 +98,7 @@ def prove(wanted, say, is_gate=False):
 def prove_names(names):
     """Proves these crates and those below them, unless they are up to date. Returns whether all are proved."""
     wanted = crates.with_below(names)
-    if all(map(is_up_to_date, wanted)):
+    if all(it.stamp.exists() and it.stamp.read_text() == stamp_of(it, crates.sum_of(it.name)) for it in wanted):
         return True
     tell = lambda text: print(text, end="", file=sys.stderr, flush=True)
     is_well, lines = prove(wanted, lambda line: tell(line) if line.startswith("rt: ") else None)

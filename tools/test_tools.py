@@ -106,7 +106,6 @@ impl<T> Hint<T> {
 use Rattle.std.specs.Prelude.{ℕ, List, [], ◌∷◌}
 use Rattle.a.specs.declared.TheConstants.{PLACES}
 
--- how many there are
 abbrev pub size : List ℕ → ℕ
 size [] = 0
 size (x ∷ xs) = suc (size xs)
@@ -154,11 +153,6 @@ def folder_with(case, files):
     return pathlib.Path(folder.name)
 
 
-def shelf(case):
-    """The folder of a crate with the files of the shelf."""
-    return folder_with(case, {f"a/{path}": text for path, text in SHELF.items()}) / "a"
-
-
 class Edits(unittest.TestCase):
     def test_a_function_is_named_by_its_module_type_and_trait(self):
         # where it is, what it is, and which names in a check mean it (there a method has the module of its type)
@@ -203,7 +197,6 @@ class Edits(unittest.TestCase):
 
 class Due(unittest.TestCase):
     def assert_meaning(self, file, text, changed, is_told):
-        """Whether a change of a file has a meaning for the crates above."""
         self.assertEqual(due.stated({file: text}) != due.stated({file: changed}), is_told, (file, changed))
 
     def test_a_clause_is_stated_and_a_body_is_not(self):
@@ -230,7 +223,8 @@ class Due(unittest.TestCase):
 
 class Reading(unittest.TestCase):
     def setUp(self):
-        self.shelf = promises.Reading([shelf(self)])
+        files = {f"a/{path}": text for path, text in SHELF.items()}
+        self.shelf = promises.Reading([folder_with(self, files) / "a"])
 
     def read(self, call, *clauses):
         """What is read for these clauses of a call, or for all: its lines by name."""
@@ -283,8 +277,7 @@ class Numbers(unittest.TestCase):
         limits = [("a", "PLACES", ["has {} places", "and {} names", "of {} places"]), ("a", "NAMES", ["has {}"])]
         wanted = ["page.md says 'and 4097 names'", "no page says 'of {} places'", "a has 0 values of NAMES"]
         self.assertEqual(numbers_held.limit_faults(limits, top), wanted)
-
-    def test_a_number_has_as_many_digits_as_its_page_needs(self):
+        # (a number has as many digits as its page needs)
         said = {"1,048,576": 2**20, "18446744073709551615": 2**64 - 1, "0.09": 0.0932, "0.094": 0.0932}
         self.assertEqual([it for it in said if not numbers_held.is_said(it, said[it])], ["0.094"])
 
@@ -306,9 +299,9 @@ class Documents(unittest.TestCase):
         self.assertLessEqual(len(pages["README.md"].splitlines()), 120)
 
     def test_definitions_are_the_comments_of_specs(self):
-        is_same = crates.read(defined.PAGE) == defined.page()
-        self.assertTrue(is_same, "python3 tools/defined.py writes docs/DEFINITIONS.md anew")
-        self.assertEqual(defined.uncommented(), [])
+        page = defined.page()
+        self.assertTrue(crates.read(defined.PAGE) == page, "python3 tools/defined.py writes docs/DEFINITIONS.md anew")
+        self.assertEqual([it for it in page.splitlines() if it.endswith("|  |")], [])
 
     def test_the_guide_has_each_refusal_and_each_statement(self):
         guide, rules = (crates.read(crates.TOP / "docs" / it) for it in ("GUIDE.md", "SPECIFICATION.md"))

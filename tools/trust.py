@@ -18,14 +18,9 @@ import sys
 import crates
 from reading import definitions, promises
 
-KINDS = {"definitions": ("definition",), "ghost members": ("model", "trait", "ghost"), "clauses": ("call",)}
-COUNTED = sum(KINDS.values(), ())
-BESIDE = ("type", "constant")
-
-
-def count(items, kinds=COUNTED):
-    """How many lines items of these kinds have."""
-    return sum(len(it.lines) for it in items if it.kind in kinds)
+# the kinds of items in each column of the table; all lines but those of the last are counted
+KINDS = {"definitions": ["definition"], "ghost members": ["model", "trait", "ghost"], "clauses": ["call"]}
+KINDS["types beside"] = ["type", "constant"]
 
 
 def text_of(items):
@@ -46,11 +41,11 @@ def place_of(item):
 
 def table(whole, asked):
     """How many lines are to be read for each of these promises, and for all of them."""
-    said = [f"{'to read for':20}{'lines':>8}" + "".join(f"{name:>15}" for name in (*KINDS, "types beside"))]
+    said = [f"{'to read for':20}{'lines':>8}" + "".join(f"{name:>15}" for name in KINDS)]
     for name, calls in [*asked.items(), *[("all of these", sum(asked.values(), []))] * (len(asked) > 1)]:
         items = whole.read_for(calls)
-        of_kinds = "".join(f"{count(items, kinds):15}" for kinds in (*KINDS.values(), BESIDE))
-        said.append(f"{name:20}{count(items):8}{of_kinds}")
+        counts = [sum(len(it.lines) for it in items if it.kind in kinds) for kinds in KINDS.values()]
+        said.append(f"{name:20}{sum(counts[:-1]):8}" + "".join(f"{it:15}" for it in counts))
     return said
 
 

@@ -107,7 +107,7 @@ def is_call_public(source, text, short, block, names):
     """Whether a function is public: it says so or is of a trait, and its type, or else its module, is public, or the
     crate re-exports it."""
     if not block:
-        return text.startswith("pub ") and (source.is_open or short in names.handed[source.crate])
+        return text.startswith("pub ") and (source.is_open or short in source.handed)
     is_open = block.is_trait or block.trait != "" or text.lstrip().startswith("pub ")
     return is_open and is_owner_public(source, block, names)
 

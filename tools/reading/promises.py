@@ -51,15 +51,12 @@ class Reading:
                 left += self.cited(self.items[name])
         return found
 
-    def place(self, item):
-        """Where an item is: its crate, the lowest first, its file and its line."""
-        return self.rank[item.crate], item.path.as_posix(), item.first
-
     def ordered(self, items):
         """These items crate by crate, the lowest first, each after those that it cites, and a model's members right
         after its type."""
         chosen, met, found = {it.name: it for it in items}, set(), []
-        cited = lambda item: sorted((chosen[it] for it in item.cites if it in chosen), key=self.place)
+        place = lambda it: (self.rank[it.crate], it.path.as_posix(), it.first)
+        cited = lambda item: sorted((chosen[it] for it in item.cites if it in chosen), key=place)
 
         def put(item):
             these = [item, *(it for it in cited(item) if it.name.startswith(f"{item.name} as "))]
@@ -69,7 +66,7 @@ class Reading:
                     put(it)
                 found.extend(these)
 
-        for it in sorted(chosen.values(), key=self.place):
+        for it in sorted(chosen.values(), key=place):
             put(it)
         return found
 

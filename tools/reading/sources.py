@@ -56,12 +56,14 @@ class Block(typing.NamedTuple):
 
 @dataclasses.dataclass(frozen=True)
 class Source:
-    """A file of src/: its lines, counted from 0, whether its module is public, and the items that its names are."""
+    """A file of src/: its lines, counted from 0, whether its module is public, the words of the `pub use` lines of the
+    crate's root, and the items that its names are."""
 
     crate: str
     path: pathlib.Path
     lines: list
     is_open: bool = False
+    handed: set = frozenset()
     scope: dict = dataclasses.field(default_factory=dict)
 
     @property
@@ -144,10 +146,7 @@ class Names:
 
     def __init__(self):
         # the items by their paths, and public ones also by their crates alone
-        self.items = {}
-        # the words of the `pub use` lines of each crate's root
-        self.handed = {}
-        self.public = set()
+        self.items, self.public = {}, set()
 
     def read(self, folder):
         """The files of src/ of a crate, with what their names and the `use` lines of their contracts mean."""
@@ -155,14 +154,13 @@ class Names:
         text, paths = root.read_text(), sorted((folder / "src").rglob("*.rt"))
         handed = set(re.findall(r"\w+", " ".join(re.findall(r"(?m)^pub use ([^;]+);", text))))
         is_open = {root.stem, *re.findall(r"(?m)^pub mod (\w+);", text)}
-        found = [Source(folder.name, it, it.read_text().splitlines(), it.stem in is_open) for it in paths]
+        found = [Source(folder.name, it, it.read_text().splitlines(), it.stem in is_open, handed) for it in paths]
         own = [(source, visible, name) for source in found for visible, _, name in source.types().values()]
         for source, visible, name in own:
             item = self.items[source.named(name)] = source.named(name)
             if visible == "pub " and (source.is_open or name in handed):
                 self.public.add(item)
                 self.items[f"{folder.name}::{name}"] = item
-        self.handed[folder.name] = handed
         for source in found:
             source.scope.update({name: of.named(name) for of, _, name in reversed(own)})
             source.scope.update(source.imported(self.items))
@@ -190,9 +188,7 @@ def reached(files):
             names[caller].update(one or other for one, other in found)
             of_name[caller.name].add(caller)
     called = {caller: set().union(*(of_name.get(it, ()) for it in found)) - {caller} for caller, found in names.items()}
-    for _ in called:
-        more = {caller: found.union(*(called[it] for it in found)) for caller, found in called.items()}
-        if more == called:
-            break
+    grown = lambda: {caller: found.union(*(called[it] for it in found)) for caller, found in called.items()}
+    while (more := grown()) != called:
         called = more
     return called
