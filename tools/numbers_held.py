@@ -24,7 +24,7 @@ LIMITS = [
     ("crack_core", "MOST_SPLITS", ["more than {} splits", "by 0 to {} splits that rise", "2^64 - 1; {} at most"]),
     ("crack_csv", "MOST_RECORDS", ["a record after the {}th that isn't a header", "n is at most {}. On a fault"]),
     ("crack_kept", "FIRST_ENTRIES", ["A kept history has room for {} entries"]),
-    ("crack_kept", "KEPT_ENTRIES", ["history keeps room for {} entries"]),
+    ("crack_kept", "KEPT_ENTRIES", ["except the room of {} entries"]),
     ("crack_pending", "FIRST_SPOTS", ["its pending insertions for {} rows"]),
     ("crack_plain", "MOST_ACCEPTED", ["is answered until {} were accepted"]),
     ("crack_row", "GREATEST_BOUND", ["Range ends are 0 to {}, which is", "| bound | 0 to {};"]),
