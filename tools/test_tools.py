@@ -200,12 +200,14 @@ class Due(unittest.TestCase):
         self.assertEqual(due.stated({file: text}) != due.stated({file: changed}), is_told, (file, changed))
 
     def test_a_clause_is_stated_and_a_body_is_not(self):
+        clause = re.compile(r"^( *)((?:pub )?fn .*\n\1    )ensures ", re.MULTILINE)
         for crate in crates.listed().values():
             texts = due.texts(crate.folder)
-            changes = [change for it in edits.edits_of(crate) if it.function for change in it.changes]
-            for file, old, new in changes:
-                is_told = "ensures" in old or "fn " in old
-                self.assert_meaning(file, texts[file], texts[file].replace(old, new), is_told)
+            for file, old, new in (change for it in edits.edits_of(crate) if it.function for change in it.changes):
+                if old.endswith(";"):
+                    self.assert_meaning(file, texts[file], texts[file].replace(old, new), False)
+            for file, text in ((file, text) for file, text in texts.items() if clause.search(text)):
+                self.assert_meaning(file, text, clause.sub(r"\1\2requires ", text, count=1), True)
 
     def test_a_law_is_stated_and_imports_and_proofs_are_not(self):
         self.assert_meaning("src/lib.rt", "mod inside;\nfn one() {\n    1\n}\n", "fn one() {\n    2\n}\n", False)
