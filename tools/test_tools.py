@@ -28,7 +28,6 @@ SHELF = {
 ghost use Rattle.a.specs.Other.{size as other_size};
 pub use inside::{Scale, Shelf};
 
-/// How many places it has.
 pub const PLACES: u64 = 8;
 
 /// Puts one more on a shelf.
@@ -70,7 +69,6 @@ pub struct Label {
     ink: Hint<u64>,
 }
 
-/// Reads a label.
 pub fn read(label: &Label) -> u64
     ensures text { result ≡ label.now.text }
 {
@@ -110,7 +108,6 @@ abbrev pub size : List ℕ → ℕ
 size [] = 0
 size (x ∷ xs) = suc (size xs)
 
--- none more has place
 pub record IsFull (items : List ℕ) : Type 0 where
   pub size : PLACES ≤ count items
   pub each : (k : ℕ) → IsThing k
@@ -295,8 +292,8 @@ class Documents(unittest.TestCase):
         self.assertEqual(wide, [])
 
     def test_pages_that_are_written_by_hand_stay_short(self):
-        pages = [*crates.TOP.glob("*.md"), *crates.TOP.glob("docs/*.md")]
-        pages = {it.name: crates.read(it) for it in pages if it.name not in ("DEFINITIONS.md", "BENCHMARKS.md")}
+        every = {it.name: crates.read(it) for pattern in ("*.md", "docs/*.md") for it in crates.TOP.glob(pattern)}
+        pages = {name: text for name, text in every.items() if name not in ("DEFINITIONS.md", "BENCHMARKS.md")}
         self.assertLessEqual(sum(len(it.split()) for it in pages.values()), 30_000)
         self.assertLessEqual(len(pages["README.md"].splitlines()), 120)
 
