@@ -277,9 +277,9 @@ def main(names):
     print(f"edits: {len(trials.verdicts)} were tried of {len(edits)}, in {seconds:.0f} processor seconds")
     if trials.waiting:
         print(f"edits: left, for lack of time: {', '.join(it.label for it in trials.waiting)}")
-    is_commit = not due.git("status", "--porcelain", "--", "crates", "crates.txt")
-    if not names and trials.verdicts == [True] * len(edits) and is_commit:
-        TRIED.write_bytes(due.git("rev-parse", "HEAD"))
+    commit, is_changed = due.git("rev-parse", "HEAD"), due.git("status", "--porcelain", "--", "crates", "crates.txt")
+    if not names and trials.verdicts == [True] * len(edits) and commit and not is_changed:
+        TRIED.write_bytes(commit)
     failed = trials.verdicts.count(False)
     print(f"{len(trials.verdicts) - failed} passed, {failed} failed", flush=True)
     return 1 if failed else 0

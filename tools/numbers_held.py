@@ -143,15 +143,15 @@ def milliseconds(rows, row, *columns):
     return sum(float(number.replace(",", "")) * UNITS[unit] for number, unit in cells)
 
 
-def figure_faults(top=TOP):
+def figure_faults():
     """The cells whose figures aren't those of docs/BENCHMARKS.md, and the text that docs/memory.svg contradicts."""
-    measured, bars = read(top / "docs" / "BENCHMARKS.md"), dict(BAR.findall(read(top / "docs" / "memory.svg")))
-    said, wrong = [it for _, numbers in found_in({GUIDE: written(top / GUIDE)}, BYTES) for it in numbers], []
+    measured, bars = read(TOP / "docs" / "BENCHMARKS.md"), dict(BAR.findall(read(TOP / "docs" / "memory.svg")))
+    said, wrong = [it for _, numbers in found_in({GUIDE: written(TOP / GUIDE)}, BYTES) for it in numbers], []
     if len(said) != 2 or not all(map(is_said, said, (float(bars[it]) for it in ("pending", "in the column")))):
         wrong.append(f"{GUIDE} doesn't say what docs/memory.svg does: {BYTES}")
     for document, head, of_table, place in TABLES:
         rows = table(measured, of_table)
-        every = [(row, *it) for row, cells in table(read(top / document), head).items() for it in cells.items()]
+        every = [(row, *it) for row, cells in table(read(TOP / document), head).items() for it in cells.items()]
         for row, column, number in ((*it, FIGURE.match(cell)) for *it, cell in every):
             if number and not is_said(number[1], milliseconds(rows, *place(row, column))):
                 wrong.append(f"{document} doesn't say in {row!r} under {column!r} what the benchmark does")
