@@ -1,9 +1,14 @@
 .PHONY: help run try program-unproved lib lib-unproved test edits trust
 
+# how many minutes these take on 4 processors with nothing beside
+RUN_MINUTES = 36
+TEST_MINUTES = 36
+EDITS_MINUTES = 35
+
 # lists the targets
 help:
 	@echo 'make run     proves what changed, builds, and answers the statements of standard input:'
-	@echo '             36 minutes from nothing on 4 processors, beside other work'
+	@echo '             $(RUN_MINUTES) minutes the first time, on 4 processors'
 	@echo 'make program-unproved  compiles the program without a proof, in two minutes:'
 	@echo '             crates/crackd/out/crackd-unproved; shell and package use it where the proved one is missing'
 	@echo 'make try     the same as make run with that program'
@@ -11,10 +16,10 @@ help:
 	@echo '             lib/crackd.h; the package finds it'
 	@echo 'make lib-unproved  the same without a proof, in a minute: lib/libcrackd-unproved.so, and lib/libcrackd.so is a'
 	@echo '             link to it, until make lib replaces that'
-	@echo 'make test    proves everything from nothing, runs the tests, the programs and the acceptance cases:'
-	@echo '             36 minutes on 4'
+	@echo 'make test    proves all crates, runs the tests, the programs and the acceptance cases:'
+	@echo '             $(TEST_MINUTES) minutes the first time'
 	@echo 'make edits   tests that the prover refuses the wrong bodies, with OF="NAME .." only those of these crates:'
-	@echo '             after make test 35 minutes on 4'
+	@echo '             after make test $(EDITS_MINUTES) minutes'
 	@echo 'make trust   prints what a reader must read to know what is promised, and counts it;'
 	@echo '             OF=--count: only the numbers'
 

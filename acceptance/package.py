@@ -13,7 +13,6 @@ import subprocess
 import sys
 
 PACKAGE = pathlib.Path(__file__).resolve().parent.parent / "python"
-LIBRARY = PACKAGE / "crackd" / "libcrackd.so"
 INTERPRETERS = [sys.executable, "/usr/bin/python3"]
 MODULES = ["numpy, pandas, dask.dataframe, distributed", "numpy"]
 COUNTED = re.compile(r"^(\d+) passed, (\d+) failed, \d+ skipped$", re.MULTILINE)

@@ -11,8 +11,8 @@ These fenced blocks of a page are run, those of a section in one shell, in a fol
 
 In output `...` matches any text. `crackd` and the package are found, and the port 4000 of a server is replaced by a
 free one. A word `needs=NAME` after the kind of a block names what it can't be run without: a program on the path, a
-module of Python, or `library`, which `make lib` builds. A section with a block that can't be run counts as skipped if
-its other blocks pass. The unproved library is used if there is no proved one.
+module of Python, or `library`, which `make lib` and `make lib-unproved` build. A section with a block that can't be run
+counts as skipped if its other blocks pass.
 """
 
 import contextlib
@@ -71,7 +71,7 @@ def sections(page: pathlib.Path) -> dict[str, list[Block]]:
 def is_there(needed: str) -> bool:
     """Whether something that a block needs is available."""
     if needed == "library":
-        return package.LIBRARY.exists()
+        return (TOP / "lib" / "libcrackd.so").exists()
     return shutil.which(needed) is not None or fixtures.ran([package.interpreter(), "-c", f"import {needed}"])[0] == 0
 
 

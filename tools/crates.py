@@ -37,6 +37,10 @@ class Crate:
         return self.out / "proved" / (f"lib{self.name}.a" if self.is_static else f"{self.name}.rlib")
 
     @property
+    def stamp(self):
+        return self.out / "proved" / "stamp"
+
+    @property
     def is_program(self):
         return (self.folder / "src" / "main.rt").exists()
 
@@ -65,8 +69,8 @@ def listed():
     """All crates by name, in the order of crates.txt, where each comes after those that it uses."""
     lines = parsed(read(TOP / "crates.txt"))
     own = lambda words: tuple(it for it in words if it in lines)
-    kit = lambda words: ("std", *(it for it in words if it not in lines))
-    return {name: Crate(name, line, own(words), kit(words)) for name, (line, words) in lines.items()}
+    of_kit = lambda words: ("std", *(it for it in words if it not in lines))
+    return {name: Crate(name, line, own(words), of_kit(words)) for name, (line, words) in lines.items()}
 
 
 @functools.lru_cache(maxsize=None)
@@ -89,27 +93,26 @@ def known(names):
 
 
 @functools.lru_cache(maxsize=None)
-def kit():
-    """The folder of the toolchain."""
+def kit(path=""):
+    """The folder of the toolchain, or a file in it."""
     rt = shutil.which("rt")
     if not rt:
         sys.exit("the command rt isn't installed: CONTRIBUTING.md lists what is needed")
-    return pathlib.Path(os.path.realpath(rt)).parent.parent
+    return pathlib.Path(os.path.realpath(rt)).parent.parent / path
 
 
 def rattle_words(verb, crate, library=lambda crate: crate.library):
     """The words by which `rattle check` or `rattle build` works on a crate in its folder, over the libraries that are
     kept of those below it, or those that a function returns."""
-    words = [kit() / "bin" / "rattle", verb, "--crate-name", crate.name]
+    words = [kit("bin/rattle"), verb, "--crate-name", crate.name]
     words.append("src/main.rt" if crate.is_program else "src/lib.rt")
-    libraries = {it: kit() / "rlibs" / f"{it}.rlib" for it in crate.of_kit}
-    libraries.update({it: library(listed()[it]) for it in crate.uses})
+    libraries = {it: kit(f"rlibs/{it}.rlib") for it in crate.of_kit}
+    libraries |= {it: library(listed()[it]) for it in crate.uses}
     for name, path in libraries.items():
         words += ["--extern", f"{name}={path}"]
-    for folder in [kit() / "rlibs", *(library(it).parent for it in below(crate.name))]:
+    for folder in [kit("rlibs"), *(library(it).parent for it in below(crate.name))]:
         words += ["-L", f"dependency={folder}"]
-    words += ["--antt-project", kit() / "rattle" / "logic" / "antt-project.json"]
-    words += ["--logic-built", kit() / "logic_built"]
+    words += ["--antt-project", kit("rattle/logic/antt-project.json"), "--logic-built", kit("logic_built")]
     return words + (["--crate-type", "staticlib"] if crate.is_static else [])
 
 
@@ -118,10 +121,6 @@ def sum_of(name):
     """A sum of all that a crate's proof depends on: the toolchain, its line and its files, and the same for the crates
     below it."""
     crate = listed()[name]
-    told = hashlib.sha256(f"{(kit() / 'KIT-ID').read_text()}\n{crate.line}\n".encode())
-    for it in crate.sources():
-        told.update(f"{it.relative_to(crate.folder)}\n".encode())
-        told.update(hashlib.sha256(it.read_bytes()).digest())
-    for it in crate.uses:
-        told.update(sum_of(it).encode())
-    return told.hexdigest()
+    told = [kit("KIT-ID").read_text(), crate.line, *map(sum_of, crate.uses)]
+    told += [f"{it.relative_to(crate.folder)} {hashlib.sha256(it.read_bytes()).hexdigest()}" for it in crate.sources()]
+    return hashlib.sha256("\n".join(told).encode()).hexdigest()

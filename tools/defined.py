@@ -36,36 +36,20 @@ def sentence(text):
     return begun.replace("|", "\\|") + ("" if not text or begun.endswith((".", ":")) else ".")
 
 
-def purpose(path):
-    """What a file of definitions says about itself: its first comment."""
-    lines = itertools.takewhile(lambda line: line.startswith("--"), crates.read(path).splitlines())
-    return " ".join(line.removeprefix("--").strip() for line in lines)
-
-
-def table_of(path, items):
-    """The table of a file's definitions."""
-    link = f"[{path.parent.parent.name}/specs/{path.name}](../{path.relative_to(crates.TOP).as_posix()})"
-    lines = [f"**{link}** {purpose(path)}".rstrip(), "", "| Name | What it is |", "|---|---|"]
-    return "\n".join([*lines, *(f"| `{it.short}` | {sentence(said(it))} |" for it in items)]) + "\n"
-
-
-def on_page():
-    """The definitions on the page, by crate, and in each by file."""
-    for crate in crates.listed().values():
-        if crate.name not in promises.LEFT_OUT:
-            by_file = itertools.groupby(definitions.definitions_of(crate.folder), lambda it: it.path)
-            yield crate.name, [(path, list(items)) for path, items in by_file if not definitions.is_private(path)]
-
-
 def page():
-    """The whole page."""
-    parts = [(f"## {crate}\n", *(table_of(*it) for it in files)) for crate, files in on_page() if files]
-    return "\n".join([HEAD, *itertools.chain(*parts)])
-
-
-def uncommented():
-    """The definitions on the page without a comment of their own."""
-    return [it.name for _, files in on_page() for _, items in files for it in items if not said(it)]
+    """The whole page: for each file what its first comment says, and a table of its definitions."""
+    parts = [HEAD]
+    for crate in (it for it in crates.listed().values() if it.name not in promises.LEFT_OUT):
+        by_file = itertools.groupby(definitions.definitions_of(crate.folder), lambda it: it.path)
+        files = [(path, list(items)) for path, items in by_file if not definitions.is_private(path)]
+        parts += [f"## {crate.name}\n"] if files else []
+        for path, items in files:
+            lines = itertools.takewhile(lambda line: line.startswith("--"), crates.read(path).splitlines())
+            purpose = " ".join(line.removeprefix("--").strip() for line in lines)
+            link = f"[{crate.name}/specs/{path.name}](../{path.relative_to(crates.TOP).as_posix()})"
+            parts += [f"**{link}** {purpose}".rstrip(), "", "| Name | What it is |", "|---|---|"]
+            parts += [*(f"| `{it.short}` | {sentence(said(it))} |" for it in items), ""]
+    return "\n".join(parts)
 
 
 if __name__ == "__main__":

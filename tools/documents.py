@@ -14,18 +14,16 @@
 import re
 import sys
 
-import crates
-from crates import TOP, read
+from crates import PARTS, TOP, read
 
-RULES = "docs/SPECIFICATION.md"
+RULES, PROOFS = "docs/SPECIFICATION.md", "docs/PROOFS.md"
 MARK = re.compile(r"§([\w-]+)")
 # where names that show rules are
-TEST, NAMED = r"^\s*def test_(\w+)", r"^\s*(?:#\[test\]\s*fn |name: \")(\w[\w ]*)"
 SHOWN = {
     "acceptance/cases/*.cases": r"^== (\S+)",
     "acceptance/pages/*.txt": r"^## (.+)",
-    "acceptance/test_*.py": TEST,
-    "crates/*_tests/src/**/*.rt": NAMED,
+    "acceptance/test_*.py": r"^\s*def test_(\w+)",
+    "crates/*_tests/src/**/*.rt": r"^\s*(?:#\[test\]\s*fn |name: \")(\w[\w ]*)",
 }
 # the first cells of the tables whose rows are rules
 TABLES = ("No.", "Statement", "Exit", "Step")
@@ -57,7 +55,7 @@ def rules(text):
     return found
 
 
-def rule_faults(top=TOP):
+def rule_faults(top):
     """The rules without a mark, and the marks that no case has."""
     text = read(top / RULES)
     shown = [re.findall(it, read(path), re.MULTILINE) for pattern, it in SHOWN.items() for path in top.glob(pattern)]
@@ -68,47 +66,39 @@ def rule_faults(top=TOP):
     return [f"{RULES}:{number}: {why}" for number, why in wrong]
 
 
-def lost_tests(text, top=TOP):
+def lost_tests(text, top):
     """The names of tests in a page that aren't links to a file of this name, or to one that has this test."""
-    section, wrong = text.partition(TESTED)[2].partition("\n## ")[0], []
-    for name, path, bare in LINKED.findall(section):
-        is_there = path and (path.endswith(f"/{name}") or re.search(rf"\b(?:fn|def) {name}\b", read(top / path)))
-        wrong += [] if is_there else [f"{name or bare} isn't a link to a test"]
-    return wrong
+    for name, path, bare in LINKED.findall(text.partition(TESTED)[2].partition("\n## ")[0]):
+        is_file = path.endswith(f"/{name}")
+        if not path or not (is_file or re.search(rf"\b(?:fn|def) {name}\b", read(top / path))):
+            yield f"{PROOFS}: {name or bare} isn't a link to a test"
 
 
-def strangers(text):
+def strangers(text, top):
     """The names in crates' sections of a page that don't exist, each with its crate."""
-    known = PLAIN.union(*(DEFINED.findall(read(it)) for it in TOP.glob("crates/*/src/**/*.rt")))
-    wrong = []
+    sources = {it: read(it) for part in PARTS for it in top.glob(f"crates/*/{part}/**/*") if it.is_file()}
+    known = PLAIN.union(*(DEFINED.findall(said) for it, said in sources.items() if it.suffix == ".rt"))
     for crate, section in SECTION.findall(text):
-        own = set().union(*(NAME.findall(read(it)) for it in crates.listed()[crate].sources()))
+        own = set().union(*(NAME.findall(said) for it, said in sources.items() if top / "crates" / crate in it.parents))
         named = {name for quoted in QUOTED.findall(section) for name in NAME.findall(quoted)}
-        wrong += [f"{crate}: {it}" for it in sorted(named - own - known)]
-    return wrong
+        yield from (f"{PROOFS}: {crate} has no {it}" for it in sorted(named - own - known))
 
 
-def anchors(text):
-    """The anchors of a page's headings."""
-    return {re.sub(r"[^\w\- ]", "", heading.lower()).replace(" ", "-") for heading in HEADING.findall(text)}
-
-
-def broken_links(top=TOP):
+def broken_links(top):
     """The links that lead nowhere, each with the page that has it."""
-    wrong = []
+    anchors = lambda text: {re.sub(r"[^\w\- ]", "", it.lower()).replace(" ", "-") for it in HEADING.findall(text)}
     for page in [*sorted(top.glob("*.md")), *sorted(top.glob("docs/*.md"))]:
         for link in (it for it in LINK.findall(read(page)) if "://" not in it):
             path, _, anchor = link.partition("#")
             target = (page.parent / path).resolve() if path else page
             if not target.exists() or (anchor and anchor not in anchors(read(target))):
-                wrong.append(f"{page.relative_to(top)} leads to {link}")
-    return wrong
+                yield f"{page.relative_to(top)} leads to {link}"
 
 
-def faults():
+def faults(top=TOP):
     """All that is wrong, a line each."""
-    proofs = read(TOP / "docs" / "PROOFS.md")
-    return [*rule_faults(), *lost_tests(proofs), *strangers(proofs), *broken_links()]
+    proofs = read(top / PROOFS)
+    return [*rule_faults(top), *lost_tests(proofs, top), *strangers(proofs, top), *broken_links(top)]
 
 
 if __name__ == "__main__":

@@ -33,15 +33,11 @@ def git(*words):
     return ran.stdout if ran.returncode == 0 else b""
 
 
-def without_comments(text):
-    """A file's lines without comments, on which no proof depends, and without blank ones."""
-    return "".join(f"{it.rstrip()}\n" for it in COMMENT.sub("", text).splitlines() if it.strip())
-
-
 def texts(folder):
-    """The texts of a crate's files, by path, without comments."""
+    """The texts of a crate's files, by path, without blank lines and comments, on which no proof depends."""
     files = [it for part in crates.PARTS for it in (folder / part).rglob("*") if it.is_file()]
-    return {str(it.relative_to(folder)): without_comments(it.read_text(errors="replace")) for it in files}
+    lines = lambda it: (line.rstrip() for line in COMMENT.sub("", it.read_text(errors="replace")).splitlines())
+    return {str(it.relative_to(folder)): "".join(f"{line}\n" for line in lines(it) if line) for it in files}
 
 
 def stated(of_files):
@@ -69,14 +65,7 @@ def changed_crates(before):
 def since(tried):
     """The commit that a file names, if it is an ancestor of this one."""
     commit = tried.read_text().strip() if tried.exists() else ""
-    is_whole = re.fullmatch(r"[0-9a-f]{40}", commit)
-    return commit if is_whole and git("merge-base", commit, "HEAD").decode().strip() == commit else ""
-
-
-def is_new(edit, before):
-    """Whether an edit's own text differs from that of another checkout."""
-    old, new = (top / "crates" / edit.crate / "must-fail" / edit.name for top in (before, crates.TOP))
-    return not old.exists() or old.read_bytes() != new.read_bytes()
+    return commit if git("merge-base", commit, "HEAD").decode().strip() == commit else ""
 
 
 def is_drawn(edit, commit):
@@ -94,7 +83,10 @@ def due(every, tried):
         files = git("archive", commit, "crates", "crates.txt")
         subprocess.run(["tar", "-x", "-C", room], input=files, check=True)
         changed = changed_crates(pathlib.Path(room))
-        first = [it for it in every if it.crate in changed or is_new(it, pathlib.Path(room))]
+        place = lambda top, it: pathlib.Path(top) / "crates" / it.crate / "must-fail" / it.name
+        text = lambda path: path.read_bytes() if path.exists() else b""
+        is_new = lambda it: text(place(room, it)) != text(place(crates.TOP, it))
+        first = [it for it in every if it.crate in changed or is_new(it)]
     others = [it for it in every if it not in first and is_drawn(it, head)]
     of = ", ".join(sorted(changed & {it.crate for it in first})) or "none"
     said = f"edits: {len(first)} are due, new ones or of crates that changed since {commit[:12]} ({of})"

@@ -9,8 +9,8 @@ Edits that change different functions are tried in one check: a function's proof
 nothing of their bodies, and a check says for each function whether its own proof holds, or only lacks that of another.
 So functions of which one may call the other are tried separately. An edit whose function isn't proved itself is
 refused. One that a check of several leaves open (its function lacks another's proof, or is proved) is tried again among
-fewer, and finally by itself: then it is refused if the crate isn't proved. One that can't be applied or read is a
-failure, like one that isn't refused.
+fewer, and finally by itself: then it is refused if the crate isn't proved. One that the prover can't read is a failure,
+like one that isn't refused. One that can't be applied ends all.
 """
 
 import concurrent.futures
@@ -19,7 +19,6 @@ import functools
 import os
 import pathlib
 import re
-import resource
 import shutil
 import sys
 import tempfile
@@ -40,14 +39,13 @@ ERROR = re.compile(r"(?:\./)?(\S+?):\d+:\d+: error: (?:(`[^`]*`): )?(.*)")
 
 @dataclasses.dataclass(frozen=True)
 class Edit:
-    """An edit: its crate, its name, its changes (the file, the old text and the new), the function that it changes, if
-    there is only one, and what is wrong with it, if anything."""
+    """An edit: its crate, its name, its changes (the file, the old text and the new), and the function that it changes,
+    if there is only one."""
 
     crate: str
     name: str
     changes: tuple = ()
     function: sources.Function = None
-    fault: str = ""
 
     @property
     def label(self):
@@ -55,22 +53,17 @@ class Edit:
 
 
 @functools.lru_cache(maxsize=None)
-def sources_of(crate):
-    """The files of src/ of a crate, by path."""
-    return {str(it.path.relative_to(crate.folder)): it for it in sources.Names().read(crate.folder)}
+def sources_of(name):
+    """The files of src/ of a crate by path, and for each of its functions those that it may call, directly or not."""
+    files = sources.Names().read(crates.listed()[name].folder)
+    return {f"src/{it.path.as_posix().rpartition('/src/')[2]}": it for it in files}, sources.reached(files)
 
 
-@functools.lru_cache(maxsize=None)
-def reached_in(name):
-    """For each function of a crate those that it may call, directly or not."""
-    return sources.reached(sources_of(crates.listed()[name]).values())
-
-
-def applied(crate, changes):
-    """The texts of a crate's files after these changes, the file and the line of each, and why they can't be made, if
-    they can't."""
+def applied(crate, edits):
+    """The texts of a crate's files after these edits, the file and the line of each change, and why they can't be made,
+    if they can't."""
     texts, places = {}, []
-    for file, old, new in changes:
+    for file, old, new in (change for it in edits for change in it.changes):
         if not (crate.folder / file).is_file() or file.partition("/")[0] not in crates.PARTS:
             return texts, places, f"there is no file {file}"
         text = texts.get(file) or (crate.folder / file).read_text()
@@ -82,7 +75,7 @@ def applied(crate, changes):
 
 
 def read(path, crate):
-    """Reads an edit. What is wrong with it, if anything, is its fault."""
+    """Reads an edit, and exits if it isn't one or can't be applied."""
     file, old, changes = "", None, []
     for line in path.read_text(encoding="utf-8", errors="replace").split("\n"):
         word, _, text = line.partition(":")
@@ -93,33 +86,28 @@ def read(path, crate):
         elif word == "new" and file and old:
             changes.append((file, old, text.removeprefix(" ")))
             old = None
-    if not changes or old:
-        return Edit(crate.name, path.name, fault="it isn't a list of files with pairs of 'old:' and 'new:'")
-    _, places, fault = applied(crate, changes)
+    found, (files, _) = Edit(crate.name, path.name, tuple(changes)), sources_of(crate.name)
+    _, places, fault = applied(crate, [found])
+    if path.suffix != ".edit" or not changes or old:
+        fault = "an edit is a file NAME.edit with the names of files, each with pairs of 'old:' and 'new:'"
+    if fault:
+        sys.exit(f"BAD EDIT {found.label}: {fault}")
     # (an old text and a new one have a line each, so lines keep their numbers)
-    files = sources_of(crate)
     inside = {files[it].function_at(at) if it in files else None for it, at in places}
-    return Edit(crate.name, path.name, tuple(changes), inside.pop() if len(inside) == 1 else None, fault)
+    return dataclasses.replace(found, function=inside.pop() if len(inside) == 1 else None)
 
 
 def edits_of(crate):
-    """The edits of a crate, in the order of their names; a file that isn't one has a fault."""
-    fault, folder = "an edit is directly in must-fail/, and its name ends in .edit", crate.folder / "must-fail"
-    files = sorted(it for it in folder.rglob("*") if it.is_file() and it.suffix != ".md")
-    is_edit = lambda it: it.parent == folder and it.suffix == ".edit"
-    return [read(it, crate) if is_edit(it) else Edit(crate.name, it.name, fault=fault) for it in files]
+    """The edits of a crate, in the order of their names."""
+    return [read(it, crate) for it in sorted((crate.folder / "must-fail").glob("*")) if it.suffix != ".md"]
 
 
 def are_apart(one, other):
     """Whether two edits of a crate change one function each, two different ones of which neither may call the other."""
     if not one.function or not other.function or one.function == other.function:
         return False
-    reached = reached_in(one.crate)
+    _, reached = sources_of(one.crate)
     return other.function not in reached.get(one.function, ()) and one.function not in reached.get(other.function, ())
-
-
-def changes_of(edits):
-    return [change for it in edits for change in it.changes]
 
 
 def batches(crate, edits, size):
@@ -128,7 +116,7 @@ def batches(crate, edits, size):
     made = []
     for edit in sorted(edits, key=lambda it: sum(are_apart(it, other) for other in edits)):
         apart = (it for it in made if len(it) < size and all(are_apart(edit, other) for other in it))
-        batch = next((it for it in apart if not applied(crate, changes_of([*it, edit]))[2]), None)
+        batch = next((it for it in apart if not applied(crate, [*it, edit])[2]), None)
         if batch is None:
             made.append([edit])
         else:
@@ -141,7 +129,7 @@ class Check:
     keeps."""
 
     def __init__(self, crate, edits):
-        texts, kept = applied(crate, changes_of(edits))[0], self.kept_of(crate)
+        texts, kept = applied(crate, edits)[0], self.kept_of(crate)
         with tempfile.TemporaryDirectory(prefix="crackd-edit-") as name:
             room = pathlib.Path(name)
             for part in filter(lambda it: (crate.folder / it).is_dir(), crates.PARTS):
@@ -152,6 +140,9 @@ class Check:
                 shutil.copytree(it, room / "kept")
             words = [*crates.rattle_words("check", crate), "--jobs", "1", "--incremental", "kept"]
             self.status, lines = prove.run(words, room)
+            if self.status not in (0, 1):
+                # (one that ended in neither way, such as one that was killed for lack of memory, is repeated once)
+                self.status, lines = prove.run(words, room)
             if not edits and self.status == 0:
                 for it in kept.parent.glob("start-*"):
                     shutil.rmtree(it)
@@ -180,7 +171,7 @@ class Check:
         """Whether an edit is refused, and what to say; None if a check of several edits leaves it open."""
         is_refused = self.status == 1 and self.verdict.startswith("logic=not-proved") and self.is_read
         if is_refused and (is_alone or self.is_unproved(edit.function)):
-            return True, f"refused{self.reason(edit)}"
+            return True, f"refused: {self.first_error(edit.function)}"
         if not is_alone:
             return None
         if self.status == 0:
@@ -193,16 +184,11 @@ class Check:
         named = [said for name, said in self.functions.items() if function.is_named(name.split("::"))]
         return any(it.startswith(("not proved", "no proof: expected answers")) for it in named)
 
-    def reason(self, edit):
-        """The first error about the function, if there is one."""
-        errors = [found for it in self.lines if (found := ERROR.match(it))]
-        of = edit.function
-        parts = {*of.module, of.owner, of.name} - {""} if of else set()
-        first = next((it for it in errors if parts.issubset(it[1].split("/"))), None)
-        return f": {first[0][:140]}" if first else ""
-
-    def first_error(self):
-        return next((it for it in self.lines if ERROR.match(it)), self.lines[-1] if self.lines else "")[:300]
+    def first_error(self, function=None):
+        """The first error, or the first about a function; else the last line."""
+        parts = {*function.module, function.owner, function.name} - {""} if function else set()
+        errors = (it for it in self.lines if (found := ERROR.match(it)) and parts.issubset(found[1].split("/")))
+        return next(errors, self.lines[-1] if self.lines else "")[:200]
 
 
 @functools.lru_cache(maxsize=None)
@@ -239,69 +225,43 @@ def side_by_side(tasks, is_over):
 class Trials:
     """Tries edits in rounds, until each has ended or the time is over."""
 
-    def __init__(self, edits, ends=None):
-        # how many were refused and how many not, and of the crates whose check without edits failed, what it said
-        self.ends, self.refused, self.failed, self.unproved = ends, 0, 0, {}
-        self.waiting = [it for it in edits if not it.fault]
-        for it in edits:
-            if it.fault:
-                self.end(it, False, f"BAD EDIT: {it.fault}")
-
-    def end(self, edit, is_refused, text):
-        self.refused, self.failed = self.refused + is_refused, self.failed + (not is_refused)
-        print(f"must-fail {edit.label}: {text}", flush=True)
-
-    def is_over(self):
-        """Whether it is too late to begin a check."""
-        return self.ends is not None and time.monotonic() > self.ends
+    def __init__(self, edits, ends):
+        # those that wait, and of each that has ended whether it was refused
+        self.ends, self.waiting, self.verdicts = ends, edits, []
 
     def keep(self, crate):
         """Checks a crate without edits, for what is kept of that."""
         check = Check(crate, [])
         if check.status:
-            self.unproved[crate.name] = check.first_error()
+            sys.exit(f"{crate.name} isn't proved without an edit: {check.first_error()}")
 
     def try_batch(self, crate, batch):
         """Tries some edits in one check. Returns those that it leaves open; an edit by itself is judged."""
-        if crate.name in self.unproved:
-            for edit in batch:
-                self.end(edit, False, f"BAD EDIT: the crate isn't proved without it: {self.unproved[crate.name]}")
-            return []
-        check, is_alone = Check(crate, batch), len(batch) == 1
-        if is_alone and check.status not in (0, 1):
-            # (one that ended in neither way, such as one that was killed for lack of memory, is repeated once)
-            check = Check(crate, batch)
-        verdicts = {it: check.verdict_on(it, is_alone) for it in batch}
-        for edit in filter(verdicts.get, batch):
-            self.end(edit, *verdicts[edit])
+        check = Check(crate, batch)
+        verdicts = {it: check.verdict_on(it, len(batch) == 1) for it in batch}
+        for edit, (is_refused, text) in ((it, verdict) for it, verdict in verdicts.items() if verdict):
+            self.verdicts.append(is_refused)
+            print(f"must-fail {edit.label}: {text}", flush=True)
         return [it for it in batch if not verdicts[it]]
 
     def run(self):
         """Tries all that wait, each round among at most so many. Those for which there was no time stay in the list."""
+        is_over = lambda: time.monotonic() > self.ends
         for size in SIZES:
             of_crate = lambda crate: [it for it in self.waiting if it.crate == crate.name]
             every = [(crate, it) for crate in crates.listed().values() for it in batches(crate, of_crate(crate), size)]
             # (a single check gains nothing from one without edits before it)
             many = {crate for crate, it in every if len(it) < len(of_crate(crate))}
             bare = sorted((it for it in many if not Check.kept_of(it).exists()), key=need_of, reverse=True)
-            side_by_side([(it, functools.partial(self.keep, it)) for it in bare], self.is_over)
+            side_by_side([(it, functools.partial(self.keep, it)) for it in bare], is_over)
             every.sort(key=lambda it: min(map(self.waiting.index, it[1])))
             tasks = [(crate, functools.partial(self.try_batch, crate, batch)) for crate, batch in every]
-            results = zip(every, side_by_side(tasks, self.is_over))
+            results = zip(every, side_by_side(tasks, is_over))
             self.waiting = [edit for (_, batch), left in results for edit in (batch if left is None else left)]
 
 
-def keep_commit():
-    """Writes down in tools/edits-tried the commit whose edits were all refused, if the crates are those of one."""
-    commit = due.git("rev-parse", "HEAD")
-    if not commit or due.git("status", "--porcelain", "--", "crates", "crates.txt"):
-        print("the crates aren't those of a commit, so tools/edits-tried stays as it is")
-    else:
-        TRIED.write_bytes(commit)
-
-
 def main(names):
-    ends, edits = None, [edit for it in crates.listed().values() for edit in edits_of(it)]
+    ends, edits = float("inf"), [edit for it in crates.listed().values() for edit in edits_of(it)]
     if len(names) == 2 and names[0] == "--due":
         ends = time.monotonic() + int(names[1])
         edits, said = due.due(edits, TRIED)
@@ -311,17 +271,18 @@ def main(names):
     if not prove.prove_names(sorted({it.crate for it in edits})):
         print("edits: a crate isn't proved, so none was tried\n0 passed, 1 failed")
         return 1
-    trials, before = Trials(edits, ends), resource.getrusage(resource.RUSAGE_CHILDREN)
+    trials, before = Trials(edits, ends), os.times()
     trials.run()
-    after, tried = resource.getrusage(resource.RUSAGE_CHILDREN), len(edits) - len(trials.waiting)
-    seconds = after.ru_utime + after.ru_stime - before.ru_utime - before.ru_stime
-    print(f"edits: {tried} were tried of {len(edits)}, in {seconds:.0f} processor seconds")
+    seconds = sum(os.times()[2:4]) - sum(before[2:4])
+    print(f"edits: {len(trials.verdicts)} were tried of {len(edits)}, in {seconds:.0f} processor seconds")
     if trials.waiting:
         print(f"edits: left, for lack of time: {', '.join(it.label for it in trials.waiting)}")
-    if not names and trials.refused == len(edits):
-        keep_commit()
-    print(f"{trials.refused} passed, {trials.failed} failed", flush=True)
-    return 1 if trials.failed else 0
+    commit, is_changed = due.git("rev-parse", "HEAD"), due.git("status", "--porcelain", "--", "crates", "crates.txt")
+    if not names and trials.verdicts == [True] * len(edits) and commit and not is_changed:
+        TRIED.write_bytes(commit)
+    failed = trials.verdicts.count(False)
+    print(f"{len(trials.verdicts) - failed} passed, {failed} failed", flush=True)
+    return 1 if failed else 0
 
 
 if __name__ == "__main__":

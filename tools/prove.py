@@ -1,12 +1,12 @@
 #!/usr/bin/env python3
 """Proves crates and those below them, and keeps what is built: prove.py NAME .., or prove.py --all
 
-`rt ci` proves them, on a copy without the must-fail edits, which it has no option to leave out. It proves nothing again
-that it has proved on this machine. What it built is moved back: programs, and the libraries over which edits are tried.
-A static library, which it only proves, is built as well.
+It only starts `rt ci`, on a copy without the must-fail edits, since there is no option to leave these out. Nothing is
+proved again that was proved on this machine. What is built is moved back: programs, and the libraries over which edits
+are tried. A static library, which `rt ci` only proves, is built as well.
 
 With names nothing is started if all is up to date, and what is said goes to standard error. With --all it is the gate:
-it runs all programs and tests, and the last line of its output is 'N passed, M failed'.
+the last line of its output is 'N passed, M failed'.
 """
 
 import fcntl
@@ -21,14 +21,8 @@ import tempfile
 import crates
 from crates import TOP
 
-# what a copy leaves out
-LEFT_OUT = {".git", "__pycache__", "out", "must-fail"}
 # lines of a check that don't help whoever must mend a crate
 NOISE = ("checked ", "so far: ", "statements ", "by-macro: ", "logic ", "rt: chose ")
-
-
-def stamp_file(crate):
-    return crate.out / "proved" / "stamp"
 
 
 def stamp_of(crate, told):
@@ -38,21 +32,14 @@ def stamp_of(crate, told):
     return f"{told} {hashlib.sha256(made.read_bytes()).hexdigest()}\n" if made.exists() else ""
 
 
-def is_up_to_date(crate):
-    return stamp_file(crate).exists() and stamp_file(crate).read_text() == stamp_of(crate, crates.sum_of(crate.name))
-
-
 def copy(top, wanted):
-    """Copies the checkout, or, if only some crates are wanted, these, to a folder that `rt ci` takes for the top of a
-    repository. Returns the sums of those crates that weren't changed meanwhile."""
+    """Copies these crates to a folder that `rt ci` takes for the top of a repository. Returns the sums of those that
+    weren't changed meanwhile."""
     sums = {it.name: crates.sum_of(it.name) for it in wanted}
-    if len(wanted) == len(crates.listed()):
-        shutil.copytree(TOP, top, ignore=lambda _, inside: LEFT_OUT.intersection(inside))
-    else:
-        for it in wanted:
-            shutil.copytree(it.folder, top / "crates" / it.name, ignore=lambda _, inside: LEFT_OUT.intersection(inside))
-        (top / "crates.txt").write_text("".join(f"{it.line}\n" for it in wanted))
-        shutil.copyfile(TOP / "HANDLES", top / "HANDLES")
+    for it in wanted:
+        shutil.copytree(it.folder, top / "crates" / it.name, ignore=shutil.ignore_patterns("out", "must-fail"))
+    (top / "crates.txt").write_text("".join(f"{it.line}\n" for it in wanted))
+    shutil.copyfile(TOP / "HANDLES", top / "HANDLES")
     (top / ".git").mkdir()
     crates.sum_of.cache_clear()
     return {name: it for name, it in sums.items() if it == crates.sum_of(name)}
@@ -73,7 +60,7 @@ def build_static(crate, top):
     """Proves a static library in a copy over what was built there of the crates below it, and builds it."""
     library = lambda it: top / "crates" / it.name / "out" / "rlib" / f"{it.name}.rlib"
     words = [*crates.rattle_words("build", crate, library), "--jobs", len(os.sched_getaffinity(0)), "--backend", "llvm"]
-    words += ["--toolchain", crates.kit() / "toolchain", "-o", f"out/{crate.library.name}"]
+    words += ["--toolchain", crates.kit("toolchain"), "-o", f"out/{crate.library.name}"]
     return run(words, top / "crates" / crate.name)
 
 
@@ -82,14 +69,14 @@ def keep(top, crate, told):
     out = top / "crates" / crate.name / "out"
     made = {out / it: crate.out / it for it in (crate.name, f"{crate.name}_tests")}
     made[out / ("" if crate.is_static else "rlib") / crate.library.name] = crate.library
-    stamp_file(crate).parent.mkdir(parents=True, exist_ok=True)
+    crate.stamp.parent.mkdir(parents=True, exist_ok=True)
     for source, target in made.items():
         if target.is_dir():
             shutil.rmtree(target)
         target.unlink(missing_ok=True)
         if source.exists():
             shutil.move(str(source), str(target))
-    stamp_file(crate).write_text(stamp_of(crate, told))
+    crate.stamp.write_text(stamp_of(crate, told))
 
 
 def prove(wanted, say, is_gate=False):
@@ -111,7 +98,7 @@ def prove(wanted, say, is_gate=False):
 def prove_names(names):
     """Proves these crates and those below them, unless they are up to date. Returns whether all are proved."""
     wanted = crates.with_below(names)
-    if all(map(is_up_to_date, wanted)):
+    if all(it.stamp.exists() and it.stamp.read_text() == stamp_of(it, crates.sum_of(it.name)) for it in wanted):
         return True
     tell = lambda text: print(text, end="", file=sys.stderr, flush=True)
     is_well, lines = prove(wanted, lambda line: tell(line) if line.startswith("rt: ") else None)

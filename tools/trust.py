@@ -11,31 +11,26 @@ that a crate doesn't export, of tests, or of what a type keeps of its own fields
 first line; or if its module says so and public clauses reach it.
 """
 
+import itertools
 import signal
 import sys
 
 import crates
 from reading import definitions, promises
 
-KINDS = {"definitions": ("definition",), "ghost members": ("model", "trait", "ghost"), "clauses": ("call",)}
-COUNTED = sum(KINDS.values(), ())
-BESIDE = ("type", "constant")
-
-
-def count(items, kinds=COUNTED):
-    """How many lines items of these kinds have."""
-    return sum(len(it.lines) for it in items if it.kind in kinds)
+# the kinds of items in each column of the table; all lines but those of the last are counted
+KINDS = {"definitions": ["definition"], "ghost members": ["model", "trait", "ghost"], "clauses": ["call"]}
+KINDS["types beside"] = ["type", "constant"]
 
 
 def text_of(items):
     """The text of items, each below its file and line, crate by crate."""
-    said, crate = [], ""
-    for it in items:
-        if it.crate != crate:
-            crate = it.crate
-            said.append(f"# {crate}\n")
-        lines = "\n".join(line for _, line in sorted({*it.lines, *it.beside}))
-        said.append(f"{place_of(it)}\n{lines}\n")
+    said = []
+    for crate, of_crate in itertools.groupby(items, lambda it: it.crate):
+        said.append(f"# {crate}\n")
+        for it in of_crate:
+            lines = "\n".join(line for _, line in sorted({*it.lines, *it.beside}))
+            said.append(f"{place_of(it)}\n{lines}\n")
     return "\n".join(said)
 
 
@@ -46,33 +41,30 @@ def place_of(item):
 
 def table(whole, asked):
     """How many lines are to be read for each of these promises, and for all of them."""
-    said = [f"{'to read for':20}{'lines':>8}" + "".join(f"{name:>15}" for name in (*KINDS, "types beside"))]
+    said = [f"{'to read for':20}{'lines':>8}" + "".join(f"{name:>15}" for name in KINDS)]
     for name, calls in [*asked.items(), *[("all of these", sum(asked.values(), []))] * (len(asked) > 1)]:
         items = whole.read_for(calls)
-        of_kinds = "".join(f"{count(items, kinds):15}" for kinds in (*KINDS.values(), BESIDE))
-        said.append(f"{name:20}{count(items):8}{of_kinds}")
+        counts = [sum(len(it.lines) for it in items if it.kind in kinds) for kinds in KINDS.values()]
+        said.append(f"{name:20}{sum(counts[:-1]):8}" + "".join(f"{it:15}" for it in counts))
     return said
 
 
 def misplaced(whole):
-    """The definitions that aren't where they should be: what is wrong with each sort, and the definitions."""
+    """The definitions that aren't where they should be, each with what is wrong."""
     citing = [it for it in whole.items.values() if it.kind in ("call", "trait", "ghost", "model")]
     every, public = whole.reached(citing), whole.reached(filter(promises.is_promised, citing))
-    found = [it for it in whole.items.values() if it.kind == "definition"]
-    marked = {path for path in {it.path for it in found} if definitions.is_private(path)}
-    return {
-        "are reached by no clause": [it for it in found if it.name not in every],
-        "are reached only by private clauses, in a module that doesn't say so": [
-            it for it in found if it.name in every - public and it.path not in marked
-        ],
-        "are reached by public clauses, in a module that is for private ones": [
-            it for it in found if it.name in public and it.path in marked
-        ],
-    }
+    for it in (it for it in whole.items.values() if it.kind == "definition"):
+        is_private = definitions.is_private(it.path)
+        if it.name not in every:
+            yield it, "no clause reaches it"
+        elif is_private and it.name in public:
+            yield it, "its module is for private clauses, and public ones reach it"
+        elif not is_private and it.name not in public:
+            yield it, "private clauses alone reach it, and its module doesn't say so"
 
 
 def main(words):
-    whole = promises.whole()
+    whole = promises.Reading([it.folder for it in crates.listed().values()])
     every = promises.roots_in(crates.read(crates.TOP / "docs" / "PROOFS.md"))
     chosen = [it for it in words if it != "--count"] or list(every)
     unknown = [it for it in chosen if it not in every]
@@ -82,10 +74,9 @@ def main(words):
     if "--count" not in words:
         print(text_of(whole.read_for(sum(asked.values(), []))))
     print("\n".join(table(whole, asked)))
-    found = {fault: items for fault, items in misplaced(whole).items() if items}
-    for fault, items in found.items():
-        print(f"\n{len(items)} definitions, {count(items)} lines, {fault}:")
-        print("\n".join(f"  {place_of(it)} {it.short}, {len(it.lines)} lines" for it in items))
+    found = [f"{place_of(it)} {it.short}: {fault}" for it, fault in misplaced(whole)]
+    for it in found:
+        print(it)
     return 1 if found else 0
 
 

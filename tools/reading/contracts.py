@@ -37,8 +37,8 @@ def fields_read(items):
 
 
 def type_items(source, names, models, read):
-    """The types and constants of a file. One that has a model cites the model's members, the others the types of those
-    fields that are read. A field that isn't read, and its comments, are left out."""
+    """The types and constants of a file. Each cites the types and definitions that its lines name, and the members of
+    its model, if it has one. A field that isn't read, and its comments, are left out."""
     for at, (_, keyword, name) in source.types().items():
         if keyword == "trait":
             continue
@@ -47,13 +47,14 @@ def type_items(source, names, models, read):
         fields = [it for it in span if keyword == "struct" and HIDDEN.match(source.lines[it])]
         unread = [it for it in fields if HIDDEN.match(source.lines[it])[1] not in seen]
         hidden = {it + 1 for it in unread} | {number for it in unread for number, _ in source.remarks([it])}
-        lines, beside = (
-            tuple(it for it in these if it[0] not in hidden) for these in (source.said(span), source.remarks(span))
-        )
-        text = VARIANT.sub("", text_of(lines)) if keyword == "enum" else text_of(lines)
-        cites = {it.name for it in models.get(item, ())} or types_cited(text.partition(name)[2], source.scope) - {item}
+        shown = lambda lines: tuple(it for it in lines if it[0] not in hidden)
+        lines, beside = shown(source.said(span)), shown(source.remarks(span))
+        text = (VARIANT.sub("", text_of(lines)) if keyword == "enum" else text_of(lines)).partition(name)[2]
+        ghost = "".join(it for it in text.splitlines() if sources.GHOST.match(it))
+        cites = types_cited(text, source.scope) | definitions.cited(ghost, source.scope, set())
         kind = "constant" if keyword in ("const", "static") else "type"
-        yield source.item(item, kind, lines, beside, cites, item in names.public)
+        cites = frozenset({it.name for it in models.get(item, ())} | cites - {item})
+        yield definitions.Item(item, kind, source.crate, source.path, lines, beside, cites, item in names.public)
 
 
 def is_owner_public(source, block, names):
@@ -62,44 +63,22 @@ def is_owner_public(source, block, names):
     return owner in names.public or not owner.startswith(source.crate + "::")
 
 
-def read_fields(source, block, text):
-    """The types of those fields of a block's type that a text reads."""
-    read = set(re.findall(r"\.(\w+)", text))
-    of = [of for name, of in source.fields(block.owner).items() if name in read]
-    return frozenset().union(*(types_cited(it, source.scope) for it in of))
-
-
-def members(source, span, closes, scope, owner):
-    """The ghost members in a span, each up to where it closes: its name, its lines, its comments, its text, and what it
-    cites beside its owner."""
-    for at in span:
-        match = sources.GHOST.match(source.lines[at])
-        if match:
-            own = source.whole(at, closes)
-            text = text_of(source.said(own)).partition("{")[2]
-            cites = definitions.cited(text, scope, definitions.bound_in(text)) - {source.named(owner)}
-            yield match[1], source.said(own), source.remarks(own), text, cites
-
-
 def ghost_items(source, block, names):
     """The ghost members of a block: one item for each member of a model, else one for all, which cites the trait."""
     is_model, title, found = block.trait == "Model", source.named(block.title), []
-    for name, lines, beside, text, cites in members(source, block.span, (";",), block.scope, block.owner):
-        cites |= read_fields(source, block, text) if is_model else types_cited(block.trait, block.scope)
-        found.append((f"{title}::{name}", lines, beside, tuple(cites)))
+    for at, match in ((at, sources.GHOST.match(source.lines[at])) for at in block.span):
+        if match:
+            span = source.whole(at, (";",))
+            text = text_of(source.said(span)).partition("{")[2]
+            cites = definitions.cited(text, block.scope, definitions.bound_in(text)) - {source.named(block.owner)}
+            cites |= types_cited("" if is_model else block.trait, block.scope)
+            found.append((f"{title}::{match[1]}", source.said(span), source.remarks(span), tuple(cites)))
     if found and not is_model:
         found = [(title, *(sum(these, ()) for these in list(zip(*found))[1:]))]
     kind = "trait" if block.is_trait else "model" if is_model else "ghost"
-    is_public = is_owner_public(source, block, names)
-    return [source.item(it, kind, *rest, is_public and it != f"{title}::invariant") for it, *rest in found]
-
-
-def ghost_fields(source, names):
-    """The ghost fields of the structs of a file: contracts see them, so each is an item like a member of a model."""
-    for at, (_, keyword, owner) in source.types().items():
-        span, item = source.whole(at, ("}", ";")) if keyword == "struct" else (), source.named(owner)
-        for name, lines, beside, _, cites in members(source, span, (",",), source.scope, owner):
-            yield source.item(f"{item} as ghost::{name}", "model", lines, beside, cites, item in names.public)
+    is_public = lambda name: name != f"{title}::invariant" and is_owner_public(source, block, names)
+    of = source.crate, source.path
+    return [definitions.Item(it, kind, *of, *lines, frozenset(cites), is_public(it)) for it, *lines, cites in found]
 
 
 def clauses_from(source, at, scope, bound):
@@ -128,7 +107,7 @@ def is_call_public(source, text, short, block, names):
     """Whether a function is public: it says so or is of a trait, and its type, or else its module, is public, or the
     crate re-exports it."""
     if not block:
-        return text.startswith("pub ") and (source.is_open or short in names.handed[source.crate])
+        return text.startswith("pub ") and (source.is_open or short in source.handed)
     is_open = block.is_trait or block.trait != "" or text.lstrip().startswith("pub ")
     return is_open and is_owner_public(source, block, names)
 
@@ -139,20 +118,11 @@ def call_at(source, span, names):
     text, short = text_of(lines), sources.FUNCTION.match(source.lines[span[0]])[2]
     scope, heading = (block.scope, source.lines[block.span[0]]) if block else (source.scope, "")
     clauses, comments = clauses_from(source, span[-1] + 1, scope, set(PARAMETER.findall(text)))
+    of = source.named(*([block.title] if block else []), short), "call", source.crate, source.path
+    is_public, called = is_call_public(source, text, short, block, names), (block.owner, short) if block else (short,)
     signature = types_cited(heading + text, scope)
-    return definitions.Item(
-        source.named(*([block.title] if block else []), short),
-        "call",
-        source.crate,
-        source.path,
-        lines=tuple(line for it in clauses for line in it.lines),
-        beside=(*lines, *comments),
-        cites=signature.union(*(it.cites for it in clauses)),
-        is_public=is_call_public(source, text, short, block, names),
-        called=(block.owner, short) if block else (short,),
-        signature=signature,
-        clauses=clauses,
-    )
+    call = definitions.Item(*of, (), (*lines, *comments), frozenset(), is_public, called, signature)
+    return definitions.with_clauses(call, clauses)
 
 
 def items_of(files, names, others):
@@ -165,6 +135,6 @@ def items_of(files, names, others):
             models[source.named(block.owner)] = [it for it in items if it.name.rpartition("::")[2] in READ]
     for source in files:
         spans = [signature_at(source, at) for at, it in enumerate(source.lines) if sources.FUNCTION.match(it)]
-        found += [*ghost_fields(source, names), *(call_at(source, span, names) for span in spans if span)]
+        found += [call_at(source, span, names) for span in spans if span]
     read = fields_read([*found, *others])
     return [*found, *(it for source in files for it in type_items(source, names, models, read))]

@@ -66,6 +66,12 @@ class Item:
         return self.name.rpartition(".")[2]
 
 
+def with_clauses(call, clauses):
+    """A call with these clauses."""
+    lines, cites = tuple(line for it in clauses for line in it.lines), (it.cites for it in clauses)
+    return dataclasses.replace(call, lines=lines, cites=call.signature.union(*cites), clauses=clauses)
+
+
 def is_private(path):
     """Whether a module of definitions says in its first line that only private clauses cite it."""
     return path.read_text(encoding="utf-8").startswith(PRIVATE + "\n")
@@ -148,18 +154,15 @@ def pieces(text):
     return found
 
 
-def constructors_of(lines):
-    """The names of the constructors of a data type."""
-    is_data = re.match(r"(?:pub )?data ", lines[0][1])
-    return [found[1] for _, line in lines[1:] if is_data and (found := CONSTRUCTOR.match(line))]
-
-
 def definitions_in(path, crate, module):
     """The definitions of a file of specs/."""
     text = path.read_text(encoding="utf-8")
     own = pieces(text)
     scope = {name: item for line in text.splitlines() for name, item in used(line).items()}
-    scope.update({it: f"{crate}.{module}.{name}" for name, lines, _ in own for it in (name, *constructors_of(lines))})
+    for name, lines, _ in own:
+        of_data = lines[1:] if re.match(r"(?:pub )?data ", lines[0][1]) else []
+        constructors = [found[1] for _, line in of_data if (found := CONSTRUCTOR.match(line))]
+        scope.update({it: f"{crate}.{module}.{name}" for it in (name, *constructors)})
     for name, lines, comments in own:
         said = "\n".join(line for _, line in lines)
         cites = cited(said, scope, bound_in(said) | arguments_of(name, lines)) - {scope[name]}

@@ -8,11 +8,9 @@ members are read with those of each public type that implements it.
 """
 
 import collections
-import dataclasses
 import re
 import sys
 
-import crates
 from reading import contracts, definitions, sources
 
 # the crates that tests use, and those for measurements: like the tests themselves they promise nothing
@@ -27,14 +25,16 @@ def is_promised(item):
 
 
 class Reading:
-    """All items of the crates by name, and what each of them leads a reader to. The crates are given in order, the
-    lowest first."""
+    """All items of the crates in these folders by name, the lowest crate first, and what each leads a reader to."""
 
-    def __init__(self, items, order):
-        self.items = {it.name: it for it in items}
-        self.rank = {crate: at for at, crate in enumerate(order)}
+    def __init__(self, folders):
+        names = sources.Names()
+        files = [it for folder in folders for it in names.read(folder)]
+        found = [it for folder in folders for it in definitions.definitions_of(folder)]
+        self.items = {it.name: it for it in [*found, *contracts.items_of(files, names, found)]}
+        self.rank = {folder.name: at for at, folder in enumerate(folders)}
         # the ghost members that public types have of traits
-        self.had = [it for it in items if it.kind == "ghost" and is_promised(it)]
+        self.had = [it for it in self.items.values() if it.kind == "ghost" and is_promised(it)]
 
     def cited(self, item):
         """The names of the items that this one leads to."""
@@ -51,30 +51,22 @@ class Reading:
                 left += self.cited(self.items[name])
         return found
 
-    def place(self, item):
-        """Where an item is: its crate, the lowest first, its file and its line."""
-        return self.rank[item.crate], item.path.as_posix(), item.first
-
     def ordered(self, items):
         """These items crate by crate, the lowest first, each after those that it cites, and a model's members right
         after its type."""
-        chosen = {it.name: it for it in items}
-        met, found = set(), []
-
-        def cited(item):
-            return sorted((chosen[it] for it in item.cites if it in chosen), key=self.place)
+        chosen, met, found = {it.name: it for it in items}, set(), []
+        place = lambda it: (self.rank[it.crate], it.path.as_posix(), it.first)
+        cited = lambda item: sorted((chosen[it] for it in item.cites if it in chosen), key=place)
 
         def put(item):
-            if item.name in met:
-                return
-            members = [it for it in cited(item) if it.name.startswith(f"{item.name} as ")]
-            these = [item, *members]
-            met.update(it.name for it in these)
-            for it in (below for one in these for below in cited(one)):
-                put(it)
-            found.extend(these)
+            these = [item, *(it for it in cited(item) if it.name.startswith(f"{item.name} as "))]
+            if item.name not in met:
+                met.update(it.name for it in these)
+                for it in (below for one in these for below in cited(one)):
+                    put(it)
+                found.extend(these)
 
-        for it in sorted(chosen.values(), key=self.place):
+        for it in sorted(chosen.values(), key=place):
             put(it)
         return found
 
@@ -104,8 +96,7 @@ def narrowed(call, names):
     missing = set(names) - {it.name for it in kept}
     if missing:
         sys.exit(f"docs/PROOFS.md: {call.name} has no clause {sorted(missing)[0]}")
-    lines = tuple(line for it in kept for line in it.lines)
-    return dataclasses.replace(call, lines=lines, cites=call.signature.union(*(it.cites for it in kept)), clauses=kept)
+    return definitions.with_clauses(call, kept)
 
 
 def roots_in(text):
@@ -124,17 +115,3 @@ def roots_in(text):
                 names = set(re.findall(r"\w+", clauses))
                 promises[name] += [(f"{path}::{call}", names) for call in re.findall(r"\w+", calls)]
     return promises
-
-
-def all_items(folders):
-    """The items of the crates in these folders."""
-    names = sources.Names()
-    files = [it for folder in folders for it in names.read(folder)]
-    found = [it for folder in folders for it in definitions.definitions_of(folder)]
-    return [*found, *contracts.items_of(files, names, found)]
-
-
-def whole():
-    """The reading of all crates."""
-    listed = crates.listed()
-    return Reading(all_items([it.folder for it in listed.values()]), listed)

@@ -10,9 +10,7 @@ import typing
 from reading import definitions
 
 GHOST = re.compile(r"^    ghost (?!use\b)(\w+)\s*[=:]")
-GHOST_USE = re.compile(r"^    ghost use\b")
 TYPE = re.compile(r"^(pub(?:\([a-z]+\))? )?(struct|enum|union|type|const|static|trait) (\w+)")
-FIELD = re.compile(r"(?m)^\s+(?:pub(?:\([a-z]+\))? )?(\w+): (.*)$")
 RUST_USE = re.compile(r"(?m)^(?:pub(?:\([a-z]+\))? )?use ([\w:]+)::(?:\{([^}]*)\}|([\w ]+))")
 IMPORTED = re.compile(r"(\w+)(?: as (\w+))?")
 FUNCTION = re.compile(r"^(\s*)(?:pub(?:\([^)]*\))?\s+)?(?:const\s+)?(?:unsafe\s+)?(?:extern\s+\S+\s+)?fn\s+(\w+)")
@@ -58,17 +56,15 @@ class Block(typing.NamedTuple):
 
 @dataclasses.dataclass(frozen=True)
 class Source:
-    """A file of src/: its lines, counted from 0, whether its module is public, and the items that its names are."""
+    """A file of src/: its lines, counted from 0, whether its module is public, the words of the `pub use` lines of the
+    crate's root, and the items that its names are."""
 
     crate: str
     path: pathlib.Path
     lines: list
     is_open: bool = False
+    handed: set = frozenset()
     scope: dict = dataclasses.field(default_factory=dict)
-
-    @property
-    def text(self):
-        return "\n".join(self.lines)
 
     @property
     def module(self):
@@ -95,7 +91,7 @@ class Source:
             owner = type_in(match[2].partition(":")[0] if is_trait else match[2])
             inner = [self.lines[it] for it in span]
             scope = {**self.scope, **{it[1]: self.named(owner) for it in map(GHOST.match, inner) if it and is_trait}}
-            for it in filter(GHOST_USE.match, inner):
+            for it in inner:
                 scope.update(definitions.used(it))
             found.append(Block(span, is_trait, owner, TRAIT.match(match[2])[1] or "", scope))
         return found
@@ -136,20 +132,12 @@ class Source:
                 return range(first, at + 1)
         raise ValueError(f"{self.path}: what begins in line {first + 1} doesn't end")
 
-    def item(self, name, kind, lines, beside, cites, is_public):
-        """An item of the file."""
-        return definitions.Item(name, kind, self.crate, self.path, lines, beside, frozenset(cites), is_public)
-
     def imported(self, items):
         """Those of these items, by path, that the file's `use` lines import, by name."""
-        uses = ((path, it) for path, *names in RUST_USE.findall(self.text) for it in IMPORTED.findall(" ".join(names)))
-        paths = {other or name: re.sub(r"^crate\b", self.crate, f"{path}::{name}") for path, (name, other) in uses}
+        uses = ((path, " ".join(names)) for path, *names in RUST_USE.findall("\n".join(self.lines)))
+        found = ((path, *it) for path, names in uses for it in IMPORTED.findall(names))
+        paths = {other or name: re.sub(r"^crate\b", self.crate, f"{path}::{name}") for path, name, other in found}
         return {name: items[path] for name, path in paths.items() if path in items}
-
-    def fields(self, name):
-        """The fields of a struct of the file by name, each with the text of its type."""
-        spans = [self.whole(at, ("}", ";")) for at, (_, _, of) in self.types().items() if of == name]
-        return dict(FIELD.findall("\n".join(self.lines[it] for span in spans for it in span)))
 
 
 class Names:
@@ -158,10 +146,7 @@ class Names:
 
     def __init__(self):
         # the items by their paths, and public ones also by their crates alone
-        self.items = {}
-        # the words of the `pub use` lines of each crate's root
-        self.handed = {}
-        self.public = set()
+        self.items, self.public = {}, set()
 
     def read(self, folder):
         """The files of src/ of a crate, with what their names and the `use` lines of their contracts mean."""
@@ -169,14 +154,13 @@ class Names:
         text, paths = root.read_text(), sorted((folder / "src").rglob("*.rt"))
         handed = set(re.findall(r"\w+", " ".join(re.findall(r"(?m)^pub use ([^;]+);", text))))
         is_open = {root.stem, *re.findall(r"(?m)^pub mod (\w+);", text)}
-        found = [Source(folder.name, it, it.read_text().splitlines(), it.stem in is_open) for it in paths]
+        found = [Source(folder.name, it, it.read_text().splitlines(), it.stem in is_open, handed) for it in paths]
         own = [(source, visible, name) for source in found for visible, _, name in source.types().values()]
         for source, visible, name in own:
             item = self.items[source.named(name)] = source.named(name)
             if visible == "pub " and (source.is_open or name in handed):
                 self.public.add(item)
                 self.items[f"{folder.name}::{name}"] = item
-        self.handed[folder.name] = handed
         for source in found:
             source.scope.update({name: of.named(name) for of, _, name in reversed(own)})
             source.scope.update(source.imported(self.items))
@@ -204,9 +188,7 @@ def reached(files):
             names[caller].update(one or other for one, other in found)
             of_name[caller.name].add(caller)
     called = {caller: set().union(*(of_name.get(it, ()) for it in found)) - {caller} for caller, found in names.items()}
-    for _ in called:
-        more = {caller: found.union(*(called[it] for it in found)) for caller, found in called.items()}
-        if more == called:
-            break
+    grown = lambda: {caller: found.union(*(called[it] for it in found)) for caller, found in called.items()}
+    while (more := grown()) != called:
         called = more
     return called
