@@ -88,7 +88,7 @@ class EndsOfNumbers:
                 self.compare(table, keys, ends if kind == "float64" else ends + [10**400, -(10**400)])
 
     def test_ends_beyond_all_floats_are_named(self):
-        far = [10**309, 10**400, 10**5000, fractions.Fraction(10**400, 3), 2**1024 - 2**970]
+        far = [10**309, 10**5000, *(fractions.Fraction(it, 3) for it in (10**400, 10**5000)), 2**1024 - 2**970]
         far += [] if np is None else [np.longdouble(2) ** 1024]
         keys = [-math.inf, -LARGEST_FLOAT, 0.0, LARGEST_FLOAT, math.inf]
         with self.table(key_type="float64") as table:
@@ -156,7 +156,7 @@ class EndsOfNumbers:
         for kind, pairs in {
             "int64": [(3, 1), (0.7, 0.5), (10**5000, 2**69), (-(2**69), -(2**70)), (math.inf, 5), (GREATEST, LEAST)],
             "uint64": [(3, 1), (-1, -2), (2**70, 2**69), (UNSIGNED, 0), (math.inf, 10**400)],
-            "float64": [(0.0, -5e-324), (2**53 + 1, 2**53), (2**1023 + 1, 2**1023), (math.inf, -math.inf)],
+            "float64": [(0.0, -5e-324), (2**53 + 1, 2**53), (fractions.Fraction(1, 9**9999), 0), (math.inf, -math.inf)],
         }.items():
             with self.subTest(kind), self.table(key_type=kind) as table:
                 table.insert_many([0, 1, 2], [1, 1, 1])
