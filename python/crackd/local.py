@@ -9,11 +9,12 @@ from typing import Any, Optional, Sequence
 
 from .arrays import TOP, address, empty, from_ints, np, plain
 from .base import POLICIES, POLICY, SERIAL, SHIFT
-from .errors import Closed, Error, refused
+from .errors import Closed, Error, Refused, refused
 from .forks import NoLock, leave_in_children
 from .layout import PartLayout, Piece
 from .library import TOTALS, Handle, Totals, library
 from .placed import NOWHERE, Placed, PlacedOne, Taken, joined
+from .routing import shard_of
 from .typed import RowNumbers
 
 HISTORY = 65_536
@@ -152,6 +153,29 @@ class LocalShard:
             finally:
                 self.held += placed.done.value
         self._check(code, placed.done.value)
+        return placed.rows()
+
+    def load_many(self, keys: Any, payloads: Any, placed: Placed) -> RowNumbers:
+        """Does what `place_many` does, in a table that is closed if this raises an error: then rows after the refused
+        one may be placed. It is faster, since the library gets the rows of one partition after the other."""
+        if self.partitions == 1 or np is None:
+            return self.place_many(keys, payloads, placed)
+        parts = shard_of(np.array(self.cuts, np.uint64), keys).astype(np.uint8)
+        order = np.argsort(parts, kind="stable")
+        keys, payloads, at = keys[order], payloads[order], 0
+        refusals: dict[int, int] = {}
+        while at < len(order):
+            each = Placed(len(order) - at)
+            try:
+                self.place_many(keys[at:], payloads[at:], each)
+            except Refused as error:
+                refusals[int(order[at + error.done])] = error.code
+            placed.put(order[at : at + each.done.value], each.rows())
+            at += each.done.value
+            # (a row of another partition that is refused too may come before)
+            at += int(np.count_nonzero(parts[order[at:]] == parts[order[at]])) if at < len(order) else 0
+        placed.done.value = min(refusals, default=len(order))
+        self._check(refusals.get(placed.done.value, 0), placed.done.value)
         return placed.rows()
 
     def delete_many(self, rows: Any) -> Any:

@@ -134,7 +134,7 @@ def of_lists():
         Kind("list of int", "int64", INT_KEYS, ALL_ENDS, NO_KEYS + NO_INTEGERS + NO_INTS, NO_ENDS),
         Kind("list of large int", "uint64", UNSIGNED_KEYS, ALL_ENDS, NO_KEYS + NO_INTEGERS + NO_UNSIGNED, NO_ENDS),
         Kind("list of float", "float64", FLOAT_KEYS, NUMBER_ENDS, NO_KEYS + NO_FLOATS, NO_ENDS_OF_FLOATS),
-        Kind("list of int, float and Fraction", "float64", MIXED_KEYS, NUMBER_ENDS, NO_KEYS + NO_FLOATS, NO_ENDS_OF_FLOATS),
+        Kind("list of int, float ..", "float64", MIXED_KEYS, NUMBER_ENDS, NO_KEYS + NO_FLOATS, NO_ENDS_OF_FLOATS),
     ]
 
 
