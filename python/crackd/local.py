@@ -22,6 +22,8 @@ MOST_CELLS = 16_777_215
 MOST_LIFE = 1 << 40
 # (a history keeps the rows that selects listed, so it is emptied before these are many more than the shard's rows)
 LISTED = 100_000
+# how many rows of a load are ordered by their partitions at a time, which needs some memory
+ROWS_AT_ONCE = 100_000
 # how much memory the library takes (measured: it says only how many cells and pieces there are), for a partition that
 # has rows, for a cell and for a piece
 BYTES_OF_A_PART, BYTES_OF_A_CELL, BYTES_OF_A_PIECE = 470_000, 125, 64
@@ -157,12 +159,18 @@ class LocalShard:
 
     def load_many(self, keys: Any, payloads: Any, placed: Placed) -> RowNumbers:
         """Does what `place_many` does, in a table that is closed if this raises an error: then rows after the refused
-        one may be placed. It is faster, since the library gets the rows of one partition after the other."""
+        one may be placed. It is faster, since the library gets a partition's rows one after the other."""
         if self.partitions == 1 or np is None:
             return self.place_many(keys, payloads, placed)
+        for at in range(0, len(keys), ROWS_AT_ONCE):
+            self._load_block(keys[at : at + ROWS_AT_ONCE], payloads[at : at + ROWS_AT_ONCE], placed)
+        return placed.rows()
+
+    def _load_block(self, keys: Any, payloads: Any, placed: Placed) -> None:
+        """Inserts the rows that follow those that are placed, partition by partition."""
         parts = shard_of(np.array(self.cuts, np.uint64), keys).astype(np.uint8)
         order = np.argsort(parts, kind="stable")
-        keys, payloads, at = keys[order], payloads[order], 0
+        keys, payloads, at, before = keys[order], payloads[order], 0, placed.done.value
         refusals: dict[int, int] = {}
         while at < len(order):
             each = Placed(len(order) - at)
@@ -170,13 +178,13 @@ class LocalShard:
                 self.place_many(keys[at:], payloads[at:], each)
             except Refused as error:
                 refusals[int(order[at + error.done])] = error.code
-            placed.put(order[at : at + each.done.value], each.rows())
+            placed.put(order[at : at + each.done.value] + before, each.rows())
             at += each.done.value
             # (a row of another partition that is refused too may come before)
             at += int(np.count_nonzero(parts[order[at:]] == parts[order[at]])) if at < len(order) else 0
-        placed.done.value = min(refusals, default=len(order))
-        self._check(refusals.get(placed.done.value, 0), placed.done.value)
-        return placed.rows()
+        first = min(refusals, default=len(order))
+        placed.done.value = before + first
+        self._check(refusals.get(first, 0), placed.done.value)
 
     def delete_many(self, rows: Any) -> Any:
         (parts, serials), found, done = _parted(rows), empty("B", len(rows)), c_uint64()

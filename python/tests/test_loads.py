@@ -10,7 +10,7 @@ from test_calls import standing_in
 from test_table import numbers
 from ways import InShards, crackd, np, wants_shards
 
-from crackd import progress
+from crackd import local, progress
 
 KEYS = 1000
 
@@ -47,7 +47,7 @@ class Loads(InShards, unittest.TestCase):
                 wanted = table.insert_many(keys, payloads)
                 table.settle()
                 for how in ({}, {"progress": lambda done, rows: None}):
-                    with mock.patch.object(progress, "STEP", 100):
+                    with mock.patch.object(progress, "STEP", 100), mock.patch.object(local, "ROWS_AT_ONCE", 30):
                         found = crackd.Table.from_arrays(keys, payloads, **options, **how)
                     with found:
                         self.assertEqual(numbers(found.row_numbers), numbers(wanted))
@@ -62,7 +62,10 @@ class Loads(InShards, unittest.TestCase):
             with self.subTest(cells=cells, **options):
                 with crackd.Table(**options, cells=cells) as table:
                     wanted = self.told(table.insert_many, keys, payloads)
-                self.assertEqual(self.told(crackd.Table.from_arrays, keys, payloads, **options, cells=cells), wanted)
+                for rows in (7, 150, 1000):
+                    with mock.patch.object(local, "ROWS_AT_ONCE", rows):
+                        found = self.told(crackd.Table.from_arrays, keys, payloads, **options, cells=cells)
+                    self.assertEqual(found, wanted)
                 with crackd.Table(**options, cells=cells) as table, mock.patch.object(progress, "STEP", 70):
                     how = {"progress": lambda done, rows: None}
                     wanted = self.told(table.insert_rows, keys, payloads, **how)
