@@ -294,6 +294,7 @@ class Files:
         with crackd.Table.from_arrays([1, 2, 3], [10, 20, 40]) as saved, self.table() as table:
             saved.save(self.path)
             self.assertIs(crackd.Table.load(self.path, into=table), table)
+            self.assertEqual(sum(it.pending_in for it in table.layout().parts), 0)
             self.assertEqual((table.count(), table.sum(2)), (3, 60))
             self.assertRaises(TypeError, crackd.Table.load, self.path, into=table, partitions=2)
 
