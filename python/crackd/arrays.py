@@ -94,7 +94,7 @@ def shown(it: Any) -> str:
         text = str(it)
     except ValueError:
         # (Python itself refuses to write integers of more than some thousand digits)
-        return f"a number of {it.bit_length()} bits"
+        return f"a number of {it.bit_length()} bits" if isinstance(it, int) else f"a {type(it).__name__} of many digits"
     return text if len(text) <= MOST_SHOWN else text[:MOST_SHOWN] + ".."
 
 

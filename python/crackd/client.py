@@ -35,6 +35,10 @@ class Client(RemoteTable):
     def timeout(self, seconds: Optional[float]) -> None:
         self._timeout = checked_timeout(seconds)
 
+    def ping(self) -> None:
+        """Asks the server for a sign of life. Raises `Disconnected` if there is none."""
+        super().ping()
+
     def _check_open(self) -> None:
         with self._lock:
             self._opened()

@@ -237,7 +237,7 @@ class Keys:
         try:
             number = float(end)
         except OverflowError:
-            number = math.inf if end > 0 else -math.inf
+            raise OverflowError(f"the end {shown(end)} of a range doesn't fit into a float; an infinity does") from None
         return self._of_float(math.nextafter(number, math.inf) if number < end else number)
 
     def ends(self, low: Any, high: Any, place: Optional[int] = None) -> tuple[int, int]:

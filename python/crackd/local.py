@@ -9,11 +9,12 @@ from typing import Any, Optional, Sequence
 
 from .arrays import TOP, address, empty, from_ints, np, plain
 from .base import POLICIES, POLICY, SERIAL, SHIFT
-from .errors import Closed, Error, refused
+from .errors import Closed, Error, Refused, refused
 from .forks import NoLock, leave_in_children
 from .layout import PartLayout, Piece
 from .library import TOTALS, Handle, Totals, library
 from .placed import NOWHERE, Placed, PlacedOne, Taken, joined
+from .routing import shard_of
 from .typed import RowNumbers
 
 HISTORY = 65_536
@@ -21,6 +22,8 @@ MOST_CELLS = 16_777_215
 MOST_LIFE = 1 << 40
 # (a history keeps the rows that selects listed, so it is emptied before these are many more than the shard's rows)
 LISTED = 100_000
+# how many rows of a load are ordered by their partitions at a time, which needs some memory
+ROWS_AT_ONCE = 100_000
 # how much memory the library takes (measured: it says only how many cells and pieces there are), for a partition that
 # has rows, for a cell and for a piece
 BYTES_OF_A_PART, BYTES_OF_A_CELL, BYTES_OF_A_PIECE = 470_000, 125, 64
@@ -153,6 +156,35 @@ class LocalShard:
                 self.held += placed.done.value
         self._check(code, placed.done.value)
         return placed.rows()
+
+    def load_many(self, keys: Any, payloads: Any, placed: Placed) -> RowNumbers:
+        """Does what `place_many` does, in a table that is closed if this raises an error: then rows after the refused
+        one may be placed. It is faster, since the library gets a partition's rows one after the other."""
+        if self.partitions == 1 or np is None:
+            return self.place_many(keys, payloads, placed)
+        for at in range(0, len(keys), ROWS_AT_ONCE):
+            self._load_block(keys[at : at + ROWS_AT_ONCE], payloads[at : at + ROWS_AT_ONCE], placed)
+        return placed.rows()
+
+    def _load_block(self, keys: Any, payloads: Any, placed: Placed) -> None:
+        """Inserts the rows that follow those that are placed, partition by partition."""
+        parts = shard_of(np.array(self.cuts, np.uint64), keys).astype(np.uint8)
+        order = np.argsort(parts, kind="stable")
+        keys, payloads, at, before = keys[order], payloads[order], 0, placed.done.value
+        refusals: dict[int, int] = {}
+        while at < len(order):
+            each = Placed(len(order) - at)
+            try:
+                self.place_many(keys[at:], payloads[at:], each)
+            except Refused as error:
+                refusals[int(order[at + error.done])] = error.code
+            placed.put(order[at : at + each.done.value] + before, each.rows())
+            at += each.done.value
+            # (a row of another partition that is refused too may come before)
+            at += int(np.count_nonzero(parts[order[at:]] == parts[order[at]])) if at < len(order) else 0
+        first = min(refusals, default=len(order))
+        placed.done.value = before + first
+        self._check(refusals.get(first, 0), placed.done.value)
 
     def delete_many(self, rows: Any) -> Any:
         (parts, serials), found, done = _parted(rows), empty("B", len(rows)), c_uint64()

@@ -30,12 +30,17 @@ class Placed:
     def __init__(self, size: int):
         self.parts, self.serials, self.done = empty("I", size), empty("Q", size), c_uint64()
         # (after a refusal there may be no memory for the row numbers)
-        self._rows = empty("Q", size)
+        self._rows, self._is_put = empty("Q", size), False
 
     def rows(self) -> RowNumbers:
         """The numbers of the rows that are placed."""
-        found: RowNumbers = joined(self.parts, self.serials, self._rows, self.done.value)
+        done = self.done.value
+        found: RowNumbers = self._rows[:done] if self._is_put else joined(self.parts, self.serials, self._rows, done)
         return found
+
+    def put(self, places: Any, rows: RowNumbers) -> None:
+        """Notes the numbers of rows that other calls have placed, by the places of these among all rows."""
+        self._rows[places], self._is_put = rows, True
 
 
 class PlacedOne:

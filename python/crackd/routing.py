@@ -46,7 +46,7 @@ class Cut(NamedTuple):
 
 
 def shard_of(cuts: Any, keys: Any) -> Any:
-    """The shard of each key."""
+    """The shard, or the partition, of each key."""
     if len(cuts) >= FEW_SHARDS:
         return np.searchsorted(cuts, keys, side="right")
     found = np.zeros(len(keys), np.uint8)

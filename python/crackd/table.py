@@ -28,7 +28,8 @@ MOST_BY_DEFAULT = 16
 # how many keys of an array are drawn as a sample
 SAMPLED = 10_000
 # how many items a call for many has if its shards answer side by side, and how many rows a table has for other calls
-LONG = {"place_many": 2000, "delete_many": 2000, "update_many": 2000, "count_many": 200, "sum_many": 200}
+LONG = {"place_many": 2000, "load_many": 2000, "delete_many": 2000, "update_many": 2000, "count_many": 200}
+LONG["sum_many"] = 200
 LONG_BY_ROWS = ("select", "settle", "checkpoint", "layouts")
 MANY_ROWS = 20_000
 # up to so many items are cheaper one by one than cut by shard
@@ -160,7 +161,7 @@ class Table(TableHere, Sharded):
         if payloads is None:
             payloads = range(len(keys)) if np is None else np.arange(len(keys))
         try:
-            table.row_numbers = table.insert_rows(keys, payloads, progress=progress)
+            table.row_numbers = table._load_rows(keys, payloads, progress)
             table.settle()
         except BaseException:
             table.close()
@@ -184,31 +185,41 @@ class Table(TableHere, Sharded):
 
     @telling
     def insert_rows(self, placed: list[Any], keys: Any, payloads: Any, *, progress: Progress = None) -> RowNumbers:
+        return self._place_rows(placed, keys, payloads, progress, "place_many")
+
+    @telling
+    def _load_rows(self, placed: list[Any], keys: Any, payloads: Any, progress: Progress) -> RowNumbers:
+        """Inserts rows into a new table, which is closed if this raises an error."""
+        return self._place_rows(placed, keys, payloads, progress, "load_many")
+
+    def _place_rows(self, placed: list[Any], keys: Any, payloads: Any, progress: Progress, how: str) -> RowNumbers:
         report, (numbers, payloads) = reporter(progress), self._row_words(keys, payloads)
         if report is None:
-            return self._place(placed, numbers, payloads)
+            return self._place(placed, numbers, payloads, how)
         for at, end in pieces_of(len(numbers)):
             try:
-                self._place(placed, numbers[at:end], payloads[at:end])
+                self._place(placed, numbers[at:end], payloads[at:end], how)
             except Refused as error:
                 raise refused(error.code, at + error.done, error.later) from None
             report(end, len(numbers))
         return rows_of(placed)
 
-    def _place(self, placed: list[Any], keys: Any, payloads: Any) -> RowNumbers:
-        """Inserts rows. Returns their numbers. Before any is placed, it is added to the list where they will be."""
+    def _place(self, placed: list[Any], keys: Any, payloads: Any, how: str = "place_many") -> RowNumbers:
+        """Inserts rows, by this method of shards. Returns their numbers. Before any is placed, it is added to the list
+        where they will be."""
         if self.shards == 1:
             placed.append(Placed(len(keys)))
-            return self._shards[0].place_many(keys, payloads, placed[-1])
+            rows: RowNumbers = getattr(self._shards[0], how)(keys, payloads, placed[-1])
+            return rows
         if len(keys) <= FEW_ITEMS:
             return self._place_in_turn(placed, keys, payloads)
         found = PlacedInShards(shard_of(self._shard_cuts, keys))
         placed.append(found)
         cuts = {it: Cut((keys, payloads), places, (found.each[it],)) for it, places in found.blocks}
-        answers, errors = self._ask(cuts, "place_many")
+        answers, errors = self._ask(cuts, how)
         if errors:
             raise found.error(errors)
-        rows: RowNumbers = placed_rows(found.blocks, answers, len(keys))
+        rows = placed_rows(found.blocks, answers, len(keys))
         return rows
 
     def _place_in_turn(self, placed: list[Any], keys: Any, payloads: Any) -> RowNumbers:

@@ -97,19 +97,23 @@ def value(it):
 
 WHOLE_ENDS = sorted(
     {sign * (it + more) for it in (0, EXACT, 2**62, 2**63, 2**64, 2**70) for more in (-1, 0, 1) for sign in (-1, 1)}
-    | {10**400, -(10**400)}
+    | {2**1023 + 1, -(2**1023) - 1}
 )
 FLOAT_ENDS = [-math.inf, -LARGEST_FLOAT, -(2.0**64), -1.5, -0.5, -SMALLEST_FLOAT, -0.0, 0.0, 0.5, 1.5, 2.0**53 - 0.5]
 FLOAT_ENDS += [sign * math.nextafter(2.0**it, to) for it in (53, 63, 64) for to in (0, math.inf) for sign in (-1, 1)]
 FLOAT_ENDS += [SMALLEST_FLOAT, 2.0**53, 2.0**63, -(2.0**63), 2.0**64, LARGEST_FLOAT, math.inf]
 THIRD = fractions.Fraction(1, 3)
 FRACTION_ENDS = [it + more for it in (LEAST, -EXACT, 0, EXACT, GREATEST, UNSIGNED) for more in (-THIRD, THIRD)]
-FRACTION_ENDS += [fractions.Fraction(10**400, 3), fractions.Fraction(-(10**400), 3), THIRD / 10**400]
+FRACTION_ENDS += [THIRD / 10**400, -THIRD / 10**400]
 NUMBER_ENDS = [*WHOLE_ENDS, *FLOAT_ENDS, *FRACTION_ENDS]
+# beyond all floats: ends of integers, and not of floats
+FAR_ENDS = [sign * it for it in (2**1024, 10**400, fractions.Fraction(10**400, 3)) for sign in (-1, 1)]
+ALL_ENDS = [*NUMBER_ENDS, *FAR_ENDS]
 
 NO_NUMBERS = ["1", "", None, b"12345678", b"1", True, False, 1j, decimal.Decimal(1), [1], datetime.date(2020, 1, 1)]
 NO_KEYS = [(it, TypeError) for it in NO_NUMBERS]
 NO_ENDS = [(it, error) for it, error in NO_KEYS if it is not None] + [(math.nan, ValueError), (-math.nan, ValueError)]
+NO_ENDS_OF_FLOATS = NO_ENDS + [(it, OverflowError) for it in FAR_ENDS]
 NO_INTEGERS = [(it, TypeError) for it in (1.0, 0.5, math.inf, math.nan, fractions.Fraction(1), THIRD)]
 NO_INTS = [(it, OverflowError) for it in (LEAST - 1, GREATEST + 1, UNSIGNED, 2**64, -(10**400), 10**400)]
 NO_UNSIGNED = [(it, OverflowError) for it in (-1, LEAST, 2**64, 2**64 + 1, -(10**400), 10**400)]
@@ -127,10 +131,10 @@ MIXED_KEYS = [-EXACT, -2.5, fractions.Fraction(-1, 2), 0, fractions.Fraction(1, 
 def of_lists():
     """The kinds of lists of Python's numbers."""
     return [
-        Kind("list of int", "int64", INT_KEYS, NUMBER_ENDS, NO_KEYS + NO_INTEGERS + NO_INTS, NO_ENDS),
-        Kind("list of large int", "uint64", UNSIGNED_KEYS, NUMBER_ENDS, NO_KEYS + NO_INTEGERS + NO_UNSIGNED, NO_ENDS),
-        Kind("list of float", "float64", FLOAT_KEYS, NUMBER_ENDS, NO_KEYS + NO_FLOATS, NO_ENDS),
-        Kind("list of int, float and Fraction", "float64", MIXED_KEYS, NUMBER_ENDS, NO_KEYS + NO_FLOATS, NO_ENDS),
+        Kind("list of int", "int64", INT_KEYS, ALL_ENDS, NO_KEYS + NO_INTEGERS + NO_INTS, NO_ENDS),
+        Kind("list of large int", "uint64", UNSIGNED_KEYS, ALL_ENDS, NO_KEYS + NO_INTEGERS + NO_UNSIGNED, NO_ENDS),
+        Kind("list of float", "float64", FLOAT_KEYS, NUMBER_ENDS, NO_KEYS + NO_FLOATS, NO_ENDS_OF_FLOATS),
+        Kind("list of int, float ..", "float64", MIXED_KEYS, NUMBER_ENDS, NO_KEYS + NO_FLOATS, NO_ENDS_OF_FLOATS),
     ]
 
 
@@ -149,7 +153,7 @@ def limits(dtype):
 def of_numbers():
     """The kinds of arrays of numbers, and ends of every type of numpy."""
     arrays = [limits(it) for it in (*WHOLE_TYPES, *FLOAT_TYPES)] + [limits("int64").astype(">i8")]
-    ends = [*NUMBER_ENDS, *(it for array in arrays for it in array)]
+    of_numpy = [it for array in arrays for it in array]
     kinds = []
     for dtype in (*WHOLE_TYPES, *FLOAT_TYPES):
         wrong = list({"i": NO_INTEGERS + NO_INTS, "u": NO_INTEGERS + NO_UNSIGNED, "f": NO_FLOATS}[np.dtype(dtype).kind])
@@ -158,7 +162,10 @@ def of_numbers():
         if dtype == "int64":
             keys = list(np.array(INT_KEYS, dtype))
         wrong += NO_KEYS + wrong_of_numpy(dtype)
-        wrong_ends = NO_ENDS + [(np.bool_(True), TypeError), (np.timedelta64(1, "s"), TypeError)]
+        is_float = key_type == "float64"
+        ends = [*(NUMBER_ENDS if is_float else ALL_ENDS), *of_numpy]
+        wrong_ends = NO_ENDS_OF_FLOATS if is_float else NO_ENDS
+        wrong_ends = wrong_ends + [(np.bool_(True), TypeError), (np.timedelta64(1, "s"), TypeError)]
         wrong_ends += [(np.float32("nan"), ValueError), (np.datetime64("2020-01-01"), TypeError)]
         kinds.append(Kind(dtype, key_type, keys, ends, wrong, wrong_ends, dtype, arrays))
     return kinds

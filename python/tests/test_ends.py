@@ -11,6 +11,7 @@ from test_cluster import OnWorkers, begin, end
 from ways import InProcess, InShards, OverTcp, crackd, np, wants_library, wants_numpy, wants_program, wants_shards
 
 LEAST, GREATEST, UNSIGNED = -(2**63), 2**63 - 1, 2**64 - 1
+LARGEST_FLOAT = 1.7976931348623157e308
 SECOND = 10**18
 SIZES = {"W": 604_800 * SECOND, "D": 86_400 * SECOND, "h": 3600 * SECOND, "m": 60 * SECOND, "s": SECOND}
 SIZES |= {"ms": 10**15, "us": 10**12, "ns": 10**9, "ps": 10**6, "fs": 1000, "as": 1}
@@ -77,14 +78,45 @@ class EndsOfNumbers:
             "uint64": [0, 1, 2**53, 2**53 + 1, GREATEST, 2**63, UNSIGNED - 1, UNSIGNED],
             "float64": [-math.inf, -1.7e308, -2.0**53, -0.5, 0.0, 5e-324, 2.0**53, 2.0**53 + 2, 1.7e308, math.inf],
         }
-        near = [2**53, GREATEST, UNSIGNED, 2**64, 10**30, 10**400]
+        near = [2**53, GREATEST, UNSIGNED, 2**64, 10**30, 2**1023]
         ends = [sign * (it + more) for it in near for more in (-1, 0, 1) for sign in (-1, 1)] + [0, 1, -1]
         ends += [0.5, -0.5, 1e300, -1e300, 2.0**63, -(2.0**63), 2.0**64, math.inf, -math.inf, 5e-324, -0.0]
         ends += [fractions.Fraction(1, 3), fractions.Fraction(-1, 10**400), fractions.Fraction(2**64 + 1, 2)]
         for kind, keys in kinds.items():
             with self.subTest(kind), self.table(key_type=kind) as table:
                 table.insert_many(keys, [2**at for at in range(len(keys))])
-                self.compare(table, keys, ends)
+                self.compare(table, keys, ends if kind == "float64" else ends + [10**400, -(10**400)])
+
+    def test_ends_beyond_all_floats_are_named(self):
+        far = [10**309, 10**5000, *(fractions.Fraction(it, 3) for it in (10**400, 10**5000)), 2**1024 - 2**970]
+        far += [] if np is None else [np.longdouble(2) ** 1024]
+        keys = [-math.inf, -LARGEST_FLOAT, 0.0, LARGEST_FLOAT, math.inf]
+        with self.table(key_type="float64") as table:
+            table.insert_many(keys, [1, 2, 4, 8, 16])
+            for end in [*far, *(-it for it in far)]:
+                self.not_a_float(table, end)
+            # (floats that are rounded aren't beyond them)
+            last = 2**1024 - 2**970 - 1
+            ends = [math.inf, LARGEST_FLOAT, last, int(LARGEST_FLOAT) + 1, 0, -last, -math.inf]
+            self.assertEqual([table.sum(it) for it in ends], [16, 24, 16, 16, 28, 30, 31])
+            self.assertEqual(table.sum_many(None, ends), [15, 7, 15, 15, 3, 1, 0])
+
+    def not_a_float(self, table, end):
+        """An end that no float holds, in each method that takes ranges: an error that says so, and is short."""
+        with self.subTest(sign=end > 0):
+            for name in ("count", "sum", "mean", "select", "select_chunks", "delete_range"):
+                call = getattr(table, name)
+                for words in [(end,), (None, end), (end, end), (end, math.inf)]:
+                    with self.assertRaisesRegex(OverflowError, "^the end .* of a range doesn't fit into a float") as it:
+                        call(*words)
+                    self.assertLess(len(str(it.exception)), 200)
+            for name in ("count_many", "sum_many"):
+                call = getattr(table, name)
+                for words in [([end], None), (None, [0.5, end]), ([None, -math.inf], [0, end])]:
+                    self.assertRaisesRegex(OverflowError, "doesn't fit into a float", call, *words)
+            for name in ("count_by", "sum_by"):
+                self.assertRaisesRegex(OverflowError, "doesn't fit into a float", getattr(table, name), [end, 0, end])
+            self.assertEqual(table.count(), 5)
 
     @wants_numpy
     def test_ends_of_numpy_keep_their_digits(self):
@@ -124,7 +156,7 @@ class EndsOfNumbers:
         for kind, pairs in {
             "int64": [(3, 1), (0.7, 0.5), (10**5000, 2**69), (-(2**69), -(2**70)), (math.inf, 5), (GREATEST, LEAST)],
             "uint64": [(3, 1), (-1, -2), (2**70, 2**69), (UNSIGNED, 0), (math.inf, 10**400)],
-            "float64": [(0.0, -5e-324), (2**53 + 1, 2**53), (10**400, 10**399), (math.inf, -math.inf)],
+            "float64": [(0.0, -5e-324), (2**53 + 1, 2**53), (fractions.Fraction(1, 9**9999), 0), (math.inf, -math.inf)],
         }.items():
             with self.subTest(kind), self.table(key_type=kind) as table:
                 table.insert_many([0, 1, 2], [1, 1, 1])

@@ -235,6 +235,9 @@ class LoadsInProcess(Loads, InProcess, unittest.TestCase):
     def test_a_load_into_a_new_table(self):
         with crackd.load_csv(self.path("a,b\n1.50,2\n-3.25,4\n"), "a", "b", key_decimals=2, partitions=2) as table:
             self.assertEqual((table.count(), table.sum(0), table.sum(None, 0)), (2, 2, 4))
+        for keys in ("1.50,2\n-0.25,4\n", "1.5,2\n-0.2,4\n"):
+            with self.assertRaisesRegex(crackd.CsvError, "line 2, column 1: '-0"):
+                crackd.load_csv(self.path(keys), key_type="uint64", key_decimals=2)
         with crackd.load_csv(self.path(f"{2**64 - 1},1\n0,2\n"), key_type="uint64") as table:
             self.assertEqual((table.sum(1), table.sum(0, 1)), (1, 2))
         with crackd.load_csv(self.path("2.5,1\n-1e9,2\n"), key_type=float) as table:

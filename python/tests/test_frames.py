@@ -174,10 +174,13 @@ class Frames:
 
 class Data:
     """An object with a stream of Arrow: its columns by name, as pairs of a format and batches of items, None where one
-    is missing. `offset` items precede each batch in its buffers. `alive` is how many structures aren't released."""
+    is missing. `offset` items precede each batch in its buffers, and `skipped` rows of each batch precede those that
+    count, of which the one at the place `gap` is missing in all columns. `alive` is how many structures aren't
+    released."""
 
-    def __init__(self, columns, offset=0, nulls=None, is_struct=True, fault=None):
+    def __init__(self, columns, offset=0, nulls=None, is_struct=True, fault=None, skipped=0, gap=None):
         self.columns, self.offset, self.nulls, self.is_struct, self.fault = columns, offset, nulls, is_struct, fault
+        self.skipped, self.gap = skipped, gap
         self.batches = len(next(iter(columns.values()))[1]) if columns else 0
         self.alive, self.kept, self.next = 0, [], 0
 
@@ -227,11 +230,12 @@ class Data:
         """An array of a column, whose items begin after some others."""
         dtype = arrow.NUMBERS.get(form) or arrow.DATES.get(form.partition(":")[0], ("i8",))[0]
         there = [it is not None for it in items]
-        values = np.array([7] * self.offset + [0 if it is None else it for it in items], dtype)
-        bits = np.packbits(np.array([True] * self.offset + there, bool), bitorder="little")
+        before = self.offset + self.skipped
+        values = np.array([7] * before + [0 if it is None else it for it in items], dtype)
+        bits = np.packbits(np.array([True] * before + there, bool), bitorder="little")
         buffers = (ctypes.c_void_p * 2)(None if self.nulls == "none" else bits.ctypes.data, values.ctypes.data)
         self.kept.append((values, bits, buffers))
-        made = arrow.Array(length=len(items), offset=self.offset, n_buffers=2)
+        made = arrow.Array(length=self.skipped + len(items), offset=self.offset, n_buffers=2)
         made.null_count = -1 if self.nulls == "unknown" else there.count(False)
         made.buffers = ctypes.cast(buffers, ctypes.POINTER(ctypes.c_void_p))
         return made
@@ -246,9 +250,11 @@ class Data:
         self.next += 1
         made = pointer.contents
         if self.is_struct:
-            buffers = (ctypes.c_void_p * 1)(None)
-            self.kept.append(buffers)
-            made.length, made.n_buffers, made.n_children = found[0].length, 1, len(found)
+            bits = np.packbits(np.arange(found[0].length) != self.skipped + (self.gap or 0), bitorder="little")
+            buffers = (ctypes.c_void_p * 1)(None if self.gap is None else bits.ctypes.data)
+            self.kept.append((buffers, bits))
+            made.length, made.n_buffers, made.n_children = found[0].length - self.skipped, 1, len(found)
+            made.offset, made.null_count = self.skipped, -1
             made.buffers = ctypes.cast(buffers, ctypes.POINTER(ctypes.c_void_p))
             made.children = self.children(arrow.Array, found)
         else:
@@ -313,6 +319,22 @@ class OfArrow:
         data = Data({"k": ("l", [[1, 2]]), "p": ("l", [[1, None]])}, nulls="unknown")
         self.assertRaisesRegex(ValueError, "column 'p' has a gap at row 1", self.filled, data, "k", "p")
         self.assertEqual(self.filled(data, "k"), [(1, 0), (2, 1)])
+
+    def test_batches_that_begin_amid_their_columns(self):
+        columns = {"k": ("s", [[1, 2], [3]]), "p": ("l", [[5, 6], [7]])}
+        gaps = {"k": ("l", [[1, 2], [3, None]])}
+        for skipped, offset in [(1, 0), (8, 0), (13, 3)]:
+            with self.subTest(skipped=skipped):
+                found = self.filled(Data(columns, offset, skipped=skipped), "k", "p")
+                self.assertEqual(found, [(1, 5), (2, 6), (3, 7)])
+                with self.assertRaisesRegex(ValueError, "has a gap at row 3"):
+                    self.filled(Data(gaps, offset, skipped=skipped))
+
+    def test_a_row_that_is_missing_as_a_whole(self):
+        for skipped in (0, 9):
+            data = Data({"k": ("l", [[1, 2], [3, 4]])}, skipped=skipped, gap=1)
+            self.assertRaisesRegex(ValueError, "has a gap at row 1", self.filled, data)
+            self.assertEqual(data.alive, 0)
 
     def test_columns_without_a_list_of_gaps(self):
         self.assertEqual(self.filled(Data({"k": ("l", [[1], [2]])}, 3, "none")), [(1, 0), (2, 1)])

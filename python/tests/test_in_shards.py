@@ -19,7 +19,7 @@ from test_signals import SECONDS, Signalling, handling
 from test_table import numbers
 from ways import InShards, crackd, np, wants_shards
 
-from crackd import library, pool, routing
+from crackd import library, local, pool, routing
 
 # (seconds after which a test that hangs fails)
 SPLITS, EACH, WAIT = [100, 200], 40, 120
@@ -45,6 +45,12 @@ def stopping(table, shard, count, code=8):
         return code
 
     return standing_in(insert_many=call, delete_many=call, update_many=call)
+
+
+def stopping_one(table, shard):
+    """Has a shard be refused each single insertion."""
+    handle = table._shards[shard]._handle
+    return standing_in(insert=lambda real, *words: 8 if words[0]._obj is handle else real(*words))
 
 
 @wants_shards
@@ -156,6 +162,30 @@ class Rows(InShards, unittest.TestCase):
 
                 self.assertEqual(table._drive(table._alone_steps(steps())), [True] * shards)
                 self.assertEqual(held(), [False] * shards)
+
+    def test_a_move_holds_both_shards_from_its_first_step_to_its_last(self):
+        with self.table(splits=SPLITS) as table:
+            held = []
+
+            def noting(real):
+                def call(shard, *words):
+                    held.append([it.is_asking for it in table._shards])
+                    return real(shard, *words)
+
+                return call
+
+            steps = {name: noting(getattr(local.LocalShard, name)) for name in ("take_into", "place")}
+            row = table.insert(5, 7)
+            for key, both in [(250, [0, 2]), (150, [1, 2]), (160, [1]), (20, [0, 1])]:
+                with self.subTest(key), mock.patch.multiple(local.LocalShard, **steps):
+                    row = table.move(row, key)
+                self.assertEqual(held, [[it in both for it in range(3)]] * 2)
+                held.clear()
+            with mock.patch.multiple(local.LocalShard, **steps), stopping_one(table, 2):
+                self.assertRaises(crackd.OutOfMemory, table.move, row, 250)
+            # (it is taken, not placed, and put back)
+            self.assertEqual(held, [[True, False, True]] * 3)
+            self.assertEqual((table.count(), table.sum(20, 21)), (1, 7))
 
     def test_rows_of_other_shards(self):
         with self.table(splits=SPLITS) as table:

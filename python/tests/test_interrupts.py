@@ -4,6 +4,7 @@ stays locked."""
 import contextlib
 import dis
 import functools
+import gc
 import inspect
 import pathlib
 import sys
@@ -102,6 +103,11 @@ def in_a_thread(work):
 
 class Interrupts:
     """What is done with a table, and checked, after an interrupt at each place."""
+
+    def setUp(self):
+        # (an interrupt of the `__del__` of an earlier table, which is collected meanwhile, goes unnoticed)
+        gc.collect(), gc.disable()
+        self.addCleanup(gc.enable)
 
     def interrupt(self, call, check, watching=Interrupting.here):
         """Interrupts a call at each of its places. Each time what it returned or raised is checked."""

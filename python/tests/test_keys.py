@@ -117,6 +117,7 @@ class Arguments:
         exact = [0, -1, 2**53, 2**70, -(2**1000), 0.1, -0.0, 5e-324, math.inf, -math.inf, fractions.Fraction(1, 4)]
         exact += [] if np is None else [np.float32(0.1), np.int64(2**62), np.uint8(3), np.longdouble(0.5)]
         wrong = [2**53 + 1, -(2**53) - 1, 10**400, -(10**400), 10**5000, fractions.Fraction(1, 3)]
+        wrong += [fractions.Fraction(10**5000, 3), fractions.Fraction(1, 3**9999)]
         wrong += [] if np is None else [np.int64(2**53 + 1), np.longdouble(2) ** 63 + np.longdouble(1)]
         with self.table(key_type="float64") as table:
             for key in exact:

@@ -223,6 +223,12 @@ class Questions:
             self.assertEqual([other.get(it) for it in found.new_of(rows)], [(1, 10), (2, 20), (150, 30)])
             self.assertRaises(TypeError, table.rebalanced, other, splits=[1])
 
+    def test_a_refused_copy_leaves_both_tables_open(self):
+        with self.table(splits=[100]) as table, crackd.Table(cells=2) as other:
+            table.insert_many([1, 2, 3], [10, 20, 30])
+            self.assertRaises(crackd.Full, table.rebalanced, other)
+            self.assertEqual((other.sum(), table.sum(), len(table)), (30, 60, 3))
+
     def test_progress(self):
         with self.table(splits=[5]) as table, mock.patch("crackd.progress.STEP", 3):
             told = []
@@ -288,6 +294,7 @@ class Files:
         with crackd.Table.from_arrays([1, 2, 3], [10, 20, 40]) as saved, self.table() as table:
             saved.save(self.path)
             self.assertIs(crackd.Table.load(self.path, into=table), table)
+            self.assertEqual(sum(it.pending_in for it in table.layout().parts), 0)
             self.assertEqual((table.count(), table.sum(2)), (3, 60))
             self.assertRaises(TypeError, crackd.Table.load, self.path, into=table, partitions=2)
 
