@@ -219,8 +219,8 @@ impl Kept {
     /// and one that reads a range has at most cracked the column at its ends and merged in part or as a whole. An
     /// insert is O(1), amortised, a delete and an update O(log pieces), without upkeep. A command that reads a range
     /// cracks the pieces in which its ends fall and merges by the policy what its range needs; a count is then O(log
-    /// pieces), a sum as well, with a step for each piece in the range whose sum is known, and for each row of the
-    /// others, and a select O(m log m) for m rows in the range.
+    /// pieces), a sum as well, with a step for each row of the pieces whose sum isn't known, and a select O(m log m)
+    /// for m rows in the range.
     #[inline(always)]
     pub fn apply(
         &mut self,

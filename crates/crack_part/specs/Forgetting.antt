@@ -1,6 +1,6 @@
 -- What private clauses alone cite.
 -- Which bounds are forgotten under auto before a range is read.
-use Rattle.std.specs.Prelude.{◌≡◌, ◌⊎◌, ℕ, true, ◌+◌, ◌-◌, ◌*◌, ◌<◌, ◌≤◌, ◌==◌, nat_le, min, cond, List, [], ◌∷◌, length, Option, Some, None}
+use Rattle.std.specs.Prelude.{◌≡◌, ◌⊎◌, ℕ, ℤ, true, ◌+◌, ◌-◌, ◌*◌, ◌<◌, ◌≤◌, ◌==◌, nat_le, min, cond, List, [], ◌∷◌, length, Option, Some, None}
 use Rattle.std.specs.Option.{option_map, option_or}
 use Rattle.crack_row.specs.Commands.{change_of, range_of}
 use Rattle.crack_row.specs.Ranges.{Range, clipped}
@@ -10,8 +10,10 @@ use Rattle.crack_row.specs.declared.command.Policy.{Policy}
 use Rattle.crack_row.specs.declared.command.Policy.TheVariants.{Complete, Auto}
 use Rattle.crack_index.specs.declared.mark.Mark.{Mark}
 use Rattle.crack_index.specs.Passes.{Progress, pass_above, are_few, met, left_behind, stopped_at}
+use Rattle.crack_index.specs.Sums.{joined}
 use Rattle.crack_state.specs.State.{State, greatest}
 use Rattle.crack_state.specs.Steps.{SameButRoom}
+use Rattle.crack_part.specs.KnownSums.{Known}
 use Rattle.crack_part.specs.Parts.{is_merged_first, CracksAndMerges, ReadiesAnd, StopsAt, Performs}
 use Rattle.crack_part.specs.declared.coarsening.TheConstants.{FEW_ROWS, MOST_BOUNDS}
 use Rattle.crack_part.specs.declared.passes.Passes.{Passes}
@@ -42,7 +44,12 @@ abbrev pub ended : ℕ → Progress → List Mark → Progress
 ended len p [] = p
 ended len p (m ∷ ms) = cond (nat_le m.bound.0 p.after) (ended len p ms) (cond (p.bounds == 0) p (cond (are_few len (met m p) ms) (ended len (met m p) ms) (ended len (left_behind m (met m p)) ms)))
 
--- a pass over the bounds above a key: to it few rows are 1,024, and it meets 2,048 bounds at most
+-- the known sums after a pass: at each bound that it forgets the two pieces are joined, the lowest first
+abbrev pub joined_by : ℕ → Progress → List Mark → List (ℕ × ℤ) → List (ℕ × ℤ)
+joined_by len p [] es = es
+joined_by len p (m ∷ ms) es = cond (nat_le m.bound.0 p.after) (joined_by len p ms es) (cond (p.bounds == 0) es (cond (are_few len (met m p) ms) (joined_by len (met m p) ms (joined m.bound.0 es)) (joined_by len (left_behind m (met m p)) ms es)))
+
+-- a pass over the bounds above a key: to it few rows are 2,048, and it meets 2,048 bounds at most
 abbrev pub pass_of : Key → State → Progress
 pass_of key s = pass_above key.0 FEW_ROWS MOST_BOUNDS s.marks
 
@@ -50,6 +57,11 @@ pass_of key s = pass_above key.0 FEW_ROWS MOST_BOUNDS s.marks
 abbrev pub coarsened : Option Key → State → State
 coarsened None s = s
 coarsened (Some key) s = record s { marks = left_by (length s.column) (pass_of key s) s.marks }
+
+-- what is known of sums after it: the sums of the pieces that it joined are known where both were, and all others as before
+abbrev pub known_after : Option Key → State → Known → Known
+known_after None s known = known
+known_after (Some key) s known = record known { pieces = joined_by (length s.column) (pass_of key s) s.marks known.pieces }
 
 -- what is noted of it: how many rows had been moved by then, and the key at which it stopped, if it did; without a pass nothing is noted
 abbrev pub noted : Option Key → State → Passes → Passes

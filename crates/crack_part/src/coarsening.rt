@@ -1,7 +1,7 @@
 //! Bounds that a partition forgets under `Policy::Auto`.
 ghost use Rattle.std.specs.Prelude.{◌≡◌, Some};
 ghost use Rattle.crack_plain.specs.Plain.{PlainState};
-ghost use Rattle.crack_part.specs.Forgetting.{coarsened, due_by, noted};
+ghost use Rattle.crack_part.specs.Forgetting.{coarsened, due_by, known_after, noted};
 ghost use Rattle.crack_part.specs.KnownSums.{Knows};
 
 use crate::known::KnownSums;
@@ -10,16 +10,18 @@ use crack_row::{Key, Policy};
 use crack_store::Store;
 
 /// A bound is forgotten if its two pieces hold at most this many rows together.
-const FEW_ROWS: usize = 1024;
+const FEW_ROWS: usize = 2048;
 
 /// How many bounds a pass meets before one read, in less than 2 ms.
 const MOST_BOUNDS: usize = 2048;
 
-/// Forgets bounds under `Policy::Auto`, if a pass over them is due. No row moves. Takes no memory.
+/// Forgets bounds under `Policy::Auto`, if a pass over them is due, and joins the known sums of their pieces. No row
+/// moves. Takes no memory.
 #[inline(always)]
 pub(crate) fn coarsen(store: &mut Store, passes: &mut Passes, known: &mut KnownSums, policy: Policy)
     ensures coarse { store.new ≡ coarsened (due_by policy passes.old store.old) store.old }
     ensures noted { passes.new ≡ noted (due_by policy passes.old store.old) store.old passes.old }
+    ensures joins { known.new ≡ known_after (due_by policy passes.old store.old) store.old known.old }
     ensures knows { (plain : PlainState) → Knows known.old plain → Knows known.new plain }
 {
     match policy {
@@ -37,6 +39,7 @@ pub(crate) fn coarsen(store: &mut Store, passes: &mut Passes, known: &mut KnownS
 fn forget_after(store: &mut Store, passes: &mut Passes, known: &mut KnownSums, key: Key)
     ensures coarse { store.new ≡ coarsened (Some key) store.old }
     ensures noted { passes.new ≡ noted (Some key) store.old passes.old }
+    ensures joins { known.new ≡ known_after (Some key) store.old known.old }
     ensures knows { (plain : PlainState) → Knows known.old plain → Knows known.new plain }
 {
     let mut pass = store.pass_after(key, FEW_ROWS, MOST_BOUNDS);

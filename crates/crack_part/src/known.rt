@@ -3,7 +3,7 @@ ghost use Rattle.std.specs.Prelude.{◌≡◌, ℕ, ℤ, ◌<◌, ◌≤◌, ◌
 ghost use Rattle.std.specs.Map.{keys_of};
 ghost use Rattle.crack_row.specs.Rows.{sum_of};
 ghost use Rattle.crack_plain.specs.Plain.{PlainState, IsNumbered, row_in, rows_in, after};
-ghost use Rattle.crack_index.specs.Sums.{AreRight, AreKnown, IsEnd, distance_in};
+ghost use Rattle.crack_index.specs.Sums.{AreRight, AreKnown, IsEnd, distance_in, joined};
 ghost use Rattle.crack_state.specs.Merge.{IsCracked, IsSettled};
 ghost use Rattle.crack_part.specs.Parts.{IsFaithful};
 ghost use Rattle.crack_part.specs.KnownSums.{Knows, IsFresh, SettlesToo, SaysSettled, HasMost};
@@ -82,14 +82,14 @@ impl KnownSums {
 
     /// Joins the two pieces between which a bound was forgotten: their sum is known if both sums are. O(log pieces).
     pub(crate) fn join(&mut self, bound: InnerBound)
-        ensures { (plain : PlainState) → Knows self.old plain → Knows self.new plain }
+        ensures knows { (plain : PlainState) → Knows self.old plain → Knows self.new plain }
+        ensures joins { self.new ≡ record self.old { pieces = joined bound.0 self.old.pieces } }
     {
         self.pieces.join(bound.key());
     }
 
     /// The sum of a range for which the store is settled. Parts whose sum isn't known are summed in the store. None if
-    /// it finds no memory, or 128 bits aren't enough. O(log pieces) and a step for each piece in the range, once the
-    /// sums of its pieces are known.
+    /// it finds no memory, or 128 bits aren't enough. O(log pieces) once the sums of the pieces in the range are known.
     pub(crate) fn sum(&mut self, store: &Store, next: u64, range: KeyRange) -> Option<i128>
         requires filled { range.low < range.high }
         requires settled { IsSettled store.now range }

@@ -4,8 +4,8 @@ use Rattle.crack_part.specs.KnownSums.{Known, Knows, sum_before}
 use Rattle.crack_part.proofs.SumLaws.{sum-parts, sum-nothing}
 use Rattle.crack_part.proofs.known.KnownSums.join.Goals as goal
 
-pub returns : goal.returns
-returns c = λ plain now.
+pub returns-clause-knows : goal.returns-clause-knows
+returns-clause-knows c = λ plain now.
     let knows = subst (λ (k : Known). Knows k plain) (sym c.self.view_is) now in
     let since = c.self.inside.since in
     let m = sum_before since plain.rows in
