@@ -1,8 +1,7 @@
 -- What follows from asking a partition.
-use Rattle.std.specs.Prelude.{◌≡◌, ◌≢◌, ◌⊎◌, ℕ, ◌+◌, ◌<◌, ◌≤◌, ◌≤ℤ◌, ◌^◌, neg_ℤ, pos, All, sum_by, Bool, true, false, ◌&&◌, not, List, [], ◌∷◌, ◌++◌, length, take, drop, Option, None, Some, Result, Ok, Err, IsOk, IfErr, nat_le, slice_get, if◌then◌else◌}
+use Rattle.std.specs.Prelude.{◌≡◌, ◌≢◌, ◌⊎◌, ℕ, ◌+◌, ◌<◌, ◌≤◌, ◌≤ℤ◌, ◌^◌, neg_ℤ, pos, All, sum_by, Bool, true, false, ◌&&◌, not, List, [], ◌∷◌, ◌++◌, length, take, drop, Option, None, Some, Result, Ok, Err, IsOk, IfOk, IfErr, nat_le, slice_get, if◌then◌else◌}
 use Rattle.std.specs.Option.{option_or}
 use Rattle.std.proofs.Common.{get_or, arith, ap, refl, sym, subst, ◌∙◌, inl, inr}
-use Rattle.std.proofs.lemmas.List.{take-append-drop, take_more, drop_more}
 use Rattle.std.proofs.lemmas.Bool.{true≢false}
 use Rattle.crack_row.specs.Commands.{key_of}
 use Rattle.crack_row.specs.Ranges.{Range}
@@ -17,7 +16,6 @@ use Rattle.crack_row.specs.declared.limit.Limits.{Limits}
 use Rattle.crack_row.specs.declared.refusal.Refusal.{Refusal}
 use Rattle.crack_row.specs.declared.refusal.Refusal.TheVariants.{KeyOutside, HistoryFull, NoSuchPartition, OutOfMemory, NoCell, LifeOver}
 use Rattle.crack_plain.specs.Plain.{PlainView, PlainState, accepted_of, IsSmall, reply_to}
-use Rattle.crack_core.specs.declared.asking.Query.{Query}
 use Rattle.crack_core.specs.declared.step.Step.{Step}
 use Rattle.crack_core.specs.Routes.{keys_of_part, parts_of}
 use Rattle.crack_core.specs.Cores.{CoreState}
@@ -25,8 +23,9 @@ use Rattle.crack_part.specs.Parts.{Part}
 use Rattle.crack_part.specs.Refusals.{is_key_in}
 use Rattle.crack_part.specs.Upkeep.{is_automatic, is_full}
 use Rattle.crack_core.specs.Steps.{bounds_of, unless, MayLackCell, IsOutcome, tables_of}
-use Rattle.crack_core.proofs.TurnLaws.{one_replies, one_refuses}
-use Rattle.crack_core.specs.Asking.{step_at, Lasts, Asks, AsksInTurn, Reads, asking, counted, summed}
+use Rattle.crack_core.proofs.TurnLaws.{turns-along}
+use Rattle.crack_core.specs.Asking.{step_at, Lasts, Asks, AsksCore, AsksEach, AsksInTurn, Reads, counted, summed, rows_told}
+use Rattle.crack_core.specs.declared.turns.PartReply.{PartReply}
 
 -- a refusal
 abbrev refused_with : Refusal → Result Reply Refusal
@@ -125,31 +124,60 @@ pub parts-same : (r : Result Reply Refusal) (old new : CoreState) → IfErr r (�
 parts-same (Ok reply) old new same = tt
 parts-same (Err e) old new same = λ other. ap (λ (core : CoreState). core.parts) (same other)
 
--- a partition is asked for its part of a range
-abbrev AsksPart : Limits → List Bound → Policy → Query → ℕ × Range → Result Reply Refusal → List Part → List Part → Type 0
-AsksPart limits splits policy query part outcome old new = Asks limits splits (step_at policy part.0 (asking query part.1)) outcome old new
+-- a core's partitions are asked in turn
+pub core-turns : (policy : Policy) (question : Range → Command) (old : CoreState) (parts : List (ℕ × Range)) (result : Result (List PartReply) Refusal) (new : CoreState) → AsksEach AsksCore policy question old parts result new → AsksInTurn old.limits old.splits policy question old.parts parts result new.parts × (new.splits ≡ old.splits) × (new.limits ≡ old.limits)
+core-turns policy question old parts result new asked =
+    let all = turns-along CoreAsks PartsAsk Meets along old old.parts parts result new (refl, refl, refl) asked in
+    (subst (λ (ps : List Part). AsksInTurn old.limits old.splits policy question old.parts parts result ps) all.2.0 all.1, all.2.1, all.2.2)
+  where
+    CoreAsks : ℕ × Range → Result Reply Refusal → CoreState → CoreState → Type 0
+    CoreAsks part outcome between after = AsksCore between part.0 (question part.1) policy outcome after
 
--- one more partition replies
-pub AsksInTurn-more : {limits : Limits} {splits : List Bound} (policy : Policy) (query : Query) (old : List Part) (parts : List (ℕ × Range)) (i : ℕ) (part : ℕ × Range) (command : Command) (said said' : List Reply) (reply : Reply) (between new : List Part) → i < length parts → part ≡ get_or parts i part → command ≡ asking query part.1 → said' ≡ said ++ reply ∷ [] → AsksInTurn limits splits policy (λ range. asking query range) old (take i parts) (Ok said) between → Asks limits splits (step_at policy part.0 command) (Ok reply) between new → AsksInTurn limits splits policy (λ range. asking query range) old (take (i + 1) parts) (Ok said') new
-AsksInTurn-more {limits} {splits} policy query old parts i part command said said' reply between new below is asked grown so_far asks =
-    let more : take (i + 1) parts ≡ take i parts ++ part ∷ [] = take_more parts i part below ∙ ap (λ (p : ℕ × Range). take i parts ++ p ∷ []) (sym is) in
-    rw (more, grown) (one_replies (AsksPart limits splits policy query) (λ (part : ℕ × Range) (reply : Reply). reply) old (take i parts) part said reply between new so_far (rw asked at asks))
+    PartsAsk : ℕ × Range → Result Reply Refusal → List Part → List Part → Type 0
+    PartsAsk part outcome between after = Asks old.limits old.splits (step_at policy part.0 (question part.1)) outcome between after
 
--- the next one refuses
-pub AsksInTurn-stops : {limits : Limits} {splits : List Bound} (policy : Policy) (query : Query) (old : List Part) (parts : List (ℕ × Range)) (i : ℕ) (part : ℕ × Range) (command : Command) (said : List Reply) (e : Refusal) (between new : List Part) → i < length parts → part ≡ get_or parts i part → command ≡ asking query part.1 → AsksInTurn limits splits policy (λ range. asking query range) old (take i parts) (Ok said) between → Asks limits splits (step_at policy part.0 command) (Err e) between new → AsksInTurn limits splits policy (λ range. asking query range) old parts (Err e) new
-AsksInTurn-stops {limits} {splits} policy query old parts i part command said e between new below is asked so_far asks =
-    let whole : take i parts ++ part ∷ drop (i + 1) parts ≡ parts = ap (λ (p : ℕ × Range). take i parts ++ p ∷ drop (i + 1) parts) is ∙ ap (λ (r : List (ℕ × Range)). take i parts ++ r) (sym (drop_more parts i part below)) ∙ take-append-drop i parts in
-    subst (λ (ps : List (ℕ × Range)). AsksInTurn limits splits policy (λ range. asking query range) old ps (Err e) new) whole (one_refuses (AsksPart limits splits policy query) (λ (part : ℕ × Range) (reply : Reply). reply) old (take i parts) part (drop (i + 1) parts) said e between new so_far (rw asked at asks))
+    Meets : CoreState → List Part → Type 0
+    Meets core ps = (ps ≡ core.parts) × (core.splits ≡ old.splits) × (core.limits ≡ old.limits)
 
--- a range whose parts aren't all answered isn't read
-pub reads-refused : {X : Type 0} (old new : CoreState) (policy : Policy) (question : Range → Command) (comes_to : List Reply → X → Type 0) (range : Range) (parts : List (ℕ × Range)) (e : Refusal) → parts ≡ parts_of old.splits range
-    → AsksInTurn old.limits old.splits policy question old.parts parts (Err e) new.parts ⊎ ((e ≡ OutOfMemory) × (new ≡ old))
-    → Reads old.limits old.splits policy question comes_to range (Err e) old.parts new.parts
-reads-refused old new policy question comes_to range parts e is (inl asked) = record {
+    along : (part : ℕ × Range) (outcome : Result Reply Refusal) (between after : CoreState) (ps : List Part) → Meets between ps → CoreAsks part outcome between after → (next : List Part) × PartsAsk part outcome ps next × Meets after next
+    along part outcome between after ps meet asks = (after.parts, rw (meet.0, ← meet.1, ← meet.2) asks.0, (refl, asks.1 ∙ meet.1, asks.2 ∙ meet.2))
+
+-- the parts of a range were asked in turn, or none, for lack of memory
+pub record AreAsked {X : Type 0} (items : X → List PartReply) (policy : Policy) (question : Range → Command) (range : Range) (old : CoreState) (result : Result X Refusal) (new : CoreState) : Type 0 where
+  pub ok : IfOk result (λ x. AsksInTurn old.limits old.splits policy question old.parts (parts_of old.splits range) (Ok (items x)) new.parts)
+  pub err : IfErr result (λ e. AsksInTurn old.limits old.splits policy question old.parts (parts_of old.splits range) (Err e) new.parts ⊎ ((e ≡ OutOfMemory) × (new.parts ≡ old.parts)))
+  pub opened : (new.splits ≡ old.splits) × (new.limits ≡ old.limits)
+
+pub are-asked : {X : Type 0} (items : X → List PartReply) (policy : Policy) (question : Range → Command) (range : Range) (old : CoreState) (parts : List (ℕ × Range)) (result : Result X Refusal) (new : CoreState) → parts ≡ parts_of old.splits range
+    → IfOk result (λ x. AsksEach AsksCore policy question old parts (Ok (items x)) new)
+    → IfErr result (λ e. AsksEach AsksCore policy question old parts (Err e) new ⊎ ((e ≡ OutOfMemory) × (new ≡ old)))
+    → AreAsked items policy question range old result new
+are-asked items policy question range old parts (Ok x) new is ok err =
+    let all = core-turns policy question old parts (Ok (items x)) new ok in
+    record { ok = subst (λ (ps : List (ℕ × Range)). AsksInTurn old.limits old.splits policy question old.parts ps (Ok (items x)) new.parts) is all.0; err = tt; opened = (all.1, all.2) }
+are-asked items policy question range old parts (Err e) new is ok (inl asked) =
+    let all = core-turns policy question old parts (Err e) new asked in
+    record { ok = tt; err = inl (subst (λ (ps : List (ℕ × Range)). AsksInTurn old.limits old.splits policy question old.parts ps (Err e) new.parts) is all.0); opened = (all.1, all.2) }
+are-asked items policy question range old parts (Err e) new is ok (inr none) = record {
   ok = tt;
-  err = inl (subst (λ (ps : List (ℕ × Range)). AsksInTurn old.limits old.splits policy question old.parts ps (Err e) new.parts) is asked);
+  err = inr (none.0, ap (λ (core : CoreState). core.parts) none.1);
+  opened = (ap (λ (core : CoreState). core.splits) none.1, ap (λ (core : CoreState). core.limits) none.1);
 }
-reads-refused old new policy question comes_to range parts e is (inr none) = record { ok = tt; err = inr (none.0, ap (λ (core : CoreState). core.parts) none.1) }
+
+-- a range that one partition holds is read by asking this one
+pub reads-one : {X : Type 0} (limits : Limits) (splits : List Bound) (policy : Policy) (question : Range → Command) (comes_to : List PartReply → X → Type 0) (range : Range) (part : ℕ) (reply : Reply) (x : X) (old new : List Part) → parts_of splits range ≡ (part, range) ∷ [] → Asks limits splits (step_at policy part (question range)) (Ok reply) old new → comes_to (record { part = part; reply = reply } ∷ []) x → Reads limits splits policy question comes_to range (Ok x) old new
+reads-one limits splits policy question comes_to range part reply x old new only asks comes =
+    let said : List PartReply = record { part = part; reply = reply } ∷ [] in
+    record {
+      ok = (said, subst (λ (ps : List (ℕ × Range)). AsksInTurn limits splits policy question old ps (Ok said) new) (sym only) (inl (reply, new, asks, Ok [], (refl, refl), refl)), comes);
+      err = tt;
+    }
+
+pub reads-one-refused : {X : Type 0} (limits : Limits) (splits : List Bound) (policy : Policy) (question : Range → Command) (comes_to : List PartReply → X → Type 0) (range : Range) (part : ℕ) (e : Refusal) (old new : List Part) → parts_of splits range ≡ (part, range) ∷ [] → Asks limits splits (step_at policy part (question range)) (Err e) old new → Reads limits splits policy question comes_to range (Err e) old new
+reads-one-refused limits splits policy question comes_to range part e old new only asks = record {
+  ok = tt;
+  err = inl (subst (λ (ps : List (ℕ × Range)). AsksInTurn limits splits policy question old ps (Err e) new) (sym only) (inr (e, asks, refl)));
+}
 
 -- what a small reply counts or lists
 pub counted-small : (r : Reply) → IsSmall r → counted r ≤ 4294967295
@@ -172,7 +200,7 @@ summed-small (Summed sum) small = (omega (arith, ints, small.0), omega (arith, i
 summed-small (Rows rows) small = (omega (arith, ints), omega (arith, ints))
 
 -- few small replies fit together
-pub counts-fit : (said : List Reply) → All IsSmall said → length said ≤ 64 → sum_by counted said < 2 ^ 64
-counts-fit said small few =
-    let most = sum_by-le counted 4294967295 said (λ i d below. counted-small _ (small i d below)) in
+pub rows_told-fit : (replies : List PartReply) → All (λ (r : PartReply). IsSmall r.reply) replies → length replies ≤ 64 → rows_told replies < 2 ^ 64
+rows_told-fit replies small few =
+    let most = sum_by-le (λ (r : PartReply). counted r.reply) 4294967295 replies (λ i d below. counted-small _ (small i d below)) in
     omega (arith, most, few)

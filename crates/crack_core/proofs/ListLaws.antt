@@ -3,8 +3,8 @@ use Rattle.std.specs.Prelude.{◌≡◌, ◌≢◌, ℕ, ◌+◌, ◌<◌, ◌�
 use Rattle.std.proofs.Common.{zero, suc, get_or, set, arith, ap, refl, sym, subst, ◌∙◌, ⊎_elim, append_assoc, add-one}
 use Rattle.std.proofs.lemmas.List.{get_or-set_same, get_or-set_other, length-append, length-map, length-take-le, take_more, take-append-drop, map-append, append-nil}
 use Rattle.std.proofs.lemmas.Bool.{cases_eq}
+use Rattle.std.proofs.lemmas.Grind.{flat_map-append}
 use Rattle.std.proofs.lemmas.Option.{slice_get_within}
-use Rattle.crack_row.specs.Ranges.{Range}
 use Rattle.crack_row.specs.declared.Row.{Row}
 use Rattle.crack_row.specs.declared.command.Reply.{Reply}
 use Rattle.crack_row.specs.declared.command.Reply.TheVariants.{Placed, Gone, Changed, NoRow, Counted, Summed, Rows}
@@ -12,6 +12,7 @@ use Rattle.crack_plain.specs.Plain.{IsSmall}
 use Rattle.crack_core.proofs.StepLaws.{get-last, get-front}
 use Rattle.crack_core.specs.Listing.{listed, all_listed, AreInLists}
 use Rattle.crack_core.specs.Inside.{of_part}
+use Rattle.crack_core.specs.declared.turns.PartReply.{PartReply}
 
 -- the same row as its numbers
 abbrev row_of : ℕ → ℕ → ℕ → ℤ → ℕ × Row
@@ -73,28 +74,10 @@ pub of_part-more : (part : ℕ) (rows : List Row) (i : ℕ) (d : Row) → i < le
 of_part-more part rows i d below = ap (of_part part) (take_more rows i d below) ∙ map-append (λ (row : Row). (part, row)) (take i rows) (get_or rows i d ∷ [])
 
 -- a partition's reply more
-all_listed-suc : (met : List (ℕ × Range)) (replies : List Reply) (i : ℕ) (d : ℕ × Range) (d' : Reply) → i < length met → i < length replies → all_listed (take (suc i) met) (take (suc i) replies) ≡ all_listed (take i met) (take i replies) ++ of_part (get_or met i d).0 (listed (get_or replies i d'))
-all_listed-suc [] replies i d d' in_met in_replies = absurd (omega arith)
-all_listed-suc (m ∷ met) [] i d d' in_met in_replies = absurd (omega arith)
-all_listed-suc (m ∷ met) (r ∷ replies) zero d d' in_met in_replies = append-nil (of_part m.0 (listed r))
-all_listed-suc (m ∷ met) (r ∷ replies) (suc i) d d' in_met in_replies =
-    ap (λ (rows : List (ℕ × Row)). of_part m.0 (listed r) ++ rows) (all_listed-suc met replies i d d' (omega arith) (omega arith)) ∙ sym (append_assoc (of_part m.0 (listed r)) (all_listed (take i met) (take i replies)) (of_part (get_or met i d).0 (listed (get_or replies i d'))))
-
-pub all_listed-more : (met : List (ℕ × Range)) (replies : List Reply) (i : ℕ) (m : ℕ × Range) (r : Reply) (rows : List Row) → i < length met → i < length replies → m ≡ get_or met i m → r ≡ get_or replies i r → rows ≡ listed r → all_listed (take (i + 1) met) (take (i + 1) replies) ≡ all_listed (take i met) (take i replies) ++ of_part m.0 rows
-all_listed-more met replies i m r rows in_met in_replies m_is r_is rows_is =
-    let so_far = all_listed (take i met) (take i replies) in
-    ap (λ (n : ℕ). all_listed (take n met) (take n replies)) (add-one i)
-    ∙ all_listed-suc met replies i m r in_met in_replies
-    ∙ ap (λ (x : ℕ × Range). so_far ++ of_part x.0 (listed (get_or replies i r))) (sym m_is)
-    ∙ ap (λ (x : Reply). so_far ++ of_part m.0 (listed x)) (sym r_is)
-    ∙ ap (λ (xs : List Row). so_far ++ of_part m.0 xs) (sym rows_is)
-
--- as many partitions are read as replied
-pub all_listed-all : (met : List (ℕ × Range)) (replies : List Reply) → length replies ≤ length met → all_listed (take (length replies) met) (take (length replies) replies) ≡ all_listed met replies
-all_listed-all [] [] few = refl
-all_listed-all (m ∷ met) [] few = refl
-all_listed-all [] (r ∷ replies) few = absurd (omega arith)
-all_listed-all (m ∷ met) (r ∷ replies) few = ap (λ (rows : List (ℕ × Row)). of_part m.0 (listed r) ++ rows) (all_listed-all met replies (omega arith))
+pub all_listed-more : (replies : List PartReply) (i : ℕ) (r : PartReply) → i < length replies → r ≡ get_or replies i r → all_listed (take (i + 1) replies) ≡ all_listed (take i replies) ++ of_part r.part (listed r.reply)
+all_listed-more replies i r below is =
+    let rows : PartReply → List (ℕ × Row) = λ p. of_part p.part (listed p.reply) in
+    ap all_listed (take_more replies i r below) ∙ flat_map-append rows (take i replies) (get_or replies i r ∷ []) ∙ ap (λ (more : List (ℕ × Row)). all_listed (take i replies) ++ more) (append-nil (rows (get_or replies i r)) ∙ ap rows (sym is))
 
 -- how many rows are written once this many of a partition are
 pub long-so-far : (before : List (ℕ × Row)) (part : ℕ) (rows : List Row) (i from : ℕ) → length before ≡ from → i ≤ length rows → length (before ++ of_part part (take i rows)) ≡ from + i

@@ -1,4 +1,4 @@
--- The answers to one command of the only worker, and to questions about a range over all partitions.
+-- The answers to one command, and to questions about a range over all partitions.
 use Rattle.std.specs.Prelude.{◌≡◌, ◌≢◌, ◌⊎◌, ℕ, ◌≤◌, ℤ, pos, Bool, true, List, [], ◌∷◌, length, Option, Result, Ok, Err, IfOk, IfErr, IsSomeAnd, slice_get, sum_by, if◌then◌else◌}
 use Rattle.std.specs.Option.{option_map_or}
 use Rattle.crack_row.specs.Ranges.{Range}
@@ -20,22 +20,24 @@ use Rattle.crack_row.specs.declared.refusal.Refusal.TheVariants.{OutOfMemory, Hi
 use Rattle.crack_plain.specs.Plain.{PlainView}
 use Rattle.crack_part.specs.Parts.{Part}
 use Rattle.crack_part.specs.Upkeep.{is_automatic}
+use Rattle.crack_core.specs.Cores.{CoreState}
 use Rattle.crack_core.specs.Routes.{route, parts_of}
 use Rattle.crack_core.specs.Steps.{bounds_of, mapped, IsOutcomeAt, tables_of, tables_after}
 use Rattle.crack_core.specs.Jobs.{Makes}
 use Rattle.crack_core.specs.declared.step.Step.{Step}
 use Rattle.crack_core.specs.declared.asking.Query.{Query}
 use Rattle.crack_core.specs.declared.asking.Query.TheVariants.{CountRows, SumPayloads, SelectRows}
+use Rattle.crack_core.specs.declared.turns.PartReply.{PartReply}
 
--- a command of the only worker at a partition, by this policy
+-- a command at a partition, by this policy
 abbrev pub step_at : Policy → ℕ → Command → Step
-step_at policy part command = record { worker = 0; part = part; command = command; policy = policy }
+step_at policy part command = record { part = part; command = command; policy = policy }
 
 -- no full history refuses, and a cell is missing only if the partition has as many rows as they may have cells
 abbrev pub Lasts : Limits → Option PlainView → Result Reply Refusal → Type 0
 Lasts limits table outcome = ((entries : ℕ) → outcome ≢ Err (HistoryFull entries)) × (outcome ≡ Err NoCell → IsSomeAnd table (λ (t : PlainView). limits.cells ≤ length t.state.rows))
 
--- one partition is asked: the outcome is what its plain rows require, these change as it says, its history has one more entry if it was answered, and
+-- one partition is asked: the outcome is what its plain rows require, these change as it says, it counts one more command if it was answered, and
 -- its store is read by the step's policy; if upkeep is automatic, only as many rows as cells, or the end of its life, stop it
 pub record Asks (limits : Limits) (splits : List Bound) (step : Step) (outcome : Result Reply Refusal) (old new : List Part) : Type 0 where
   pub comes_out : IsOutcomeAt (bounds_of limits) splits (tables_of old) step.part step.command outcome
@@ -62,21 +64,29 @@ asking CountRows range = Count range
 asking SumPayloads range = Sum range
 asking SelectRows range = Select range
 
+-- a core is asked at one partition, and keeps its splits and limits
+abbrev pub AsksCore : CoreState → ℕ → Command → Policy → Result Reply Refusal → CoreState → Type 0
+AsksCore old part command policy outcome new = Asks old.limits old.splits (step_at policy part command) outcome old.parts new.parts × (new.splits ≡ old.splits) × (new.limits ≡ old.limits)
+
 -- partitions are asked in turn, each for its part of a range, from this state: the first replies, and then the others are asked; or it refuses, and
 -- no other is asked; their replies, or the refusal, and the state afterwards
-abbrev pub InTurn : {S R : Type 0} → (ℕ × Range → Result Reply Refusal → S → S → Type 0) → (ℕ × Range → Reply → R) → S → List (ℕ × Range) → Result (List R) Refusal → S → Type 0
-InTurn Asks given old [] result new = (result ≡ Ok []) × (new ≡ old)
-InTurn {S} {R} Asks given old (part ∷ parts) result new =
-    ((reply : Reply) × (between : S) × Asks part (Ok reply) old between × (rest : Result (List R) Refusal) × InTurn Asks given between parts rest new × (result ≡ mapped (λ replies. given part reply ∷ replies) rest))
+abbrev pub InTurn : {S : Type 0} → (ℕ × Range → Result Reply Refusal → S → S → Type 0) → S → List (ℕ × Range) → Result (List PartReply) Refusal → S → Type 0
+InTurn Asks old [] result new = (result ≡ Ok []) × (new ≡ old)
+InTurn {S} Asks old (part ∷ parts) result new =
+    ((reply : Reply) × (between : S) × Asks part (Ok reply) old between × (rest : Result (List PartReply) Refusal) × InTurn Asks between parts rest new × (result ≡ mapped (λ replies. record { part = part.0; reply = reply } ∷ replies) rest))
     ⊎ ((e : Refusal) × Asks part (Err e) old new × (result ≡ Err e))
 
--- the partitions that hold parts of a range are asked in turn, all by one policy
-abbrev pub AsksInTurn : Limits → List Bound → Policy → (Range → Command) → List Part → List (ℕ × Range) → Result (List Reply) Refusal → List Part → Type 0
-AsksInTurn limits splits policy question old parts said new = InTurn (λ (part : ℕ × Range) (outcome : Result Reply Refusal) (between after : List Part). Asks limits splits (step_at policy part.0 (question part.1)) outcome between after) (λ (part : ℕ × Range) (reply : Reply). reply) old parts said new
+-- the partitions that hold parts of a range are asked in turn, all by one policy, where asking one has this effect
+abbrev pub AsksEach : {S : Type 0} → (S → ℕ → Command → Policy → Result Reply Refusal → S → Type 0) → Policy → (Range → Command) → S → List (ℕ × Range) → Result (List PartReply) Refusal → S → Type 0
+AsksEach {S} asks policy question old parts said new = InTurn (λ (part : ℕ × Range) (outcome : Result Reply Refusal) (between after : S). asks between part.0 (question part.1) policy outcome after) old parts said new
+
+-- the same of partitions with these splits and limits
+abbrev pub AsksInTurn : Limits → List Bound → Policy → (Range → Command) → List Part → List (ℕ × Range) → Result (List PartReply) Refusal → List Part → Type 0
+AsksInTurn limits splits policy question old parts said new = InTurn (λ (part : ℕ × Range) (outcome : Result Reply Refusal) (between after : List Part). Asks limits splits (step_at policy part.0 (question part.1)) outcome between after) old parts said new
 
 -- a range is read: the replies of its parts are combined, or it is refused as they are, or for lack of memory before one is asked
-pub record Reads {X : Type 0} (limits : Limits) (splits : List Bound) (policy : Policy) (question : Range → Command) (comes_to : List Reply → X → Type 0) (range : Range) (result : Result X Refusal) (old new : List Part) : Type 0 where
-  pub ok : IfOk result (λ x. (said : List Reply) × AsksInTurn limits splits policy question old (parts_of splits range) (Ok said) new × comes_to said x)
+pub record Reads {X : Type 0} (limits : Limits) (splits : List Bound) (policy : Policy) (question : Range → Command) (comes_to : List PartReply → X → Type 0) (range : Range) (result : Result X Refusal) (old new : List Part) : Type 0 where
+  pub ok : IfOk result (λ x. (said : List PartReply) × AsksInTurn limits splits policy question old (parts_of splits range) (Ok said) new × comes_to said x)
   pub err : IfErr result (λ e. AsksInTurn limits splits policy question old (parts_of splits range) (Err e) new ⊎ ((e ≡ OutOfMemory) × (new ≡ old)))
 
 -- how many rows a reply counts or lists
@@ -90,10 +100,18 @@ abbrev pub summed : Reply → ℤ
 summed (Summed sum) = sum
 summed _ = pos 0
 
+-- how many rows several partitions count or list in total
+abbrev pub rows_told : List PartReply → ℕ
+rows_told replies = sum_by (λ (r : PartReply). counted r.reply) replies
+
+-- the sums of several partitions, added
+abbrev pub sum_told : List PartReply → ℤ
+sum_told replies = total_by (λ (r : PartReply). summed r.reply) replies
+
 -- a range is counted: so are its parts, and the counts are added
 abbrev pub Counts : Limits → List Bound → Policy → Range → Result ℕ Refusal → List Part → List Part → Type 0
-Counts limits splits policy range result old new = Reads limits splits policy (λ part. Count part) (λ said count. count ≡ sum_by counted said) range result old new
+Counts limits splits policy range result old new = Reads limits splits policy (λ part. Count part) (λ said count. count ≡ rows_told said) range result old new
 
 -- the payloads of a range are added up: those of its parts, and then these sums
 abbrev pub Sums : Limits → List Bound → Policy → Range → Result ℤ Refusal → List Part → List Part → Type 0
-Sums limits splits policy range result old new = Reads limits splits policy (λ part. Sum part) (λ said sum. sum ≡ total_by summed said) range result old new
+Sums limits splits policy range result old new = Reads limits splits policy (λ part. Sum part) (λ said sum. sum ≡ sum_told said) range result old new

@@ -54,7 +54,7 @@ IsJobOutcome bounds splits table (Perform step) result = (outcome : Result Reply
 IsJobOutcome bounds splits table (Fold part) result = result ≡ mapped Folded (expected_fold (table part))
 
 -- the expected replies over jobs: each is answered as its partition must answer, from its plain table before the first job and its own
--- jobs done before; neither workers nor policies nor other partitions' jobs matter
+-- jobs done before; neither policies nor other partitions' jobs matter
 pub record AreExpectedOutcomes (limits : Limits) (splits : List Bound) (tables : List PlainView) (jobs : List Job) (results : List (Result Done Refusal)) : Type 0 where
   pub each : length results ≡ length jobs
   pub outcomes : (k : ℕ) (job : Job) (result : Result Done Refusal) → slice_get jobs k ≡ Some job → slice_get results k ≡ Some result →

@@ -1,6 +1,6 @@
 -- The rows of a range, written into lists.
 use Rattle.std.specs.Prelude.{◌≡◌, ℕ, ◌<◌, ℤ, List, [], map, length, Some, Result, slice_get, slice_index_or}
-use Rattle.std.specs.List.{flat_map, zip}
+use Rattle.std.specs.List.{flat_map}
 use Rattle.crack_row.specs.Ranges.{Range}
 use Rattle.crack_row.specs.Rows.{row_with}
 use Rattle.crack_row.specs.declared.Bound.{Bound}
@@ -11,9 +11,9 @@ use Rattle.crack_row.specs.declared.command.Reply.{Reply}
 use Rattle.crack_row.specs.declared.command.Reply.TheVariants.{Rows}
 use Rattle.crack_row.specs.declared.refusal.Refusal.{Refusal}
 use Rattle.crack_part.specs.Parts.{Part}
-use Rattle.crack_core.specs.Routes.{parts_of}
 use Rattle.crack_core.specs.Asking.{Reads}
 use Rattle.crack_core.specs.Bulk.{key_at, payload_at}
+use Rattle.crack_core.specs.declared.turns.PartReply.{PartReply}
 use Rattle.crack_row.specs.declared.command.Command.TheVariants.{Select}
 
 -- the rows that a reply lists
@@ -22,8 +22,8 @@ listed (Rows rows) = rows
 listed _ = []
 
 -- what partitions reply, as one list of rows, each with its partition's number
-abbrev pub all_listed : List (ℕ × Range) → List Reply → List (ℕ × Row)
-all_listed parts replies = flat_map (λ (one : (ℕ × Range) × Reply). map (λ row. (one.0.0, row)) (listed one.1)) (zip parts replies)
+abbrev pub all_listed : List PartReply → List (ℕ × Row)
+all_listed replies = flat_map (λ (r : PartReply). map (λ row. (r.part, row)) (listed r.reply)) replies
 
 -- rows are in four lists in their order, as far as there is room
 abbrev pub AreInLists : List (ℕ × Row) → List ℕ → List ℕ → List ℕ → List ℤ → Type 0
@@ -33,4 +33,4 @@ AreInLists rows parts serials keys payloads = (k : ℕ) (row : ℕ × Row) → s
 -- the rows of a range are listed: there are this many, and as many of them as there is room for are in the lists
 abbrev pub Selects : Limits → List Bound → Policy → List ℕ → List ℕ → List ℕ → List ℤ → Range → Result ℕ Refusal → List Part → List Part → Type 0
 Selects limits splits policy parts serials keys payloads range result old new =
-    Reads limits splits policy (λ part. Select part) (λ said found. (found ≡ length (all_listed (parts_of splits range) said)) × AreInLists (all_listed (parts_of splits range) said) parts serials keys payloads) range result old new
+    Reads limits splits policy (λ part. Select part) (λ said found. (found ≡ length (all_listed said)) × AreInLists (all_listed said) parts serials keys payloads) range result old new

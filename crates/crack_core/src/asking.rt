@@ -1,19 +1,18 @@
-//! Commands of the only worker, and ranges over all partitions.
-ghost use Rattle.std.specs.Prelude.{◌≡◌, ◌⊎◌, ℕ, ℤ, ◌<◌, ◌≤◌, ◌≤ℤ◌, ◌^◌, neg_ℤ, pos, [], All, length, vec_capacity};
-ghost use Rattle.std.specs.Prelude.{sum_by, Ok, Err, IfOk, IfErr, if◌then◌else◌};
+//! Commands at one partition, and ranges over all partitions.
+ghost use Rattle.std.specs.Prelude.{◌≡◌, ◌⊎◌, ◌≤◌, ◌≤ℤ◌, ◌^◌, neg_ℤ, pos, All, length, Ok, Err, IfOk, IfErr};
+ghost use Rattle.std.specs.Prelude.{if◌then◌else◌};
 ghost use Rattle.std.specs.Option.{option_map_or};
-ghost use Rattle.crack_row.specs.Rows.{total_by};
 ghost use Rattle.crack_row.specs.declared.Key.{Key};
 ghost use Rattle.crack_row.specs.declared.Payload.{Payload};
 ghost use Rattle.crack_row.specs.declared.Serial.{Serial};
 ghost use Rattle.crack_row.specs.declared.command.Command.TheVariants.{Insert, Delete, Update};
 ghost use Rattle.crack_plain.specs.Plain.{PlainState, IsSmall, reply_to};
-ghost use Rattle.crack_core.specs.Asking.{Asks, Inserts, Deletes, Updates, Counts, Sums, asking};
-ghost use Rattle.crack_core.specs.Asking.{AsksInTurn, counted, summed};
+ghost use Rattle.crack_core.specs.Asking.{Inserts, Deletes, Updates, Counts, Sums, asking, AsksInTurn};
+ghost use Rattle.crack_core.specs.Routes.{parts_of};
 
-use crate::{Core, Step};
+use crate::turns::{AskPart, PartReply, ask_parts, rows_told, sum_told};
+use crate::{Core, Step, only_part};
 use crack_row::{Command, Key, KeyRange, Payload, Policy, Refusal, Reply, Row, RowNo, Serial};
-use std::alloc::Global;
 
 /// A question about a range.
 #[derive(Clone, Copy, Debug)]
@@ -40,17 +39,6 @@ impl Query {
 }
 
 impl Core {
-    /// Asks one partition as `step` does.
-    fn ask(&mut self, step: &Step) -> Result<Reply, Refusal>
-        ensures asks { Asks self.old.limits self.old.splits step.now result self.old.parts self.new.parts }
-        ensures small { IfOk result IsSmall }
-        ensures opened { (self.new.splits ≡ self.old.splits) × (self.new.limits ≡ self.old.limits) }
-    {
-        let answered = self.step(*step);
-        self.facts();
-        answered
-    }
-
     /// Places a row in the partition of its key. Refused as `step` is, with 6, 10, 9 and 8.
     pub fn insert(&mut self, key: Key, payload: Payload) -> Result<RowNo, Refusal>
         ensures inserts { Inserts self.old.limits self.old.splits key payload result self.old.parts
@@ -59,13 +47,7 @@ impl Core {
     {
         let part = self.route(key);
         let command = Command::Insert { key, payload };
-        let policy = Policy::Gradual;
-        match self.ask(&Step {
-            worker: 0,
-            part,
-            command,
-            policy,
-        }) {
+        match self.ask_part(part, command, Policy::Gradual) {
             Ok(reply) => Ok(RowNo {
                 part,
                 serial: serial_in(&reply),
@@ -81,13 +63,7 @@ impl Core {
         ensures opened { (self.new.splits ≡ self.old.splits) × (self.new.limits ≡ self.old.limits) }
     {
         let command = Command::Delete { serial: row.serial };
-        let policy = Policy::Gradual;
-        match self.ask(&Step {
-            worker: 0,
-            part: row.part,
-            command,
-            policy,
-        }) {
+        match self.ask_part(row.part, command, Policy::Gradual) {
             Ok(reply) => Ok(gone_in(&reply)),
             Err(refusal) => Err(refusal),
         }
@@ -105,36 +81,27 @@ impl Core {
             key,
             payload,
         };
-        let policy = Policy::Gradual;
-        match self.ask(&Step {
-            worker: 0,
-            part: row.part,
-            command,
-            policy,
-        }) {
+        match self.ask_part(row.part, command, Policy::Gradual) {
             Ok(reply) => Ok(is_changed(&reply)),
             Err(refusal) => Err(refusal),
         }
     }
 
     /// Counts the rows of a range, over all partitions: each that holds a part of it is asked. Refused with 6, 10 and
-    /// 8 as `step` is; the partitions before the refusing one have then answered. Takes memory for one reply of each
-    /// partition that it meets.
+    /// 8 as `step` is; the partitions before the refusing one have then answered. If it meets several, it takes memory
+    /// for one reply of each.
     pub fn count(&mut self, range: KeyRange, policy: Policy) -> Result<u64, Refusal>
         ensures counts { Counts self.old.limits self.old.splits policy range result self.old.parts self.new.parts }
         ensures opened { (self.new.splits ≡ self.old.splits) × (self.new.limits ≡ self.old.limits) }
     {
-        self.facts();
-        match self.parts_of(range) {
-            Ok(parts) => match self.read_parts(
-                Query::CountRows,
-                parts.as_slice(),
-                policy,
-                *parts.allocator(),
-            ) {
-                Ok(replies) => Ok(count_in(replies.as_slice())),
+        if let Some(part) = only_part(self.splits(), range) {
+            return match self.ask_part(part, Command::Count(range), policy) {
+                Ok(reply) => Ok(PartReply { part, reply }.counted()),
                 Err(refusal) => Err(refusal),
-            },
+            };
+        }
+        match self.ask_range(Query::CountRows, range, policy) {
+            Ok(replies) => Ok(rows_told(replies.as_slice())),
             Err(refusal) => Err(refusal),
         }
     }
@@ -145,83 +112,55 @@ impl Core {
         ensures small { IfOk result (λ sum. (neg_ℤ (pos (2 ^ 102)) ≤ℤ sum) × (sum ≤ℤ pos (2 ^ 102))) }
         ensures opened { (self.new.splits ≡ self.old.splits) × (self.new.limits ≡ self.old.limits) }
     {
-        self.facts();
-        match self.parts_of(range) {
-            Ok(parts) => match self.read_parts(
-                Query::SumPayloads,
-                parts.as_slice(),
-                policy,
-                *parts.allocator(),
-            ) {
-                Ok(replies) => Ok(sum_in(replies.as_slice())),
+        if let Some(part) = only_part(self.splits(), range) {
+            return match self.ask_part(part, Command::Sum(range), policy) {
+                Ok(reply) => Ok(PartReply { part, reply }.summed()),
                 Err(refusal) => Err(refusal),
-            },
+            };
+        }
+        match self.ask_range(Query::SumPayloads, range, policy) {
+            Ok(replies) => Ok(sum_told(replies.as_slice())),
             Err(refusal) => Err(refusal),
         }
     }
 
-    /// Asks partitions in turn, each for its part of a range, once there is room for their replies.
-    pub(crate) fn read_parts(
+    /// Asks each partition that holds a part of a range.
+    pub(crate) fn ask_range(
         &mut self,
         query: Query,
-        parts: &[(u32, KeyRange)],
+        range: KeyRange,
         policy: Policy,
-        alloc: Global,
-    ) -> Result<Vec<Reply>, Refusal>
-        requires few { length parts.now ≤ 64 }
-        ensures ok { IfOk result (λ replies.
-            AsksInTurn self.old.limits self.old.splits policy (λ range. asking query range)
-            self.old.parts parts.now (Ok replies.items) self.new.parts) }
-        ensures err { IfErr result (λ e.
-            AsksInTurn self.old.limits self.old.splits policy (λ range. asking query range)
-            self.old.parts parts.now (Err e) self.new.parts
-            ⊎ ((e ≡ Refusal.OutOfMemory) × (self.new ≡ self.old))) }
-        ensures small { IfOk result (λ replies. All IsSmall replies.items × (length replies.items ≤ 64)) }
-        ensures few { IfOk result (λ replies. length replies.items ≤ length parts.now) }
+    ) -> Result<Vec<PartReply>, Refusal>
+        ensures ok { IfOk result (λ replies. AsksInTurn self.old.limits self.old.splits policy (λ range. asking query
+            range) self.old.parts (parts_of self.old.splits range) (Ok replies.items) self.new.parts) }
+        ensures err { IfErr result (λ e. AsksInTurn self.old.limits self.old.splits policy (λ range. asking query
+            range) self.old.parts (parts_of self.old.splits range) (Err e) self.new.parts
+            ⊎ ((e ≡ Refusal.OutOfMemory) × (self.new.parts ≡ self.old.parts))) }
+        ensures small { IfOk result (λ replies. All (λ (r : PartReply). IsSmall r.reply) replies.items) }
+        ensures few { IfOk result (λ replies. length replies.items ≤ 64) }
         ensures opened { (self.new.splits ≡ self.old.splits) × (self.new.limits ≡ self.old.limits) }
     {
-        match Vec::with_capacity(alloc, parts.len()) {
-            Ok(mut replies) => match self.read_each(query, parts, policy, &mut replies) {
-                Ok(()) => Ok(replies),
-                Err(refusal) => Err(refusal),
-            },
-            Err(_) => Err(Refusal::OutOfMemory),
+        self.facts();
+        match self.parts_of(range) {
+            Ok(parts) => ask_parts(*parts.allocator(), self, policy, query, parts.as_slice()),
+            Err(refusal) => Err(refusal),
         }
     }
+}
 
-    /// Asks one partition after the other, until one refuses.
-    fn read_each(
-        &mut self,
-        query: Query,
-        parts: &[(u32, KeyRange)],
-        policy: Policy,
-        replies: &mut Vec<Reply>,
-    ) -> Result<(), Refusal>
-        requires none { replies.old.items ≡ [] }
-        requires room { length parts.now ≤ vec_capacity replies.old }
-        ensures ok { IfOk result (λ _.
-            AsksInTurn self.old.limits self.old.splits policy (λ range. asking query range)
-            self.old.parts parts.now (Ok replies.new.items) self.new.parts) }
-        ensures err { IfErr result (λ e.
-            AsksInTurn self.old.limits self.old.splits policy (λ range. asking query range)
-            self.old.parts parts.now (Err e) self.new.parts) }
-        ensures small { All IsSmall replies.new.items }
-        ensures few { length replies.new.items ≤ length parts.now }
-        ensures opened { (self.new.splits ≡ self.old.splits) × (self.new.limits ≡ self.old.limits) }
-    {
-        'parts: for part in parts {
-            let command = query.over(part.1);
-            match self.ask(&Step {
-                worker: 0,
-                part: part.0,
-                command,
-                policy,
-            }) {
-                Ok(reply) => replies.push_reserved(reply),
-                Err(refusal) => return Err(refusal),
-            }
-        }
-        Ok(())
+impl AskPart for Core {
+    ghost use Rattle.crack_core.specs.Asking.{AsksCore};
+
+    ghost asks = { AsksCore };
+
+    fn ask_part(&mut self, part: u32, command: Command, policy: Policy) -> Result<Reply, Refusal> {
+        let answered = self.step(Step {
+            part,
+            command,
+            policy,
+        });
+        self.facts();
+        answered
     }
 }
 
@@ -254,51 +193,4 @@ fn is_changed(reply: &Reply) -> bool
         reply.now ≡ (if result then Reply.Changed else Reply.NoRow) }
 {
     matches!(reply, Reply::Changed)
-}
-
-/// How many rows a reply counts or lists.
-fn counted(reply: &Reply) -> u64
-    ensures { result ≡ counted reply.now }
-{
-    match reply {
-        Reply::Counted(count) => *count,
-        Reply::Rows(rows) => rows.as_slice().len() as u64,
-        _ => 0,
-    }
-}
-
-/// The sum that a reply gives.
-fn summed(reply: &Reply) -> i128
-    ensures { result ≡ summed reply.now }
-{
-    match reply {
-        Reply::Summed(sum) => *sum,
-        _ => 0,
-    }
-}
-
-/// The sum of what replies count.
-fn count_in(replies: &[Reply]) -> u64
-    requires { sum_by counted replies.now < 2 ^ 64 }
-    ensures { result ≡ sum_by counted replies.now }
-{
-    let mut total = 0;
-    'replies: for reply in replies {
-        total += counted(reply);
-    }
-    total
-}
-
-/// The sum of the sums of replies.
-fn sum_in(replies: &[Reply]) -> i128
-    requires small { All IsSmall replies.now }
-    requires few { length replies.now ≤ 64 }
-    ensures value { result ≡ total_by summed replies.now }
-    ensures small { (neg_ℤ (pos (2 ^ 102)) ≤ℤ result) × (result ≤ℤ pos (2 ^ 102)) }
-{
-    let mut total = 0;
-    'replies: for reply in replies {
-        total += summed(reply);
-    }
-    total
 }

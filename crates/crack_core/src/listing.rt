@@ -3,11 +3,11 @@ ghost use Rattle.std.specs.Prelude.{◌≡◌, ◌+◌, ◌<◌, ◌≤◌, ◌^
 ghost use Rattle.crack_row.specs.declared.Row.{Row};
 ghost use Rattle.crack_plain.specs.Plain.{IsSmall};
 ghost use Rattle.crack_core.specs.Bulk.{OverKeys};
-ghost use Rattle.crack_core.specs.Listing.{Selects, AreInLists, all_listed, listed};
+ghost use Rattle.crack_core.specs.Listing.{Selects, AreInLists, all_listed};
 ghost use Rattle.crack_core.specs.Inside.{of_part};
 
-use crate::{Core, Query};
-use crack_row::{BoundNumber, KeyNumber, KeyRange, PayloadNumber, Policy, Refusal, Reply, Row};
+use crate::{Core, PartReply, Query};
+use crack_row::{BoundNumber, KeyNumber, KeyRange, PayloadNumber, Policy, Refusal, Row};
 
 impl Core {
     /// Lists the rows whose keys are `first` to `last`, both included, by partition and then by rising serial, as far
@@ -57,24 +57,8 @@ impl Core {
             (keys.new ≡ keys.old) × (payloads.new ≡ payloads.old)) }
         ensures opened { (self.new.splits ≡ self.old.splits) × (self.new.limits ≡ self.old.limits) }
     {
-        self.facts();
-        match self.parts_of(range) {
-            Ok(met) => match self.read_parts(
-                Query::SelectRows,
-                met.as_slice(),
-                policy,
-                *met.allocator(),
-            ) {
-                Ok(replies) => Ok(list_all(
-                    met.as_slice(),
-                    replies.as_slice(),
-                    parts,
-                    serials,
-                    keys,
-                    payloads,
-                )),
-                Err(refusal) => Err(refusal),
-            },
+        match self.ask_range(Query::SelectRows, range, policy) {
+            Ok(replies) => Ok(list_all(replies.as_slice(), parts, serials, keys, payloads)),
             Err(refusal) => Err(refusal),
         }
     }
@@ -82,39 +66,28 @@ impl Core {
 
 /// Writes the rows of the partitions' replies, one after the other. Returns how many there are.
 fn list_all(
-    met: &[(u32, KeyRange)],
-    replies: &[Reply],
+    replies: &[PartReply],
     parts: &mut [u32],
     serials: &mut [u64],
     keys: &mut [KeyNumber],
     payloads: &mut [PayloadNumber],
 ) -> u64
-    requires met { length replies.now ≤ length met.now }
-    requires small { All IsSmall replies.now }
+    requires small { All (λ (r : PartReply). IsSmall r.reply) replies.now }
     requires few { length replies.now ≤ 64 }
     requires serials { length serials.old ≡ length parts.old }
     requires keys { length keys.old ≡ length parts.old }
     requires payloads { length payloads.old ≡ length parts.old }
-    ensures found { result ≡ length (all_listed met.now replies.now) }
-    ensures stand { AreInLists (all_listed met.now replies.now) parts.new serials.new keys.new payloads.new }
+    ensures found { result ≡ length (all_listed replies.now) }
+    ensures stand { AreInLists (all_listed replies.now) parts.new serials.new keys.new payloads.new }
 {
     let mut found = 0;
     'replies: for i in 0..replies.len() {
-        let rows = listed(&replies[i]);
-        list_rows(met[i].0, rows, found, parts, serials, keys, payloads);
+        let reply = &replies[i];
+        let rows = reply.rows();
+        list_rows(reply.part, rows, found, parts, serials, keys, payloads);
         found += rows.len();
     }
     found as u64
-}
-
-/// The rows that a reply lists.
-fn listed(reply: &Reply) -> &[Row]
-    ensures { result.now ≡ listed reply.now }
-{
-    match reply {
-        Reply::Rows(rows) => rows.as_slice(),
-        _ => &[],
-    }
 }
 
 /// Writes the rows of a partition from a place on, as far as there is room.

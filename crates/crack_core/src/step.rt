@@ -1,11 +1,10 @@
-//! One step: a worker's command at a partition; and jobs, which are steps and checkpoints.
+//! One step: a command at a partition; and jobs, which are steps and checkpoints.
 
 use crack_row::{Command, Policy, Reply};
 
-/// A worker's command at a partition, and which pending rows are merged for it.
+/// A command at a partition, and which pending rows are merged for it.
 #[derive(Clone, Copy, Debug)]
 pub struct Step {
-    pub worker: u32,
     pub part: u32,
     pub command: Command,
     pub policy: Policy,

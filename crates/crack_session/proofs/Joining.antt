@@ -1,22 +1,11 @@
 -- Replies that are joined.
-use Rattle.std.proofs.Common.{◌≡◌, ℕ, ◌+◌, ◌<◌, ◌≤◌, ◌^◌, List, ◌++◌, Option, length, take, get_or, subst, sym, ap, ◌∙◌, arith}
-use Rattle.std.specs.Prelude.{All}
+use Rattle.std.proofs.Common.{◌≡◌, ℕ, ◌+◌, ◌<◌, List, ◌++◌, Option, length, take, get_or, subst, sym, ap, ◌∙◌}
 use Rattle.std.specs.List.{flat_map}
 use Rattle.std.specs.Io.KnownBytes.{Appends}
-use Rattle.std.proofs.lemmas.List.Sums.{sum_by-le}
 use Rattle.crack_commands.specs.Texts.{AppendsFront}
 use Rattle.crack_commands.proofs.Sending.{front_within, texts_more}
-use Rattle.crack_session.specs.declared.query.PartReply.{PartReply}
-use Rattle.crack_plain.specs.Plain.{IsSmall}
-use Rattle.crack_core.specs.Asking.{counted}
-use Rattle.crack_core.proofs.AskLaws.{counted-small}
-use Rattle.crack_session.specs.Telling.{rows_told, list_text}
-
--- few small replies fit together
-pub rows_told-fit : (replies : List PartReply) → All (λ (r : PartReply). IsSmall r.reply) replies → length replies ≤ 64 → rows_told replies < 2 ^ 64
-rows_told-fit replies small few =
-    let most = sum_by-le (λ (r : PartReply). counted r.reply) 4294967295 replies (λ i d below. counted-small _ (small i d below)) in
-    omega (arith, most, few)
+use Rattle.crack_core.specs.declared.turns.PartReply.{PartReply}
+use Rattle.crack_session.specs.Telling.{list_text}
 
 -- one more list is written
 pub lists_more : (lists : List PartReply) (i : ℕ) (list : PartReply) → i < length lists → list ≡ get_or lists i list → flat_map list_text (take (i + 1) lists) ≡ flat_map list_text (take i lists) ++ list_text list

@@ -20,7 +20,7 @@ use Rattle.crack_commands.specs.declared.statement.Ending.{Ending}
 use Rattle.crack_commands.specs.declared.statement.Ending.TheVariants.{Quit, Http}
 use Rattle.crack_session.specs.declared.answer.Answer.{Answer}
 use Rattle.crack_session.specs.declared.answer.Answer.TheVariants.{Replied, Counted, Summed, Listed, Laid, Folded, Set, Refused, Bye}
-use Rattle.crack_session.specs.declared.query.PartReply.{PartReply}
+use Rattle.crack_core.specs.declared.turns.PartReply.{PartReply}
 use Rattle.crack_core.specs.Asking.{InTurn, asking}
 use Rattle.crack_core.specs.Listing.{listed}
 use Rattle.crack_core.specs.declared.asking.Query.{Query}
@@ -43,7 +43,7 @@ pub record IsAsked (bounds : Bounds) (splits : List Bound) (tables : List PlainV
 
 -- several partitions are asked in turn, each for its part of a range: their replies, or the first refusal, and the partitions afterwards
 abbrev pub AsksInTurn : Bounds → List Bound → Query → List PlainView → List (ℕ × Range) → Result (List PartReply) Refusal → List PlainView → Type 0
-AsksInTurn bounds splits query tables parts outcome new = InTurn (λ (part : ℕ × Range) (reply : Result Reply Refusal) (before after : List PlainView). IsOutcomeAt bounds splits before part.0 (asking query part.1) reply × (after ≡ tables_after bounds before part.0 (asking query part.1) reply)) (λ (part : ℕ × Range) (reply : Reply). record { part = part.0; reply = reply }) tables parts outcome new
+AsksInTurn bounds splits query tables parts outcome new = InTurn (λ (part : ℕ × Range) (reply : Result Reply Refusal) (before after : List PlainView). IsOutcomeAt bounds splits before part.0 (asking query part.1) reply × (after ≡ tables_after bounds before part.0 (asking query part.1) reply)) tables parts outcome new
 
 -- Several partitions are asked in turn, and their replies are joined.
 pub record IsJoined (bounds : Bounds) (splits : List Bound) (tables : List PlainView) (query : Query) (parts : List (ℕ × Range)) (answer : Answer) (new : List PlainView) : Type 0 where

@@ -1,7 +1,6 @@
 -- The calls of a desk, and the answers that a session makes of their outcomes, whatever is known of the rows.
-use Rattle.std.specs.Prelude.{◌≡◌, ℕ, List, [], ◌∷◌, ◌++◌, ◌⊎◌, Result, Ok, Err, sum_by}
+use Rattle.std.specs.Prelude.{◌≡◌, ℕ, List, [], ◌∷◌, ◌++◌, ◌⊎◌, Result, Ok, Err}
 use Rattle.crack_row.specs.Ranges.{Range}
-use Rattle.crack_row.specs.Rows.{total_by}
 use Rattle.crack_row.specs.declared.Bound.{Bound}
 use Rattle.crack_row.specs.declared.command.Command.{Command}
 use Rattle.crack_row.specs.declared.command.Command.TheVariants.{Insert as AskInsert, Delete as AskDelete, Update as AskUpdate, Count as AskCount, Sum as AskSum, Select as AskSelect}
@@ -16,8 +15,8 @@ use Rattle.crack_commands.specs.declared.statement.Statement.TheVariants.{Insert
 use Rattle.crack_core.specs.Routes.{route, parts_of}
 use Rattle.crack_session.specs.declared.answer.Answer.{Answer}
 use Rattle.crack_session.specs.declared.answer.Answer.TheVariants.{Replied, Counted, Summed, Listed, Laid, Folded, Set, Refused}
-use Rattle.crack_session.specs.declared.query.PartReply.{PartReply}
-use Rattle.crack_core.specs.Asking.{InTurn, counted, summed}
+use Rattle.crack_core.specs.declared.turns.PartReply.{PartReply}
+use Rattle.crack_core.specs.Asking.{InTurn, rows_told, sum_told}
 use Rattle.crack_session.specs.Answers.{answer_from, farewell}
 
 -- a call of a desk, and its outcome: a partition was asked a command by a policy, was told to make a checkpoint, or was asked for its layout
@@ -37,7 +36,7 @@ IsOneAsked policy part command answer calls = (outcome : Result Reply Refusal) �
 
 -- several partitions are asked in turn, each once and for its part of a range: their replies, or the first refusal
 abbrev pub AreAskedInTurn : MergePolicy → (Range → Command) → List (ℕ × Range) → Result (List PartReply) Refusal → List Call → Type 0
-AreAskedInTurn policy question parts outcome calls = InTurn (λ (part : ℕ × Range) (reply : Result Reply Refusal) (before after : List Call). after ≡ before ++ Asked part.0 (question part.1) policy reply ∷ []) (λ (part : ℕ × Range) (reply : Reply). record { part = part.0; reply = reply }) [] parts outcome calls
+AreAskedInTurn policy question parts outcome calls = InTurn (λ (part : ℕ × Range) (reply : Result Reply Refusal) (before after : List Call). after ≡ before ++ Asked part.0 (question part.1) policy reply ∷ []) [] parts outcome calls
 
 -- several partitions are asked in turn, and their replies are joined; or none of them, if no memory is found for their replies
 abbrev pub AreSeveralAsked : MergePolicy → (Range → Command) → (List PartReply → Answer) → List (ℕ × Range) → Answer → List Call → Type 0
@@ -54,9 +53,9 @@ abbrev pub IsMadeOf : List Bound → MergePolicy → Statement → Answer → Li
 IsMadeOf splits policy (Insert key payload) answer calls = IsOneAsked policy (route splits key.0) (AskInsert key payload) answer calls
 IsMadeOf splits policy (Delete row) answer calls = IsOneAsked policy row.part (AskDelete row.serial) answer calls
 IsMadeOf splits policy (Update row key payload) answer calls = IsOneAsked policy row.part (AskUpdate row.serial key payload) answer calls
-IsMadeOf splits policy (Count range) answer calls = ArePartsAsked policy (λ part. AskCount part) (λ replies. Counted (sum_by (λ (r : PartReply). counted r.reply) replies)) (parts_of splits range) answer calls
-IsMadeOf splits policy (Sum range) answer calls = ArePartsAsked policy (λ part. AskSum part) (λ replies. Summed (total_by (λ (r : PartReply). summed r.reply) replies)) (parts_of splits range) answer calls
-IsMadeOf splits policy (Select range) answer calls = ArePartsAsked policy (λ part. AskSelect part) (λ replies. Listed (sum_by (λ (r : PartReply). counted r.reply) replies) replies) (parts_of splits range) answer calls
+IsMadeOf splits policy (Count range) answer calls = ArePartsAsked policy (λ part. AskCount part) (λ replies. Counted (rows_told replies)) (parts_of splits range) answer calls
+IsMadeOf splits policy (Sum range) answer calls = ArePartsAsked policy (λ part. AskSum part) (λ replies. Summed (sum_told replies)) (parts_of splits range) answer calls
+IsMadeOf splits policy (Select range) answer calls = ArePartsAsked policy (λ part. AskSelect part) (λ replies. Listed (rows_told replies) replies) (parts_of splits range) answer calls
 IsMadeOf splits policy (Layout part) answer calls = (outcome : Result PartLayout Refusal) × (calls ≡ Looked part outcome ∷ []) × (answer ≡ answer_from (Laid part) outcome)
 IsMadeOf splits policy (Checkpoint part) answer calls = (outcome : Result ℕ Refusal) × (calls ≡ Checkpointed part outcome ∷ []) × (answer ≡ answer_from Folded outcome)
 IsMadeOf splits policy (Policy other) answer calls = (answer ≡ Set other) × (calls ≡ [])

@@ -12,7 +12,7 @@ use Rattle.crack_core.specs.Listing.{listed}
 use Rattle.crack_core.specs.Steps.{Bounds}
 use Rattle.crack_session.specs.declared.TheConstants.{OUTPUT_BYTES}
 use Rattle.crack_session.specs.declared.answer.Answer.{Answer}
-use Rattle.crack_session.specs.declared.query.PartReply.{PartReply}
+use Rattle.crack_core.specs.declared.turns.PartReply.{PartReply}
 use Rattle.crack_session.specs.declared.session.Progress.{Progress}
 use Rattle.crack_session.specs.declared.feeding.Why.{Why}
 use Rattle.crack_session.specs.declared.feeding.Why.TheVariants.{Wants, Full, Quit as QuitSaid, Refused}

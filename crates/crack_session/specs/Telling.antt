@@ -1,8 +1,10 @@
 -- What private clauses alone cite.
 use Rattle.std.specs.List.{flat_map}
-use Rattle.std.specs.Prelude.{◌≡◌, ℕ, ℤ, ◌+◌, ◌⊎◌, ◌++◌, codes, decimal, sum_by, Bool, true, false, List, [], ◌∷◌, Option, None, Some, Result, is_ok, if◌then◌else◌}
-use Rattle.crack_row.specs.Rows.{total_by}
+use Rattle.std.specs.Prelude.{◌≡◌, ℕ, ◌+◌, ◌⊎◌, ◌++◌, codes, decimal, Bool, true, false, List, [], ◌∷◌, Option, None, Some, Result, is_ok, if◌then◌else◌}
 use Rattle.crack_row.specs.declared.Bound.{Bound}
+use Rattle.crack_row.specs.declared.command.Command.{Command}
+use Rattle.crack_row.specs.declared.command.Policy.{Policy}
+use Rattle.crack_row.specs.declared.command.Reply.{Reply}
 use Rattle.crack_row.specs.declared.refusal.Refusal.{Refusal}
 use Rattle.crack_row.specs.declared.watched.Watched.{Watched}
 use Rattle.crack_plain.specs.Plain.{PlainView}
@@ -13,13 +15,12 @@ use Rattle.crack_row.specs.Ranges.{Range}
 use Rattle.crack_row.specs.declared.refusal.Refusal.TheVariants.{OutOfMemory}
 use Rattle.crack_commands.specs.Texts.{line_text, row_text, Writes}
 use Rattle.crack_session.specs.declared.answer.Answer.TheVariants.{Refused}
-use Rattle.crack_session.specs.declared.query.PartReply.{PartReply}
+use Rattle.crack_core.specs.declared.turns.PartReply.{PartReply}
 use Rattle.crack_core.specs.declared.asking.Query.{Query}
-use Rattle.crack_core.specs.Asking.{counted, summed}
 use Rattle.crack_core.specs.Listing.{listed}
 use Rattle.crack_session.specs.Answers.{IsJoined, IsAnswer, is_short_answer, answer_text}
-use Rattle.crack_session.specs.Calls.{Call, Calls, IsReadingMadeOf, policy_after}
-use Rattle.crack_core.specs.Steps.{Bounds}
+use Rattle.crack_session.specs.Calls.{Call, Asked, Calls, IsReadingMadeOf, policy_after}
+use Rattle.crack_core.specs.Steps.{Bounds, IsOutcomeAt, tables_after}
 
 -- A desk is asked: its tables, if they are known, change as its bounds and splits allow, and these stay; and such calls lead from one state to the
 -- other.
@@ -30,6 +31,14 @@ pub record AsksDesk {D : Type 0} (bounds : D → Bounds) (splits : D → List Bo
   pub calls : List Call
   pub were : Calls leads old calls new
   pub made : AreSuch (splits old) calls
+
+-- One partition of a desk is asked, once, and this is the outcome.
+pub record AsksOnce {D : Type 0} (bounds : D → Bounds) (splits : D → List Bound) (tables : D → Option (List PlainView)) (leads : D → Call → D → Type 0) (part : ℕ) (command : Command) (policy : Policy) (outcome : Result Reply Refusal) (old new : D) : Type 0 where
+  pub comes_out : (known : List PlainView) → tables old ≡ Some known → IsOutcomeAt (bounds old) (splits old) known part command outcome
+  pub after : (known : List PlainView) → tables old ≡ Some known → tables new ≡ Some (tables_after (bounds old) known part command outcome)
+  pub bounds_are : bounds new ≡ bounds old
+  pub splits_are : splits new ≡ splits old
+  pub led : leads old (Asked part command policy outcome) new
 
 -- the first lack of room, after the n-th statement
 abbrev pub marked : Option ℕ → ℕ → Bool → Option ℕ
@@ -49,14 +58,6 @@ pub record Responds {D W : Type 0} (bounds : D → Bounds) (splits : D → List 
   pub answer : Answer
   pub asks : AsksDesk bounds splits tables leads (λ bounds splits tables. IsAnswer bounds splits tables reading answer) (λ splits calls. IsReadingMadeOf splits old.policy reading answer calls) desk desk'
   pub tells : Tells contents answer old new result writer writer'
-
--- how many rows these count or list in total
-abbrev pub rows_told : List PartReply → ℕ
-rows_told replies = sum_by (λ (r : PartReply). counted r.reply) replies
-
--- the sum of their sums
-abbrev pub sum_told : List PartReply → ℤ
-sum_told replies = total_by (λ (r : PartReply). summed r.reply) replies
 
 -- the rows that a partition listed
 abbrev pub list_text : PartReply → List ℕ

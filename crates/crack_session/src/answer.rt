@@ -1,27 +1,25 @@
 //! Answers to statements.
-ghost use Rattle.std.specs.Prelude.{◌≡◌, ◌≤◌, ℕ, [], ◌∷◌, Ok, Result, length, All, vec_capacity};
-ghost use Rattle.std.specs.Result.{result_and};
+ghost use Rattle.std.specs.Prelude.{◌≡◌, ◌≤◌, ℕ, [], ◌∷◌, Result, length};
 ghost use Rattle.std.specs.List.{flat_map};
 ghost use Rattle.crack_row.specs.declared.layout.Layout.{Layout};
 ghost use Rattle.crack_row.specs.declared.refusal.Refusal.{Refusal};
-ghost use Rattle.crack_plain.specs.Plain.{IsSmall};
 ghost use Rattle.crack_core.specs.Asking.{asking};
 ghost use Rattle.crack_core.specs.Routes.{route, parts_of};
 ghost use Rattle.crack_commands.specs.Texts.{Writes};
 ghost use Rattle.crack_session.specs.Telling.{list_text, lists_text, AsksSeveral, AsksDesk};
-ghost use Rattle.crack_session.specs.Answers.{IsAnswerTo, IsAsked, AsksInTurn, AsksParts, IsLaidOut};
+ghost use Rattle.crack_session.specs.Answers.{IsAnswerTo, IsAsked, AsksParts, IsLaidOut};
 ghost use Rattle.crack_session.specs.Answers.{IsFolded, is_short_answer, answer_text, answer_from, farewell};
-ghost use Rattle.crack_session.specs.Calls.{Checkpointed, Looked, IsOneAsked, AreAskedInTurn, AreSeveralAsked};
+ghost use Rattle.crack_session.specs.Calls.{Checkpointed, Looked, IsOneAsked, AreSeveralAsked};
 ghost use Rattle.crack_session.specs.Calls.{ArePartsAsked, IsMadeOf};
 ghost use Rattle.crack_session.specs.Queries.{joined};
 
 use crate::desk::Desk;
-use crate::query::{PartReply, ReplyList, joined};
+use crate::query::{ReplyList, joined};
 use crack_commands::{
     Ending, Statement, policy_line, write_count, write_each_row, write_folded, write_head,
     write_layout, write_refusal, write_reply, write_sum, write_text,
 };
-use crack_core::{Query, only_part, parts_of, route};
+use crack_core::{AskPart, PartReply, Query, ask_parts, only_part, parts_of, route};
 use crack_row::{Command, Key, KeyRange, Layout, Policy, Refusal, Reply, Watched};
 use std::alloc::Global;
 use std::io::Write;
@@ -205,6 +203,25 @@ fn ask_range<D: Desk>(
     }
 }
 
+/// A desk that is lent: its partitions are asked in turn.
+#[derive(Drop)]
+struct Lent<'a, D> {
+    desk: &'a mut D,
+}
+
+impl<'a, D: Desk> AskPart for Lent<'a, D> {
+    ghost use Rattle.std.specs.Prelude.{◌≡◌};
+    ghost use Rattle.crack_session.specs.Telling.{AsksOnce};
+
+    ghost asks = { λ old part command policy outcome new. (new.desk.ghost_name ≡ old.desk.ghost_name) ×
+        AsksOnce ⟦<D as Desk>⟧.bounds ⟦<D as Desk>⟧.splits ⟦<D as Desk>⟧.tables ⟦<D as Desk>⟧.leads part command
+        policy outcome old.desk.now new.desk.now };
+
+    fn ask_part(&mut self, part: u32, command: Command, policy: Policy) -> Result<Reply, Refusal> {
+        self.desk.ask(part, command, policy)
+    }
+}
+
 /// Asks several partitions, once there is room for their replies, and joins these.
 fn ask_several<D: Desk>(
     alloc: Global,
@@ -218,42 +235,28 @@ fn ask_several<D: Desk>(
         query parts.now result) (λ splits calls. AreSeveralAsked policy (λ range. asking query range)
         (λ replies. joined query replies) parts.now result calls) desk.old desk.new }
 {
-    match Vec::with_capacity(alloc, parts.len()) {
-        Ok(mut replies) => match ask_each(desk, policy, query, parts, &mut replies) {
-            Ok(()) => joined(query, replies),
-            Err(refusal) => Answer::Refused(refusal),
-        },
-        Err(_) => Answer::Refused(Refusal::OutOfMemory),
-    }
+    let mut lent = Lent { desk };
+    ask_lent(alloc, &mut lent, policy, query, parts)
 }
 
-/// Asks one partition after the other, until one refuses.
-#[inline(never)]
-fn ask_each<D: Desk>(
-    desk: &mut D,
+/// Does so at a desk that is lent.
+fn ask_lent<D: Desk>(
+    alloc: Global,
+    lent: &mut Lent<'_, D>,
     policy: Policy,
     query: Query,
     parts: &[(u32, KeyRange)],
-    replies: &mut Vec<PartReply>,
-) -> Result<(), Refusal>
-    requires none { replies.old.items ≡ [] }
-    requires room { length parts.now ≤ vec_capacity replies.old }
-    ensures asks { AsksDesk D.bounds D.splits D.tables D.leads (λ bounds splits tables. AsksInTurn bounds splits query
-        tables parts.now (result_and result (Ok replies.new.items))) (λ splits calls. AreAskedInTurn policy
-        (λ range. asking query range) parts.now (result_and result (Ok replies.new.items)) calls) desk.old desk.new }
-    ensures small { All (λ (r : PartReply). IsSmall r.reply) replies.new.items }
-    ensures few { length replies.new.items ≤ length parts.now }
+) -> Answer
+    requires { length parts.now ≤ 64 }
+    ensures asks { AsksDesk D.bounds D.splits D.tables D.leads (λ bounds splits tables. AsksSeveral bounds splits
+        tables query parts.now result) (λ splits calls. AreSeveralAsked policy (λ range. asking query range)
+        (λ replies. joined query replies) parts.now result calls) lent.old.desk.now lent.new.desk.now }
+    ensures lent { lent.new.desk.ghost_name ≡ lent.old.desk.ghost_name }
 {
-    'parts: for part in parts {
-        match desk.ask(part.0, query.over(part.1), policy) {
-            Ok(reply) => replies.push_reserved(PartReply {
-                part: part.0,
-                reply,
-            }),
-            Err(refusal) => return Err(refusal),
-        }
+    match ask_parts(alloc, lent, policy, query, parts) {
+        Ok(replies) => joined(query, replies),
+        Err(refusal) => Answer::Refused(refusal),
     }
-    Ok(())
 }
 
 /// Writes the layout of one partition.

@@ -39,7 +39,6 @@ impl Desk for Core {
         ensures leads { core_leads self.old (Asked part command policy result) self.new }
     {
         self.step(Step {
-            worker: 0,
             part,
             command,
             policy,

@@ -7,12 +7,13 @@ ghost use Rattle.crack_session.specs.Feeding.{rest_text, lists_from, is_nothing}
 
 use crate::OUTPUT_BYTES;
 use crate::answer::Answer;
-use crate::query::{PartReply, ReplyList};
+use crate::query::ReplyList;
 use arrayvec::ArrayVec;
 use crack_commands::{
     LONGEST_TEXT, TEXT_BYTES, policy_line, push, push_count, push_folded, push_gone, push_head,
     push_layout_head, push_piece, push_placed, push_refusal, push_row, push_sum,
 };
+use crack_core::PartReply;
 use crack_row::{Layout, PieceSize, Reply, Row, RowList};
 
 /// Texts on their way to a device: bytes with a bound, for which there is room from the start.

@@ -27,7 +27,7 @@ fn command_of(statement: Statement) -> Option<Command> {
     }
 }
 
-/// The job of a line: a step of worker 0 at partition 0 under the ripple merge, or a checkpoint.
+/// The job of a line: a step at partition 0 under the ripple merge, or a checkpoint.
 fn job_of(rt: &impl Abort, line: &str) -> Job {
     let statement = parse_statement(line.as_bytes()).expect(rt, "a statement");
     if let Statement::Checkpoint(part) = statement {
@@ -35,7 +35,6 @@ fn job_of(rt: &impl Abort, line: &str) -> Job {
     }
     let command = command_of(statement).expect(rt, "a command");
     Job::Perform(Step {
-        worker: 0,
         part: 0,
         command,
         policy: Policy::Ripple,

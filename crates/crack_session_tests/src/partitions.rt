@@ -64,10 +64,9 @@ fn ranges_are_cut_at_splits(rt: HostRuntime) {
     assert_eq!(rt; places, [0, 1, 2]);
 }
 
-/// A step of worker 0 under the gradual merge.
+/// A step under the gradual merge.
 fn step(part: u32, command: Command) -> Step {
     Step {
-        worker: 0,
         part,
         command,
         policy: Policy::Gradual,

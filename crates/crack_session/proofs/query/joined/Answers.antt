@@ -1,4 +1,4 @@
-use Rattle.crack_session.proofs.Joining.{rows_told-fit}
+use Rattle.crack_core.proofs.AskLaws.{rows_told-fit}
 use Rattle.crack_session.proofs.query.joined.Goals as goal
 
 pub rows_told-requires : goal.rows_told-requires

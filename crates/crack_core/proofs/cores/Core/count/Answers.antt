@@ -1,11 +1,18 @@
-use Rattle.std.proofs.Common.{◌∙◌}
+use Rattle.std.proofs.Common.{◌≡◌, ℕ, List, [], ◌∷◌, arith}
+use Rattle.crack_row.specs.Ranges.{Range}
 use Rattle.crack_row.specs.declared.command.Command.TheVariants.{Count}
-use Rattle.crack_core.proofs.AskLaws.{counts-fit, reads-refused}
+use Rattle.crack_core.specs.Asking.{rows_told}
+use Rattle.crack_core.specs.declared.turns.PartReply.{PartReply}
+use Rattle.crack_core.proofs.AskLaws.{rows_told-fit, reads-one}
 use Rattle.crack_core.proofs.cores.Core.count.Goals as goal
 
-pub count_in-requires : goal.count_in-requires
-count_in-requires c = rw c.as_slice-in-Ok-read_parts.ensures.value (counts-fit c.in-Ok-read_parts.replies.items c.in-Ok-read_parts.ensures.small.0 c.in-Ok-read_parts.ensures.small.1)
+pub rows_told-requires : goal.rows_told-requires
+rows_told-requires c = rw c.as_slice.ensures.value (rows_told-fit c.in-Ok-ask_range.replies.items c.in-Ok-ask_range.ensures.small c.in-Ok-ask_range.ensures.few)
 
 pub returns-in-Ok-clause-counts : goal.returns-in-Ok-clause-counts
 returns-in-Ok-clause-counts c =
-    reads-refused c.args.self.now c.read_parts.new.self c.args.policy (λ part. Count part) _ c.args.range c.as_slice.result.now _ (c.as_slice.ensures ∙ c.in-Ok.ensures.ok) c.in-Err-read_parts.ensures.err
+    let core = c.args.self.now in
+    let said : List PartReply = record { part = c.in-Some.part; reply = c.in-Ok.reply } ∷ [] in
+    let counts : c.counted.result ≡ rows_told said = omega (arith, c.counted.ensures) in
+    reads-one core.limits core.splits c.args.policy (λ (part : Range). Count part) (λ (said : List PartReply) (count : ℕ). count ≡ rows_told said) c.args.range c.in-Some.part c.in-Ok.reply c.counted.result core.parts c.ask_part.new.self.parts
+    (rw c.splits.ensures.value at c.in-Some.ensures.one) c.in-Ok.ensures.asks.0 counts

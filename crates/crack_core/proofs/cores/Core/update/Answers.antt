@@ -9,8 +9,8 @@ use Rattle.crack_core.proofs.cores.Core.update.Goals as goal
 pub returns-in-Ok-clause-updates : goal.returns-in-Ok-clause-updates
 returns-in-Ok-clause-updates c =
     let core = c.args.self.now in
-    let new = c.ask.new.self.parts in
+    let new = c.ask_part.new.self.parts in
     let row = c.args.row in
     let step = step_at Gradual row.part (Update row.serial c.args.key c.args.payload) in
-    let said = asks-said core.limits core.splits step c.in-Ok.reply core.parts new c.in-Ok.ensures.asks in
-    subst (λ (r : Reply). Asks core.limits core.splits step (Ok r) core.parts new) (c.is_changed.ensures said.0 row.serial c.args.key c.args.payload said.1) c.in-Ok.ensures.asks
+    let said = asks-said core.limits core.splits step c.in-Ok.reply core.parts new c.in-Ok.ensures.asks.0 in
+    subst (λ (r : Reply). Asks core.limits core.splits step (Ok r) core.parts new) (c.is_changed.ensures said.0 row.serial c.args.key c.args.payload said.1) c.in-Ok.ensures.asks.0

@@ -1,6 +1,6 @@
 use Rattle.std.proofs.Common.{◌≡◌, ◌*◌, ◌^◌, take, pos, neg_ℤ, ◌≤ℤ◌}
-use Rattle.crack_session.specs.Telling.{sum_told}
-use Rattle.crack_session.proofs.query.sum_told.Given as goal
+use Rattle.crack_core.specs.Asking.{sum_told}
+use Rattle.crack_core.proofs.turns.sum_told.Given as goal
 
 abbrev pub invariant-replies : goal.invariant-replies
 invariant-replies l =

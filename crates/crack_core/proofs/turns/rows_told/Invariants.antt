@@ -1,6 +1,6 @@
 use Rattle.std.proofs.Common.{◌≡◌, take}
-use Rattle.crack_session.specs.Telling.{rows_told}
-use Rattle.crack_session.proofs.query.rows_told.Given as goal
+use Rattle.crack_core.specs.Asking.{rows_told}
+use Rattle.crack_core.proofs.turns.rows_told.Given as goal
 
 abbrev pub invariant-replies : goal.invariant-replies
 invariant-replies l = record {

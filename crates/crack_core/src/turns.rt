@@ -1,0 +1,147 @@
+//! Partitions that are asked in turn, each for its part of a range.
+ghost use Rattle.std.specs.Prelude.{◌≡◌, ◌⊎◌, ◌<◌, ◌≤◌, ◌≤ℤ◌, ◌^◌, neg_ℤ, pos, [], All, length, vec_capacity};
+ghost use Rattle.std.specs.Prelude.{Ok, Err, IfOk, IfErr};
+ghost use Rattle.std.specs.Result.{result_and};
+ghost use Rattle.crack_plain.specs.Plain.{IsSmall};
+ghost use Rattle.crack_core.specs.Asking.{AsksEach, asking, counted, summed, rows_told, sum_told};
+ghost use Rattle.crack_core.specs.Listing.{listed};
+
+use crate::Query;
+use crack_row::{Command, KeyRange, Policy, Refusal, Reply, Row};
+use std::alloc::Global;
+
+/// Partitions with numbers, which are asked one command after another.
+pub trait AskPart {
+    ghost use Rattle.std.specs.Prelude.{ℕ, Result};
+    ghost use Rattle.crack_row.specs.declared.command.Command.{Command};
+    ghost use Rattle.crack_row.specs.declared.command.Policy.{Policy};
+    ghost use Rattle.crack_row.specs.declared.command.Reply.{Reply};
+    ghost use Rattle.crack_row.specs.declared.refusal.Refusal.{Refusal};
+
+    /// The effect of asking a partition a command by a policy with this outcome, from one state to another.
+    ghost asks: { Self → ℕ → Command → Policy → Result Reply Refusal → Self → Type 0 };
+
+    /// Asks the partition with this number.
+    fn ask_part(&mut self, part: u32, command: Command, policy: Policy) -> Result<Reply, Refusal>
+        ensures asks { asks self.old part command policy result self.new }
+        ensures small { IfOk result IsSmall };
+}
+
+/// What one of several partitions replied.
+#[derive(Drop)]
+pub struct PartReply {
+    pub part: u32,
+    pub reply: Reply,
+}
+
+impl PartReply {
+    /// How many rows it counts or lists.
+    pub(crate) fn counted(&self) -> u64
+        ensures { result ≡ counted self.now.reply }
+    {
+        match &self.reply {
+            Reply::Counted(count) => *count,
+            Reply::Rows(rows) => rows.as_slice().len() as u64,
+            _ => 0,
+        }
+    }
+
+    /// The sum that it carries.
+    pub(crate) fn summed(&self) -> i128
+        ensures { result ≡ summed self.now.reply }
+    {
+        match &self.reply {
+            Reply::Summed(sum) => *sum,
+            _ => 0,
+        }
+    }
+
+    /// The rows that it lists.
+    pub fn rows(&self) -> &[Row]
+        ensures { result.now ≡ listed self.now.reply }
+    {
+        match &self.reply {
+            Reply::Rows(rows) => rows.as_slice(),
+            _ => &[],
+        }
+    }
+}
+
+/// Asks partitions in turn, each for its part of a range, once there is room for their replies. The first refusal ends
+/// it. Refused with 8 before the first is asked if there is no room. Takes memory for a reply of each.
+pub fn ask_parts<A: AskPart>(
+    alloc: Global,
+    partitions: &mut A,
+    policy: Policy,
+    query: Query,
+    parts: &[(u32, KeyRange)],
+) -> Result<Vec<PartReply>, Refusal>
+    ensures ok { IfOk result (λ replies. AsksEach A.asks policy (λ range. asking query range) partitions.old parts.now
+        (Ok replies.items) partitions.new) }
+    ensures err { IfErr result (λ e. AsksEach A.asks policy (λ range. asking query range) partitions.old parts.now
+        (Err e) partitions.new ⊎ ((e ≡ Refusal.OutOfMemory) × (partitions.new ≡ partitions.old))) }
+    ensures small { IfOk result (λ replies. All (λ (r : PartReply). IsSmall r.reply) replies.items) }
+    ensures few { IfOk result (λ replies. length replies.items ≤ length parts.now) }
+{
+    match Vec::with_capacity(alloc, parts.len()) {
+        Ok(mut replies) => match ask_each(partitions, policy, query, parts, &mut replies) {
+            Ok(()) => Ok(replies),
+            Err(refusal) => Err(refusal),
+        },
+        Err(_) => Err(Refusal::OutOfMemory),
+    }
+}
+
+/// Asks one partition after the other, until one refuses.
+#[inline(never)]
+fn ask_each<A: AskPart>(
+    partitions: &mut A,
+    policy: Policy,
+    query: Query,
+    parts: &[(u32, KeyRange)],
+    replies: &mut Vec<PartReply>,
+) -> Result<(), Refusal>
+    requires none { replies.old.items ≡ [] }
+    requires room { length parts.now ≤ vec_capacity replies.old }
+    ensures asks { AsksEach A.asks policy (λ range. asking query range) partitions.old parts.now
+        (result_and result (Ok replies.new.items)) partitions.new }
+    ensures small { All (λ (r : PartReply). IsSmall r.reply) replies.new.items }
+    ensures few { length replies.new.items ≤ length parts.now }
+{
+    'parts: for part in parts {
+        match partitions.ask_part(part.0, query.over(part.1), policy) {
+            Ok(reply) => replies.push_reserved(PartReply {
+                part: part.0,
+                reply,
+            }),
+            Err(refusal) => return Err(refusal),
+        }
+    }
+    Ok(())
+}
+
+/// How many rows replies count or list in total.
+pub fn rows_told(replies: &[PartReply]) -> u64
+    requires { rows_told replies.now < 2 ^ 64 }
+    ensures { result ≡ rows_told replies.now }
+{
+    let mut total = 0;
+    'replies: for reply in replies {
+        total += reply.counted();
+    }
+    total
+}
+
+/// The sums of replies, added.
+pub fn sum_told(replies: &[PartReply]) -> i128
+    requires small { All (λ (r : PartReply). IsSmall r.reply) replies.now }
+    requires few { length replies.now ≤ 64 }
+    ensures value { result ≡ sum_told replies.now }
+    ensures small { (neg_ℤ (pos (2 ^ 102)) ≤ℤ result) × (result ≤ℤ pos (2 ^ 102)) }
+{
+    let mut total = 0;
+    'replies: for reply in replies {
+        total += reply.summed();
+    }
+    total
+}
