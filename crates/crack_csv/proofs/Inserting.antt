@@ -19,13 +19,13 @@ use Rattle.crack_csv.specs.Inside.{Fields, IsBehind, AsksRow, AsksNoRow}
 use Rattle.crack_csv.specs.Records.{is_header, without_header, new_row_of}
 use Rattle.crack_csv.proofs.Loading.{without_header-push, no_header, first_is_header, ReadsOne}
 
-AllZip-add : {A B : Type 0} (R : A → B → Type 0) (xs : List A) (ys : List B) (x : A) (y : B) → AllZip R xs ys → R x y → AllZip R (xs ++ x ∷ []) (ys ++ y ∷ [])
+pub AllZip-add : {A B : Type 0} (R : A → B → Type 0) (xs : List A) (ys : List B) (x : A) (y : B) → AllZip R xs ys → R x y → AllZip R (xs ++ x ∷ []) (ys ++ y ∷ [])
 AllZip-add R [] [] x y all one = (one, tt)
 AllZip-add R [] (b ∷ ys) x y all one = absurd all
 AllZip-add R (a ∷ xs) [] x y all one = absurd all
 AllZip-add R (a ∷ xs) (b ∷ ys) x y all one = (all.0, AllZip-add R xs ys x y all.1 one)
 
-abbrev IsAnswered : List Bound → Policy → NewRow → Call → Type 0
+abbrev pub IsAnswered : List Bound → Policy → NewRow → Call → Type 0
 IsAnswered splits policy row call = (reply : Reply) × (call ≡ insertion splits policy row (Ok reply))
 
 -- a record that is a header is the first

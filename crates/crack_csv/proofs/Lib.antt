@@ -1,7 +1,12 @@
 pub mod Cutting
 pub mod Exporting
+pub mod Fed
 pub mod Fields
 pub mod Inserting
+pub mod Keeping
 pub mod Listing
+pub mod Loaders
 pub mod Loading
+pub mod Short
+pub mod Texts
 pub mod Within

@@ -39,7 +39,7 @@ with_rows-push bounds splits tables [] row = refl
 with_rows-push bounds splits tables (first ∷ rows) row = with_rows-push bounds splits (with_row bounds splits tables first) rows row
 
 -- one more row is inserted
-AreInserted-push : {bounds : Bounds} {splits : List Bound} {tables : List PlainView} {count : ℕ} {left : Option (List PlainView)} (records : List Fields) (fields : Fields) (left' : Option (List PlainView)) (was : AreInserted bounds splits tables records count left) → is_header_behind records fields ≡ false → BringsRow bounds splits (with_rows bounds splits tables was.rows) fields left' → AreInserted bounds splits tables (records ++ fields ∷ []) (count + 1) left'
+pub AreInserted-push : {bounds : Bounds} {splits : List Bound} {tables : List PlainView} {count : ℕ} {left : Option (List PlainView)} (records : List Fields) (fields : Fields) (left' : Option (List PlainView)) (was : AreInserted bounds splits tables records count left) → is_header_behind records fields ≡ false → BringsRow bounds splits (with_rows bounds splits tables was.rows) fields left' → AreInserted bounds splits tables (records ++ fields ∷ []) (count + 1) left'
 AreInserted-push {bounds} {splits} {tables} records fields left' was plain brings = record {
   rows = was.rows ++ brings.0 ∷ [];
   are = ap (map new_row_of) (without_header-push records fields plain) ∙ map-append new_row_of (without_header records) (fields ∷ [])
@@ -55,7 +55,7 @@ first_is_header [] fields number n header = let is : is_header fields ≡ true =
 first_is_header (first ∷ records) fields number n header = absurd (let other : (number == 1) ≡ false = ne_eqb number 1 (λ one. omega (arith, n, one)) in cc (rw other at header))
 
 -- a header is skipped
-AreInserted-header : {bounds : Bounds} {splits : List Bound} {tables : List PlainView} {count : ℕ} {left : Option (List PlainView)} (records : List Fields) (fields : Fields) (number : ℕ) → length records + 1 ≡ number → (number == 1 && is_header fields) ≡ true → AreInserted bounds splits tables records count left → AreInserted bounds splits tables (records ++ fields ∷ []) count left
+pub AreInserted-header : {bounds : Bounds} {splits : List Bound} {tables : List PlainView} {count : ℕ} {left : Option (List PlainView)} (records : List Fields) (fields : Fields) (number : ℕ) → length records + 1 ≡ number → (number == 1 && is_header fields) ≡ true → AreInserted bounds splits tables records count left → AreInserted bounds splits tables (records ++ fields ∷ []) count left
 AreInserted-header records fields number n header was = record { rows = was.rows; are = ap (map new_row_of) (first_is_header records fields number n header) ∙ was.are; count_is = was.count_is; left_is = was.left_is }
 
 -- a record isn't a header unless it is the first

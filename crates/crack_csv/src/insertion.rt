@@ -46,7 +46,7 @@ pub fn insert_record<D: Desk>(
 }
 
 /// Inserts a row into the partition of its key.
-fn insert_row<D: Desk>(desk: &mut D, policy: Policy, row: NewRow) -> Result<(), Refusal>
+pub(crate) fn insert_row<D: Desk>(desk: &mut D, policy: Policy, row: NewRow) -> Result<(), Refusal>
     ensures inserted { OnOk result ((tables : List PlainView) → D.tables desk.old ≡ Some tables →
         D.tables desk.new ≡ Some (with_row (D.bounds desk.old) (D.splits desk.old) tables row)) }
     ensures kept { IfErr result (λ _. (tables : List PlainView) → D.tables desk.old ≡ Some tables →

@@ -1,7 +1,7 @@
 //! Loads and exports of CSV: the forms of records, texts that are cut off, and devices that fail.
 use crate::session::core;
 use crack_core::Core;
-use crack_csv::{LoadFault, export_csv, load_csv};
+use crack_csv::{LoadFault, Loader, export_csv, load_csv};
 use crack_failing::{ONE_BYTE, Sink, Source};
 use crack_row::{BoundNumber, GREATEST_LIMIT, Policy, Refusal, Watched};
 use std::alloc::Global;
@@ -60,6 +60,40 @@ fn a_text_is_cut_off_anywhere(rt: HostRuntime) {
         let by_bytes = end_of(&rt, rt.alloc(), dripping);
         let wanted = end_of_cut(bytes);
         assert!(rt; whole == wanted && by_bytes == wanted, "{bytes} bytes");
+    }
+}
+
+/// Texts with a byte order mark, quotes and ends of all kinds, and one that is refused.
+const MARKED: &[&[u8]] = &[
+    TEXT,
+    b"\xEF\xBB\xBFkey,payload\r\n\r\n\"1\",\"-2\"\r3,4",
+    b"\n1\"\"2,5\n\"6\"7,8",
+    b"\xEF\xBB1,2\n",
+];
+
+/// How a loader ends that is fed two pieces.
+fn end_of_pieces(
+    loader: &mut Loader,
+    desk: &mut Core,
+    first: &[u8],
+    second: &[u8],
+) -> Result<u64, LoadFault> {
+    loader.feed(desk, first)?;
+    loader.feed(desk, second)?;
+    loader.end(desk)
+}
+
+#[test]
+fn pieces_are_loaded_as_the_whole(rt: HostRuntime) {
+    'texts: for text in MARKED {
+        let whole = end_of(&rt, rt.alloc(), Source::new(text));
+        'cuts: for at in 0..text.len() + 1 {
+            let mut desk = core(&rt, rt.alloc(), &[], GREATEST_LIMIT);
+            let mut loader = Loader::new(Policy::Ripple);
+            let ended = end_of_pieces(&mut loader, &mut desk, &text[..at], &text[at..]);
+            drop(desk);
+            assert!(rt; ended == whole, "cut at {at}");
+        }
     }
 }
 
