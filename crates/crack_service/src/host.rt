@@ -65,6 +65,12 @@ pub trait Host {
 
     /// Waits for a moment, after a system call that failed and is to be repeated.
     fn pause(&self);
+
+    /// The time since some moment, in milliseconds. A host without a clock has the same time forever, at which nothing
+    /// has waited too long.
+    fn millis(&self) -> u64 {
+        0
+    }
 }
 
 /// A host that notes nothing and never waits, for servers that end after a number of sessions. Its knock reaches

@@ -1,0 +1,288 @@
+//! The connections of one thread.
+use crate::admission::Arrival;
+use crate::client::{After, Client};
+use crate::connection::{Connection, has_passed};
+use crate::terms::Service;
+use crate::{READ_BYTES, Room};
+use arrayvec::ArrayString;
+use crack_row::Refusal;
+use crack_service::Host;
+use crack_session::{Desk, Output};
+use mio::net::{TcpListener, TcpStream};
+use mio::{Events, Interest, Poll, Token};
+use slab::Slab;
+use std::alloc::Global;
+use std::collections::VecDeque;
+use std::fmt::Write as _;
+use std::io::{Read, Write};
+use std::net::Shutdown;
+use std::sync::Wait;
+use std::time::Duration;
+
+/// The token of the listener; those of connections are their keys.
+pub(crate) const LISTENER: usize = usize::MAX;
+
+/// The token of a thread's waker.
+pub(crate) const WAKER: usize = usize::MAX - 1;
+
+/// How long a thread waits for events at most, and how often it looks for connections that have waited too long, in
+/// milliseconds.
+pub(crate) const LOOK_MILLIS: u64 = 1000;
+
+/// The connections of one thread, and those whose turn comes.
+#[derive(Drop)]
+pub(crate) struct Crowd {
+    number: usize,
+    poll: Poll,
+    listener: TcpListener,
+    clients: Slab<Client>,
+    /// The keys of the connections whose turn comes, each once.
+    queue: VecDeque<usize>,
+    room: Room,
+    /// Whether a connection may wait at the listener.
+    may_arrive: bool,
+    /// When the server began to stop, if it has.
+    stopping_since: Option<u64>,
+}
+
+impl Crowd {
+    /// No connections.
+    pub(crate) fn new(alloc: Global, number: usize, poll: Poll, listener: TcpListener) -> Crowd {
+        Crowd {
+            number,
+            poll,
+            listener,
+            clients: Slab::new(alloc),
+            queue: VecDeque::new(alloc),
+            room: Room {
+                input: [0; READ_BYTES],
+                out: Output::new(),
+            },
+            may_arrive: true,
+            stopping_since: None,
+        }
+    }
+
+    /// Waits until something has happened, or not at all if a turn comes without that, and queues the connections that
+    /// are ready.
+    pub(crate) fn wait<Rt: Wait, H: Host>(
+        &mut self,
+        service: &Service<'_, Rt, H>,
+        events: &mut Events,
+    ) {
+        let most = if self.may_arrive || !self.queue.is_empty() {
+            0
+        } else {
+            LOOK_MILLIS
+        };
+        if self
+            .poll
+            .poll(events, Some(Duration::from_millis(most)))
+            .is_err()
+        {
+            service.host.pause();
+        }
+        'events: for event in events.iter() {
+            match event.token() {
+                Token(LISTENER) => self.may_arrive = true,
+                Token(WAKER) => {}
+                Token(key) => self.enqueue(service, key, event.is_read_closed()),
+            }
+        }
+    }
+
+    /// Accepts one connection, if one waits.
+    pub(crate) fn accept<Rt: Wait, H: Host>(&mut self, service: &Service<'_, Rt, H>, now: u64) {
+        if !self.may_arrive {
+            return;
+        }
+        let clients = service.terms.clients;
+        let was_over = service.admission.is_over();
+        match service
+            .admission
+            .accept(service.rt, &self.listener, clients)
+        {
+            Arrival::Accepted(stream) => self.admit(service, stream, now),
+            Arrival::TurnedAway(stream) => turn_away(&stream, clients, &mut self.room),
+            Arrival::Nobody | Arrival::Failed => self.may_arrive = false,
+        }
+        if !was_over && service.admission.is_over() {
+            service.wake_all();
+        }
+    }
+
+    /// Adds a connection, whose turn comes at once.
+    fn admit<Rt: Wait, H: Host>(
+        &mut self,
+        service: &Service<'_, Rt, H>,
+        stream: TcpStream,
+        now: u64,
+    ) {
+        let mut stream = stream;
+        let _ = stream.set_nodelay(true);
+        let key = self.clients.vacant_key();
+        let watched = self.poll.registry().register(
+            &mut stream,
+            Token(key),
+            Interest::READABLE | Interest::WRITABLE,
+        );
+        if watched.is_err() {
+            service.end(self.number, Some(Refusal::ReadFault));
+            return;
+        }
+        let client = Client {
+            stream,
+            connection: Connection::new(service.alloc, service.terms.policy),
+            heard: now,
+            is_queued: false,
+            is_half_closed: false,
+        };
+        let most = self.clients.len().saturating_add(1);
+        if self.queue.reserve(most).is_err() || self.clients.insert(client).is_err() {
+            service.end(self.number, Some(Refusal::OutOfMemory));
+            return;
+        }
+        self.enqueue(service, key, false);
+    }
+
+    /// Queues a connection, unless it is queued.
+    fn enqueue<Rt: Wait, H: Host>(
+        &mut self,
+        service: &Service<'_, Rt, H>,
+        key: usize,
+        is_half_closed: bool,
+    ) {
+        let is_new = match self.clients.get_mut(key) {
+            Some(client) => client.is_due(is_half_closed),
+            None => false,
+        };
+        if is_new && self.queue.push_back(key).is_err() {
+            self.remove(service, key, Some(Refusal::OutOfMemory));
+        }
+    }
+
+    /// Has each queued connection take a turn, and queues those that go on without an event.
+    pub(crate) fn take_turns<Rt: Wait, D: Desk, H: Host>(
+        &mut self,
+        service: &Service<'_, Rt, H>,
+        desk: &mut D,
+        now: u64,
+    ) {
+        let count = self.queue.len();
+        'turns: for _ in 0..count {
+            if let Some(key) = self.queue.pop_front() {
+                let after = self.turn(service.alloc, desk, key, now);
+                self.follow(service, key, after);
+            }
+        }
+    }
+
+    /// Has a connection take a turn.
+    fn turn<D: Desk>(&mut self, alloc: Global, desk: &mut D, key: usize, now: u64) -> After {
+        let is_stopping = self.stopping_since.is_some();
+        match self.clients.get_mut(key) {
+            Some(client) => {
+                client.is_queued = false;
+                client.turn(alloc, desk, &mut self.room, now, is_stopping)
+            }
+            None => After::Event,
+        }
+    }
+
+    /// Does what follows a turn.
+    fn follow<Rt: Wait, H: Host>(
+        &mut self,
+        service: &Service<'_, Rt, H>,
+        key: usize,
+        after: After,
+    ) {
+        match after {
+            After::Turn => self.enqueue(service, key, false),
+            After::Event => {}
+            After::End => self.remove(service, key, None),
+            After::CutOff(refusal) => self.remove(service, key, Some(refusal)),
+        }
+    }
+
+    /// Closes a connection, which was cut off if there is a refusal.
+    fn remove<Rt: Wait, H: Host>(
+        &mut self,
+        service: &Service<'_, Rt, H>,
+        key: usize,
+        refusal: Option<Refusal>,
+    ) {
+        if let Some(client) = self.clients.try_remove(key) {
+            self.may_arrive = true;
+            service.end(self.number, refusal);
+            drop(client);
+        }
+    }
+
+    /// Cuts off the connections that have waited too long. An accept that failed is tried again.
+    pub(crate) fn look<Rt: Wait, H: Host>(&mut self, service: &Service<'_, Rt, H>, now: u64) {
+        self.may_arrive = true;
+        if let Some(idle) = service.terms.idle {
+            let most = u64::from(idle) * 1000;
+            'keys: for key in 0..self.clients.capacity() {
+                if let Some(refusal) = self.overdue(key, most, now) {
+                    self.remove(service, key, Some(refusal));
+                }
+            }
+        }
+    }
+
+    /// Why a connection is cut off, if it has waited this long.
+    fn overdue(&self, key: usize, most: u64, now: u64) -> Option<Refusal> {
+        match self.clients.get(key) {
+            Some(client) if !client.is_queued && has_passed(most, client.heard, now) => {
+                Some(client.connection.fault())
+            }
+            _ => None,
+        }
+    }
+
+    /// If the server stops, each connection takes a turn, in which it ends unless it is busy.
+    pub(crate) fn heed_stop<Rt: Wait, H: Host>(&mut self, service: &Service<'_, Rt, H>, now: u64) {
+        if self.stopping_since.is_none() && service.admission.is_stopping() {
+            self.stopping_since = Some(now);
+            'keys: for key in 0..self.clients.capacity() {
+                self.enqueue(service, key, false);
+            }
+        }
+    }
+
+    /// Whether its thread ends: no more connections come, and there are none, or a stop has waited long enough.
+    pub(crate) fn is_done<Rt: Wait, H: Host>(
+        &self,
+        service: &Service<'_, Rt, H>,
+        now: u64,
+    ) -> bool {
+        let most = u64::from(service.terms.drain) * 1000;
+        let waited = match self.stopping_since {
+            Some(since) => has_passed(most, since, now),
+            None => false,
+        };
+        service.admission.is_over() && (waited || self.clients.is_empty())
+    }
+
+    /// Cuts off all connections.
+    pub(crate) fn cut_off_all<Rt: Wait, H: Host>(&mut self, service: &Service<'_, Rt, H>) {
+        'keys: for key in 0..self.clients.capacity() {
+            if let Some(client) = self.clients.get(key) {
+                let refusal = client.connection.fault();
+                self.remove(service, key, Some(refusal));
+            }
+        }
+    }
+}
+
+/// Tells a client that there are too many. What it has sent is read, since closing resets a connection that has
+/// something to read, and a client may not see the refusal then.
+fn turn_away(stream: &TcpStream, clients: u64, room: &mut Room) {
+    let mut line: ArrayString<40> = ArrayString::new();
+    let _ = writeln!(line, "refused 20 {clients}");
+    let mut stream = stream;
+    let _ = stream.write(line.as_bytes());
+    let _ = stream.shutdown(Shutdown::Write);
+    let _ = stream.read(&mut room.input);
+}

@@ -1,0 +1,194 @@
+//! A server: connections at any desks, each desk's thread serving as many as come to it.
+use crate::admission::Admission;
+use crate::connection::has_passed;
+use crate::crowd::{Crowd, LISTENER, LOOK_MILLIS, WAKER};
+use crate::terms::{Service, Terms};
+use crack_row::Refusal;
+use crack_service::{Ending, Host, Notice};
+use crack_session::Desk;
+use mio::net::TcpListener;
+use mio::{Events, Interest, Poll, Token, Waker};
+use std::alloc::Global;
+use std::io::{ErrorKind, Read};
+use std::net::Net;
+use std::sync::Wait;
+use std::thread::Threads;
+use std::{io, net, thread};
+
+/// How many events a thread takes at once.
+const EVENTS: usize = 1024;
+
+/// What a thread waits with.
+#[derive(Drop)]
+struct Post {
+    number: usize,
+    poll: Poll,
+    listener: TcpListener,
+    events: Events,
+}
+
+/// Serves connections of a listener at desks, each desk on a thread of its own, which serves any number of connections:
+/// until as many were accepted as the options say and have ended, or until `input` ends or fails. Then no more are
+/// accepted; what has arrived is answered, each connection ends that has nothing more to read, and the others are cut
+/// off after `terms.drain` seconds. Returns the desks. The host is notified of each session that was cut off, and of
+/// the end. Refused with 17 if the listener can't be waited for, and with 8 if no memory is found for the threads, or
+/// one can't be started; no connection is accepted then.
+pub fn serve_connections<
+    Rt: Threads + Wait + Net + Sync,
+    D: Desk + Send + Drop,
+    H: Host + Sync,
+    I: Read,
+>(
+    rt: &Rt,
+    alloc: Global,
+    listener: &net::TcpListener,
+    desks: Vec<D>,
+    terms: Terms,
+    host: &H,
+    input: &mut I,
+) -> Result<Vec<D>, Refusal> {
+    let (posts, wakers) = posts(rt, alloc, listener, desks.len())?;
+    let service = Service {
+        rt,
+        alloc,
+        terms,
+        host,
+        admission: Admission::new(terms.ending),
+        wakers,
+    };
+    let ended = serve_posts(rt, alloc, &service, posts, desks, input)?;
+    let (sessions, cut_off) = service.admission.served(rt);
+    host.note(Notice::Ended { sessions, cut_off });
+    Ok(ended)
+}
+
+/// Starts a thread for each desk, and waits for their ends.
+fn serve_posts<Rt: Threads + Wait + Net + Sync, D: Desk + Send + Drop, H: Host + Sync, I: Read>(
+    rt: &Rt,
+    alloc: Global,
+    service: &Service<'_, Rt, H>,
+    posts: Vec<Post>,
+    desks: Vec<D>,
+    input: &mut I,
+) -> Result<Vec<D>, Refusal> {
+    let mut threads = Vec::with_capacity(alloc, desks.len())?;
+    let mut ended = Vec::with_capacity(alloc, desks.len())?;
+    let all = thread::scope(thread::scope_env(), rt, move |scope| {
+        let mut progress = service.admission.progress.lock(rt);
+        let mut started = true;
+        'starts: for (post, desk) in posts.into_iter().zip(desks) {
+            match scope.spawn(move || serve_post(service, post, desk)) {
+                Ok(thread) => started = threads.push(thread).is_ok() && started,
+                Err(_) => started = false,
+            }
+        }
+        if !started {
+            progress.most = 0;
+            service.admission.stop();
+        }
+        drop(progress);
+        if started {
+            await_end(service, input);
+        }
+        'ends: for thread in threads {
+            started = ended.push(thread.join(rt)).is_ok() && started;
+        }
+        if started { Some(ended) } else { None }
+    });
+    all.ok_or(Refusal::OutOfMemory)
+}
+
+/// What each of this many threads waits with, and what ends its wait. Refused with 17 if the system has no more of
+/// these.
+fn posts<N: Net>(
+    net: &N,
+    alloc: Global,
+    listener: &net::TcpListener,
+    count: usize,
+) -> Result<(Vec<Post>, Vec<Waker>), Refusal> {
+    let mut posts = Vec::with_capacity(alloc, count)?;
+    let mut wakers = Vec::with_capacity(alloc, count)?;
+    if listener.set_nonblocking(true).is_err() {
+        return Err(Refusal::ReadFault);
+    }
+    'threads: for number in 0..count {
+        let events = Events::with_capacity(alloc, EVENTS)?;
+        let Ok((poll, listener, waker)) = watch(net, listener) else {
+            return Err(Refusal::ReadFault);
+        };
+        posts.push(Post {
+            number,
+            poll,
+            listener,
+            events,
+        })?;
+        wakers.push(waker)?;
+    }
+    Ok((posts, wakers))
+}
+
+/// A set of sources with a listener in it, and what ends a wait for these.
+fn watch<N: Net>(net: &N, listener: &net::TcpListener) -> io::Result<(Poll, TcpListener, Waker)> {
+    let poll = Poll::new(net)?;
+    let mut listener = TcpListener::from_std(listener.try_clone()?);
+    poll.registry()
+        .register(&mut listener, Token(LISTENER), Interest::READABLE)?;
+    let waker = Waker::new(poll.registry(), Token(WAKER))?;
+    Ok((poll, listener, waker))
+}
+
+/// Serves connections at a desk until the server ends.
+fn serve_post<Rt: Wait, D: Desk + Drop, H: Host>(
+    service: &Service<'_, Rt, H>,
+    post: Post,
+    desk: D,
+) -> D {
+    let Post {
+        number,
+        poll,
+        listener,
+        events,
+    } = post;
+    let (mut desk, mut events) = (desk, events);
+    let mut crowd = Crowd::new(service.alloc, number, poll, listener);
+    service.admission.await_start(service.rt);
+    let mut looked = service.host.millis();
+    'rounds: for _ in 0..u64::MAX {
+        crowd.wait(service, &mut events);
+        let now = service.host.millis();
+        crowd.accept(service, now);
+        crowd.heed_stop(service, now);
+        crowd.take_turns(service, &mut desk, now);
+        if has_passed(LOOK_MILLIS, looked, now) {
+            looked = now;
+            crowd.look(service, now);
+        }
+        if crowd.is_done(service, now) {
+            break;
+        }
+    }
+    crowd.cut_off_all(service);
+    desk
+}
+
+/// Waits until the input of a server ends, if the server ends with it, and stops it then.
+fn await_end<Rt: Wait, H: Host, I: Read>(service: &Service<'_, Rt, H>, input: &mut I) {
+    if let Ending::AtEndOfInput = service.terms.ending {
+        read_out(input);
+        service.admission.stop();
+        service.wake_all();
+    }
+}
+
+/// Reads an input to its end, or until it fails.
+fn read_out<I: Read>(input: &mut I) {
+    let mut bytes = [0u8; 512];
+    'reads: for _ in 0..u64::MAX {
+        match input.read(&mut bytes) {
+            Ok(0) => break,
+            Ok(_) => {}
+            Err(error) if error.kind() == ErrorKind::Interrupted => {}
+            Err(_) => break,
+        }
+    }
+}

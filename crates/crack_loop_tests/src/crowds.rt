@@ -1,0 +1,89 @@
+//! Many clients of one thread.
+use crate::clients::{answers, connect, listening, rest_of, rows_after, terms};
+use crack_service::Ending;
+use std::alloc::Global;
+use std::io::Write;
+use std::net::{Net, Shutdown, TcpListener, TcpStream};
+use std::{io, thread};
+
+/// How many clients are connected at once.
+const CLIENTS: usize = 300;
+
+/// Sends these bytes as each of these clients, one after the other.
+fn send_all(clients: &Vec<TcpStream>, bytes: &[u8]) -> io::Result<()> {
+    'clients: for stream in clients {
+        let mut stream = stream;
+        stream.write_all(bytes)?;
+    }
+    Ok(())
+}
+
+/// How many of these clients got a row each for two inserts, and a count, until their connections were closed.
+fn answered(alloc: Global, clients: &Vec<TcpStream>) -> io::Result<usize> {
+    let mut count = 0usize;
+    'clients: for stream in clients {
+        let bytes = rest_of(alloc, stream)?;
+        let lines = bytes
+            .as_slice()
+            .iter()
+            .filter(|byte| **byte == b'\n')
+            .count();
+        let begins = bytes.as_slice().starts_with(b"row 0.");
+        if lines == 3 && begins && bytes.as_slice().ends_with(b"count 0\n") {
+            count = count.saturating_add(1);
+        }
+    }
+    Ok(count)
+}
+
+/// Has all clients send their statements in pieces, each piece by all clients before the next, and returns how many of
+/// them got the right answers.
+fn interleaved<N: Net<Listener = TcpListener, Stream = TcpStream>>(
+    rt: &N,
+    alloc: Global,
+    port: u16,
+) -> io::Result<usize> {
+    let mut clients = Vec::new(alloc);
+    'clients: for _ in 0..CLIENTS {
+        clients.push(connect(rt, port)?)?;
+    }
+    const PIECES: [&[u8]; 5] = [b"ins", b"ert 7 1\nin", b"sert 8 ", b"2\n", b"count 10 20"];
+    'pieces: for place in 0..PIECES.len() {
+        send_all(&clients, PIECES[place])?;
+    }
+    'ends: for stream in &clients {
+        stream.shutdown(Shutdown::Write)?;
+    }
+    answered(alloc, &clients)
+}
+
+#[test]
+fn three_hundred_clients_are_answered_by_one_thread(rt: HostRuntime) {
+    let alloc: Global = rt.alloc();
+    let (listener, port) = listening(&rt);
+    let terms = terms(Ending::AfterSessions(CLIENTS as u64));
+    let mut input: &[u8] = b"";
+    let (rows, right) = thread::join(
+        &rt,
+        || rows_after(&rt, alloc, &listener, terms, &mut input),
+        || interleaved(&rt, alloc, port),
+    );
+    assert!(rt; right.ok() == Some(CLIENTS));
+    assert!(rt; rows == Ok(2 * CLIENTS));
+}
+
+#[test]
+fn an_unfinished_line_is_answered_at_the_end_of_input(rt: HostRuntime) {
+    let alloc: Global = rt.alloc();
+    let (listener, port) = listening(&rt);
+    let terms = terms(Ending::AfterSessions(1));
+    let mut input: &[u8] = b"";
+    let (rows, got) = thread::join(
+        &rt,
+        || rows_after(&rt, alloc, &listener, terms, &mut input),
+        || answers(&rt, alloc, port, b"insert 1 1\ncount 0 5"),
+    );
+    let got = got.ok().expect(&rt, "answers");
+    assert!(rt; got.as_slice() == b"row 0.0\ncount 1\n".as_slice());
+    assert!(rt; rows == Ok(1));
+}
