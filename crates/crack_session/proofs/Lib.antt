@@ -2,6 +2,7 @@ pub mod Appending
 pub mod Asking
 pub mod ByLines
 pub mod Calling
+pub mod Ended
 pub mod Feeds
 pub mod Finishing
 pub mod Following
@@ -13,5 +14,7 @@ pub mod Pieces
 pub mod Plainly
 pub mod Ranges
 pub mod Reading
+pub mod Running
+pub mod Turns
 pub mod Whole
 pub mod WholeLines

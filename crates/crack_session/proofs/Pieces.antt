@@ -46,7 +46,7 @@ pub fed-append : (begun xs ys : List ℕ) → fed begun (xs ++ ys) ≡ fed begun
 fed-append begun xs ys = ap (filter_map reading_of) (finished-append begun xs ys) ∙ filter_map-append reading_of (finished begun xs) (finished (unfinished begun xs) ys)
 
 -- bytes without a line feed
-none_finished : (begun xs : List ℕ) → has_feed xs ≡ false → finished begun xs ≡ []
+pub none_finished : (begun xs : List ℕ) → has_feed xs ≡ false → finished begun xs ≡ []
 none_finished begun [] h = refl
 none_finished begun (b ∷ bs) h =
     let each = or_parts (eqb b 10) (has_feed bs) h in
@@ -85,7 +85,7 @@ ended_by_any-append ending [] qs = refl
 ended_by_any-append ending (r ∷ rs) qs = ended_by_any-append (ended_by ending r) rs qs
 
 -- a statement that ends the session is noted
-last_noted : (ending : Option Ending) (r : Reading) → is_last r ≡ true → (last : Ending) × (ended_by ending r ≡ Some last)
+pub last_noted : (ending : Option Ending) (r : Reading) → is_last r ≡ true → (last : Ending) × (ended_by ending r ≡ Some last)
 last_noted ending (Err e) h = absurd (false≢true h)
 last_noted ending (Ok (Insert k p)) h = absurd (false≢true h)
 last_noted ending (Ok (Delete r)) h = absurd (false≢true h)

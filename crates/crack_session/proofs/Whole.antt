@@ -12,7 +12,7 @@ use Rattle.crack_session.proofs.Feeds.{lines-first, first_line-append, after_lin
 use Rattle.crack_session.proofs.Following.{reading_kept}
 use Rattle.crack_session.proofs.Pieces.{fed-append, meaning}
 
-no_meaning : reading_of [] ≡ None
+pub no_meaning : reading_of [] ≡ None
 unfolding reading_of
 no_meaning = refl
 

@@ -7,7 +7,9 @@ pub mod Lines
 pub mod Plains
 pub mod Queries
 pub mod Readings
+pub mod Rounds
 pub mod Served
 pub mod Sessions
 pub mod Telling
+pub mod Turns
 pub mod Written

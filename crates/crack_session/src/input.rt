@@ -18,7 +18,7 @@ use std::io::{Read, Write};
 use std::marker::Model;
 
 /// How many bytes are read at a time, at most.
-const READ_BYTES: usize = 4096;
+pub const READ_BYTES: usize = 4096;
 
 /// How many bytes of a line are kept while the rest of it is read: one that has more is too long,
 /// whatever the rest is.

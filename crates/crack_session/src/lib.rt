@@ -11,6 +11,7 @@ mod output;
 mod plain_desk;
 mod query;
 pub mod rest;
+pub mod serving;
 pub mod session;
 
 pub use desk::Desk;

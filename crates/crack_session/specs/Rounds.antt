@@ -1,0 +1,27 @@
+-- What private clauses alone cite.
+use Rattle.std.specs.Prelude.{◌≡◌, ℕ, ◌-◌, ◌≤◌, Bool, true, false, List, [], length, take, Option, Result}
+use Rattle.crack_row.specs.declared.Bound.{Bound}
+use Rattle.crack_row.specs.declared.refusal.Refusal.{Refusal}
+use Rattle.crack_row.specs.declared.watched.Watched.{Watched}
+use Rattle.crack_plain.specs.Plain.{PlainView}
+use Rattle.crack_commands.specs.Texts.{Writes}
+use Rattle.crack_core.specs.Steps.{Bounds}
+use Rattle.crack_session.specs.declared.TheConstants.{OUTPUT_BYTES}
+use Rattle.crack_session.specs.declared.feeding.Why.{Why}
+use Rattle.crack_session.specs.declared.feeding.Why.TheVariants.{Full}
+use Rattle.crack_session.specs.Calls.{Call}
+use Rattle.crack_session.specs.Feeding.{SessionState, Feeds, StoppedFor}
+
+-- A session is fed once, and the texts are written.
+pub record IsRound {D W : Type 0} (bounds : D → Bounds) (splits : D → List Bound) (tables : D → Option (List PlainView)) (leads : D → Call → D → Type 0) (contents : W → Option (List ℕ)) (old : SessionState) (bytes : List ℕ) (taken : ℕ) (why : Why) (result : Result (Unit {0}) Refusal) (desk desk' : D) (writer writer' : Watched W) (new : SessionState) : Type 0 where
+  pub texts : List ℕ
+  pub feeds : Feeds bounds splits tables leads old (take taken bytes) desk desk' [] texts new
+  pub within : taken ≤ length bytes
+  pub stops : StoppedFor why (length bytes - taken) texts new
+  pub few : length texts ≤ OUTPUT_BYTES
+  pub writes : Writes contents texts result writer writer'
+
+-- whether a session stopped for another reason than output without room
+abbrev pub has_stopped : Why → Bool
+has_stopped Full = false
+has_stopped _ = true

@@ -1,0 +1,56 @@
+-- One read of a session over a reader and a writer, whatever these are.
+use Rattle.std.specs.Prelude.{◌≡◌, ℕ, ◌+◌, ◌-◌, ◌^◌, ◌<◌, ◌≤◌, ◌⊎◌, min, true, List, [], ◌∷◌, length, take, Option, None, Some, Result, Err, OnOk, IfOk, IfErr}
+use Rattle.std.specs.Io.KnownBytes.{Appends, Consumes, IsAtEnd, Keeps}
+use Rattle.crack_row.specs.Devices.{device, has_failed, reads_of}
+use Rattle.crack_row.specs.declared.Bound.{Bound}
+use Rattle.crack_row.specs.declared.refusal.Refusal.{Refusal}
+use Rattle.crack_row.specs.declared.refusal.Refusal.TheVariants.{ReadFault, WriteFault}
+use Rattle.crack_row.specs.declared.watched.Watched.{Watched}
+use Rattle.crack_plain.specs.Plain.{PlainView}
+use Rattle.crack_commands.specs.declared.statement.Ending.{Ending}
+use Rattle.crack_core.specs.Steps.{Bounds}
+use Rattle.crack_session.specs.declared.TheConstants.{OUTPUT_BYTES}
+use Rattle.crack_session.specs.declared.input.TheConstants.{READ_BYTES}
+use Rattle.crack_session.specs.declared.session.How.{How}
+use Rattle.crack_session.specs.declared.session.How.TheVariants.{Quit, InputEnded}
+use Rattle.crack_session.specs.Calls.{Call}
+use Rattle.crack_session.specs.Feeding.{SessionState, Feeds}
+
+-- what a session takes for the bytes of a read: a line feed for none, with which the input has ended
+abbrev pub fed_by : List ℕ → List ℕ
+fed_by [] = 10 ∷ []
+fed_by (b ∷ bs) = b ∷ bs
+
+-- texts are sent up to a place, and after that no more are lost than fit into output
+abbrev pub IsSentFirst : Option (List ℕ) → Option (List ℕ) → List ℕ → Type 0
+IsSentFirst out written texts = (count : ℕ) × Appends out written (take count texts) × (length texts ≤ count + OUTPUT_BYTES)
+
+-- A session is fed some of these bytes, and the texts are written; if the writer doesn't fail, it stops so, with so many left.
+pub record Sends {D W X : Type 0} (bounds : D → Bounds) (splits : D → List Bound) (tables : D → Option (List PlainView)) (leads : D → Call → D → Type 0) (contents : W → Option (List ℕ)) (Stops : X → ℕ → SessionState → Type 0) (old : SessionState) (bytes : List ℕ) (result : Result X Refusal) (desk desk' : D) (writer writer' : Watched W) (new : SessionState) : Type 0 where
+  pub taken : ℕ
+  pub within : taken ≤ length bytes
+  pub texts : List ℕ
+  pub feeds : Feeds bounds splits tables leads old (take taken bytes) desk desk' [] texts new
+  pub stops : IfOk result (λ x. Stops x (length bytes - taken) new)
+  pub sent : OnOk result (Appends (contents (device writer)) (contents (device writer')) texts)
+  pub unfailed : OnOk result (has_failed writer' ≡ has_failed writer)
+  pub err : IfErr result (λ e. (e ≡ WriteFault) × (has_failed writer' ≡ true) × IsSentFirst (contents (device writer)) (contents (device writer')) texts)
+
+-- how a session stopped after a read of these bytes, with this many of those that it is fed left: not yet, with its input, or by a line
+abbrev pub StopsAs : Option How → List ℕ → ℕ → SessionState → Type 0
+StopsAs None bytes left s = (left ≡ 0) × (s.unwritten ≡ []) × (s.ending ≡ None) × (0 < length bytes)
+StopsAs (Some InputEnded) bytes left s = (left ≡ 0) × (s.unwritten ≡ []) × (s.ending ≡ None) × (bytes ≡ [])
+StopsAs (Some Quit) bytes left s = (s.unwritten ≡ []) × (last : Ending) × (s.ending ≡ Some last)
+
+-- A reader is read once.
+pub record ReadsOnce {R : Type 0} (remaining : R → Option (List ℕ)) (old new : Watched R) (bytes : List ℕ) : Type 0 where
+  pub few : length bytes ≤ READ_BYTES
+  pub consumed : Consumes (remaining (device old)) (remaining (device new)) bytes
+  pub at_end : bytes ≡ [] → IsAtEnd (remaining (device new))
+  pub unfailed : has_failed new ≡ has_failed old
+
+-- A session makes one read, and answers what that brings: or the read fails, and nothing is answered.
+pub record IsTurn {D R W : Type 0} (bounds : D → Bounds) (splits : D → List Bound) (tables : D → Option (List PlainView)) (leads : D → Call → D → Type 0) (remaining : R → Option (List ℕ)) (contents : W → Option (List ℕ)) (old : SessionState) (result : Result (Option How) Refusal) (desk desk' : D) (reader reader' : Watched R) (writer writer' : Watched W) (new : SessionState) : Type 0 where
+  pub counted : reads_of reader' ≡ min (reads_of reader + 1) (2 ^ 64 - 1)
+  pub is : ((bytes : List ℕ) × ReadsOnce remaining reader reader' bytes × Sends bounds splits tables leads contents (λ how left s. StopsAs how bytes left s) old (fed_by bytes) result desk desk' writer writer' new)
+      ⊎ ((result ≡ Err ReadFault) × (has_failed reader' ≡ true) × Keeps (remaining (device reader)) (remaining (device reader')) × (new ≡ old) × (desk' ≡ desk) × (writer' ≡ writer))

@@ -1,0 +1,193 @@
+//! A session over a reader and a writer: read, feed, write.
+ghost use Rattle.std.specs.Prelude.{◌≡◌, ℕ, ◌+◌, ◌-◌, ◌^◌, ◌≤◌, min, true, [], take, IfOk, IfErr};
+ghost use Rattle.std.specs.Io.KnownBytes.{Keeps};
+ghost use Rattle.crack_row.specs.Devices.{device, has_failed, reads_of};
+ghost use Rattle.crack_session.specs.Feeding.{SessionState, StoppedFor};
+ghost use Rattle.crack_session.specs.Rounds.{IsRound, has_stopped};
+ghost use Rattle.crack_session.specs.Turns.{Sends, ReadsOnce, IsTurn, StopsAs, fed_by};
+
+use crate::desk::Desk;
+use crate::feeding::{Fed, Session, Why};
+use crate::input::READ_BYTES;
+use crate::output::flush;
+use crate::rest::Output;
+use crate::session::How;
+use crack_commands::send;
+use crack_row::{Refusal, Watched};
+use std::alloc::Global;
+use std::io::{Read, Write};
+
+/// Reads once, answers what that brings, writes the texts and flushes. At the end of the input an unfinished line is
+/// answered. Returns how the session ended, if it did. Output is empty before and after. Whatever the devices do, the
+/// session is fed just the bytes that were read, and the texts that it appends are written. If the writer fails, they
+/// are written up to a place, and no more are lost than fit into output.
+pub fn serve_read<D: Desk, R: Read, W: Write>(
+    alloc: Global,
+    desk: &mut D,
+    session: &mut Session,
+    room: &mut [u8; READ_BYTES],
+    out: &mut Output,
+    reader: &mut Watched<R>,
+    writer: &mut Watched<W>,
+) -> Result<Option<How>, Refusal>
+    requires empty { out.old.items ≡ [] }
+    requires written { session.old.unwritten ≡ [] }
+    ensures turn { IsTurn D.bounds D.splits D.tables D.leads R.remaining W.contents session.old result desk.old desk.new
+        reader.old reader.new writer.old writer.new session.new }
+    ensures empty { out.new.items ≡ [] }
+{
+    match read_some(reader, room) {
+        Ok(count) => serve_bytes(alloc, desk, session, &room[..count], out, writer),
+        Err(refusal) => Err(refusal),
+    }
+}
+
+/// Reads as many bytes as there are and is room for, and returns how many: none only at the end of the input.
+fn read_some<R: Read>(
+    reader: &mut Watched<R>,
+    room: &mut [u8; READ_BYTES],
+) -> Result<usize, Refusal>
+    ensures within { IfOk result (λ count. count ≤ READ_BYTES) }
+    ensures once { IfOk result (λ count. ReadsOnce R.remaining reader.old reader.new (take count room.new)) }
+    ensures counted { reads_of reader.new ≡ min (reads_of reader.old + 1) (2 ^ 64 - 1) }
+    ensures err { IfErr result (λ e. (e ≡ Refusal.ReadFault) × (has_failed reader.new ≡ true)
+        × Keeps (R.remaining (device reader.old)) (R.remaining (device reader.new))) }
+{
+    match reader.read(room) {
+        Ok(count) => Ok(count),
+        Err(_) => Err(Refusal::ReadFault),
+    }
+}
+
+/// Answers the bytes of a read, and flushes. Returns how the session ended, if it did.
+fn serve_bytes<D: Desk, W: Write>(
+    alloc: Global,
+    desk: &mut D,
+    session: &mut Session,
+    bytes: &[u8],
+    out: &mut Output,
+    writer: &mut Watched<W>,
+) -> Result<Option<How>, Refusal>
+    requires empty { out.old.items ≡ [] }
+    requires written { session.old.unwritten ≡ [] }
+    ensures sends { Sends D.bounds D.splits D.tables D.leads W.contents (λ how left s. StopsAs how bytes.now left s)
+        session.old (fed_by bytes.now) result desk.old desk.new writer.old writer.new session.new }
+    ensures empty { out.new.items ≡ [] }
+{
+    match feed_all(alloc, desk, session, fed_by(bytes), out, writer) {
+        Ok(why) => match flush(writer) {
+            Ok(()) => Ok(how_after(why, bytes)),
+            Err(refusal) => Err(refusal),
+        },
+        Err(refusal) => Err(refusal),
+    }
+}
+
+/// What a session takes for the bytes of a read: a line feed for none, with which the input has ended.
+#[inline(always)]
+fn fed_by(bytes: &[u8]) -> &[u8]
+    ensures { result.now ≡ fed_by bytes.now }
+{
+    if bytes.is_empty() { b"\n" } else { bytes }
+}
+
+/// How a session ended that stopped so after a read of these bytes, if it did.
+fn how_after(why: Why, bytes: &[u8]) -> Option<How>
+    ensures { (left : ℕ) → (s : SessionState) → StoppedFor why left [] s → StopsAs result bytes.now left s }
+{
+    match why {
+        Why::Quit | Why::Refused => Some(How::Quit),
+        Why::Wants | Why::Full => {
+            if bytes.is_empty() {
+                Some(How::InputEnded)
+            } else {
+                None
+            }
+        }
+    }
+}
+
+/// Feeds bytes to a session until it wants more or has ended, and writes the texts.
+fn feed_all<D: Desk, W: Write>(
+    alloc: Global,
+    desk: &mut D,
+    session: &mut Session,
+    bytes: &[u8],
+    out: &mut Output,
+    writer: &mut Watched<W>,
+) -> Result<Why, Refusal>
+    requires empty { out.old.items ≡ [] }
+    requires written { session.old.unwritten ≡ [] }
+    ensures sends { Sends D.bounds D.splits D.tables D.leads W.contents (λ why left s. StoppedFor why left [] s)
+        session.old bytes.now result desk.old desk.new writer.old writer.new session.new }
+    ensures empty { out.new.items ≡ [] }
+{
+    let mut taken = 0;
+    'pieces: loop {
+        let (fed, sent) = feed_once(alloc, desk, session, &bytes[taken..], out, writer);
+        taken += fed.taken;
+        if let Err(refusal) = sent {
+            return Err(refusal);
+        }
+        if has_stopped(fed.why) {
+            return Ok(fed.why);
+        }
+        match feed_rest(alloc, desk, session, out, writer) {
+            Ok(()) => (),
+            Err(refusal) => return Err(refusal),
+        }
+    }
+}
+
+/// Whether a session stopped for another reason than output without room.
+#[inline(always)]
+fn has_stopped(why: Why) -> bool
+    ensures { result ≡ has_stopped why }
+{
+    !matches!(why, Why::Full)
+}
+
+/// Writes what is left of a text.
+#[inline(never)]
+fn feed_rest<D: Desk, W: Write>(
+    alloc: Global,
+    desk: &mut D,
+    session: &mut Session,
+    out: &mut Output,
+    writer: &mut Watched<W>,
+) -> Result<(), Refusal>
+    requires empty { out.old.items ≡ [] }
+    ensures sends { Sends D.bounds D.splits D.tables D.leads W.contents (λ done left s. s.unwritten ≡ []) session.old []
+        result desk.old desk.new writer.old writer.new session.new }
+    ensures empty { out.new.items ≡ [] }
+{
+    'rest: loop {
+        let (fed, sent) = feed_once(alloc, desk, session, &[], out, writer);
+        if let Err(refusal) = sent {
+            return Err(refusal);
+        }
+        if has_stopped(fed.why) {
+            return Ok(());
+        }
+    }
+}
+
+/// Feeds bytes to a session until output is full, it wants more bytes or has ended, and writes the texts.
+fn feed_once<D: Desk, W: Write>(
+    alloc: Global,
+    desk: &mut D,
+    session: &mut Session,
+    bytes: &[u8],
+    out: &mut Output,
+    writer: &mut Watched<W>,
+) -> (Fed, Result<(), Refusal>)
+    requires empty { out.old.items ≡ [] }
+    ensures round { IsRound D.bounds D.splits D.tables D.leads W.contents session.old bytes.now result.0.taken
+        result.0.why result.1 desk.old desk.new writer.old writer.new session.new }
+    ensures empty { out.new.items ≡ [] }
+{
+    let fed = session.feed(alloc, desk, bytes, out);
+    let sent = send(writer, out.as_slice());
+    out.clear();
+    (fed, sent)
+}
