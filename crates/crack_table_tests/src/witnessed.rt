@@ -176,7 +176,7 @@ fn refuse_stranger<J: Naming, R: Wait + Abort>(
     requires { (place : ℕ) (a : AskerState) → slice_get workers.items place ≡ Some a → AreEmpty a.seen }
 {
     let first = workers.first().expect(rt, "a worker");
-    let made = Asker::new(alloc, first.number(), first.front().again(), 2);
+    let made = Asker::new(alloc, first.number(), first.front().again(), 2, false);
     let mut twin = made.expect(rt, "a twin");
     let one = ask(rt, &table, &mut twin, 0, insert(7));
     let two = ask(rt, &table, &mut twin, 0, insert(8));
@@ -203,7 +203,7 @@ fn ask_with_twin<J: Naming, R: Wait + Abort>(
     requires { (place : ℕ) (a : AskerState) → slice_get workers.old.items place ≡ Some a → AreEmpty a.seen }
 {
     let first = workers.first_mut().expect(rt, "a worker");
-    let made = Asker::new(alloc, first.number(), first.front().again(), 2);
+    let made = Asker::new(alloc, first.number(), first.front().again(), 2, false);
     let mut twin = made.expect(rt, "a twin");
     ask_both(rt, table, first, &mut twin);
     drop(twin);

@@ -7,7 +7,9 @@ use Rattle.std.proofs.Crossing.{crosses}
 use Rattle.logbook.proofs.tokens.Pen.TheSendSync as pen
 use Rattle.logbook.proofs.tokens.Seen.TheSendSync as seen
 use Rattle.logbook.proofs.word.Word.TheSendSync as word
-use Rattle.crack_part.proofs.Crosses.{partition-send}
+use Rattle.crack_row.specs.contracts.command.Entry as Entry
+use Rattle.crack_kept.specs.contracts.receipt.Receipt as Receipt
+use Rattle.crack_part.proofs.Crosses.{command-send, reply-send, partition-send}
 use Rattle.std.proofs.Common.{[]}
 use Rattle.crack_witness.specs.Rules.{IsKept}
 use Rattle.crack_witness.specs.declared.opening.Naming.{Ghosts}
@@ -19,6 +21,14 @@ use Rattle.crack_witness.specs.contracts.witnessed.Witnessed as Witnessed
 use Rattle.crack_witness.specs.contracts.witnessed.Witnessed.TheInside as inside
 use Rattle.crack_witness.specs.contracts.asker.Asker as Asker
 use Rattle.crack_witness.specs.contracts.asker.Asker.TheInside as asker
+
+-- worker, command, reply
+entry-send : IsSend Entry.the_field.row
+entry-send = struct_send (shape Entry.the_type) (search sendable depth 30, (command-send, (reply-send, tt)))
+
+-- part, position, worker, command, reply
+receipt-send : IsSend Receipt.the_field.row
+receipt-send = struct_send (shape Receipt.the_type) (search sendable depth 30, (search sendable depth 30, (search sendable depth 30, (command-send, (reply-send, tt)))))
 
 module _ (J : RattleType) (g : Ghosts J.Denot) (s : IsSend J) where
   -- seen, of
@@ -35,21 +45,23 @@ module _ (J : RattleType) (g : Ghosts J.Denot) (s : IsSend J) where
   scribe-send : IsSend (Scribe.the_row J g)
   scribe-send = let i = scribe-inside in search (sendable, crosses) depth 30
 
-  -- partition, scribe, answered
+  -- partition, scribe, answered, entries
   witnessed-inside : IsSend (inside.the_field J g).row
   witnessed-inside =
       let p = partition-send in
       let w = scribe-send in
-      struct_send (shape (inside.the_type J g)) (search (sendable, crosses) depth 30, (search (sendable, crosses) depth 30, (search (sendable, crosses) depth 30, tt)))
+      let e = entry-send in
+      struct_send (shape (inside.the_type J g)) (search (sendable, crosses) depth 30, (search (sendable, crosses) depth 30, (search (sendable, crosses) depth 30, (search (sendable, crosses) depth 30, tt))))
 
   pub witnessed-send : IsSend (Witnessed.the_row J g)
   witnessed-send = let i = witnessed-inside in search (sendable, crosses) depth 30
 
-  -- number, front, fronts, counts
+  -- number, front, fronts, counts, receipts
   asker-inside : IsSend (asker.the_field J g).row
   asker-inside =
       let f = front-send in
-      struct_send (shape (asker.the_type J g)) (search (sendable, crosses) depth 30, (search (sendable, crosses) depth 30, (search (sendable, crosses) depth 30, (search (sendable, crosses) depth 30, tt))))
+      let r = receipt-send in
+      struct_send (shape (asker.the_type J g)) (search (sendable, crosses) depth 30, (search (sendable, crosses) depth 30, (search (sendable, crosses) depth 30, (search (sendable, crosses) depth 30, (search (sendable, crosses) depth 30, tt)))))
 
   pub asker-send : IsSend (Asker.the_row J g)
   asker-send = let i = asker-inside in search (sendable, crosses) depth 30

@@ -17,6 +17,7 @@ use Rattle.crack_plain.proofs.Laws.{replay_from-append, replay_from-push}
 use Rattle.crack_plain.proofs.TotalLaws.{inserted-append, deleted-append}
 use Rattle.crack_part.specs.Upkeep.{answered}
 use Rattle.crack_part.proofs.UpkeepLaws.{accepted-upkept}
+use Rattle.crack_witness.specs.Audits.{and_one}
 use Rattle.crack_witness.specs.Histories.{IsPastOf, calls_by, past_in}
 
 -- one more command
@@ -98,3 +99,8 @@ refused-for (Some x) e Same refused memory = inr (let is : x ≡ e = cc refused.
 pub replied-for : (o : Option Refusal) (reply : Reply) (Same : Type 0) → IfSome o (λ x. (◌≡◌ {A = Result Reply Refusal} (Ok reply) (Err x)) × Same) → o ≡ None
 replied-for None reply Same refused = refl
 replied-for (Some x) reply Same refused = absurd (cc refused.0)
+
+-- a list of an audit that was the history is the history with one more entry
+pub listed_more : (list list' : Option (List Entry)) (h h' : List Entry) (e : Entry) → IfSome list (λ entries. entries ≡ h) → list' ≡ and_one list e → h' ≡ h ++ e ∷ [] → IfSome list' (λ entries. entries ≡ h')
+listed_more None list' h h' e is more new = rw more tt
+listed_more (Some entries) list' h h' e is more new = rw more (ap (λ (l : List Entry). l ++ e ∷ []) is ∙ sym new)

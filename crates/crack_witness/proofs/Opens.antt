@@ -1,5 +1,5 @@
 -- Owners that are opened.
-use Rattle.std.proofs.Common.{◌≡◌, ◌≢◌, ℕ, ◌+◌, ◌<◌, ◌≤◌, List, [], ◌∷◌, ◌++◌, length, refl, ap, sym, subst, ◌∙◌, arith, length-append, append_assoc, get_or, map, reverse, All, AllPairs}
+use Rattle.std.proofs.Common.{◌≡◌, ◌≢◌, Bool, ℕ, ◌+◌, ◌<◌, ◌≤◌, List, [], ◌∷◌, ◌++◌, length, refl, ap, sym, subst, ◌∙◌, arith, length-append, append_assoc, get_or, map, reverse, All, AllPairs}
 use Rattle.std.proofs.lemmas.List.{append-nil, get_or_append_left, get_or_push, get_or-map, length-map, map-append, reverse-append}
 use Rattle.std.proofs.lemmas.List.Quantifiers.{all_pairs_push}
 use mathlib.Core.List.{IsPrefix}
@@ -36,19 +36,19 @@ pub names_apart : (b : Book) (own : ℕ → ℕ) (opened : OpenedState) → AreN
 names_apart b own opened names distinct one other less within = rw (names.owner_is one, names.owner_is other) (distinct one other 0 less within)
 
 -- the remaining partitions, and those that were witnessed, with the numbers after them
-abbrev pub AreDone : (ℕ → ℕ) → ℕ → List Part → List Part → List WitnessedState → Type 0
-AreDone own workers all left done = (rest : List Part) × (left ++ rest ≡ all) × AreNewFrom own workers (length left) rest done
+abbrev pub AreDone : (ℕ → ℕ) → ℕ → Bool → List Part → List Part → List WitnessedState → Type 0
+AreDone own workers audited all left done = (rest : List Part) × (left ++ rest ≡ all) × AreNewFrom own workers audited (length left) rest done
 
-pub done_none : (own : ℕ → ℕ) (workers : ℕ) (all : List Part) → AreDone own workers all all []
-done_none own workers all = ([], append-nil all, tt)
+pub done_none : (own : ℕ → ℕ) (workers : ℕ) (audited : Bool) (all : List Part) → AreDone own workers audited all all []
+done_none own workers audited all = ([], append-nil all, tt)
 
-pub done_more : (own : ℕ → ℕ) (workers : ℕ) (all left : List Part) (p : Part) (w : WitnessedState) (done : List WitnessedState) → IsNewAt own workers (length left) p w → AreDone own workers all (left ++ p ∷ []) (reverse done) → AreDone own workers all left (reverse (done ++ w ∷ []))
-done_more own workers all left p w done new old =
+pub done_more : (own : ℕ → ℕ) (workers : ℕ) (audited : Bool) (all left : List Part) (p : Part) (w : WitnessedState) (done : List WitnessedState) → IsNewAt own workers audited (length left) p w → AreDone own workers audited all (left ++ p ∷ []) (reverse done) → AreDone own workers audited all left (reverse (done ++ w ∷ []))
+done_more own workers audited all left p w done new old =
     let behind : length (left ++ p ∷ []) ≡ length left + 1 = length-append left (p ∷ []) in
-    let later : AreNewFrom own workers (length left + 1) old.0 (reverse done) = subst (λ (n : ℕ). AreNewFrom own workers n old.0 (reverse done)) behind old.2 in
-    (p ∷ old.0, sym (append_assoc left (p ∷ []) old.0) ∙ old.1, subst (AreNewFrom own workers (length left) (p ∷ old.0)) (sym (reverse-append done (w ∷ []))) (new, later))
+    let later : AreNewFrom own workers audited (length left + 1) old.0 (reverse done) = subst (λ (n : ℕ). AreNewFrom own workers audited n old.0 (reverse done)) behind old.2 in
+    (p ∷ old.0, sym (append_assoc left (p ∷ []) old.0) ∙ old.1, subst (AreNewFrom own workers audited (length left) (p ∷ old.0)) (sym (reverse-append done (w ∷ []))) (new, later))
 
-pub done_all : (own : ℕ → ℕ) (workers : ℕ) (all left : List Part) (done : List WitnessedState) → left ≡ [] → AreDone own workers all left done → AreNewFrom own workers 0 all done
-done_all own workers all left done none d =
+pub done_all : (own : ℕ → ℕ) (workers : ℕ) (audited : Bool) (all left : List Part) (done : List WitnessedState) → left ≡ [] → AreDone own workers audited all left done → AreNewFrom own workers audited 0 all done
+done_all own workers audited all left done none d =
     let same : d.0 ≡ all = subst (λ (l : List Part). l ++ d.0 ≡ all) none d.1 in
-    subst (λ (l : List Part). AreNewFrom own workers 0 l done) same (subst (λ (l : List Part). AreNewFrom own workers (length l) d.0 done) none d.2)
+    subst (λ (l : List Part). AreNewFrom own workers audited 0 l done) same (subst (λ (l : List Part). AreNewFrom own workers audited (length l) d.0 done) none d.2)

@@ -1,12 +1,17 @@
 -- What private clauses alone cite.
 -- The invariants of scribes, owners and workers.
-use Rattle.std.specs.Prelude.{ℕ, slice_index_or, ◌≡◌, ◌⊎◌, ◌<◌, ◌≤◌, ◌^◌, All, List, [], ◌∷◌, ◌++◌, length, true}
+use Rattle.std.specs.Global.{Vec}
+use Rattle.std.specs.Prelude.{ℕ, Option, IfSome, vec_len, vec_capacity, slice_index_or, ◌≡◌, ◌⊎◌, ◌<◌, ◌≤◌, ◌^◌, All, List, [], ◌∷◌, ◌++◌, length, true}
 use mathlib.Core.List.{IsPrefix}
 use Rattle.logbook.specs.Pages.{Book, Named, Right, may_write}
 use Rattle.crack_row.specs.declared.command.Entry.{Entry}
 use Rattle.crack_witness.specs.declared.event.Event.{Event}
 use Rattle.crack_witness.specs.Histories.{history_of, calls_by, calls_at}
 use Rattle.crack_witness.specs.Rules.{OwnerState}
+
+-- a list has room for one more item, if there is one
+abbrev pub HasRoom : {X : Type 0} → Option (Vec X) → Type 0
+HasRoom list = IfSome list (λ items. vec_len items < vec_capacity items)
 
 -- P holds for one of them
 abbrev pub Among : {X : Type 0} → (X → Type 0) → List X → Type 0

@@ -1,3 +1,4 @@
+pub mod Audits
 pub mod Histories
 pub mod Rules
 pub mod Witnesses

@@ -1,14 +1,16 @@
 -- What contracts see of an opened book, and of witnessed partitions.
-use Rattle.std.specs.Prelude.{◌≡◌, ◌≢◌, ℕ, ◌+◌, ◌<◌, ◌≤◌, ◌⊎◌, List, [], ◌∷◌, ◌++◌, length, sum_by, take, All, Any, AllPairs, Some, slice_index_or, replicate}
+use Rattle.std.specs.Prelude.{◌≡◌, ◌≢◌, Bool, ℕ, ◌+◌, ◌<◌, ◌≤◌, ◌⊎◌, List, [], ◌∷◌, ◌++◌, length, sum_by, take, All, Any, AllPairs, Option, Some, IfSome, unwrap_or, slice_index_or, replicate}
 use mathlib.Core.List.{IsPrefix}
 use Rattle.logbook.specs.Pages.{Book}
 use Rattle.crack_row.specs.declared.command.Entry.{Entry}
 use Rattle.crack_row.specs.declared.refusal.Refusal.{Refusal}
 use Rattle.crack_row.specs.declared.command.Command.{Command}
 use Rattle.crack_row.specs.declared.refusal.Refusal.TheVariants.{NoSuchPartition, OutOfMemory, StrangeReceipt}
+use Rattle.crack_kept.specs.declared.receipt.Receipt.{Receipt}
 use Rattle.crack_part.specs.Parts.{Part, table_of}
 use Rattle.crack_part.specs.Refusals.{refusal_of}
 use Rattle.crack_witness.specs.declared.event.Event.{Event}
+use Rattle.crack_witness.specs.Audits.{empty_list}
 use Rattle.crack_witness.specs.Histories.{history_of, calls_by, calls_at, AreHistories, AreEmpty, IsPastOf}
 
 -- a book, and the number of each owner in it
@@ -29,32 +31,36 @@ pub record AreNames (book : Book) (owner : ℕ → ℕ) (opened : OpenedState) :
 abbrev pub AreApart : (ℕ → ℕ) → ℕ → Type 0
 AreApart owner count = (one other : ℕ) → one < other → other < count → owner one ≢ owner other
 
--- a partition with its number, the events that were seen of its book, and the number of workers whose entries it counts
+-- a partition with its number, the events that were seen of its book, the number of workers whose entries it counts, and the list of its entries, if
+-- there is an audit
 pub record WitnessedState : Type 0 where
   pub part : ℕ
   pub log : List Event
   pub held : Part
   pub workers : ℕ
+  pub entries : Option (List Entry)
 
 -- a partition's plain rows are those after its history, which has as many entries as it accepted commands; each reply in the history is that of the
--- plain rows there, and each entry is of one of the workers that it counts
+-- plain rows there, and each entry is of one of the workers that it counts; the list of an audit is the history
 pub record IsWhole (owner : ℕ → ℕ) (w : WitnessedState) : Type 0 where
   pub legal : AreHistories w.log
   pub kept : IsPastOf (history_of (owner w.part) w.log) (table_of w.held)
   pub known : All (λ (e : Entry). e.worker < w.workers) (history_of (owner w.part) w.log)
+  pub listed : IfSome w.entries (λ entries. entries ≡ history_of (owner w.part) w.log)
 
--- a partition that has its number, and no entry yet
-pub record IsNewAt (owner : ℕ → ℕ) (workers part : ℕ) (held : Part) (w : WitnessedState) : Type 0 where
+-- a partition that has its number, and no entry yet; there is an empty list of its entries, if there is an audit
+pub record IsNewAt (owner : ℕ → ℕ) (workers : ℕ) (audited : Bool) (part : ℕ) (held : Part) (w : WitnessedState) : Type 0 where
   pub part_is : w.part ≡ part
   pub held_is : w.held ≡ held
   pub workers_is : w.workers ≡ workers
   pub empty : history_of (owner part) w.log ≡ []
+  pub entries_are : w.entries ≡ empty_list audited
 
 -- these partitions, with the numbers from one on, without an entry
-abbrev pub AreNewFrom : (ℕ → ℕ) → ℕ → ℕ → List Part → List WitnessedState → Type 0
-AreNewFrom owner workers number [] [] = Unit {0}
-AreNewFrom owner workers number (p ∷ ps) (w ∷ ws) = IsNewAt owner workers number p w × AreNewFrom owner workers (number + 1) ps ws
-AreNewFrom owner workers number _ _ = ⊥
+abbrev pub AreNewFrom : (ℕ → ℕ) → ℕ → Bool → ℕ → List Part → List WitnessedState → Type 0
+AreNewFrom owner workers audited number [] [] = Unit {0}
+AreNewFrom owner workers audited number (p ∷ ps) (w ∷ ws) = IsNewAt owner workers audited number p w × AreNewFrom owner workers audited (number + 1) ps ws
+AreNewFrom owner workers audited number _ _ = ⊥
 
 -- a worker is one of those that are counted, and this many of its entries are in the history
 pub record IsInStep (owner : ℕ → ℕ) (w : WitnessedState) (worker count : ℕ) : Type 0 where
@@ -68,20 +74,22 @@ MayRefuseIt owner w worker count command e =
     ((e ≡ StrangeReceipt w.part count) × (IsInStep owner w worker count → ⊥))
     ⊎ ((e ≡ OutOfMemory) ⊎ (refusal_of w.held command ≡ Some e))
 
--- a worker: its number, the events that it has seen, those that it had seen after its last reply from each partition, and the number of its replies
--- from each partition
+-- a worker: its number, the events that it has seen, those that it had seen after its last reply from each partition, the number of its replies
+-- from each partition, and its receipts in the order in which it asked, if there is an audit
 pub record AskerState : Type 0 where
   pub worker : ℕ
   pub seen : List Event
   pub fronts : List (List Event)
   pub counts : List ℕ
+  pub receipts : Option (List Receipt)
 
--- a worker with this number that has seen nothing of this many partitions, and has received no reply from any of them
-pub record IsNewAsker (number parts : ℕ) (a : AskerState) : Type 0 where
+-- a worker with this number that has seen nothing of this many partitions, and has received no reply from any of them, and no receipt
+pub record IsNewAsker (number parts : ℕ) (audited : Bool) (a : AskerState) : Type 0 where
   pub worker_is : a.worker ≡ number
   pub unseen : AreEmpty a.seen
   pub fronts_are : a.fronts ≡ replicate parts a.seen
   pub counts_are : a.counts ≡ replicate parts 0
+  pub receipts_are : a.receipts ≡ empty_list audited
 
 -- the partition's history, as far as it is now seen, ends with the entry, and all that was seen of it before precedes that
 pub record IsGiven (owner : ℕ → ℕ) (part : ℕ) (entry : Entry) (old new : List Event) : Type 0 where
@@ -122,6 +130,10 @@ MayRefuseAt owner w part command a e =
 -- the number of a worker's replies
 abbrev pub replies_to : AskerState → ℕ
 replies_to a = sum_by (λ (n : ℕ). n) a.counts
+
+-- a worker's receipts: none without an audit
+abbrev pub receipts_in : AskerState → List Receipt
+receipts_in a = unwrap_or a.receipts []
 
 -- why workers and partitions may not agree: 16, with the number of the first partition that differs from a worker, and the number of replies that it
 -- gave such a worker

@@ -3,29 +3,33 @@ ghost use Rattle.std.specs.Prelude.{◌≡◌, ◌⊎◌, ◌+◌, ◌<◌, ◌�
 ghost use Rattle.std.specs.Prelude.{OnErr, OnOk, Err, IsTrue, List, slice_index_or, slice_set};
 ghost use mathlib.Core.List.{IsPrefix};
 ghost use Rattle.crack_row.specs.declared.command.Entry.{Entry};
-ghost use Rattle.crack_plain.specs.Plain.{IsSmall, reply_to};
+ghost use Rattle.crack_plain.specs.Plain.{IsSmall, accepted_of, reply_to};
 ghost use Rattle.crack_part.specs.Parts.{state_of, table_of};
 ghost use Rattle.crack_part.specs.Refusals.{refusal_of};
 ghost use Rattle.crack_part.specs.Upkeep.{answered};
+ghost use Rattle.crack_witness.specs.Audits.{and_one};
 ghost use Rattle.crack_witness.specs.Histories.{history_of, calls_at, AreHistories, AreEmpty};
 ghost use Rattle.crack_witness.specs.Witnesses.{IsInStep, IsGiven, HasJustItsOwn, IsNewAsker, Knows, MayRefuseAt};
-ghost use Rattle.crack_witness.specs.Witnesses.{replies_at, replies_to};
+ghost use Rattle.crack_witness.specs.Witnesses.{receipts_in, replies_at, replies_to};
 
+use crate::listing::{list_for, reserve};
 use crate::opening::Naming;
 use crate::scribe::Front;
 use crate::witnessed::{Witnessed, count_at};
+use crack_kept::Receipt;
 use crack_row::{Command, Policy, Refusal, Reply};
 use std::alloc::{AllocError, Global};
 use std::marker::Model;
 
 /// A worker's side of the witness: its number, what it has seen of the book, and the number of its replies from each
-/// partition, 8 bytes each. Contracts see the number, the events that it has seen, those that it had seen after its
-/// last reply from each partition, and these numbers.
+/// partition, 8 bytes each; with an audit also its receipts, 96 bytes each. Contracts see the number, the events that
+/// it has seen, those that it had seen after its last reply from each partition, these numbers and the receipts.
 pub struct Asker<J: Naming> {
     number: u32,
     front: Front<J>,
     fronts: Vec<Front<J>>,
     counts: Vec<u64>,
+    receipts: Option<Vec<Receipt>>,
 }
 
 // (Written out, so that the crates above call this function, and prove nothing about the fields.)
@@ -36,14 +40,17 @@ impl<J: Naming> Drop for Asker<J> {
             front,
             fronts,
             counts,
+            receipts,
         } = self;
         drop(front);
         drop(fronts);
         drop(counts);
+        drop(receipts);
     }
 }
 
 impl<J: Naming> Model for Asker<J> {
+    ghost use Rattle.crack_witness.specs.Audits.{listed};
     ghost use Rattle.crack_witness.specs.Witnesses.{AskerState};
     ghost use Rattle.crack_witness.specs.Keeps.{IsAsker};
 
@@ -54,23 +61,26 @@ impl<J: Naming> Model for Asker<J> {
       seen = a.front;
       fronts = a.fronts.items;
       counts = a.counts.items;
+      receipts = listed a.receipts;
     } };
 
     ghost invariant = { λ a. IsAsker J.owner a.number a.front a.fronts.items a.counts.items };
 }
 
 impl<J: Naming> Asker<J> {
-    /// A worker with this number at this many partitions, which has asked nothing.
+    /// A worker with this number at this many partitions, which has asked nothing. It keeps receipts if there is an
+    /// audit.
     pub fn new(
         alloc: Global,
         number: u32,
         front: Front<J>,
         parts: usize,
+        is_audited: bool,
     ) -> Result<Asker<J>, AllocError>
         requires empty { AreEmpty front }
         requires few { parts ≤ 64 }
         ensures seen { IfOk result (λ a. a.seen ≡ front) }
-        ensures new { IfOk result (IsNewAsker number parts) }
+        ensures new { IfOk result (IsNewAsker number parts is_audited) }
         ensures none { IfOk result (λ a. replies_to a ≡ 0) }
     {
         let counts = vec![in alloc; 0u64; parts]?;
@@ -86,6 +96,7 @@ impl<J: Naming> Asker<J> {
             front,
             fronts,
             counts,
+            receipts: list_for(alloc, is_audited),
         })
     }
 
@@ -103,6 +114,23 @@ impl<J: Naming> Asker<J> {
         sum_of(self.counts.as_slice())
     }
 
+    /// Its receipts, in the order in which it asked: none without an audit.
+    pub fn receipts(&self) -> &[Receipt]
+        ensures { result.now ≡ receipts_in self.now }
+    {
+        match &self.receipts {
+            Some(receipts) => receipts.as_slice(),
+            None => &[],
+        }
+    }
+
+    /// Makes room for one receipt, if there is an audit: O(1), amortised.
+    pub fn reserve(&mut self) -> Result<(), AllocError>
+        ensures { self.new ≡ self.old }
+    {
+        reserve(&mut self.receipts)
+    }
+
     /// What it has seen of the book.
     pub fn front(&self) -> &Front<J>
         ensures { result.now ≡ self.now.seen }
@@ -110,7 +138,8 @@ impl<J: Naming> Asker<J> {
         &self.front
     }
 
-    /// Asks a partition, which must have number `part`: O(1) beyond `Partition::apply`, and no memory. Refused with 5
+    /// Asks a partition, which must have number `part`: O(1) beyond `Partition::apply`, and no memory; with an audit
+    /// the entry is added to the partition's list, and the receipt to the worker's. Refused with 5
     /// if the worker knows of no such partition; with 16, with the number and the count of its replies there, if the
     /// partition has another number, or its history has another number of the worker's entries; then as
     /// `Partition::apply` is. After a refusal nothing was seen or written.
@@ -131,6 +160,13 @@ impl<J: Naming> Asker<J> {
         ensures mine { IfOk result (λ reply. calls_at J.owner part self.old.worker self.new.seen ≡
             calls_at J.owner part self.old.worker (slice_index_or self.old.fronts part []) ++
             record { worker = self.old.worker; command = command; reply = reply } ∷ []) }
+        ensures receipts { IfOk result (λ reply. self.new.receipts ≡ and_one self.old.receipts (record {
+          part = part;
+          position = accepted_of (table_of witnessed.old.held);
+          worker = self.old.worker;
+          command = command;
+          reply = reply;
+        })) }
         ensures count { OnOk result (replies_to self.new ≡ replies_to self.old + 1) }
         ensures fronts { OnOk result (self.new.fronts ≡ slice_set self.old.fronts part self.new.seen) }
         ensures legal { OnOk result (AreHistories self.new.seen) }
@@ -157,7 +193,14 @@ impl<J: Naming> Asker<J> {
                 position: count,
             });
         }
-        let reply = witnessed.ask(&mut self.front, self.number, count, command, policy)?;
+        let reply = witnessed.ask(
+            &mut self.front,
+            &mut self.receipts,
+            self.number,
+            count,
+            command,
+            policy,
+        )?;
         self.counts[part as usize] = count + 1;
         self.fronts[part as usize] = self.front.again();
         Ok(reply)

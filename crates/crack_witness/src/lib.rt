@@ -5,6 +5,7 @@
 pub mod asker;
 pub mod closing;
 pub mod event;
+mod listing;
 pub mod opening;
 pub mod scribe;
 pub mod witnessed;

@@ -120,23 +120,25 @@ impl Opened {
     }
 
     /// The partitions, each with its scribe, by their numbers, and the events that a worker begins with, once the book
-    /// has its name. Each partition counts the entries of this many workers. O(partitions × workers).
+    /// has its name. Each partition counts the entries of this many workers, and lists them if there is an audit.
+    /// O(partitions × workers).
     pub fn witness<J: Naming>(
         self,
         alloc: Global,
         partitions: Vec<Partition>,
         workers: u32,
+        is_audited: bool,
     ) -> Result<(Front<J>, Vec<Witnessed<J>>), AllocError>
         requires names { AreNames J.book J.owner self }
         requires new { All (λ (part : Part). IsPastOf [] (table_of part)) partitions.items }
         requires count { length partitions.items ≡ length self.ids }
         ensures front { IfOk result (λ r. AreEmpty r.0) }
-        ensures parts { IfOk result (λ r. AreNewFrom J.owner workers 0 partitions.items r.1.items) }
+        ensures parts { IfOk result (λ r. AreNewFrom J.owner workers is_audited 0 partitions.items r.1.items) }
         ensures apart { AreApart J.owner (length partitions.items) }
     {
         let (front, mut owners) = self.named::<J>();
         let mut partitions = partitions;
-        let witnessed = witness_each(alloc, &mut owners, &mut partitions, workers)?;
+        let witnessed = witness_each(alloc, &mut owners, &mut partitions, workers, is_audited)?;
         Ok((front, witnessed))
     }
 
@@ -176,11 +178,12 @@ fn witness_each<J: Naming>(
     owners: &mut Vec<Owner>,
     partitions: &mut Vec<Partition>,
     workers: u32,
+    is_audited: bool,
 ) -> Result<Vec<Witnessed<J>>, AllocError>
     requires owners { AreOwners J.book J.owner owners.old.items }
     requires new { All (λ (part : Part). IsPastOf [] (table_of part)) partitions.old.items }
     requires count { (length partitions.old.items ≡ length owners.old.items) × (length owners.old.items < 2 ^ 32) }
-    ensures { IfOk result (λ ws. AreNewFrom J.owner workers 0 partitions.old.items ws.items) }
+    ensures { IfOk result (λ ws. AreNewFrom J.owner workers is_audited 0 partitions.old.items ws.items) }
 {
     let mut witnessed = Vec::with_capacity(alloc, owners.len())?;
     'partitions: while let Some(partition) = partitions.pop() {
@@ -188,7 +191,7 @@ fn witness_each<J: Naming>(
             unreachable!();
         };
         let number = owners.len() as u32;
-        match Witnessed::new(alloc, partition, number, owner, workers) {
+        match Witnessed::new(alloc, partition, number, owner, workers, is_audited) {
             Ok(one) => witnessed.push_reserved(one),
             Err(error) => {
                 drop(witnessed);

@@ -3,27 +3,33 @@ ghost use Rattle.std.specs.Prelude.{◌≡◌, ◌⊎◌, ◌+◌, ◌<◌, ◌�
 ghost use Rattle.std.specs.Prelude.{IsTrue, OnErr, OnOk, Err, None, ◌≢◌, ◌↔◌, ◌^◌, slice_index_or};
 ghost use mathlib.Core.List.{IsPrefix};
 ghost use Rattle.crack_plain.specs.Past.{folded, state_after};
-ghost use Rattle.crack_plain.specs.Plain.{IsSmall, reply_to};
+ghost use Rattle.std.specs.Prelude.{MatchOption, Some};
+ghost use Rattle.crack_plain.specs.Plain.{IsSmall, accepted_of, reply_to};
 ghost use Rattle.crack_part.specs.Parts.{IsSound, state_of, table_of, folded_part, Serves, Spares};
 ghost use Rattle.crack_part.specs.Refusals.{refusal_of};
 ghost use Rattle.crack_part.specs.Upkeep.{answered};
+ghost use Rattle.crack_witness.specs.Audits.{listed, and_one};
 ghost use Rattle.crack_witness.specs.Histories.{history_of, calls_by, AreHistories, IsPastOf, past_in};
 ghost use Rattle.crack_witness.specs.Witnesses.{IsWhole, IsNewAt, IsInStep, MayRefuseIt};
 ghost use Rattle.crack_witness.specs.Keeps.{IsOwnerAt};
 
+use crate::listing::{apply_listed, list_for};
 use crate::opening::{Naming, Owner};
 use crate::scribe::{Front, Scribe};
+use crack_kept::Receipt;
 use crack_part::Partition;
-use crack_row::{Command, Policy, Refusal, Reply};
+use crack_row::{Command, Entry, Policy, Refusal, Reply};
 use std::alloc::{AllocError, Global};
 use std::marker::Model;
 
 /// A partition with the scribe of its history since it was opened, and a count of each worker's entries there. The
-/// history has no bytes. Contracts see the partition, its number, and the events that the scribe has seen.
+/// history has no bytes, except the list of an audit, which grows with it: 80 bytes for each entry. Contracts see the
+/// partition, its number, the events that the scribe has seen, and that list.
 pub struct Witnessed<J: Naming> {
     partition: Partition,
     scribe: Scribe<J>,
     answered: Vec<u64>,
+    entries: Option<Vec<Entry>>,
 }
 
 // (Written out, so that the crates above call this function, and prove nothing about the fields.)
@@ -33,17 +39,20 @@ impl<J: Naming> Drop for Witnessed<J> {
             partition,
             scribe,
             answered,
+            entries,
         } = self;
         drop(partition);
         drop(scribe);
         drop(answered);
+        drop(entries);
     }
 }
 
 impl<J: Naming> Model for Witnessed<J> {
-    ghost use Rattle.std.specs.Prelude.{◌<◌, length, All};
+    ghost use Rattle.std.specs.Prelude.{◌≡◌, ◌<◌, length, All, IfSome};
     ghost use Rattle.crack_row.specs.declared.command.Entry.{Entry};
     ghost use Rattle.crack_part.specs.Parts.{table_of};
+    ghost use Rattle.crack_witness.specs.Audits.{listed};
     ghost use Rattle.crack_witness.specs.Histories.{history_of, IsPastOf};
     ghost use Rattle.crack_witness.specs.Witnesses.{WitnessedState};
     ghost use Rattle.crack_witness.specs.Keeps.{AreCounts};
@@ -55,31 +64,35 @@ impl<J: Naming> Model for Witnessed<J> {
       log = w.scribe.log;
       held = w.partition;
       workers = length w.answered.items;
+      entries = listed w.entries;
     } };
 
     ghost invariant = { λ w. IsPastOf (history_of (J.owner w.scribe.part) w.scribe.log) (table_of w.partition) ×
         AreCounts w.answered.items (history_of (J.owner w.scribe.part) w.scribe.log) ×
-        All (λ (e : Entry). e.worker < length w.answered.items) (history_of (J.owner w.scribe.part) w.scribe.log) };
+        All (λ (e : Entry). e.worker < length w.answered.items) (history_of (J.owner w.scribe.part) w.scribe.log) ×
+        IfSome (listed w.entries) (λ entries. entries ≡ history_of (J.owner w.scribe.part) w.scribe.log) };
 }
 
 impl<J: Naming> Witnessed<J> {
-    /// A partition that has answered nothing, and its scribe.
+    /// A partition that has answered nothing, and its scribe, with an empty list of its entries, if there is an audit.
     pub(crate) fn new(
         alloc: Global,
         partition: Partition,
         part: u32,
         owner: Owner,
         workers: u32,
+        is_audited: bool,
     ) -> Result<Witnessed<J>, AllocError>
         requires owner { IsOwnerAt J.book J.owner part owner }
         requires new { IsPastOf [] (table_of partition) }
-        ensures { IfOk result (IsNewAt J.owner workers part partition) }
+        ensures { IfOk result (IsNewAt J.owner workers is_audited part partition) }
     {
         match vec![in alloc; 0u64; workers as usize] {
             Ok(answered) => Ok(Witnessed {
                 partition,
                 scribe: Scribe::new(part, owner),
                 answered,
+                entries: list_for(alloc, is_audited),
             }),
             Err(error) => {
                 drop(owner);
@@ -110,8 +123,19 @@ impl<J: Naming> Witnessed<J> {
         self.answered.len()
     }
 
+    /// The list of its entries since it was opened, if there is an audit.
+    pub fn entries(&self) -> Option<&[Entry]>
+        ensures { MatchOption result (self.now.entries ≡ None) (λ list. self.now.entries ≡ Some list.now) }
+    {
+        match &self.entries {
+            Some(entries) => Some(entries.as_slice()),
+            None => None,
+        }
+    }
+
     /// States the invariants of each, and does nothing: its history is legal, the partition's plain rows are those
-    /// after it and as many commands were accepted as it has entries, and each entry is one of its workers'.
+    /// after it and as many commands were accepted as it has entries, each entry is one of its workers', and the list
+    /// of an audit is this history.
     pub fn facts(&self)
         ensures whole { IsWhole J.owner self.now }
         ensures sound { IsSound self.now.held }
@@ -132,12 +156,14 @@ impl<J: Naming> Witnessed<J> {
     }
 
     /// Answers a command of a worker that has received `count` replies from this partition before, and writes it into
-    /// the history: O(1) beyond `Partition::apply`, and no memory. Refused with 16, with the partition's number and
-    /// that count, if the history doesn't have exactly as many entries of the worker, or the worker isn't one of the
-    /// table's; then nothing has changed. Otherwise refused as `Partition::apply` is, and nothing is written.
+    /// the history: O(1) beyond `Partition::apply`, and no memory; with an audit also the entry into its list, and the
+    /// receipt into the worker's. Refused with 16, with the partition's number and that count, if the history doesn't
+    /// have exactly as many entries of the worker, or the worker isn't one of the table's; then nothing has changed.
+    /// Otherwise refused as `Partition::apply` is, with 8 also for the lists of an audit, and nothing is written.
     pub fn ask(
         &mut self,
         me: &mut Front<J>,
+        receipts: &mut Option<Vec<Receipt>>,
         worker: u32,
         count: u64,
         command: Command,
@@ -151,6 +177,18 @@ impl<J: Naming> Witnessed<J> {
               command = command;
               reply = reply;
             } ∷ []) }
+        ensures receipts { IfOk result (λ reply. listed receipts.new ≡ and_one (listed receipts.old) (record {
+          part = self.old.part;
+          position = accepted_of (table_of self.old.held);
+          worker = worker;
+          command = command;
+          reply = reply;
+        })) }
+        ensures entries { IfOk result (λ reply. self.new.entries ≡ and_one self.old.entries (record {
+          worker = worker;
+          command = command;
+          reply = reply;
+        })) }
         ensures table { OnOk result (table_of self.new.held ≡ answered self.old.held.limits (table_of self.old.held)
             command) }
         ensures store { OnOk result (Serves policy self.old.held command self.new.held.store) }
@@ -167,6 +205,8 @@ impl<J: Naming> Witnessed<J> {
             (result ≡ Err (Refusal.StrangeReceipt self.old.part count)) × (self.new ≡ self.old) }
         ensures err { OnErr result ((self.new.log ≡ self.old.log) × (table_of self.new.held ≡ table_of self.old.held) ×
             (me.new ≡ me.old)) }
+        ensures unlisted { OnErr result ((self.new.entries ≡ self.old.entries) ×
+            (listed receipts.new ≡ listed receipts.old)) }
         ensures spared { IsInStep J.owner self.old worker count → OnErr result (Spares policy self.old.held command
             self.new.held.store) }
         ensures refused { IsInStep J.owner self.old worker count → IfSome (refusal_of self.old.held command) (λ e.
@@ -184,7 +224,15 @@ impl<J: Naming> Witnessed<J> {
             });
         }
         let asked = command;
-        let reply = self.partition.apply(command, policy)?;
+        let reply = apply_listed(
+            &mut self.partition,
+            &mut self.entries,
+            receipts,
+            part,
+            worker,
+            command,
+            policy,
+        )?;
         self.scribe.write(me, worker, &asked, &reply);
         self.answered[worker as usize] = count + 1;
         Ok(reply)
@@ -197,7 +245,7 @@ impl<J: Naming> Witnessed<J> {
         ensures since { result ≡ self.old.held.since }
         ensures folded { self.new.held ≡ folded_part self.old.held }
         ensures witness { (self.new.part ≡ self.old.part) × (self.new.log ≡ self.old.log) ×
-            (self.new.workers ≡ self.old.workers) }
+            (self.new.workers ≡ self.old.workers) × (self.new.entries ≡ self.old.entries) }
         ensures divides { past_in (history_of (J.owner self.new.part) self.new.log) (table_of self.new.held) ≡
             folded (past_in (history_of (J.owner self.old.part) self.old.log) (table_of self.old.held)) }
     {
@@ -221,9 +269,11 @@ impl<J: Naming> Witnessed<J> {
             partition,
             scribe,
             answered,
+            entries,
         } = self;
         drop(scribe);
         drop(answered);
+        drop(entries);
         partition
     }
 }

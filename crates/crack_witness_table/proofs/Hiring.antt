@@ -1,5 +1,5 @@
 -- New workers, and the partitions that they are to ask.
-use Rattle.std.proofs.Common.{◌≡◌, ◌+◌, ℕ, zero, suc, List, [], ◌∷◌, ◌++◌, length, Some, refl, ap, sym, subst, arith, length-append}
+use Rattle.std.proofs.Common.{◌≡◌, Bool, false, ◌+◌, ℕ, zero, suc, List, [], ◌∷◌, ◌++◌, length, Some, refl, ap, sym, subst, arith, length-append}
 use Rattle.std.specs.List.{slice_get}
 use Rattle.crack_part.specs.Parts.{Part}
 use Rattle.crack_witness.specs.Witnesses.{AskerState, WitnessedState, AreNewFrom, IsNewAsker}
@@ -12,15 +12,15 @@ push_each P [] y old new (suc k) x is = absurd (cc is)
 push_each P (z ∷ zs) y old new zero x is = old zero x is
 push_each {X} P (z ∷ zs) y old new (suc k) x is = push_each (λ (n : ℕ) (v : X). P (suc n) v) zs y (λ j v e. old (suc j) v e) new k x is
 
-pub new_more : (n parts : ℕ) (askers : List AskerState) (a : AskerState) → AreNewAskers n parts askers → IsNewAsker n parts a → AreNewAskers (n + 1) parts (askers ++ a ∷ [])
+pub new_more : (n parts : ℕ) (askers : List AskerState) (a : AskerState) → AreNewAskers n parts askers → IsNewAsker n parts false a → AreNewAskers (n + 1) parts (askers ++ a ∷ [])
 new_more n parts askers a old new = record {
   count = omega (arith, old.count, length-append askers (a ∷ []));
-  numbered = push_each (λ (k : ℕ) (x : AskerState). IsNewAsker k parts x) askers a old.numbered (subst (λ (k : ℕ). IsNewAsker k parts a) (sym old.count) new);
+  numbered = push_each (λ (k : ℕ) (x : AskerState). IsNewAsker k parts false x) askers a old.numbered (subst (λ (k : ℕ). IsNewAsker k parts false a) (sym old.count) new);
 }
 
 -- as many partitions are witnessed as there are
-pub witnessed_count : (owner : ℕ → ℕ) (workers number : ℕ) (ps : List Part) (ws : List WitnessedState) → AreNewFrom owner workers number ps ws → length ws ≡ length ps
-witnessed_count owner workers number [] [] new = refl
-witnessed_count owner workers number [] (w ∷ ws) new = absurd new
-witnessed_count owner workers number (p ∷ ps) [] new = absurd new
-witnessed_count owner workers number (p ∷ ps) (w ∷ ws) new = ap suc (witnessed_count owner workers (number + 1) ps ws new.1)
+pub witnessed_count : (owner : ℕ → ℕ) (workers : ℕ) (audited : Bool) (number : ℕ) (ps : List Part) (ws : List WitnessedState) → AreNewFrom owner workers audited number ps ws → length ws ≡ length ps
+witnessed_count owner workers audited number [] [] new = refl
+witnessed_count owner workers audited number [] (w ∷ ws) new = absurd new
+witnessed_count owner workers audited number (p ∷ ps) [] new = absurd new
+witnessed_count owner workers audited number (p ∷ ps) (w ∷ ws) new = ap suc (witnessed_count owner workers audited (number + 1) ps ws new.1)

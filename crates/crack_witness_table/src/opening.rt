@@ -85,7 +85,7 @@ impl UnnamedTable {
             workers,
         } = self;
         let parts = open_partitions(alloc, &splits, limits)?;
-        let (front, mut witnessed) = opened.witness::<J>(alloc, parts, workers as u32)?;
+        let (front, mut witnessed) = opened.witness::<J>(alloc, parts, workers as u32, false)?;
         let mut locks = Vec::with_capacity(alloc, witnessed.len())?;
         let askers = hire(alloc, &front, workers, witnessed.len())?;
         lock(&mut witnessed, &mut locks);
@@ -113,7 +113,7 @@ fn hire<J: Naming>(
 {
     let mut askers = Vec::new(alloc);
     'numbers: for number in 0..count {
-        askers.push(Asker::new(alloc, number as u32, front.again(), parts)?)?;
+        askers.push(Asker::new(alloc, number as u32, front.again(), parts, false)?)?;
     }
     Ok(askers)
 }

@@ -21,13 +21,13 @@ partitions-preserved g c =
     let ps_is : c.partitions.partitions.items ≡ ps ++ p ∷ [] = c.in-Some.ensures.items in
     let count : length ps ≡ length os = omega (arith, old.count, ap length os_is, ap length ps_is, length-append os (o ∷ []), length-append ps (p ∷ [])) in
     let is : c.len-number.result ≡ length ps = omega (arith, c.len-number.ensures, count) in
-    let here : IsNewAt own c.args.workers (length ps) p w = subst (λ (n : ℕ). IsNewAt own c.args.workers n p w) is c.in-Ok.ensures in
-    let done = done_more own c.args.workers all ps p w c.partitions.witnessed.items here (subst (λ (l : List Part). AreDone own c.args.workers all l (reverse c.partitions.witnessed.items)) ps_is old.done) in
+    let here : IsNewAt own c.args.workers c.args.is_audited (length ps) p w = subst (λ (n : ℕ). IsNewAt own c.args.workers c.args.is_audited n p w) is c.in-Ok.ensures in
+    let done = done_more own c.args.workers c.args.is_audited all ps p w c.partitions.witnessed.items here (subst (λ (l : List Part). AreDone own c.args.workers c.args.is_audited all l (reverse c.partitions.witnessed.items)) ps_is old.done) in
     record {
       owners = owners_begin g.J.Naming.book own os (o ∷ []) (subst (AreOwners g.J.Naming.book own) os_is old.owners);
       new = all_front (λ (q : Part). IsPastOf [] (table_of q)) ps (p ∷ []) (subst (All (λ (q : Part). IsPastOf [] (table_of q))) ps_is old.new);
       count = count;
       few = omega (arith, old.few, ap length os_is, length-append os (o ∷ []));
       room = omega (arith, old.room, ap length os_is, length-append os (o ∷ []), c.push_reserved.ensures.len, c.push_reserved.ensures.capacity);
-      done = subst (λ (l : List WitnessedState). AreDone own c.args.workers all ps (reverse l)) (sym {A = List WitnessedState} c.push_reserved.ensures.items) done;
+      done = subst (λ (l : List WitnessedState). AreDone own c.args.workers c.args.is_audited all ps (reverse l)) (sym {A = List WitnessedState} c.push_reserved.ensures.items) done;
     }

@@ -12,7 +12,7 @@ invariant-partitions g l = record {
   count : length l.partitions.items ≡ length l.owners.items;
   few : length l.owners.items < 2 ^ 32;
   room : vec_len l.owners + vec_len l.witnessed ≤ vec_capacity l.witnessed;
-  done : AreDone g.J.Naming.owner l.workers l.initial.partitions.items l.partitions.items (reverse l.witnessed.items);
+  done : AreDone g.J.Naming.owner l.workers l.is_audited l.initial.partitions.items l.partitions.items (reverse l.witnessed.items);
 }
 
 abbrev pub decreases-partitions : goal.decreases-partitions

@@ -1,8 +1,12 @@
 use Rattle.std.proofs.Common.{rules, Err, sym, ◌∙◌, ap, subst, ◌≡◌, refl, ◌++◌, ◌∷◌, [], List, ℕ, arith, ◌<◌, slice_index_or, slice_set, length, length-append, ◌+◌}
-use Rattle.std.specs.Prelude.{sum_by}
+use Rattle.std.specs.Prelude.{sum_by, Option}
 use mathlib.Core.List.{IsPrefix}
 use Rattle.crack_row.specs.declared.command.Entry.{Entry}
+use Rattle.crack_plain.specs.Plain.{accepted_of}
+use Rattle.crack_kept.specs.declared.receipt.Receipt.{Receipt}
+use Rattle.crack_part.specs.Parts.{table_of}
 use Rattle.crack_witness.specs.declared.event.Event.{Event}
+use Rattle.crack_witness.specs.Audits.{listed, and_one}
 use Rattle.crack_witness.specs.Histories.{history_of, calls_at}
 use Rattle.crack_witness.specs.Witnesses.{AskerState, IsGiven}
 use Rattle.crack_witness.specs.Keeps.{IsAsker}
@@ -178,3 +182,30 @@ returns-in_err-reply-clause-whole g c = rw (given g c) tt
 
 pub returns-in_err-reply-clause-table : goal.returns-in_err-reply-clause-table
 returns-in_err-reply-clause-table g c = rw (given g c) tt
+
+pub returns-in_default-clause-receipts : goal.returns-in_default-clause-receipts
+returns-in_default-clause-receipts g c = tt
+
+pub returns-then-part-clause-receipts : goal.returns-then-part-clause-receipts
+returns-then-part-clause-receipts g c = tt
+
+pub returns-in_err-reply-clause-receipts : goal.returns-in_err-reply-clause-receipts
+returns-in_err-reply-clause-receipts g c = rw (given g c) tt
+
+pub returns-clause-receipts : goal.returns-clause-receipts
+returns-clause-receipts g c =
+    let same : c.args.witnessed.now.part ≡ c.args.part = sym c.part.ensures ∙ c.if-part.false in
+    let position = accepted_of (table_of c.args.witnessed.now.held) in
+    let receipt : ℕ → ℕ → Receipt = λ worker part. record { part = part; position = position; worker = worker; command = c.args.command; reply = c.in_ok-reply.reply } in
+    let here : listed c.ask.new.receipts ≡ and_one (listed c.self.inside.receipts) (receipt c.self.inside.number c.args.part) = subst (λ (p : ℕ). listed c.ask.new.receipts ≡ and_one (listed c.self.inside.receipts) (receipt c.self.inside.number p)) same c.in_ok-reply.ensures.receipts in
+    subst (λ (a : AskerState). listed c.ask.new.receipts ≡ and_one a.receipts (receipt a.worker c.args.part)) c.self.view_is here
+
+pub returns-in_err-reply-clause-err : goal.returns-in_err-reply-clause-err
+returns-in_err-reply-clause-err g c =
+    let told = c.in_err-reply.ensures in
+    let n = c.self.inside.number in
+    let fronts = c.self.inside.fronts.items in
+    let counts = c.self.inside.counts.items in
+    let with : List Event → Option (List Receipt) → AskerState = λ seen receipts. record { worker = n; seen = seen; fronts = fronts; counts = counts; receipts = receipts } in
+    let same : with c.ask.new.me (listed c.ask.new.receipts) ≡ with c.self.inside.front (listed c.self.inside.receipts) = λ i. with (told.err.2 i) (told.unlisted.1 i) in
+    rw (given g c, ← c.self.view_is) (same, told.err.0, told.err.1)

@@ -21,6 +21,7 @@ returns-clause-new g c =
       unseen = c.requires.empty;
       fronts_are = c.fronts.invariant ∙ ap (λ (n : ℕ). replicate n c.args.front) all;
       counts_are = zeros;
+      receipts_are = c.list_for.ensures;
     }
 
 pub returns-clause-none : goal.returns-clause-none

@@ -1,4 +1,4 @@
-use Rattle.std.proofs.Common.{rules, refl, None, Err, inr, ◌≡◌, ◌<◌, ◌+◌, ◌∙◌, ap, sym, subst, ℕ, List, [], ◌∷◌, ◌++◌, length, arith, slice_set, slice_index_or}
+use Rattle.std.proofs.Common.{rules, refl, Option, None, Err, inr, ◌≡◌, ◌<◌, ◌+◌, ◌∙◌, ap, sym, subst, ℕ, List, [], ◌∷◌, ◌++◌, length, arith, slice_set, slice_index_or}
 use Rattle.std.specs.Prelude.{All}
 use Rattle.std.proofs.lemmas.List.{length-set}
 use Rattle.std.proofs.lemmas.List.Elements.{All-push}
@@ -13,7 +13,8 @@ use Rattle.crack_witness.proofs.Keeping.{refused-for, replied-for}
 use Rattle.crack_witness.specs.Histories.{history_of, calls_by, IsPastOf}
 use Rattle.crack_witness.specs.Witnesses.{WitnessedState}
 use Rattle.crack_witness.specs.Keeps.{AreCounts}
-use Rattle.crack_witness.proofs.Keeping.{IsPastOf-push, calls-le-accepted}
+use Rattle.crack_witness.specs.Audits.{listed}
+use Rattle.crack_witness.proofs.Keeping.{IsPastOf-push, calls-le-accepted, listed_more}
 use Rattle.crack_witness.proofs.Counting.{counts_set}
 use Rattle.crack_witness.proofs.Lists.{prefix_self}
 use Rattle.crack_witness.proofs.witnessed.Witnessed.ask.Goals as goal
@@ -52,11 +53,11 @@ invariant_of-self-2 g c =
     let is : slice_index_or c.self.inside.answered.items c.args.worker 0 ≡ c.args.count = subst (λ (l : List ℕ). slice_index_or l c.args.worker 0 ≡ c.args.count) items at.1 in
     let counts : AreCounts (slice_set c.self.inside.answered.items c.args.worker (c.args.count + 1)) (h ++ e ∷ []) = counts_set c.self.inside.answered.items h e (c.args.count + 1) c.self.invariant.1 (omega (arith, is)) less in
     let new : history_of (own c.write.new.self.part) c.write.new.self.log ≡ h ++ e ∷ [] = ap (λ (p : ℕ). history_of (own p) c.write.new.self.log) c.write.ensures.part ∙ c.write.ensures.history in
-    let past : IsPastOf (h ++ e ∷ []) (table_of c.apply.new.self) = subst (IsPastOf (h ++ e ∷ [])) (sym {A = PlainView} c.in_ok-reply.ensures.table) (IsPastOf-push h c.self.inside.partition.limits (table_of c.self.inside.partition) e c.self.invariant.0) in
+    let past : IsPastOf (h ++ e ∷ []) (table_of c.apply_listed.new.partition) = subst (IsPastOf (h ++ e ∷ [])) (sym {A = PlainView} c.in_ok-reply.ensures.table) (IsPastOf-push h c.self.inside.partition.limits (table_of c.self.inside.partition) e c.self.invariant.0) in
     let all = All-push (λ (x : Entry). x.worker < length c.self.inside.answered.items) h e c.self.invariant.2 less in
     let are_below : ℕ → List Entry → Type 0 = λ n es. All (λ (x : Entry). x.worker < n) es in
     let own_all : are_below (length (slice_set c.self.inside.answered.items c.args.worker (c.args.count + 1))) (h ++ e ∷ []) = subst (λ (n : ℕ). are_below n (h ++ e ∷ [])) (sym (length-set c.self.inside.answered.items c.args.worker (c.args.count + 1))) all in
-    (subst (λ (l : List Entry). IsPastOf l (table_of c.apply.new.self)) (sym new) past, subst (AreCounts (slice_set c.self.inside.answered.items c.args.worker (c.args.count + 1))) (sym new) counts, subst (are_below (length (slice_set c.self.inside.answered.items c.args.worker (c.args.count + 1)))) (sym new) own_all)
+    (subst (λ (l : List Entry). IsPastOf l (table_of c.apply_listed.new.partition)) (sym new) past, subst (AreCounts (slice_set c.self.inside.answered.items c.args.worker (c.args.count + 1))) (sym new) counts, subst (are_below (length (slice_set c.self.inside.answered.items c.args.worker (c.args.count + 1)))) (sym new) own_all, listed_more (listed c.self.inside.entries) (listed c.apply_listed.new.entries) h (history_of (own c.write.new.self.part) c.write.new.self.log) e c.self.invariant.3 c.in_ok-reply.ensures.entries new)
 
 pub returns-clause-few : goal.returns-clause-few
 returns-clause-few g c =
@@ -71,7 +72,7 @@ returns-clause-few g c =
 pub returns-clause-refused : goal.returns-clause-refused
 returns-clause-refused g c = λ in_step.
     let p = c.self.inside.partition in
-    let none : refusal_of p c.args.command ≡ None = replied-for (refusal_of p c.args.command) c.in_ok-reply.reply (c.apply.new.self ≡ p) c.in_ok-reply.ensures.refused in
+    let none : refusal_of p c.args.command ≡ None = replied-for (refusal_of p c.args.command) c.in_ok-reply.reply (c.apply_listed.new.partition ≡ p) c.in_ok-reply.ensures.refused in
     rw (← c.self.view_is, none) tt
 
 pub returns-in_err-reply-clause-refused : goal.returns-in_err-reply-clause-refused
@@ -79,16 +80,17 @@ returns-in_err-reply-clause-refused g c = λ in_step.
     let e0 = c.in_err-reply.field-0.0 in
     let given : c.from_residual.result ≡ Err e0 = given g c in
     let p = c.self.inside.partition in
-    let with : Part → WitnessedState = λ held. record { part = c.self.inside.scribe.part; log = c.self.inside.scribe.log; held = held; workers = length c.self.inside.answered.items } in
-    rw (← c.self.view_is) (if_refused (refusal_of p c.args.command) (λ e. (Err e0 ≡ Err e) × (c.apply.new.self ≡ p)) (λ e. (c.from_residual.result ≡ Err e) × (with c.apply.new.self ≡ with p))
-    (λ e is. (given ∙ ap Err (cc is.0), ap with is.1)) c.in_err-reply.ensures.refused)
+    let lists = c.in_err-reply.ensures.unlisted.0 in
+    let with : Part → Option (List Entry) → WitnessedState = λ held list. record { part = c.self.inside.scribe.part; log = c.self.inside.scribe.log; held = held; workers = length c.self.inside.answered.items; entries = list } in
+    rw (← c.self.view_is) (if_refused (refusal_of p c.args.command) (λ e. (Err e0 ≡ Err e) × (c.apply_listed.new.partition ≡ p)) (λ e. (c.from_residual.result ≡ Err e) × (with c.apply_listed.new.partition (listed c.apply_listed.new.entries) ≡ with p (listed c.self.inside.entries)))
+    (λ e is. (given ∙ ap Err (cc is.0), λ i. with (is.1 i) (lists i))) c.in_err-reply.ensures.refused)
 
 pub returns-in_err-reply-clause-causes : goal.returns-in_err-reply-clause-causes
 returns-in_err-reply-clause-causes g c =
     let e0 = c.in_err-reply.field-0.0 in
     let given : c.from_residual.result ≡ Err e0 = given g c in
     let p = c.self.inside.partition in
-    let cause = refused-for (refusal_of p c.args.command) e0 (c.apply.new.self ≡ p) c.in_err-reply.ensures.refused c.in_err-reply.ensures.memory in
+    let cause = refused-for (refusal_of p c.args.command) e0 (c.apply_listed.new.partition ≡ p) c.in_err-reply.ensures.refused c.in_err-reply.ensures.memory in
     rw (given, ← c.self.view_is) (inr cause)
 
 pub returns-then-not-is_at-clause-reply : goal.returns-then-not-is_at-clause-reply
@@ -156,3 +158,21 @@ returns-in_err-reply-clause-in_step g c = rw (given g c) tt
 
 pub returns-in_err-reply-clause-few : goal.returns-in_err-reply-clause-few
 returns-in_err-reply-clause-few g c = rw (given g c) tt
+
+pub returns-then-not-is_at-clause-receipts : goal.returns-then-not-is_at-clause-receipts
+returns-then-not-is_at-clause-receipts g c = tt
+
+pub returns-in_err-reply-clause-receipts : goal.returns-in_err-reply-clause-receipts
+returns-in_err-reply-clause-receipts g c = rw (given g c) tt
+
+pub returns-then-not-is_at-clause-entries : goal.returns-then-not-is_at-clause-entries
+returns-then-not-is_at-clause-entries g c = tt
+
+pub returns-in_err-reply-clause-entries : goal.returns-in_err-reply-clause-entries
+returns-in_err-reply-clause-entries g c = rw (given g c) tt
+
+pub returns-then-not-is_at-clause-unlisted : goal.returns-then-not-is_at-clause-unlisted
+returns-then-not-is_at-clause-unlisted g c = (refl, refl)
+
+pub returns-in_err-reply-clause-unlisted : goal.returns-in_err-reply-clause-unlisted
+returns-in_err-reply-clause-unlisted g c = rw (given g c, ← c.self.view_is) c.in_err-reply.ensures.unlisted

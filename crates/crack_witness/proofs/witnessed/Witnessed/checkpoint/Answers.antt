@@ -8,7 +8,7 @@ use Rattle.crack_witness.proofs.witnessed.Witnessed.checkpoint.Goals as goal
 pub invariant_of-self : goal.invariant_of-self
 invariant_of-self g c =
     let h = history_of (g.J.Naming.owner c.self.inside.scribe.part) c.self.inside.scribe.log in
-    (subst (λ (p : Part). IsPastOf h (table_of p)) (sym c.checkpoint.ensures.folded) (IsPastOf-checkpointed h (table_of c.self.inside.partition) c.self.invariant.0), c.self.invariant.1, c.self.invariant.2)
+    (subst (λ (p : Part). IsPastOf h (table_of p)) (sym c.checkpoint.ensures.folded) (IsPastOf-checkpointed h (table_of c.self.inside.partition) c.self.invariant.0), c.self.invariant.1, c.self.invariant.2, c.self.invariant.3)
 
 pub returns-clause-divides : goal.returns-clause-divides
 returns-clause-divides g c =
