@@ -49,7 +49,7 @@ abbrev pub joined_by : ℕ → Progress → List Mark → List (ℕ × ℤ) → 
 joined_by len p [] es = es
 joined_by len p (m ∷ ms) es = cond (nat_le m.bound.0 p.after) (joined_by len p ms es) (cond (p.bounds == 0) es (cond (are_few len (met m p) ms) (joined_by len (met m p) ms (joined m.bound.0 es)) (joined_by len (left_behind m (met m p)) ms es)))
 
--- a pass over the bounds above a key: to it few rows are 2,048, and it meets 2,048 bounds at most
+-- a pass over the bounds above a key: to it few rows are 1,024, and it meets 2,048 bounds at most
 abbrev pub pass_of : Key → State → Progress
 pass_of key s = pass_above key.0 FEW_ROWS MOST_BOUNDS s.marks
 

@@ -10,7 +10,7 @@ use crack_row::{Key, Policy};
 use crack_store::Store;
 
 /// A bound is forgotten if its two pieces hold at most this many rows together.
-const FEW_ROWS: usize = 2048;
+const FEW_ROWS: usize = 1024;
 
 /// How many bounds a pass meets before one read, in less than 2 ms.
 const MOST_BOUNDS: usize = 2048;
