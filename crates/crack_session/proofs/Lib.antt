@@ -8,6 +8,7 @@ pub mod Finishing
 pub mod Following
 pub mod Going
 pub mod Joining
+pub mod Leaving
 pub mod Making
 pub mod Passing
 pub mod Pieces
@@ -15,6 +16,7 @@ pub mod Plainly
 pub mod Ranges
 pub mod Reading
 pub mod Running
+pub mod Serves
 pub mod Turns
 pub mod Whole
 pub mod WholeLines

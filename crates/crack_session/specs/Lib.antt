@@ -9,6 +9,7 @@ pub mod Queries
 pub mod Readings
 pub mod Rounds
 pub mod Served
+pub mod Serving
 pub mod Sessions
 pub mod Telling
 pub mod Turns

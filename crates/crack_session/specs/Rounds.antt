@@ -1,5 +1,5 @@
 -- What private clauses alone cite.
-use Rattle.std.specs.Prelude.{◌≡◌, ℕ, ◌-◌, ◌≤◌, Bool, true, false, List, [], length, take, Option, Result}
+use Rattle.std.specs.Prelude.{◌≡◌, ℕ, ◌-◌, ◌≤◌, Bool, true, false, List, [], length, take, Option, None, Result}
 use Rattle.crack_row.specs.declared.Bound.{Bound}
 use Rattle.crack_row.specs.declared.refusal.Refusal.{Refusal}
 use Rattle.crack_row.specs.declared.watched.Watched.{Watched}
@@ -25,3 +25,11 @@ pub record IsRound {D W : Type 0} (bounds : D → Bounds) (splits : D → List B
 abbrev pub has_stopped : Why → Bool
 has_stopped Full = false
 has_stopped _ = true
+
+-- a session that begins
+pub record Begins (s : SessionState) : Type 0 where
+  pub statements_are : s.progress.statements ≡ 0
+  pub short_is : s.progress.first_short ≡ None
+  pub begun : s.begun ≡ []
+  pub unwritten : s.unwritten ≡ []
+  pub ending : s.ending ≡ None

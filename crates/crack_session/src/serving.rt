@@ -3,19 +3,101 @@ ghost use Rattle.std.specs.Prelude.{◌≡◌, ℕ, ◌+◌, ◌-◌, ◌^◌, �
 ghost use Rattle.std.specs.Io.KnownBytes.{Keeps};
 ghost use Rattle.crack_row.specs.Devices.{device, has_failed, reads_of};
 ghost use Rattle.crack_session.specs.Feeding.{SessionState, StoppedFor};
-ghost use Rattle.crack_session.specs.Rounds.{IsRound, has_stopped};
+ghost use Rattle.crack_session.specs.Rounds.{Begins, IsRound, has_stopped};
+ghost use Rattle.crack_session.specs.Serving.{IsServed, IsCutOff};
 ghost use Rattle.crack_session.specs.Turns.{Sends, ReadsOnce, IsTurn, StopsAs, fed_by};
 
+use crate::MOST_READS;
 use crate::desk::Desk;
 use crate::feeding::{Fed, Session, Why};
 use crate::input::READ_BYTES;
 use crate::output::flush;
 use crate::rest::Output;
-use crate::session::How;
+use crate::session::{End, Fault, How};
 use crack_commands::send;
-use crack_row::{Refusal, Watched};
+use crack_row::{Policy, Refusal, Watched};
 use std::alloc::Global;
 use std::io::{Read, Write};
+
+/// Answers the statements of a reader, each whole line before it reads again, until its input ends, a statement is
+/// `quit`, or a line is one of an HTTP request, which is refused with 1; what was read beyond that is dropped. The desk
+/// is asked by `policy` until a statement names another. The texts are written once a read is answered, or output is
+/// full, and flushed before each read and at the end: if those of one read fit into output, there is one write for each
+/// read. Takes only the memory that the desk takes, and that for the replies of several partitions to one statement;
+/// none for a line, so it is never cut off by 8.
+pub fn serve_session<D: Desk, R: Read, W: Write>(
+    alloc: Global,
+    desk: &mut D,
+    policy: Policy,
+    reader: &mut Watched<R>,
+    writer: &mut Watched<W>,
+) -> Result<End, Fault>
+    // Whatever the devices do, the desk was asked just what the statements of some bytes require, and the texts of the
+    // answers were written. If the reader's bytes are known, these are they; if the writer's are, the texts follow
+    // them.
+    ensures ends { IfOk result (λ end. IsServed D.bounds D.splits D.tables D.leads policy desk.old desk.new
+        (R.remaining (device reader.old)) (W.contents (device writer.old)) (W.contents (device writer.new)) end) }
+    // If it is cut off, the first of the statements were answered, as many as it returns, and what was written is a
+    // prefix of the texts.
+    ensures cut_off { IfErr result (λ fault. IsCutOff D.bounds D.splits D.tables D.leads policy desk.old desk.new
+        (R.remaining (device reader.old)) (R.remaining (device reader.new)) (W.contents (device writer.old))
+        (W.contents (device writer.new)) fault) }
+{
+    let mut session = Session::new(policy);
+    match serve_reads(alloc, desk, &mut session, reader, writer) {
+        Ok(how) => Ok(End {
+            how,
+            statements: session.statements(),
+            first_short: session.first_short(),
+        }),
+        Err(refusal) => Err(Fault {
+            refusal,
+            done: session.statements(),
+            first_short: session.first_short(),
+        }),
+    }
+}
+
+/// The reads of a session that begins.
+fn serve_reads<D: Desk, R: Read, W: Write>(
+    alloc: Global,
+    desk: &mut D,
+    session: &mut Session,
+    reader: &mut Watched<R>,
+    writer: &mut Watched<W>,
+) -> Result<How, Refusal>
+    requires begins { Begins session.old }
+    ensures ends { IfOk result (λ how. IsServed D.bounds D.splits D.tables D.leads session.old.progress.policy desk.old
+        desk.new (R.remaining (device reader.old)) (W.contents (device writer.old)) (W.contents (device writer.new))
+        (record {
+          how = how;
+          statements = session.new.progress.statements;
+          first_short = session.new.progress.first_short;
+        })) }
+    ensures cut_off { IfErr result (λ refusal. IsCutOff D.bounds D.splits D.tables D.leads session.old.progress.policy
+        desk.old desk.new (R.remaining (device reader.old)) (R.remaining (device reader.new))
+        (W.contents (device writer.old)) (W.contents (device writer.new)) (record {
+          refusal = refusal;
+          done = session.new.progress.statements;
+          first_short = session.new.progress.first_short;
+        })) }
+{
+    let mut room = [0u8; READ_BYTES];
+    let mut out = Output::new();
+    if let Err(refusal) = flush(writer) {
+        return Err(refusal);
+    }
+    let mut reads = 0;
+    'reads: while reads < MOST_READS {
+        reads += 1;
+        match serve_read(alloc, desk, session, &mut room, &mut out, reader, writer) {
+            Ok(None) => (),
+            Ok(Some(how)) => return Ok(how),
+            Err(refusal) => return Err(refusal),
+        }
+    }
+    Err(Refusal::ReadFault)
+}
 
 /// Reads once, answers what that brings, writes the texts and flushes. At the end of the input an unfinished line is
 /// answered. Returns how the session ended, if it did. Output is empty before and after. Whatever the devices do, the

@@ -1,0 +1,54 @@
+-- What `serve` leaves, whatever its devices are.
+use Rattle.std.specs.Prelude.{◌≡◌, ℕ, List, [], ◌++◌, length, map, take, Option, Some, if◌then◌else◌}
+use Rattle.std.specs.List.{concat, list_any}
+use Rattle.std.specs.Io.KnownBytes.{Appends}
+use Rattle.crack_row.specs.declared.Bound.{Bound}
+use Rattle.crack_row.specs.declared.command.Policy.{Policy}
+use Rattle.crack_row.specs.declared.refusal.Refusal.TheVariants.{ReadFault}
+use Rattle.crack_plain.specs.Plain.{PlainView}
+use Rattle.crack_commands.specs.Grammar.{Reading}
+use Rattle.crack_core.specs.Steps.{Bounds}
+use Rattle.crack_session.specs.declared.answer.Answer.{Answer}
+use Rattle.crack_session.specs.declared.session.End.{End}
+use Rattle.crack_session.specs.declared.session.Fault.{Fault}
+use Rattle.crack_session.specs.declared.session.How.TheVariants.{Quit, InputEnded}
+use Rattle.crack_session.specs.Answers.{answer_text}
+use Rattle.crack_session.specs.Calls.{Call, AreAnswersOf}
+use Rattle.crack_session.specs.Readings.{statements, is_last}
+use Rattle.crack_session.specs.Sessions.{AreAnswers, first_short, whole_lines}
+
+-- These statements are answered in order: each answer is made of just the calls that its statement requires, by the policy in force, and no call is left
+-- over. If the rows are known, these are their answers.
+pub record AreAllAnswered {D : Type 0} (bounds : D → Bounds) (splits : D → List Bound) (tables : D → Option (List PlainView)) (leads : D → Call → D → Type 0) (policy : Policy) (old new : D) (readings : List Reading) (answers : List Answer) : Type 0 where
+  pub made : AreAnswersOf leads (splits old) policy old new readings answers
+  pub told : (known : List PlainView) → tables old ≡ Some known → (next : List PlainView) × AreAnswers (bounds old) (splits old) known readings answers next × (tables new ≡ Some next)
+
+-- A session ended: it read some bytes, which are the reader's if those are known, answered all their statements, and wrote the texts of the answers.
+pub record IsServed {D : Type 0} (bounds : D → Bounds) (splits : D → List Bound) (tables : D → Option (List PlainView)) (leads : D → Call → D → Type 0) (policy : Policy) (old new : D) (known out written : Option (List ℕ)) (end : End) : Type 0 where
+  pub bytes : List ℕ
+  pub bytes_are : (all : List ℕ) → known ≡ Some all → bytes ≡ all
+  pub answers : List Answer
+  pub are : AreAllAnswered bounds splits tables leads policy old new (statements bytes) answers
+  pub count_is : end.statements ≡ length answers
+  pub how_is : end.how ≡ (if list_any is_last (statements bytes) then Quit else InputEnded)
+  pub short_is : end.first_short ≡ first_short answers
+  pub written_is : Appends out written (concat (map answer_text answers))
+
+-- A session was cut off: it answered the first of the statements of some bytes, which are the reader's if those are known. If the reader failed, these are
+-- just the statements in the whole lines of the bytes that were read. The texts of the answers were written up to a place: all if the reader failed.
+pub record IsCutOff {D : Type 0} (bounds : D → Bounds) (splits : D → List Bound) (tables : D → Option (List PlainView)) (leads : D → Call → D → Type 0) (policy : Policy) (old new : D) (known left out written : Option (List ℕ)) (fault : Fault) : Type 0 where
+  pub bytes : List ℕ
+  pub bytes_are : (all : List ℕ) → known ≡ Some all → bytes ≡ all
+  pub answers : List Answer
+  pub are : AreAllAnswered bounds splits tables leads policy old new (take (length answers) (statements bytes)) answers
+  pub count_is : fault.done ≡ length answers
+  pub short_is : fault.first_short ≡ first_short answers
+  pub read : List ℕ
+  pub rest : List ℕ
+  pub split : bytes ≡ read ++ rest
+  pub whole : fault.refusal ≡ ReadFault → (take (length answers) (statements bytes) ≡ statements (whole_lines read)) × ((all : List ℕ) → known ≡ Some all → left ≡ Some rest)
+  pub sent : List ℕ
+  pub lost : List ℕ
+  pub texts_are : concat (map answer_text answers) ≡ sent ++ lost
+  pub written_is : Appends out written sent
+  pub lost_none : fault.refusal ≡ ReadFault → lost ≡ []
