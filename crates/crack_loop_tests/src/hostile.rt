@@ -10,7 +10,10 @@ use std::{io, thread};
 /// How many rows a deaf client lists at a time.
 const ROWS: usize = 2000;
 
-/// A client that inserts rows, asks for all of them again and again, and reads nothing.
+/// How many bytes the replies to the inserts of these rows have, from `row 0.0` to `row 0.1999`.
+const REPLY_BYTES: usize = 20890;
+
+/// A client that inserts rows, then asks for all of them again and again, and reads none.
 fn deaf<N: Net<Listener = TcpListener, Stream = TcpStream>>(
     rt: &N,
     port: u16,
@@ -19,6 +22,8 @@ fn deaf<N: Net<Listener = TcpListener, Stream = TcpStream>>(
     'inserts: for _ in 0..ROWS {
         stream.write_all(b"insert 5 5\n")?;
     }
+    let mut replies = [0u8; REPLY_BYTES];
+    io::Read::read_exact(&mut stream, &mut replies)?;
     'selects: for _ in 0..1000usize {
         stream.write_all(b"select 0 10\n")?;
     }
