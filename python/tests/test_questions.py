@@ -425,6 +425,14 @@ class InProcessQuestions(Questions, InProcess, unittest.TestCase):
 class InProcessFiles(Files, InProcess, unittest.TestCase):
     """In the process."""
 
+    def test_options_of_a_load(self):
+        with crackd.Table.from_arrays([1, 2, 300], [7, 8, 9]) as table:
+            table.save(self.path)
+        options = {"key_type": "float64", "partitions": 2, "policy": "gradual"}
+        with crackd.Table.load(self.path, **options) as table:
+            self.assertEqual((table.key_type, table.partitions, table.policy), ("float64", 2, "gradual"))
+            self.assertEqual((table.sum(1.5, 2.5), table.get(int(table.row_numbers[2]))), (8, (300.0, 9)))
+
     def test_what_is_no_save(self):
         self.assertRaises(FileNotFoundError, crackd.Table.load, self.path)
         types = [[("key", it), ("payload", "int64")] for it in ("int32", "U3", "timedelta64[s]", "bool")]
