@@ -248,6 +248,12 @@ class Questions:
             self.assertEqual((error.code, error.done, len(error.answers)), (9, 5, 5 + error.later))
             wanted = [(1, 0), (200, 1), (2, 2), (3, 3), (4, 4)]
             self.assertEqual([table.get(it) for it in numbers(error.answers)][:5], wanted)
+        # (a row after the refused one is placed over TCP, and in another shard)
+        with self.table(splits=[100], cells=4) as table, mock.patch("crackd.progress.STEP", 3):
+            with self.assertRaises(crackd.Full) as caught:
+                table.insert_rows([1, 2, 3, 4, 5, 200, 6], range(7), progress=lambda *_: None)
+            error = caught.exception
+            self.assertEqual((error.done, error.later, len(error.answers)), (4, table.count(100), table.count()))
 
 
 @wants_numpy
