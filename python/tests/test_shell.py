@@ -74,7 +74,8 @@ class Complaints(unittest.TestCase):
 
     def test_a_complaint_comes_after_what_was_answered_before(self):
         written = io.BytesIO()
-        with contextlib.redirect_stdout(io.TextIOWrapper(written)), contextlib.redirect_stderr(io.TextIOWrapper(written)):
+        out, errors = io.TextIOWrapper(written), io.TextIOWrapper(written)
+        with contextlib.redirect_stdout(out), contextlib.redirect_stderr(errors):
             print("row 0.0")
             texts.complain("it ends")
             sys.stdout.flush()
