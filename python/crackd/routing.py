@@ -260,10 +260,10 @@ class Sharded(AnyTable):
         return dataclasses.replace(part, partition=number, keys=self._keys, pieces=tuple(pieces))
 
 
-def checked_splits(cuts: Any) -> Any:
-    """Splits that rise and aren't too many."""
-    if len(cuts) >= MOST_SHARDS:
-        raise ValueError(f"there can be {MOST_SHARDS - 1} splits, not {len(cuts)}")
+def checked_splits(cuts: Any, most: int = MOST_SHARDS) -> Any:
+    """Splits that rise, and that cut into no more than so many parts."""
+    if len(cuts) >= most:
+        raise ValueError(f"there can be {most - 1} splits, not {len(cuts)}")
     if np.any(cuts[1:] <= cuts[:-1]) or np.any(cuts == 0):
         raise BadSplits(11)
     return cuts

@@ -7,7 +7,7 @@ from functools import partial
 from typing import Any, Callable, Optional, Sequence
 
 from .arrays import np, whole
-from .base import POLICIES, POLICY, SHIFT
+from .base import MOST_PARTS, POLICIES, POLICY, SHIFT
 from .errors import Error, Refused, refused
 from .keys import Keys, kind_of
 from .library import library
@@ -115,7 +115,7 @@ class Table(TableHere, Sharded):
     def _open(self, cuts: list[int], shards: int, options: dict[str, Any]) -> None:
         """Opens shards, which have about equally many of the partitions between these splits."""
         if shards > 1:
-            checked_splits(np.array(cuts, np.uint64))
+            checked_splits(np.array(cuts, np.uint64), MOST_PARTS * MOST_SHARDS)
         self.shards, self.partitions = shards, len(cuts) + 1
         # (the first partition of each shard, and the end of the last)
         begins = [self.partitions * it // shards for it in range(shards + 1)]

@@ -3,6 +3,7 @@
 import contextlib
 import ctypes
 import gc
+import inspect
 import io
 import pathlib
 import shutil
@@ -166,6 +167,15 @@ class Documented(unittest.TestCase):
             for name in dir(kind):
                 if not name.startswith("_"):
                     self.assertTrue(getattr(kind, name).__doc__, (kind, name))
+
+    def test_each_kind_of_table_takes_the_same_words(self):
+        for name, method in inspect.getmembers(crackd.base.AnyTable, inspect.isfunction):
+            if not name.startswith("_"):
+                wanted = [(it.name, it.kind, it.default) for it in inspect.signature(method).parameters.values()]
+                for kind in (crackd.Table, crackd.Client, crackd.AsyncTable):
+                    with self.subTest(name, kind=kind):
+                        found = inspect.signature(getattr(kind, name)).parameters.values()
+                        self.assertEqual([(it.name, it.kind, it.default) for it in found], wanted)
 
     def test_tasks_have_each_method(self):
         names = {it for it in dir(crackd.Client) if not it.startswith("_")} - {"partitions"}

@@ -4,6 +4,7 @@ import contextlib
 import ctypes
 import importlib.util
 import unittest
+from unittest import mock
 
 from clusters import cluster, local, wants_cluster, wants_pandas
 from kinds import GREATEST, LEAST, UNSIGNED
@@ -85,6 +86,12 @@ class Frames:
             with self.subTest(name), self.table(key_type=key_type) as table:
                 rows = table.insert_frame(frame, payload="p")
                 self.assertEqual(self.rows_of(table), dict(zip(numbers(rows), zip(keys, range(len(keys))))))
+
+    def test_progress(self):
+        told = []
+        with self.table(key_type="int64") as table, mock.patch("crackd.progress.STEP", 2):
+            table.insert_frame(pd.DataFrame({"k": [5, 6, 7]}), "k", progress=lambda *it: told.append(it))
+        self.assertEqual(told, [(2, 3), (3, 3)])
 
     def test_payloads(self):
         with self.table(key_type="int64") as table:

@@ -85,6 +85,15 @@ class Openings(unittest.TestCase):
         with crackd.Table([7] * 100, shards=4) as table:
             self.assertEqual((table.shards, table.partitions), (2, 2))
 
+    def test_more_partitions_than_there_can_be_shards(self):
+        with crackd.Table(splits=range(1, 1500), shards=30) as table:
+            self.assertEqual((table.shards, table.partitions), (30, 1500))
+            rows = table.insert_many([1499, 0, 700], [3, 1, 2])
+            self.assertEqual([table.get(it) for it in rows.tolist()], [(1499, 3), (0, 1), (700, 2)])
+            self.assertEqual(table.count_many([0, 1], [1499, None]).tolist(), [2, 2])
+        for splits in ([0, 5], [5, 5], [6, 5], range(1, 200)):
+            self.assertRaises(crackd.BadSplits, crackd.Table, splits=splits, shards=2, key_type="uint64")
+
     def test_an_opening_that_fails_leaves_nothing_open(self):
         closed = []
 

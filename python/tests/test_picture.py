@@ -59,6 +59,12 @@ class Pictures(unittest.TestCase):
         self.assertIn(">100</text>", drawn)
         self.assertIn(">199</text>", drawn)
 
+    def test_deletions_also_wait_to_be_merged(self):
+        script = "insert 10 1\ninsert 20 2\ncount 0 100\ndelete 0.0\ninsert 30 3\ncount 50 60\n"
+        drawn = self.of_script(script, "--policies")
+        for name, count in [("complete", 2), ("gradual", 2), ("ripple", 2), ("auto", 0)]:
+            self.assertIn(f">{name}: {count}</text>", drawn)
+
     def test_statements_as_in_the_shell(self):
         text = "insert 10 1;\ninsert 20 2\n\ncount 15 end;\nsum 0 end\n"
         number = text.replace("end", str(2**64)).replace(";", "")

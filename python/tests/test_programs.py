@@ -1,5 +1,7 @@
-"""Servers whose program is a script of the tests: one that doesn't end, that finds its port taken, or is refused."""
+"""Servers whose program is a script of the tests: one that doesn't end, that finds its port taken, or is refused.
+Libraries that aren't crackd's."""
 
+import ctypes.util
 import os
 import pathlib
 import subprocess
@@ -15,6 +17,20 @@ from crackd import server
 
 LISTENING = 'import sys, time\nport = sys.argv[sys.argv.index("--port") + 1]\n'
 READY = 'print("listening", port, flush=True)\n'
+
+
+class Libraries(unittest.TestCase):
+    """Files that stand in for the library."""
+
+    def test_one_that_cannot_be_loaded(self):
+        # (one is missing, one is no library, and one has other functions)
+        for path in filter(None, ("missing/libcrackd.so", "/dev/null", ctypes.util.find_library("c"))):
+            forgotten = mock.patch.object(crackd.library, "_loaded", None)
+            with self.subTest(path), forgotten, mock.patch.dict(os.environ, {"CRACKD_LIBRARY": path}):
+                for call in (crackd.version, crackd.Table):
+                    with self.assertRaises(ImportError) as caught:
+                        call()
+                    self.assertIn(f"{path} can't be loaded: ", str(caught.exception))
 
 
 class Programs(unittest.TestCase):

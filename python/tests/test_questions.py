@@ -248,6 +248,12 @@ class Questions:
             self.assertEqual((error.code, error.done, len(error.answers)), (9, 5, 5 + error.later))
             wanted = [(1, 0), (200, 1), (2, 2), (3, 3), (4, 4)]
             self.assertEqual([table.get(it) for it in numbers(error.answers)][:5], wanted)
+        # (a row after the refused one is placed over TCP, and in another shard)
+        with self.table(splits=[100], cells=4) as table, mock.patch("crackd.progress.STEP", 3):
+            with self.assertRaises(crackd.Full) as caught:
+                table.insert_rows([1, 2, 3, 4, 5, 200, 6], range(7), progress=lambda *_: None)
+            error = caught.exception
+            self.assertEqual((error.done, error.later, len(error.answers)), (4, table.count(100), table.count()))
 
 
 @wants_numpy
@@ -424,6 +430,14 @@ class InProcessQuestions(Questions, InProcess, unittest.TestCase):
 @wants_library
 class InProcessFiles(Files, InProcess, unittest.TestCase):
     """In the process."""
+
+    def test_options_of_a_load(self):
+        with crackd.Table.from_arrays([1, 2, 300], [7, 8, 9]) as table:
+            table.save(self.path)
+        options = {"key_type": "float64", "partitions": 2, "policy": "gradual"}
+        with crackd.Table.load(self.path, **options) as table:
+            self.assertEqual((table.key_type, table.partitions, table.policy), ("float64", 2, "gradual"))
+            self.assertEqual((table.sum(1.5, 2.5), table.get(int(table.row_numbers[2]))), (8, (300.0, 9)))
 
     def test_what_is_no_save(self):
         self.assertRaises(FileNotFoundError, crackd.Table.load, self.path)

@@ -70,6 +70,17 @@ class Program(unittest.TestCase):
             found = self.run_program("splits", str(path), "4")
         self.assertEqual(found, (0, "20000 1000001 1020001\n", ""))
 
+    def test_keys_are_0_to_the_greatest_of_64_bits(self):
+        with tempfile.TemporaryDirectory() as room:
+            path = pathlib.Path(room) / "rows.csv"
+            path.write_text(f"0,1\n{TOP - 1},1\n", encoding="utf-8")
+            self.assertEqual(self.run_program("splits", str(path), "2"), (0, f"{TOP - 1}\n", ""))
+            for key in (-1, TOP):
+                path.write_text(f"5,1\n{key},1\n", encoding="utf-8")
+                status, out, errors = self.run_program("splits", str(path), "2")
+                self.assertEqual((status, out), (1, ""))
+                self.assertIn(f"line 2, column 1: '{key}' isn't 0 to {TOP - 1}", errors)
+
     def test_words(self):
         for words in ([], ["none"], ["splits"], ["splits", "rows.csv", "0"], ["splits", "rows.csv", "65"]):
             status, out, errors = self.run_program(*words)

@@ -461,6 +461,8 @@ class Cases:
             order, wanted = np.argsort(got.rows), np.argsort(rows[masks[0]])
             self.assertEqual(got.keys[order].tolist(), keys[masks[0]][wanted].tolist())
             self.assertEqual(got.payloads[order].tolist(), payloads[masks[0]][wanted].tolist())
+            for none in (table.select(5, 5), table.select(2**62, 2**62 + 1)):
+                self.assertEqual([(it.dtype, len(it)) for it in none], [(np.uint64, 0), (np.int64, 0), (np.int64, 0)])
             self.assertEqual(table.delete_many(rows[masks[0]]).dtype, bool)
             self.assertEqual(table.count(), int((~masks[0]).sum()))
 
