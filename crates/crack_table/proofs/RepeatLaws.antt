@@ -56,7 +56,7 @@ uncaused : (limits : Limits) (own full over : Bool) → own ≡ true → full �
 uncaused limits own full over is goes lives = rw (is, goes, lives) refl
 
 -- a past on the way to another: of the same base, with the first entries of its history; and the commands of the others are still to come
-record OnTheWay (past now : Past) (asks : List (ℕ × Command)) : Type 0 where
+record OnTheWay (past now : Past) (asks : List Command) : Type 0 where
   pub rest : List Entry
   pub base : now.base ≡ past.base
   pub tails : past.tail ≡ now.tail ++ rest
@@ -87,14 +87,14 @@ unperformed (Err e) (Err f) same = let is : e ≡ f = cc same in ap Err is
 answered-or : {Lacks : Type 0} (reply : Reply) (o r : Result Reply Refusal) → o ≡ Ok reply → (r ≡ o) ⊎ (IsOk o × ((r ≡ Err OutOfMemory) ⊎ ((r ≡ Err NoCell) × Lacks))) → (r ≡ Ok reply) ⊎ ((r ≡ Err OutOfMemory) ⊎ (r ≡ Err NoCell))
 answered-or {Lacks} reply o r is comes = ⊎_elim (λ (same : r ≡ o). inl (same ∙ is)) (λ (wants : IsOk o × ((r ≡ Err OutOfMemory) ⊎ ((r ≡ Err NoCell) × Lacks))). inr (⊎_elim (λ (m : r ≡ Err OutOfMemory). inl m) (λ (c : (r ≡ Err NoCell) × Lacks). inr c.0) wants.1)) comes
 
--- the entry that a step makes
-abbrev made : Step → Reply → Entry
-made step reply = record { worker = step.worker; command = step.command; reply = reply }
+-- the entry that a step makes for a worker
+abbrev made : ℕ → Step → Reply → Entry
+made worker step reply = record { worker = worker; command = step.command; reply = reply }
 
 -- the past of one partition with these limits after a step: one of its own that was answered is one more entry, after upkeep is done
-abbrev past_after : Limits → ℕ → Step → Result Reply Refusal → Past → Past
-past_after limits part step (Ok reply) past = if step.part == part then with_entry (upkept limits past) (made step reply) else past
-past_after limits part step (Err e) past = past
+abbrev past_after : Limits → ℕ → ℕ → Step → Result Reply Refusal → Past → Past
+past_after limits worker part step (Ok reply) past = if step.part == part then with_entry (upkept limits past) (made worker step reply) else past
+past_after limits worker part step (Err e) past = past
 
 -- one more entry is one more command of the plain table
 table_of-push : (past : Past) (e : Entry) → table_of (with_entry past e) ≡ table_after (table_of past) e.command
@@ -103,13 +103,13 @@ table_of-push past e =
     rw (state_after-push past e, long) refl
 
 -- the plain table of a past after a step is its plain table after that step
-table-stepped : (limits : Limits) (part : ℕ) (step : Step) (r : Result Reply Refusal) (past : Past) → table_of (past_after limits part step r past) ≡ after_job limits part (Perform step) (mapped Replied r) (table_of past)
-table-stepped limits part step (Ok reply) past = by_test (step.part == part)
+table-stepped : (limits : Limits) (worker part : ℕ) (step : Step) (r : Result Reply Refusal) (past : Past) → table_of (past_after limits worker part step r past) ≡ after_job limits part (Perform step) (mapped Replied r) (table_of past)
+table-stepped limits worker part step (Ok reply) past = by_test (step.part == part)
   where
-    by_test : (b : Bool) → table_of (cond b (with_entry (upkept limits past) (made step reply)) past) ≡ cond b (table_after (upkept_by (bounds_of limits) (table_of past)) step.command) (table_of past)
-    by_test true = table_of-push (upkept limits past) (made step reply) ∙ ap (λ (t : PlainView). table_after t step.command) (table_of-upkept limits past)
+    by_test : (b : Bool) → table_of (cond b (with_entry (upkept limits past) (made worker step reply)) past) ≡ cond b (table_after (upkept_by (bounds_of limits) (table_of past)) step.command) (table_of past)
+    by_test true = table_of-push (upkept limits past) (made worker step reply) ∙ ap (λ (t : PlainView). table_after t step.command) (table_of-upkept limits past)
     by_test false = refl
-table-stepped limits part step (Err e) past = refl
+table-stepped limits worker part step (Err e) past = refl
 
 -- the outcomes of steps are those of partitions that have these pasts
 abbrev Outcomes : Limits → List Bound → (ℕ → Option Past) → List Step → List (Result Reply Refusal) → Type 0
@@ -118,19 +118,19 @@ Outcomes limits splits now steps results =
     IsJobOutcome (bounds_of limits) splits (λ part. option_map (λ (past : Past). after_jobs limits part (take k (map Perform steps)) (take k (map (mapped Replied) results)) (table_of past)) (now part)) job result
 
 -- the partitions after one step
-abbrev stepped : Limits → Step → Result Reply Refusal → (ℕ → Option Past) → ℕ → Option Past
-stepped limits step result now part = option_map (past_after limits part step result) (now part)
+abbrev stepped : Limits → ℕ → Step → Result Reply Refusal → (ℕ → Option Past) → ℕ → Option Past
+stepped limits worker step result now part = option_map (past_after limits worker part step result) (now part)
 
-outcomes-rest : (limits : Limits) (splits : List Bound) (now : ℕ → Option Past) (step : Step) (steps : List Step) (result : Result Reply Refusal) (results : List (Result Reply Refusal)) → Outcomes limits splits now (step ∷ steps) (result ∷ results) → Outcomes limits splits (stepped limits step result now) steps results
-outcomes-rest limits splits now step steps result results outcomes = λ k job r at there.
+outcomes-rest : (limits : Limits) (worker : ℕ) (splits : List Bound) (now : ℕ → Option Past) (step : Step) (steps : List Step) (result : Result Reply Refusal) (results : List (Result Reply Refusal)) → Outcomes limits splits now (step ∷ steps) (result ∷ results) → Outcomes limits splits (stepped limits worker step result now) steps results
+outcomes-rest limits worker splits now step steps result results outcomes = λ k job r at there.
     outcome-alike (bounds_of limits) splits
     (λ part. option_map (λ (past : Past). after_jobs limits part (take (suc k) (map Perform (step ∷ steps))) (take (suc k) (map (mapped Replied) (result ∷ results))) (table_of past)) (now part))
-    (λ part. option_map (λ (past : Past). after_jobs limits part (take k (map Perform steps)) (take k (map (mapped Replied) results)) (table_of past)) (stepped limits step result now part))
+    (λ part. option_map (λ (past : Past). after_jobs limits part (take k (map Perform steps)) (take k (map (mapped Replied) results)) (table_of past)) (stepped limits worker step result now part))
     job r (λ part. rest k part (now part)) (outcomes (suc k) job r at there)
   where
-    rest : (k part : ℕ) (o : Option Past) → option_map (λ (past : Past). after_jobs limits part (take (suc k) (map Perform (step ∷ steps))) (take (suc k) (map (mapped Replied) (result ∷ results))) (table_of past)) o ≡ option_map (λ (past : Past). after_jobs limits part (take k (map Perform steps)) (take k (map (mapped Replied) results)) (table_of past)) (option_map (past_after limits part step result) o)
+    rest : (k part : ℕ) (o : Option Past) → option_map (λ (past : Past). after_jobs limits part (take (suc k) (map Perform (step ∷ steps))) (take (suc k) (map (mapped Replied) (result ∷ results))) (table_of past)) o ≡ option_map (λ (past : Past). after_jobs limits part (take k (map Perform steps)) (take k (map (mapped Replied) results)) (table_of past)) (option_map (past_after limits worker part step result) o)
     rest k part None = refl
-    rest k part (Some past) = ap (λ (t : PlainView). Some (after_jobs limits part (take k (map Perform steps)) (take k (map (mapped Replied) results)) t)) (sym (table-stepped limits part step result past))
+    rest k part (Some past) = ap (λ (t : PlainView). Some (after_jobs limits part (take k (map Perform steps)) (take k (map (mapped Replied) results)) t)) (sym (table-stepped limits worker part step result past))
 
 -- each partition is on the way to its past
 abbrev Going : (ℕ → Option Past) → (ℕ → Option Past) → List Step → Type 0
@@ -151,11 +151,11 @@ record Followed (final now : ℕ → Option Past) (steps : List Step) (results :
   pub refused : IfSome (first_refusal results) (λ e. (e ≡ OutOfMemory) ⊎ (e ≡ NoCell))
 
 -- a partition's own step is the first that it is asked
-asked-own : (step : Step) (steps : List Step) → asked_of step.part (step ∷ steps) ≡ (step.worker, step.command) ∷ asked_of step.part steps
-asked-own step steps = ap (λ (b : Bool). cond b ((step.worker, step.command) ∷ asked_of step.part steps) (asked_of step.part steps)) (eq-eqb step.part step.part refl)
+asked-own : (step : Step) (steps : List Step) → asked_of step.part (step ∷ steps) ≡ step.command ∷ asked_of step.part steps
+asked-own step steps = ap (λ (b : Bool). cond b (step.command ∷ asked_of step.part steps) (asked_of step.part steps)) (eq-eqb step.part step.part refl)
 
 asked-other : (part : ℕ) (step : Step) (steps : List Step) → step.part ≢ part → asked_of part (step ∷ steps) ≡ asked_of part steps
-asked-other part step steps differs = ap (λ (b : Bool). cond b ((step.worker, step.command) ∷ asked_of part steps) (asked_of part steps)) (ne_eqb step.part part differs)
+asked-other part step steps differs = ap (λ (b : Bool). cond b (step.command ∷ asked_of part steps) (asked_of part steps)) (ne_eqb step.part part differs)
 
 replies-own : (step : Step) (steps : List Step) (reply : Reply) (results : List (Result Reply Refusal)) → replies_at step.part (step ∷ steps) (Ok reply ∷ results) ≡ reply ∷ replies_at step.part steps results
 replies-own step steps reply results = ap (λ (b : Bool). cond b (reply ∷ replies_at step.part steps results) (replies_at step.part steps results)) (eq-eqb step.part step.part refl)
@@ -164,13 +164,13 @@ replies-other : (part : ℕ) (step : Step) (steps : List Step) (reply : Reply) (
 replies-other part step steps reply results differs = ap (λ (b : Bool). cond b (reply ∷ replies_at part steps results) (replies_at part steps results)) (ne_eqb step.part part differs)
 
 -- the past after a step of its own, and after another
-after-own : (limits : Limits) (step : Step) (reply : Reply) (past : Past) → length past.tail < limits.history → past_after limits step.part step (Ok reply) past ≡ with_entry past (made step reply)
-after-own limits step reply past room =
-    ap (λ (b : Bool). cond b (with_entry (upkept limits past) (made step reply)) past) (eq-eqb step.part step.part refl)
-    ∙ ap (λ (p : Past). with_entry p (made step reply)) (upkept-room limits past room)
+after-own : (limits : Limits) (worker : ℕ) (step : Step) (reply : Reply) (past : Past) → length past.tail < limits.history → past_after limits worker step.part step (Ok reply) past ≡ with_entry past (made worker step reply)
+after-own limits worker step reply past room =
+    ap (λ (b : Bool). cond b (with_entry (upkept limits past) (made worker step reply)) past) (eq-eqb step.part step.part refl)
+    ∙ ap (λ (p : Past). with_entry p (made worker step reply)) (upkept-room limits past room)
 
-after-other : (limits : Limits) (part : ℕ) (step : Step) (reply : Reply) (past : Past) → step.part ≢ part → past_after limits part step (Ok reply) past ≡ past
-after-other limits part step reply past differs = ap (λ (b : Bool). cond b (with_entry (upkept limits past) (made step reply)) past) (ne_eqb step.part part differs)
+after-other : (limits : Limits) (worker part : ℕ) (step : Step) (reply : Reply) (past : Past) → step.part ≢ part → past_after limits worker part step (Ok reply) past ≡ past
+after-other limits worker part step reply past differs = ap (λ (b : Bool). cond b (with_entry (upkept limits past) (made worker step reply)) past) (ne_eqb step.part part differs)
 
 -- the next entry of a step's partition
 record Next (final now : ℕ → Option Past) (step : Step) (steps : List Step) : Type 0 where
@@ -182,15 +182,14 @@ record Next (final now : ℕ → Option Past) (step : Step) (steps : List Step) 
   pub now_is : now step.part ≡ Some cur
   pub base : cur.base ≡ past.base
   pub tails : past.tail ≡ cur.tail ++ entry ∷ rest
-  pub worker : entry.worker ≡ step.worker
   pub command : entry.command ≡ step.command
   pub coming : asked_of step.part steps ≡ map asked rest
 
-next-by : (final now : ℕ → Option Past) (step : Step) (steps : List Step) (past cur : Past) → final step.part ≡ Some past → now step.part ≡ Some cur → cur.base ≡ past.base → (rest : List Entry) → past.tail ≡ cur.tail ++ rest → (step.worker, step.command) ∷ asked_of step.part steps ≡ map asked rest → Next final now step steps
+next-by : (final now : ℕ → Option Past) (step : Step) (steps : List Step) (past cur : Past) → final step.part ≡ Some past → now step.part ≡ Some cur → cur.base ≡ past.base → (rest : List Entry) → past.tail ≡ cur.tail ++ rest → step.command ∷ asked_of step.part steps ≡ map asked rest → Next final now step steps
 next-by final now step steps past cur final_is now_is base [] tails coming = absurd (cc coming)
 next-by final now step steps past cur final_is now_is base (e ∷ rest) tails coming =
-    let pair : (step.worker, step.command) ≡ asked e = cc coming in
-    record { past = past; cur = cur; entry = e; rest = rest; final_is = final_is; now_is = now_is; base = base; tails = tails; worker = sym (ap (λ p. p.0) pair); command = sym (ap (λ p. p.1) pair); coming = cc coming }
+    let same : step.command ≡ asked e = cc coming in
+    record { past = past; cur = cur; entry = e; rest = rest; final_is = final_is; now_is = now_is; base = base; tails = tails; command = sym same; coming = cc coming }
 
 next : (final now : ℕ → Option Past) (step : Step) (steps : List Step) → Going final now (step ∷ steps) → AreThere final (step ∷ steps) → Next final now step steps
 next final now step steps going there =
@@ -217,31 +216,31 @@ module _ (limits : Limits) (splits : List Bound) (final : ℕ → Option Past) (
       rw (unperformed result job.0 job.1) (answered-or n.entry.reply (expected (bounds_of limits) keys (Some (table_of n.cur)) step.command) job.0 same mine)
 
   -- and then all are still on the way
-  gone-on : (now : ℕ → Option Past) (step : Step) (steps : List Step) (n : Next final now step steps) → Going final now (step ∷ steps) → Going final (stepped limits step (Ok n.entry.reply) now) steps
+  gone-on : (now : ℕ → Option Past) (step : Step) (steps : List Step) (n : Next final now step steps) → Going final now (step ∷ steps) → Going final (stepped limits n.entry.worker step (Ok n.entry.reply) now) steps
   gone-on now step steps n going = λ part past is. ⊎_elim (λ (same : part ≡ step.part). own part past is same) (λ (other : part ≢ step.part). else_where part past is other) (cases_eq part step.part)
     where
       cur-after : Past
-      cur-after = with_entry n.cur (made step n.entry.reply)
+      cur-after = with_entry n.cur (made n.entry.worker step n.entry.reply)
 
-      entry-made : made step n.entry.reply ≡ n.entry
-      entry-made = rw (← n.worker, ← n.command) refl
+      entry-made : made n.entry.worker step n.entry.reply ≡ n.entry
+      entry-made = rw (← n.command) refl
 
-      own : (part : ℕ) (past : Past) → final part ≡ Some past → part ≡ step.part → (cur : Past) × (stepped limits step (Ok n.entry.reply) now part ≡ Some cur) × OnTheWay past cur (asked_of part steps)
+      own : (part : ℕ) (past : Past) → final part ≡ Some past → part ≡ step.part → (cur : Past) × (stepped limits n.entry.worker step (Ok n.entry.reply) now part ≡ Some cur) × OnTheWay past cur (asked_of part steps)
       own part past is same =
           let one : n.past ≡ past = cc (is, same, n.final_is) in
-          let there : stepped limits step (Ok n.entry.reply) now part ≡ Some cur-after = rw (same, n.now_is) (ap Some (after-own limits step n.entry.reply n.cur (next-room now step steps n))) in
-          let tails : past.tail ≡ (n.cur.tail ++ made step n.entry.reply ∷ []) ++ n.rest = rw (← one, entry-made) (n.tails ∙ sym (append_assoc n.cur.tail (n.entry ∷ []) n.rest)) in
+          let there : stepped limits n.entry.worker step (Ok n.entry.reply) now part ≡ Some cur-after = rw (same, n.now_is) (ap Some (after-own limits n.entry.worker step n.entry.reply n.cur (next-room now step steps n))) in
+          let tails : past.tail ≡ (n.cur.tail ++ made n.entry.worker step n.entry.reply ∷ []) ++ n.rest = rw (← one, entry-made) (n.tails ∙ sym (append_assoc n.cur.tail (n.entry ∷ []) n.rest)) in
           (cur-after, there, record { rest = n.rest; base = rw (← one) n.base; tails = tails; coming = rw same n.coming })
 
-      else_where : (part : ℕ) (past : Past) → final part ≡ Some past → part ≢ step.part → (cur : Past) × (stepped limits step (Ok n.entry.reply) now part ≡ Some cur) × OnTheWay past cur (asked_of part steps)
+      else_where : (part : ℕ) (past : Past) → final part ≡ Some past → part ≢ step.part → (cur : Past) × (stepped limits n.entry.worker step (Ok n.entry.reply) now part ≡ Some cur) × OnTheWay past cur (asked_of part steps)
       else_where part past is other =
           let way = going part past is in
           let differs : step.part ≢ part = λ e. other (sym e) in
-          let there : stepped limits step (Ok n.entry.reply) now part ≡ Some way.0 = rw way.1 (ap Some (after-other limits part step n.entry.reply way.0 differs)) in
+          let there : stepped limits n.entry.worker step (Ok n.entry.reply) now part ≡ Some way.0 = rw way.1 (ap Some (after-other limits n.entry.worker part step n.entry.reply way.0 differs)) in
           (way.0, there, record { rest = way.2.rest; base = way.2.base; tails = way.2.tails; coming = sym (asked-other part step steps differs) ∙ way.2.coming })
 
   -- what holds for the steps after it holds for these
-  said-on : (now : ℕ → Option Past) (step : Step) (steps : List Step) (results : List (Result Reply Refusal)) (n : Next final now step steps) (part : ℕ) (tail : List Reply) (cur : Past) (rest : List Reply) → now part ≡ Some cur → ((cur' : Past) → stepped limits step (Ok n.entry.reply) now part ≡ Some cur' → tail ≡ map said cur'.tail ++ (replies_at part steps results ++ rest)) → tail ≡ map said cur.tail ++ (replies_at part (step ∷ steps) (Ok n.entry.reply ∷ results) ++ rest)
+  said-on : (now : ℕ → Option Past) (step : Step) (steps : List Step) (results : List (Result Reply Refusal)) (n : Next final now step steps) (part : ℕ) (tail : List Reply) (cur : Past) (rest : List Reply) → now part ≡ Some cur → ((cur' : Past) → stepped limits n.entry.worker step (Ok n.entry.reply) now part ≡ Some cur' → tail ≡ map said cur'.tail ++ (replies_at part steps results ++ rest)) → tail ≡ map said cur.tail ++ (replies_at part (step ∷ steps) (Ok n.entry.reply ∷ results) ++ rest)
   said-on now step steps results n part tail cur rest is behind = ⊎_elim own else_where (cases_eq part step.part)
     where
       reply : Reply
@@ -250,11 +249,11 @@ module _ (limits : Limits) (splits : List Bound) (final : ℕ → Option Past) (
       own : part ≡ step.part → tail ≡ map said cur.tail ++ (replies_at part (step ∷ steps) (Ok reply ∷ results) ++ rest)
       own same =
           let one : n.cur ≡ cur = cc (is, same, n.now_is) in
-          let there : stepped limits step (Ok reply) now part ≡ Some (with_entry n.cur (made step reply)) = rw (same, n.now_is) (ap Some (after-own limits step reply n.cur (next-room now step steps n))) in
-          let given = behind (with_entry n.cur (made step reply)) there in
+          let there : stepped limits n.entry.worker step (Ok reply) now part ≡ Some (with_entry n.cur (made n.entry.worker step reply)) = rw (same, n.now_is) (ap Some (after-own limits n.entry.worker step reply n.cur (next-room now step steps n))) in
+          let given = behind (with_entry n.cur (made n.entry.worker step reply)) there in
           let here : tail ≡ map said n.cur.tail ++ (replies_at step.part (step ∷ steps) (Ok reply ∷ results) ++ rest) =
-          subst (λ (p : ℕ). tail ≡ map said (n.cur.tail ++ made step reply ∷ []) ++ (replies_at p steps results ++ rest)) same given
-          ∙ ap (λ (l : List Reply). l ++ (replies_at step.part steps results ++ rest)) (map-append said n.cur.tail (made step reply ∷ []))
+          subst (λ (p : ℕ). tail ≡ map said (n.cur.tail ++ made n.entry.worker step reply ∷ []) ++ (replies_at p steps results ++ rest)) same given
+          ∙ ap (λ (l : List Reply). l ++ (replies_at step.part steps results ++ rest)) (map-append said n.cur.tail (made n.entry.worker step reply ∷ []))
           ∙ append_assoc (map said n.cur.tail) (reply ∷ []) (replies_at step.part steps results ++ rest)
           ∙ ap (λ (l : List Reply). map said n.cur.tail ++ (l ++ rest)) (sym (replies-own step steps reply results)) in
           subst (λ (c : Past). tail ≡ map said c.tail ++ (replies_at part (step ∷ steps) (Ok reply ∷ results) ++ rest)) one
@@ -263,10 +262,10 @@ module _ (limits : Limits) (splits : List Bound) (final : ℕ → Option Past) (
       else_where : part ≢ step.part → tail ≡ map said cur.tail ++ (replies_at part (step ∷ steps) (Ok reply ∷ results) ++ rest)
       else_where other =
           let differs : step.part ≢ part = λ e. other (sym e) in
-          let there : stepped limits step (Ok reply) now part ≡ Some cur = rw is (ap Some (after-other limits part step reply cur differs)) in
+          let there : stepped limits n.entry.worker step (Ok reply) now part ≡ Some cur = rw is (ap Some (after-other limits n.entry.worker part step reply cur differs)) in
           behind cur there ∙ ap (λ (l : List Reply). map said cur.tail ++ (l ++ rest)) (sym (replies-other part step steps reply results differs))
 
-  followed-on : (now : ℕ → Option Past) (step : Step) (steps : List Step) (results : List (Result Reply Refusal)) (n : Next final now step steps) → Followed final (stepped limits step (Ok n.entry.reply) now) steps results → Followed final now (step ∷ steps) (Ok n.entry.reply ∷ results)
+  followed-on : (now : ℕ → Option Past) (step : Step) (steps : List Step) (results : List (Result Reply Refusal)) (n : Next final now step steps) → Followed final (stepped limits n.entry.worker step (Ok n.entry.reply) now) steps results → Followed final now (step ∷ steps) (Ok n.entry.reply ∷ results)
   followed-on now step steps results n f = record {
     whole = λ none part past cur is at. said-on now step steps results n part (map said past.tail) cur [] at (λ cur' there. f.whole none part past cur' is there);
     begun = λ part past cur is at. begun part past cur is at;
@@ -274,12 +273,12 @@ module _ (limits : Limits) (splits : List Bound) (final : ℕ → Option Past) (
   }
     where
       begun : (part : ℕ) (past cur : Past) → final part ≡ Some past → now part ≡ Some cur → (rest : List Reply) × (map said past.tail ≡ map said cur.tail ++ (replies_at part (step ∷ steps) (Ok n.entry.reply ∷ results) ++ rest))
-      begun part past cur is at = by_now (stepped limits step (Ok n.entry.reply) now part) refl
+      begun part past cur is at = by_now (stepped limits n.entry.worker step (Ok n.entry.reply) now part) refl
         where
-          there : stepped limits step (Ok n.entry.reply) now part ≡ Some (past_after limits part step (Ok n.entry.reply) cur)
-          there = ap (option_map (past_after limits part step (Ok n.entry.reply))) at
+          there : stepped limits n.entry.worker step (Ok n.entry.reply) now part ≡ Some (past_after limits n.entry.worker part step (Ok n.entry.reply) cur)
+          there = ap (option_map (past_after limits n.entry.worker part step (Ok n.entry.reply))) at
 
-          by_now : (o : Option Past) → stepped limits step (Ok n.entry.reply) now part ≡ o → (rest : List Reply) × (map said past.tail ≡ map said cur.tail ++ (replies_at part (step ∷ steps) (Ok n.entry.reply ∷ results) ++ rest))
+          by_now : (o : Option Past) → stepped limits n.entry.worker step (Ok n.entry.reply) now part ≡ o → (rest : List Reply) × (map said past.tail ≡ map said cur.tail ++ (replies_at part (step ∷ steps) (Ok n.entry.reply ∷ results) ++ rest))
           by_now None none = absurd (cc (none, there))
           by_now (Some cur') now_is =
               let b = f.begun part past cur' is now_is in
@@ -320,8 +319,8 @@ module _ (limits : Limits) (splits : List Bound) (final : ℕ → Option Past) (
   follow now (step ∷ steps) (Ok reply ∷ results) same outcomes going there =
       let n = next final now step steps going there in
       let is : reply ≡ n.entry.reply = ⊎_elim (λ (e : Ok reply ≡ Ok n.entry.reply). cc e) (⊎_elim (λ (e : Ok reply ≡ Err OutOfMemory). cc e) (λ (e : Ok reply ≡ Err NoCell). cc e)) (comes now step steps (Ok reply) results n outcomes) in
-      let ahead = outcomes-rest limits splits now step steps (Ok reply) results outcomes in
-      let on = follow (stepped limits step (Ok n.entry.reply) now) steps results (omega (arith, same)) (subst (λ (r : Reply). Outcomes limits splits (stepped limits step (Ok r) now) steps results) is ahead) (gone-on now step steps n going) there.1 in
+      let ahead = outcomes-rest limits n.entry.worker splits now step steps (Ok reply) results outcomes in
+      let on = follow (stepped limits n.entry.worker step (Ok n.entry.reply) now) steps results (omega (arith, same)) (subst (λ (r : Reply). Outcomes limits splits (stepped limits n.entry.worker step (Ok r) now) steps results) is ahead) (gone-on now step steps n going) there.1 in
       subst (λ (r : Reply). Followed final now (step ∷ steps) (Ok r ∷ results)) (sym is) (followed-on now step steps results n on)
   follow now (step ∷ steps) (Err e ∷ results) same outcomes going there =
       let n = next final now step steps going there in

@@ -16,14 +16,14 @@ use Rattle.crack_core.specs.declared.step.Step.{Step}
 use Rattle.crack_core.specs.declared.step.Job.TheVariants.{Perform}
 use Rattle.crack_core.specs.declared.step.Done.TheVariants.{Replied}
 
--- a worker, and its command
-abbrev pub asked : Entry → ℕ × Command
-asked entry = (entry.worker, entry.command)
+-- the command of an entry
+abbrev pub asked : Entry → Command
+asked entry = entry.command
 
--- the workers and commands at the partition with this number, in a list of steps
-abbrev pub asked_of : ℕ → List Step → List (ℕ × Command)
+-- the commands at the partition with this number, in a list of steps
+abbrev pub asked_of : ℕ → List Step → List Command
 asked_of part [] = []
-asked_of part (step ∷ steps) = if step.part == part then (step.worker, step.command) ∷ asked_of part steps else asked_of part steps
+asked_of part (step ∷ steps) = if step.part == part then step.command ∷ asked_of part steps else asked_of part steps
 
 -- the replies of the partition with this number to a list of steps, up to the first step that is refused
 abbrev pub replies_at : ℕ → List Step → List (Result Reply Refusal) → List Reply
