@@ -12,13 +12,14 @@ use Rattle.crack_plain.specs.Plain.{PlainView}
 use Rattle.crack_commands.specs.Grammar.{Reading}
 use Rattle.crack_commands.specs.declared.statement.Ending.{Ending}
 use Rattle.crack_core.specs.Steps.{Bounds}
+use Rattle.crack_session.specs.declared.TheConstants.{OUTPUT_BYTES}
 use Rattle.crack_session.specs.declared.answer.Answer.{Answer}
 use Rattle.crack_session.specs.declared.session.How.{How}
 use Rattle.crack_session.specs.declared.session.How.TheVariants.{Quit, InputEnded}
 use Rattle.crack_session.specs.declared.session.Progress.{Progress}
 use Rattle.crack_session.specs.Answers.{answer_text}
 use Rattle.crack_session.specs.Calls.{Call, AreAnswersOf}
-use Rattle.crack_session.specs.Feeding.{SessionState, Feeds, fed, unfinished, ended_by_any, all_noted}
+use Rattle.crack_session.specs.Feeding.{SessionState, IsLeftOf, Feeds, fed, unfinished, ended_by_any, all_noted}
 use Rattle.crack_session.specs.Readings.{statements, until_last, is_last}
 use Rattle.crack_session.specs.Rounds.{Begins}
 use Rattle.crack_session.specs.Serving.{AreAllAnswered, IsServed, IsCutOff}
@@ -198,9 +199,9 @@ module _ {D : Type 0} (bounds : D → Bounds) (splits : D → List Bound) (table
         }
 
     -- or was cut off
-    pub cut : (begins : Begins s0) (t : SessionState) (e : D) (known out : Option (List ℕ)) (texts : List ℕ) (refusal : Refusal) (l : Left t e known texts) (sent lost : List ℕ) → Appends out0 out sent → texts ++ t.unwritten ≡ sent ++ lost → (refusal ≡ ReadFault → (l.first ≡ l.used) × (lost ≡ []))
+    pub cut : (begins : Begins s0) (t : SessionState) (e : D) (known out : Option (List ℕ)) (texts : List ℕ) (refusal : Refusal) (l : Left t e known texts) (sent unsent : List ℕ) → Appends out0 out sent → texts ≡ sent ++ unsent → length unsent ≤ OUTPUT_BYTES → (refusal ≡ ReadFault → (l.first ≡ l.used) × (unsent ≡ []) × (t.unwritten ≡ []))
         → IsCutOff bounds splits tables leads s0.progress.policy d0 e known0 known out0 out (record { refusal = refusal; done = t.progress.statements; first_short = t.progress.first_short })
-    cut begins t e known out texts refusal l sent lost wrote parts read =
+    cut begins t e known out texts refusal l sent unsent wrote parts few read =
         let first = first_of_all begins l.of.all l.first l.later t e texts l.fed in
         record {
           bytes = l.of.all;
@@ -214,8 +215,11 @@ module _ {D : Type 0} (bounds : D → Bounds) (splits : D → List Bound) (table
           split = l.of.split;
           whole = λ is. (first ∙ sym (whole_first begins l.of.all l.first l.later t e texts l.fed) ∙ ap (λ (u : List ℕ). statements (whole_lines u)) (read is).0, l.of.rest_is);
           sent = sent;
-          lost = lost;
-          texts_are = texts_are begins l.of.all l.first l.later t e texts l.fed ∙ parts;
+          unsent = unsent;
+          unwritten = t.unwritten;
+          texts_are = texts_are begins l.of.all l.first l.later t e texts l.fed ∙ ap (λ z. z ++ t.unwritten) parts ∙ append_assoc sent unsent t.unwritten;
           written_is = wrote;
-          lost_none = λ is. (read is).1;
+          few = few;
+          left_is = subst (λ (u : List ℕ). IsLeftOf u l.fed.feeds.answered.answers t.unwritten) begins.unwritten l.fed.feeds.answered.left_is;
+          all_sent = λ is. ((read is).1, (read is).2);
         }

@@ -21,7 +21,7 @@ use Rattle.crack_session.specs.Lines.{kept_of}
 use Rattle.crack_session.specs.Readings.{reading_of, until_last, is_last}
 use Rattle.crack_session.specs.Sessions.{AreAnswers}
 use Rattle.crack_session.specs.Telling.{AsksDesk, of_option}
-use Rattle.crack_session.specs.Feeding.{finished, unfinished, fed, noted, all_noted, ended_by, ended_by_any, SessionState, AnswersAll, Feeds}
+use Rattle.crack_session.specs.Feeding.{finished, unfinished, fed, noted, all_noted, ended_by, ended_by_any, SessionState, IsLeftOf, AnswersAll, Feeds}
 use Rattle.crack_session.proofs.Appending.{next_part}
 use Rattle.crack_session.proofs.Calling.{Calls-then}
 use Rattle.crack_session.proofs.Feeds.{take-take-append}
@@ -157,6 +157,17 @@ texts-then before first between second after us bs one two =
     ∙ ap (λ t. first ++ t) two
     ∙ sym (append_assoc first second after)
 
+-- what is left of a text, after more is appended
+left-more : (text : List ℕ) (us : List Answer) (between more after : List ℕ) → IsLeftOf text us between → between ≡ more ++ after → IsLeftOf text us after
+left-more text [] between more after (front, is) rest = (front ++ more, is ∙ ap (λ t. front ++ t) rest ∙ sym (append_assoc front more after))
+left-more text (a ∷ us) between more after left rest = left-more (answer_text a) us between more after left rest
+
+-- and after more answers
+left-then : (text : List ℕ) (us : List Answer) (between : List ℕ) (bs : List Answer) (after : List ℕ) → IsLeftOf text us between → IsLeftOf between bs after → IsLeftOf text (us ++ bs) after
+left-then text [] between [] after left (front, is) = left-more text [] between front after left is
+left-then text [] between (b ∷ bs) after left right = right
+left-then text (a ∷ us) between bs after left right = left-then (answer_text a) us between bs after left right
+
 module _ {D : Type 0} (bounds : D → Bounds) (splits : D → List Bound) (tables : D → Option (List PlainView)) (leads : D → Call → D → Type 0) where
   -- some statements are answered, and then others
   pub AnswersAll-then : (s0 s1 s2 : SessionState) (rs qs : List Reading) (d0 d1 d2 : D) (o0 o1 o2 : List ℕ) → AnswersAll bounds splits tables leads s0 rs d0 d1 o0 o1 s1 → AnswersAll bounds splits tables leads s1 qs d1 d2 o1 o2 s2 → AnswersAll bounds splits tables leads s0 (rs ++ qs) d0 d2 o0 o2 s2
@@ -177,6 +188,7 @@ module _ {D : Type 0} (bounds : D → Bounds) (splits : D → List Bound) (table
         added = a.added ++ b.added;
         out_is = b.out_is ∙ ap (λ o. o ++ b.added) a.out_is ∙ append_assoc o0 a.added b.added;
         texts_are = texts-then s0.unwritten a.added s1.unwritten b.added s2.unwritten a.answers b.answers a.texts_are b.texts_are;
+        left_is = left-then s0.unwritten a.answers s1.unwritten b.answers s2.unwritten a.left_is b.left_is;
         ending_is = b.ending_is ∙ ap (λ (e : Option Ending). ended_by_any e qs) a.ending_is ∙ sym (ended_by_any-append s0.ending rs qs);
       }
 
@@ -210,6 +222,7 @@ module _ {D : Type 0} (bounds : D → Bounds) (splits : D → List Bound) (table
     added = [];
     out_is = sym (append-nil o);
     texts_are = append-nil s.unwritten;
+    left_is = ([], refl);
     ending_is = refl;
   }
 
@@ -232,6 +245,7 @@ module _ {D : Type 0} (bounds : D → Bounds) (splits : D → List Bound) (table
           added = w.added ++ more.0;
           out_is = more.1 ∙ ap (λ o. o ++ more.0) w.out_is ∙ append_assoc o0 w.added more.0;
           texts_are = w.texts_are ∙ ap (λ t. w.added ++ t) more.2 ∙ sym (append_assoc w.added more.0 s2.unwritten);
+          left_is = left-more s0.unwritten w.answers s1.unwritten more.0 s2.unwritten w.left_is more.2;
           ending_is = ap (λ (s : SessionState). s.ending) same ∙ w.ending_is;
         };
         begun_is = ap (λ (s : SessionState). s.begun) same ∙ a.begun_is;
@@ -253,6 +267,7 @@ module _ {D : Type 0} (bounds : D → Bounds) (splits : D → List Bound) (table
         added = more.0;
         out_is = more.1;
         texts_are = ap (λ u. u ++ (answer_text a ++ [])) written ∙ append-nil (answer_text a) ∙ more.2;
+        left_is = (more.0, more.2);
         ending_is = ended;
       }
 
@@ -269,6 +284,7 @@ module _ {D : Type 0} (bounds : D → Bounds) (splits : D → List Bound) (table
         added = a.added;
         out_is = a.out_is;
         texts_are = ap (λ u. u ++ concat (map answer_text a.answers)) (sym unwritten) ∙ a.texts_are;
+        left_is = subst (λ (u : List ℕ). IsLeftOf u a.answers t.unwritten) unwritten a.left_is;
         ending_is = a.ending_is ∙ ap (λ (q : Option Ending). ended_by_any q rs) ending;
       }
 
@@ -298,6 +314,7 @@ module _ {D : Type 0} (bounds : D → Bounds) (splits : D → List Bound) (table
           added = [];
           out_is = sym (append-nil o);
           texts_are = append-nil s.unwritten ∙ sym (ap (λ (s : SessionState). s.unwritten) same);
+          left_is = ([], sym (ap (λ (s : SessionState). s.unwritten) same));
           ending_is = ap (λ (s : SessionState). s.ending) same;
         };
         begun_is = ap (λ (s : SessionState). s.begun) same ∙ sym (all_unfinished s.begun xs none (take_all 202 s.begun few));

@@ -1,5 +1,5 @@
 -- A session over a reader and a writer: what it has read, answered and sent.
-use Rattle.std.proofs.Common.{◌≡◌, ℕ, ◌+◌, ◌-◌, ◌*◌, ◌^◌, ◌<◌, ◌≤◌, Option, Some, None, List, [], ◌∷◌, ◌++◌, length, map, take, drop, refl, sym, ap, ◌∙◌, subst, arith, append_assoc, append-nil, length-append, length-take, take-append-drop}
+use Rattle.std.proofs.Common.{◌≡◌, ℕ, ◌+◌, ◌-◌, ◌*◌, ◌^◌, ◌<◌, ◌≤◌, min, Option, Some, None, List, [], ◌∷◌, ◌++◌, length, map, take, drop, refl, sym, ap, ◌∙◌, subst, arith, append_assoc, append-nil, length-append, length-take, take-append-drop}
 use Rattle.std.proofs.KnownBytes.{Appends-trans, Appends-nil, Consumes-trans, Consumes-nil, Consumes-kept}
 use Rattle.std.proofs.lemmas.List.{take_all}
 use Rattle.std.specs.Io.KnownBytes.{Appends, Consumes, IsAtEnd, Keeps}
@@ -30,6 +30,33 @@ pub all_at_end : (known0 known : Option (List ℕ)) (used : List ℕ) → Consum
 all_at_end None known used h end = (all_of None known used h, λ a e. absurd (let both : ◌≡◌ {A = Option (List ℕ)} None (Some a) = e in cc))
 all_at_end (Some x) None used h end = absurd h
 all_at_end (Some x) (Some y) used h end = (all_of (Some x) (Some y) used h, λ a e. let whole : used ≡ x = sym (append-nil used) ∙ sym (ap (λ z. used ++ z) end) ∙ sym h in whole ∙ (let same : x ≡ a = cc e in same))
+
+-- the known bytes are as many as were read
+pub as_long : (known0 known : Option (List ℕ)) (used : List ℕ) (n : ℕ) → Consumes known0 known used → n ≤ length used → (bytes : List ℕ) → known0 ≡ Some bytes → n ≤ length bytes
+as_long known0 known used n h few bytes is =
+    let of = all_of known0 known used h in
+    let long = length-append used of.rest in
+    let all : length bytes ≡ length (used ++ of.rest) = ap length (sym (of.all_is bytes is) ∙ of.split) in
+    omega (arith, few, long, all)
+
+-- so many reads were made; their count stops at the greatest number
+pub record ReadsMade (first now count : ℕ) : Type 0 where
+  pub as_many : min now (2 ^ 64 - 1) ≡ min (first + count) (2 ^ 64 - 1)
+  pub within : 0 < count → now ≤ 2 ^ 64 - 1
+
+pub ReadsMade-none : (first : ℕ) → ReadsMade first first 0
+ReadsMade-none first = record { as_many = let same : first ≡ first + 0 = omega arith in ap (λ (z : ℕ). min z (2 ^ 64 - 1)) same; within = λ some. absurd (omega (arith, some)) }
+
+pub ReadsMade-more : (first now next count : ℕ) → ReadsMade first now count → next ≡ min (now + 1) (2 ^ 64 - 1) → ReadsMade first next (count + 1)
+ReadsMade-more first now next count made is =
+    let same = made.as_many in
+    record { as_many = omega (arith, same, is); within = λ some. omega (arith, is) }
+
+pub all_made : (first now count n : ℕ) → ReadsMade first now count → count ≡ n → 0 < n → now ≡ min (first + n) (2 ^ 64 - 1)
+all_made first now count n made all some =
+    let same = made.as_many in
+    let few = made.within (omega (arith, all, some)) in
+    omega (arith, same, few, all)
 
 pub some_fed : (bytes : List ℕ) → 0 < length bytes → fed_by bytes ≡ bytes
 some_fed [] some = absurd (omega (arith, some))

@@ -1,8 +1,8 @@
 -- The turns of a session over a reader and a writer.
-use Rattle.std.proofs.Common.{◌≡◌, ℕ, ◌+◌, ◌-◌, ◌<◌, ◌≤◌, ◌⊎◌, Bool, true, cond, Option, Some, None, Result, Ok, Err, List, [], ◌∷◌, ◌++◌, length, take, drop, refl, sym, ap, ◌∙◌, subst, arith, append-nil, append_assoc, take-append-drop, inl, inr}
+use Rattle.std.proofs.Common.{◌≡◌, ℕ, ◌+◌, ◌-◌, ◌<◌, ◌≤◌, ◌⊎◌, Bool, true, cond, Option, Some, None, Result, Ok, Err, List, [], ◌∷◌, ◌++◌, length, take, drop, refl, sym, ap, ◌∙◌, subst, arith, append-nil, append_assoc, length-drop, take-append-drop, inl, inr}
 use Rattle.std.proofs.KnownBytes.{Appends-trans}
 use Rattle.std.specs.Io.KnownBytes.{Keeps}
-use Rattle.crack_row.specs.Devices.{device, has_failed}
+use Rattle.crack_row.specs.Devices.{device, has_failed, reads_of}
 use Rattle.crack_row.specs.declared.Bound.{Bound}
 use Rattle.crack_row.specs.declared.refusal.Refusal.{Refusal}
 use Rattle.crack_row.specs.declared.refusal.Refusal.TheVariants.{ReadFault, WriteFault}
@@ -14,10 +14,10 @@ use Rattle.crack_session.specs.declared.session.How.TheVariants.{Quit, InputEnde
 use Rattle.crack_session.specs.Calls.{Call}
 use Rattle.crack_session.specs.Feeding.{SessionState}
 use Rattle.crack_session.specs.Rounds.{Begins}
-use Rattle.crack_session.specs.Serving.{IsServed, IsCutOff}
+use Rattle.crack_session.specs.Serving.{IsServed, IsCutOff, IsCause}
 use Rattle.crack_session.specs.Turns.{fed_by, Sends, StopsAs, ReadsOnce, IsTurn}
 use Rattle.crack_session.proofs.Turns.{IsSentFirst-then}
-use Rattle.crack_session.proofs.Running.{Running, Running-more}
+use Rattle.crack_session.proofs.Running.{Running, Running-more, ReadsMade, all_made, as_long}
 use Rattle.crack_session.proofs.Leaving.{Left, Left-before, Left-after, served, cut, all_by_line, all_by_input}
 
 module _ {D R W : Type 0} (bounds : D → Bounds) (splits : D → List Bound) (tables : D → Option (List PlainView)) (leads : D → Call → D → Type 0) (remaining : R → Option (List ℕ)) (contents : W → Option (List ℕ)) (s0 : SessionState) (d0 : D) (known0 out0 : Option (List ℕ)) where
@@ -36,6 +36,32 @@ module _ {D R W : Type 0} (bounds : D → Bounds) (splits : D → List Bound) (t
   running-on s t d e r r' w w' k running turn =
       let x = turn_ok s t None d e r r' w w' turn in
       Running-more bounds splits tables leads s0 d0 known0 out0 s t d e _ _ _ _ k x.2.taken x.0 x.2.texts running x.1.consumed x.1.few x.2.feeds x.2.within x.2.sent x.2.stops
+
+  -- the desk's splits and bounds stay
+  pub splits-turn : (s t : SessionState) (result : Result (Option How) Refusal) (d e : D) (r r' : Watched R) (w w' : Watched W) → IsTurn bounds splits tables leads remaining contents s result d e r r' w w' t → (splits e ≡ splits d) × (bounds e ≡ bounds d)
+  splits-turn s t result d e r r' w w' turn = by_case turn.is
+    where
+      by_case : ((bytes : List ℕ) × ReadsOnce remaining r r' bytes × Sends bounds splits tables leads contents (λ how left s. StopsAs how bytes left s) s (fed_by bytes) result d e w w' t) ⊎ ((result ≡ Err ReadFault) × (has_failed r' ≡ true) × Keeps (remaining (device r)) (remaining (device r')) × (t ≡ s) × (e ≡ d) × (w' ≡ w)) → (splits e ≡ splits d) × (bounds e ≡ bounds d)
+      by_case (inl x) = (x.2.feeds.answered.splits_are, x.2.feeds.answered.bounds_are)
+      by_case (inr x) = (ap splits x.4, ap bounds x.4)
+
+  -- no device failed
+  pub unfailed-turn : (s t : SessionState) (how : Option How) (d e : D) (r r' : Watched R) (w w' : Watched W) → IsTurn bounds splits tables leads remaining contents s (Ok how) d e r r' w w' t → (has_failed r' ≡ has_failed r) × (has_failed w' ≡ has_failed w)
+  unfailed-turn s t how d e r r' w w' turn = let x = turn_ok s t how d e r r' w w' turn in (x.1.unfailed, x.2.unfailed)
+
+  -- or one did
+  pub cause-turn : (s t : SessionState) (refusal : Refusal) (d e : D) (r r' : Watched R) (w w' : Watched W) (reads : ℕ) → IsTurn bounds splits tables leads remaining contents s (Err refusal) d e r r' w w' t → IsCause refusal (has_failed r') (has_failed w') reads (reads_of r') known0
+  cause-turn s t refusal d e r r' w w' reads turn = by_case turn.is
+    where
+      by_case : ((bytes : List ℕ) × ReadsOnce remaining r r' bytes × Sends bounds splits tables leads contents (λ how left s. StopsAs how bytes left s) s (fed_by bytes) (Err refusal) d e w w' t) ⊎ ((◌≡◌ {A = Result (Option How) Refusal} (Err refusal) (Err ReadFault)) × (has_failed r' ≡ true) × Keeps (remaining (device r)) (remaining (device r')) × (t ≡ s) × (e ≡ d) × (w' ≡ w)) → IsCause refusal (has_failed r') (has_failed w') reads (reads_of r') known0
+      by_case (inl x) = inl (x.2.err.0, x.2.err.1)
+      by_case (inr x) = let both : ◌≡◌ {A = Result (Option How) Refusal} (Err refusal) (Err ReadFault) = x.0 in let is : refusal ≡ ReadFault = cc both in inr (is, inl x.1)
+
+  -- or the last read was made
+  pub cause-last : (s : SessionState) (d : D) (known out : Option (List ℕ)) (k first now : ℕ) (reader_failed writer_failed : Bool) → Running bounds splits tables leads s0 d0 known0 out0 s d known out k → k ≡ 1000000000 → ReadsMade first now k → IsCause ReadFault reader_failed writer_failed first now known0
+  cause-last s d known out k first now reader_failed writer_failed running all made =
+      let least = running.least in
+      inr (refl, inr (all_made first now k 1000000000 made all (omega arith), as_long known0 known running.bytes 1000000000 running.consumed (omega (arith, least, all))))
 
   pub served-turn : (begins : Begins s0) (s t : SessionState) (how : How) (d e : D) (r r' : Watched R) (w w' : Watched W) (k : ℕ) → Running bounds splits tables leads s0 d0 known0 out0 s d (remaining (device r)) (contents (device w)) k → k < 1000000000 → IsTurn bounds splits tables leads remaining contents s (Ok (Some how)) d e r r' w w' t
       → IsServed bounds splits tables leads s0.progress.policy d0 e known0 out0 (contents (device w')) (record { how = how; statements = t.progress.statements; first_short = t.progress.first_short })
@@ -59,7 +85,7 @@ module _ {D R W : Type 0} (bounds : D → Bounds) (splits : D → List Bound) (t
       → IsCutOff bounds splits tables leads s0.progress.policy d0 d known0 known' out0 out (record { refusal = refusal; done = s.progress.statements; first_short = s.progress.first_short })
   cut-before begins s d known known' out k refusal running few kept =
       let l = Left-before bounds splits tables leads s0 d0 known0 out0 s d known known' out k running few kept in
-      cut bounds splits tables leads s0 d0 known0 out0 begins s d known' out running.texts refusal l.0 running.texts [] running.sent (ap (λ u. running.texts ++ u) running.wants) (λ is. (l.1, refl))
+      cut bounds splits tables leads s0 d0 known0 out0 begins s d known' out running.texts refusal l.0 running.texts [] running.sent (sym (append-nil running.texts)) (omega arith) (λ is. (l.1, refl, running.wants))
 
   pub cut-turn : (begins : Begins s0) (s t : SessionState) (refusal : Refusal) (d e : D) (r r' : Watched R) (w w' : Watched W) (k : ℕ) → Running bounds splits tables leads s0 d0 known0 out0 s d (remaining (device r)) (contents (device w)) k → k < 1000000000 → IsTurn bounds splits tables leads remaining contents s (Err refusal) d e r r' w w' t
       → IsCutOff bounds splits tables leads s0.progress.policy d0 e known0 (remaining (device r')) out0 (contents (device w')) (record { refusal = refusal; done = t.progress.statements; first_short = t.progress.first_short })
@@ -73,8 +99,9 @@ module _ {D R W : Type 0} (bounds : D → Bounds) (splits : D → List Bound) (t
           let l = Left-after bounds splits tables leads s0 d0 known0 out0 s t d e _ _ _ k x.2.taken x.0 x.2.texts running below x.1.consumed x.1.few x.1.at_end x.2.feeds in
           let all = running.texts ++ x.2.texts in
           let first = IsSentFirst-then out0 (contents (device w)) (contents (device w')) running.texts x.2.texts running.sent x.2.err.2 in
-          cut bounds splits tables leads s0 d0 known0 out0 begins t e _ _ all refusal l.0 (take first.0 all) (drop first.0 all ++ t.unwritten) first.1
-          (ap (λ z. z ++ t.unwritten) (sym (take-append-drop first.0 all)) ∙ append_assoc (take first.0 all) (drop first.0 all) t.unwritten)
+          let long = length-drop first.0 all in
+          let most = first.2 in
+          cut bounds splits tables leads s0 d0 known0 out0 begins t e _ _ all refusal l.0 (take first.0 all) (drop first.0 all) first.1 (sym (take-append-drop first.0 all)) (omega (arith, long, most))
           (λ is. absurd (let both : ◌≡◌ {A = Refusal} WriteFault ReadFault = sym x.2.err.0 ∙ is in cc))
       by_case (inr x) =
           let here = cut-before begins s d (remaining (device r)) (remaining (device r')) (contents (device w)) k refusal running (omega (arith, below)) x.2 in

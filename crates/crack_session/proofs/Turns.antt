@@ -61,6 +61,7 @@ module _ {D : Type 0} (bounds : D → Bounds) (splits : D → List Bound) (table
           added = was.added;
           out_is = ap (λ o. w ++ o) was.out_is;
           texts_are = was.texts_are;
+          left_is = was.left_is;
           ending_is = was.ending_is;
         };
         begun_is = a.begun_is;

@@ -92,8 +92,14 @@ abbrev pub is_nothing : Rest → Bool
 is_nothing Nothing = true
 is_nothing _ = false
 
+-- what is left of a text after these answers: it ends that of the last of them, or what was left before
+abbrev pub IsLeftOf : List ℕ → List Answer → List ℕ → Type 0
+IsLeftOf text [] left = (front : List ℕ) × (text ≡ front ++ left)
+IsLeftOf text (answer ∷ answers) left = IsLeftOf (answer_text answer) answers left
+
 -- A session answers these statements in order: each answer is made of exactly the calls that its statement requires, by the policy in force, and no call
--- is left over. If the rows are known, these are their answers. What is appended to output is the next part of the texts of all answers.
+-- is left over. If the rows are known, these are their answers. What is appended to output is the next part of the texts of all answers, and what
+-- isn't is left of one text.
 pub record AnswersAll {D : Type 0} (bounds : D → Bounds) (splits : D → List Bound) (tables : D → Option (List PlainView)) (leads : D → Call → D → Type 0) (old : SessionState) (readings : List Reading) (desk desk' : D) (out out' : List ℕ) (new : SessionState) : Type 0 where
   pub answers : List Answer
   pub made : AreAnswersOf leads (splits desk) old.progress.policy desk desk' readings answers
@@ -105,6 +111,7 @@ pub record AnswersAll {D : Type 0} (bounds : D → Bounds) (splits : D → List 
   pub added : List ℕ
   pub out_is : out' ≡ out ++ added
   pub texts_are : old.unwritten ++ concat (map answer_text answers) ≡ added ++ new.unwritten
+  pub left_is : IsLeftOf old.unwritten answers new.unwritten
   pub ending_is : new.ending ≡ ended_by_any old.ending readings
 
 -- Bytes are fed to a session: the statements in the lines that they finish are answered. Nothing is taken after a line that ended the session.

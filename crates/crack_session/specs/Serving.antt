@@ -1,19 +1,22 @@
 -- What `serve` leaves, whatever its devices are.
-use Rattle.std.specs.Prelude.{◌≡◌, ℕ, List, [], ◌++◌, length, map, take, Option, Some, if◌then◌else◌}
+use Rattle.std.specs.Prelude.{◌≡◌, ℕ, ◌+◌, ◌-◌, ◌^◌, ◌≤◌, ◌⊎◌, min, Bool, true, List, [], ◌++◌, length, map, take, Option, Some, if◌then◌else◌}
 use Rattle.std.specs.List.{concat, list_any}
 use Rattle.std.specs.Io.KnownBytes.{Appends}
 use Rattle.crack_row.specs.declared.Bound.{Bound}
 use Rattle.crack_row.specs.declared.command.Policy.{Policy}
-use Rattle.crack_row.specs.declared.refusal.Refusal.TheVariants.{ReadFault}
+use Rattle.crack_row.specs.declared.refusal.Refusal.{Refusal}
+use Rattle.crack_row.specs.declared.refusal.Refusal.TheVariants.{ReadFault, WriteFault}
 use Rattle.crack_plain.specs.Plain.{PlainView}
 use Rattle.crack_commands.specs.Grammar.{Reading}
 use Rattle.crack_core.specs.Steps.{Bounds}
+use Rattle.crack_session.specs.declared.TheConstants.{OUTPUT_BYTES}
 use Rattle.crack_session.specs.declared.answer.Answer.{Answer}
 use Rattle.crack_session.specs.declared.session.End.{End}
 use Rattle.crack_session.specs.declared.session.Fault.{Fault}
 use Rattle.crack_session.specs.declared.session.How.TheVariants.{Quit, InputEnded}
 use Rattle.crack_session.specs.Answers.{answer_text}
 use Rattle.crack_session.specs.Calls.{Call, AreAnswersOf}
+use Rattle.crack_session.specs.Feeding.{IsLeftOf}
 use Rattle.crack_session.specs.Readings.{statements, is_last}
 use Rattle.crack_session.specs.Sessions.{AreAnswers, first_short, whole_lines}
 
@@ -35,7 +38,8 @@ pub record IsServed {D : Type 0} (bounds : D → Bounds) (splits : D → List Bo
   pub written_is : Appends out written (concat (map answer_text answers))
 
 -- A session was cut off: it answered the first of the statements of some bytes, which are the reader's if those are known. If the reader failed, these are
--- just the statements in the whole lines of the bytes that were read. The texts of the answers were written up to a place: all if the reader failed.
+-- just the statements in the whole lines of the bytes that were read. The texts of the answers were written up to a place: all if the reader failed. If
+-- the writer did, what isn't written is no more than output holds, and what was left of the text of the last answer.
 pub record IsCutOff {D : Type 0} (bounds : D → Bounds) (splits : D → List Bound) (tables : D → Option (List PlainView)) (leads : D → Call → D → Type 0) (policy : Policy) (old new : D) (known left out written : Option (List ℕ)) (fault : Fault) : Type 0 where
   pub bytes : List ℕ
   pub bytes_are : (all : List ℕ) → known ≡ Some all → bytes ≡ all
@@ -48,7 +52,16 @@ pub record IsCutOff {D : Type 0} (bounds : D → Bounds) (splits : D → List Bo
   pub split : bytes ≡ read ++ rest
   pub whole : fault.refusal ≡ ReadFault → (take (length answers) (statements bytes) ≡ statements (whole_lines read)) × ((all : List ℕ) → known ≡ Some all → left ≡ Some rest)
   pub sent : List ℕ
-  pub lost : List ℕ
-  pub texts_are : concat (map answer_text answers) ≡ sent ++ lost
+  pub unsent : List ℕ
+  pub unwritten : List ℕ
+  pub texts_are : concat (map answer_text answers) ≡ sent ++ (unsent ++ unwritten)
   pub written_is : Appends out written sent
-  pub lost_none : fault.refusal ≡ ReadFault → lost ≡ []
+  pub few : length unsent ≤ OUTPUT_BYTES
+  pub left_is : IsLeftOf [] answers unwritten
+  pub all_sent : fault.refusal ≡ ReadFault → (unsent ≡ []) × (unwritten ≡ [])
+
+-- why a session was cut off: its writer failed, or its reader did, or it made the last read that it may, each of which brought a byte
+abbrev pub IsCause : Refusal → Bool → Bool → ℕ → ℕ → Option (List ℕ) → Type 0
+IsCause refusal reader_failed writer_failed reads reads' known = ((refusal ≡ WriteFault) × (writer_failed ≡ true))
+    ⊎ ((refusal ≡ ReadFault) × ((reader_failed ≡ true)
+    ⊎ ((reads' ≡ min (reads + 1000000000) (2 ^ 64 - 1)) × ((bytes : List ℕ) → known ≡ Some bytes → 1000000000 ≤ length bytes))))

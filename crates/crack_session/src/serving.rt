@@ -1,10 +1,10 @@
 //! A session over a reader and a writer: read, feed, write.
-ghost use Rattle.std.specs.Prelude.{◌≡◌, ℕ, ◌+◌, ◌-◌, ◌^◌, ◌≤◌, min, true, [], take, IfOk, IfErr};
+ghost use Rattle.std.specs.Prelude.{◌≡◌, ℕ, ◌+◌, ◌-◌, ◌^◌, ◌≤◌, min, true, [], take, OnOk, IfOk, IfErr};
 ghost use Rattle.std.specs.Io.KnownBytes.{Keeps};
 ghost use Rattle.crack_row.specs.Devices.{device, has_failed, reads_of};
 ghost use Rattle.crack_session.specs.Feeding.{SessionState, StoppedFor};
 ghost use Rattle.crack_session.specs.Rounds.{Begins, IsRound, has_stopped};
-ghost use Rattle.crack_session.specs.Serving.{IsServed, IsCutOff};
+ghost use Rattle.crack_session.specs.Serving.{IsServed, IsCutOff, IsCause};
 ghost use Rattle.crack_session.specs.Turns.{Sends, ReadsOnce, IsTurn, StopsAs, fed_by};
 
 use crate::MOST_READS;
@@ -38,10 +38,20 @@ pub fn serve_session<D: Desk, R: Read, W: Write>(
     ensures ends { IfOk result (λ end. IsServed D.bounds D.splits D.tables D.leads policy desk.old desk.new
         (R.remaining (device reader.old)) (W.contents (device writer.old)) (W.contents (device writer.new)) end) }
     // If it is cut off, the first of the statements were answered, as many as it returns, and what was written is a
-    // prefix of the texts.
+    // prefix of the texts: all if the reader failed, and otherwise all but what output holds and the rest of one text.
     ensures cut_off { IfErr result (λ fault. IsCutOff D.bounds D.splits D.tables D.leads policy desk.old desk.new
         (R.remaining (device reader.old)) (R.remaining (device reader.new)) (W.contents (device writer.old))
         (W.contents (device writer.new)) fault) }
+    // In any case the desk's bounds and splits are unchanged, so another session, or an export, over it continues from
+    // there.
+    ensures splits { D.splits desk.new ≡ D.splits desk.old }
+    ensures bounds { D.bounds desk.new ≡ D.bounds desk.old }
+    // If it isn't cut off, no device has failed.
+    ensures unfailed { OnOk result ((has_failed reader.new ≡ has_failed reader.old)
+        × (has_failed writer.new ≡ has_failed writer.old)) }
+    // It is cut off only if a device failed, or after the last read that it may make, each of which brought a byte.
+    ensures causes { IfErr result (λ fault. IsCause fault.refusal (has_failed reader.new) (has_failed writer.new)
+        (reads_of reader.old) (reads_of reader.new) (R.remaining (device reader.old))) }
 {
     let mut session = Session::new(policy);
     match serve_reads(alloc, desk, &mut session, reader, writer) {
@@ -81,6 +91,12 @@ fn serve_reads<D: Desk, R: Read, W: Write>(
           done = session.new.progress.statements;
           first_short = session.new.progress.first_short;
         })) }
+    ensures splits { D.splits desk.new ≡ D.splits desk.old }
+    ensures bounds { D.bounds desk.new ≡ D.bounds desk.old }
+    ensures unfailed { OnOk result ((has_failed reader.new ≡ has_failed reader.old)
+        × (has_failed writer.new ≡ has_failed writer.old)) }
+    ensures causes { IfErr result (λ refusal. IsCause refusal (has_failed reader.new) (has_failed writer.new)
+        (reads_of reader.old) (reads_of reader.new) (R.remaining (device reader.old))) }
 {
     let mut room = [0u8; READ_BYTES];
     let mut out = Output::new();
