@@ -138,7 +138,7 @@ module _ {D : Type 0} (bounds : D → Bounds) (splits : D → List Bound) (table
       → Calls leads now last next
       → ((last ≡ []) × (loaded ≡ MOST_RECORDS) × (refusal ≡ ReadFault)) ⊎ ((loaded < MOST_RECORDS) × IsRefusedBy (splits now) policy (number + 1) (new_row_of fields) refusal last)
       → ((known : List PlainView) → tables now ≡ Some known → (tables next ≡ Some known)
-        × (((loaded ≡ MOST_RECORDS) × (refusal ≡ ReadFault)) ⊎ ((loaded < MOST_RECORDS) × Refuses (bounds now) (splits now) known (number + 1) (new_row_of fields) refusal)))
+      × (((loaded ≡ MOST_RECORDS) × (refusal ≡ ReadFault)) ⊎ ((loaded < MOST_RECORDS) × Refuses (bounds now) (splits now) known (number + 1) (new_row_of fields) refusal)))
       → accepted next ≡ accepted now → splits next ≡ splits now → bounds next ≡ bounds now
       → HasStopped bounds splits tables accepted leads policy origin (records ++ fields ∷ []) (record { refusal = refusal; loaded = loaded }) next
   HasStopped-now {records} {number} {loaded} {now} fields refusal last next was plain called cause told none same_splits same_bounds =
@@ -320,7 +320,7 @@ module _ {D : Type 0} (bounds : D → Bounds) (splits : D → List Bound) (table
   pub EndsWith-none : (s : LoaderState) (now : D) (is : Bool) → is ≡ ends_at_end s.kept.state → is ≡ false → EndsWith bounds splits tables accepted leads s now now s.loaded
   EndsWith-none s now is said none origin before has =
       let records : all_records_in before ≡ records_in before =
-          ap (λ (t : Bool). records_in before ++ cond t (((begun_in before).fields ++ (begun_in before).field ∷ []) ∷ []) []) (last_ends s before is false has.kept_is said none) ∙ append-nil (records_in before) in
+      ap (λ (t : Bool). records_in before ++ cond t (((begun_in before).fields ++ (begun_in before).field ∷ []) ∷ []) []) (last_ends s before is false has.kept_is said none) ∙ append-nil (records_in before) in
       HasEnded-all s.policy origin before s.number s.loaded now (rw records has.loaded)
 
   last_record : (s : LoaderState) (before : List ℕ) (is : Bool) → s.kept ≡ kept_of (begun_in before) → is ≡ ends_at_end s.kept.state → is ≡ true → all_records_in before ≡ records_in before ++ ((begun_in before).fields ++ (begun_in before).field ∷ []) ∷ []

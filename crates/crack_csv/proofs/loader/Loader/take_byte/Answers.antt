@@ -35,24 +35,24 @@ returns-then-takes_end-clause-goes_on g c =
     let kept = c.takes_mark.ensures.kept c.if-takes_mark.false in
     let same = c.takes_end.ensures.same in
     both-ok _ _ _ c.finish.result c.finish.ensures.goes_on c.finish.ensures.begins (λ takes begins.
-      Takes-ended g.D.Desk.bounds g.D.Desk.splits g.D.Desk.tables g.D.Desk.accepted g.D.Desk.leads c.args.self.now c.takes_end.new.self c.finish.new.self c.args.byte c.args.desk.now c.finish.new.desk
-      (ended_for c.args.self.now.kept c.takes_mark.new.self.kept c.args.byte c.takes_end.result true kept c.takes_end.ensures.ends c.if-takes_end.true)
-      (head_for c.args.self.now c.takes_mark.new.self c.takes_end.new.self c.args.byte (ap (λ (s : LoaderState). s.head) same) (c.takes_mark.ensures.plain c.if-takes_mark.false))
-      (ap (λ (s : LoaderState). s.kept) same ∙ ap (λ (k : Kept). kept_with k c.args.byte) kept)
-      (ap (λ (s : LoaderState). s.policy) same ∙ c.takes_mark.ensures.policy) (ap (λ (s : LoaderState). s.number) same ∙ c.takes_mark.ensures.number) (ap (λ (s : LoaderState). s.loaded) same ∙ c.takes_mark.ensures.loaded)
-      takes begins c.finish.ensures.policy c.finish.ensures.head)
+    Takes-ended g.D.Desk.bounds g.D.Desk.splits g.D.Desk.tables g.D.Desk.accepted g.D.Desk.leads c.args.self.now c.takes_end.new.self c.finish.new.self c.args.byte c.args.desk.now c.finish.new.desk
+    (ended_for c.args.self.now.kept c.takes_mark.new.self.kept c.args.byte c.takes_end.result true kept c.takes_end.ensures.ends c.if-takes_end.true)
+    (head_for c.args.self.now c.takes_mark.new.self c.takes_end.new.self c.args.byte (ap (λ (s : LoaderState). s.head) same) (c.takes_mark.ensures.plain c.if-takes_mark.false))
+    (ap (λ (s : LoaderState). s.kept) same ∙ ap (λ (k : Kept). kept_with k c.args.byte) kept)
+    (ap (λ (s : LoaderState). s.policy) same ∙ c.takes_mark.ensures.policy) (ap (λ (s : LoaderState). s.number) same ∙ c.takes_mark.ensures.number) (ap (λ (s : LoaderState). s.loaded) same ∙ c.takes_mark.ensures.loaded)
+    takes begins c.finish.ensures.policy c.finish.ensures.head)
 
 pub returns-then-takes_end-clause-stops : goal.returns-then-takes_end-clause-stops
 returns-then-takes_end-clause-stops g c =
     let kept = c.takes_mark.ensures.kept c.if-takes_mark.false in
     let same = c.takes_end.ensures.same in
     err-from _ _ c.finish.result c.finish.ensures.stops (λ e stops.
-      StopsBehind-ended g.D.Desk.bounds g.D.Desk.splits g.D.Desk.tables g.D.Desk.accepted g.D.Desk.leads c.args.self.now c.takes_end.new.self c.args.byte c.args.desk.now c.finish.new.desk (record { refusal = e; loaded = c.finish.new.self.loaded })
-      (ended_for c.args.self.now.kept c.takes_mark.new.self.kept c.args.byte c.takes_end.result true kept c.takes_end.ensures.ends c.if-takes_end.true)
-      (head_for c.args.self.now c.takes_mark.new.self c.takes_end.new.self c.args.byte (ap (λ (s : LoaderState). s.head) same) (c.takes_mark.ensures.plain c.if-takes_mark.false))
-      (ap (λ (s : LoaderState). s.kept) same ∙ ap (λ (k : Kept). kept_with k c.args.byte) kept)
-      (ap (λ (s : LoaderState). s.policy) same ∙ c.takes_mark.ensures.policy) (ap (λ (s : LoaderState). s.number) same ∙ c.takes_mark.ensures.number) (ap (λ (s : LoaderState). s.loaded) same ∙ c.takes_mark.ensures.loaded)
-      stops)
+    StopsBehind-ended g.D.Desk.bounds g.D.Desk.splits g.D.Desk.tables g.D.Desk.accepted g.D.Desk.leads c.args.self.now c.takes_end.new.self c.args.byte c.args.desk.now c.finish.new.desk (record { refusal = e; loaded = c.finish.new.self.loaded })
+    (ended_for c.args.self.now.kept c.takes_mark.new.self.kept c.args.byte c.takes_end.result true kept c.takes_end.ensures.ends c.if-takes_end.true)
+    (head_for c.args.self.now c.takes_mark.new.self c.takes_end.new.self c.args.byte (ap (λ (s : LoaderState). s.head) same) (c.takes_mark.ensures.plain c.if-takes_mark.false))
+    (ap (λ (s : LoaderState). s.kept) same ∙ ap (λ (k : Kept). kept_with k c.args.byte) kept)
+    (ap (λ (s : LoaderState). s.policy) same ∙ c.takes_mark.ensures.policy) (ap (λ (s : LoaderState). s.number) same ∙ c.takes_mark.ensures.number) (ap (λ (s : LoaderState). s.loaded) same ∙ c.takes_mark.ensures.loaded)
+    stops)
 
 pub returns-clause-goes_on : goal.returns-clause-goes_on
 returns-clause-goes_on g c =
