@@ -8,5 +8,6 @@ pub mod Listing
 pub mod Loaders
 pub mod Loading
 pub mod Short
+pub mod Stopping
 pub mod Texts
 pub mod Within
