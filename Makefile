@@ -1,6 +1,6 @@
 .PHONY: help run try program-unproved lib lib-unproved test edits trust
 
-# how many minutes these take on 4 processors with nothing beside
+# how many minutes these took on 4 processors, beside other work
 RUN_MINUTES = 36
 TEST_MINUTES = 36
 EDITS_MINUTES = 35
