@@ -16,7 +16,7 @@ from clusters import cluster, kill, local, on, pid_of, wait_for_workers, wants_c
 from test_table import PlainTable, numbers
 from ways import crackd, np, refusing, wants_gcc, wants_library
 
-WORKERS, CALLS, ONE_IN = 3, 400, 25
+WORKERS, CALLS, ONE_IN = 3, 1000, 25
 
 
 @wants_library
