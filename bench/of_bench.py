@@ -237,8 +237,8 @@ def measure_folds(table, runs):
     words = [str(rows), str(changes)]
     ours, sorts = compare([[BENCH, "fold", "gradual", *words], [PEERS, "fold", *words]], runs)
     for what, name, bound in (
-        (f"a checkpoint of {rows} inserts", "fold", 0.5),
-        (f"a checkpoint after {changes} deletes and inserts that mixed these", "mixed_fold", 2.0),
+        (f"a checkpoint of {rows} inserts", "fold", 0.1),
+        (f"a checkpoint after {changes} deletes and inserts that mixed these", "mixed_fold", 0.1),
     ):
         fold, copy, sort = middle_of(ours, name), f"{name}_copy", f"{name}_sort"
         table.line(f"{what}, beside a sort", fold, middle_of(sorts, sort), bound)

@@ -469,8 +469,8 @@ Each row says how many times as fast the other is.
 {contest_table([it for it in contests if it.ours >= it.theirs], lambda it: it.ours / it.theirs)}
 
 A sorted array is sorted, and SQLite builds its index, before the first count is answered; after that neither cracks anything. A scan looks at each row
-and sorts nothing; so does SQLite without an index, which ran once. Of all these only plain Rust with the same representation keeps a history, as `crackd`
-does. SQLite is called from Python, and its times include that; counts of one key are sent to `crackd script`, and include reading lines and writing replies.
+and sorts nothing; so does SQLite without an index, which ran once. None of these keeps the commands that it answered. SQLite is called from Python, and its
+times include that; counts of one key are sent to `crackd script`, and include reading lines and writing replies.
 
 ## Where it is faster
 
@@ -480,7 +480,7 @@ Each row says how many times as fast `crackd` is.
 
 ## Compared with a column and a tree built for speed
 
-The cracker column for speed alone is plain Rust that takes the same steps. It keeps no history, and identifies a row by its slot, which a
+The cracker column for speed alone is plain Rust that takes the same steps. It identifies a row by its slot, which a
 later row may get; pending rows are in plain vectors, and a bit beside the column says whether a row is doomed. The BTreeMap has payloads by key
 and number, and sums ranges; no policy changes it. All get the same inserts, deletes and queries and give the same answers, and `crackd` and the
 column put in, put back, move, pull and take out the same number of rows. The column has no policy `auto`.

@@ -1,6 +1,6 @@
-//! Inserts in random order of keys, a count of everything, and counts, sums and updates: by a cracked partition with a
-//! history, by a cracker column built for speed alone, by those of keys alone and of keys and payloads, by a tree, and
-//! by a pass over rows for each range, in a vector or through handles.
+//! Inserts in random order of keys, a count of everything, and counts, sums and updates: by a cracked partition, by a
+//! cracker column built for speed alone, by those of keys alone and of keys and payloads, by a tree, and by a pass over
+//! rows for each range, in a vector or through handles.
 
 use crate::arena::Row;
 use crate::fast::{Fast, Tally};
@@ -28,7 +28,7 @@ const NARROW_WIDTH: u128 = 4294967;
 const MOST_LATE: usize = 8192;
 
 /// How many entries a history may have.
-pub const LIMIT: usize = 1_000_000;
+const LIMIT: usize = 1_000_000;
 
 /// Something that takes rows, counts them and sums their payloads.
 trait Table {
@@ -84,7 +84,7 @@ pub struct Entry {
     reply: Reply,
 }
 
-/// A cracked store, and each command with its reply.
+/// A cracked store, and each command that it kept with its reply.
 pub struct Partition {
     store: Store,
     policy: Policy,
@@ -121,7 +121,8 @@ impl Partition {
         Some((reply.clone(), reply))
     }
 
-    fn reply_to(&mut self, command: Command) -> Reply {
+    /// Answers a command, and keeps nothing of it.
+    pub fn reply_to(&mut self, command: Command) -> Reply {
         match command {
             Command::Insert { key, payload } => {
                 let serial = self.next;
@@ -145,38 +146,34 @@ impl Partition {
             Command::Update { .. } | Command::Select { .. } => unimplemented!(),
         }
     }
-
-    fn ask(&mut self, command: Command) -> Reply {
-        self.apply(0, command).expect("room in the history").0
-    }
 }
 
 impl Table for Partition {
     type Name = u64;
 
     fn insert(&mut self, key: u64, payload: i64) -> u64 {
-        match self.ask(Command::Insert { key, payload }) {
+        match self.reply_to(Command::Insert { key, payload }) {
             Reply::Placed(serial) => serial,
             _ => unreachable!(),
         }
     }
 
     fn count(&mut self, low: u128, high: u128) -> u64 {
-        match self.ask(Command::Count { low, high }) {
+        match self.reply_to(Command::Count { low, high }) {
             Reply::Counted(count) => count,
             _ => unreachable!(),
         }
     }
 
     fn sum(&mut self, low: u128, high: u128) -> i128 {
-        match self.ask(Command::Sum { low, high }) {
+        match self.reply_to(Command::Sum { low, high }) {
             Reply::Summed(sum) => sum,
             _ => unreachable!(),
         }
     }
 
     fn delete(&mut self, serial: u64) {
-        self.ask(Command::Delete { serial });
+        self.reply_to(Command::Delete { serial });
     }
 }
 

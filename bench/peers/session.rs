@@ -1,6 +1,6 @@
 //! Inserts and counts from standard input to standard output, answered by a cracked partition.
 
-use crate::partition::{Command, LIMIT, Partition, Reply};
+use crate::partition::{Command, Partition, Reply};
 use crate::store::{GREATEST_BOUND, Policy};
 use std::io::{self, BufWriter, Read, Write};
 
@@ -48,11 +48,10 @@ fn answer(line: &[u8], partition: &mut Partition, writer: &mut impl Write) -> io
     let Some(command) = command(line) else {
         return writeln!(writer, "refused 1");
     };
-    match partition.apply(0, command) {
-        Some((Reply::Placed(serial), _)) => writeln!(writer, "row 0.{serial}"),
-        Some((Reply::Counted(count), _)) => writeln!(writer, "count {count}"),
-        Some(_) => unreachable!(),
-        None => writeln!(writer, "refused 6 {LIMIT}"),
+    match partition.reply_to(command) {
+        Reply::Placed(serial) => writeln!(writer, "row 0.{serial}"),
+        Reply::Counted(count) => writeln!(writer, "count {count}"),
+        _ => unreachable!(),
     }
 }
 

@@ -3,7 +3,7 @@ ghost use Rattle.std.specs.Prelude.{◌<◌};
 
 use crate::seats::number_of;
 use crate::single::numbers::{Numbers, mixed};
-use crack_kept::Kept as Partition;
+use crack_part::Partition;
 use crack_row::{
     BoundNumber, Command, GREATEST_BOUND, GREATEST_LIMIT, Key, KeyNumber, KeyRange, Payload,
     PayloadNumber, Policy, Refusal, Serial,
@@ -104,7 +104,7 @@ impl Measured {
 
     /// Carries out a command, and keeps the number in the reply.
     fn apply(&mut self, command: Command) -> Result<(), Refusal> {
-        self.last = number_of(&self.partition.apply(0, command, self.policy)?.0);
+        self.last = number_of(&self.partition.apply(command, self.policy)?);
         if matches!(command, Command::Count(_) | Command::Sum(_)) {
             self.sum = mixed(self.sum, self.last);
         }

@@ -3,7 +3,7 @@
 use crate::report::{Failure, Outcome, Output, report};
 use crate::single::numbers::mixed;
 use crate::single::partition::{Ask, Keys, Measured, Sizes};
-use crack_kept::Kept as Partition;
+use crack_part::Partition;
 use crack_row::{Policy, Row};
 use std::time::Instant;
 
@@ -54,7 +54,7 @@ enum Step {
     Sum(&'static str),
     /// Counts everything. Writes the checksum of the replies before that, and the count.
     Next,
-    /// Makes a checkpoint. Writes its time, and what it kept.
+    /// Makes a checkpoint. Writes its time, how many commands it counted, and the rows.
     Checkpoint(&'static str),
     /// Writes the counts of the merges.
     Tally,
@@ -422,11 +422,12 @@ fn measure_next<R: Output>(rt: &R, table: &mut Measured) -> Outcome {
 
 fn measure_checkpoint<R: Output>(rt: &R, table: &mut Measured, name: &str) -> Outcome {
     let start = Instant::now(rt)?;
-    let entries = table.partition.checkpoint()?;
+    let entries = table.partition.checkpoint();
     report(rt, name, start)?;
-    let rows = table.partition.base_rows();
+    let rows = table.partition.rows_in_order()?;
     let len = rows.len();
-    let sum = sum_of(rows);
+    let sum = sum_of(rows.as_slice());
+    drop(rows);
     print!(rt; "{name} {entries} ")?;
     println!(rt; "rows {len} sum {sum}")?;
     Ok(())

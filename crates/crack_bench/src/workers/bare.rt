@@ -4,14 +4,14 @@ use crate::report::{Host, Outcome};
 use crate::seats::Asks;
 use crate::workers::measuring::POLICY;
 use crate::workers::mix::{Mix, PART_WIDTH, PARTS_EACH, Parts, count_all};
-use crack_kept::Kept as Partition;
+use crack_part::Partition;
 use crack_row::{BoundNumber, Command, GREATEST_LIMIT, KeyRange, Refusal, Reply};
 use std::alloc::Global;
 
 impl Asks for Vec<Partition> {
     fn ask(&mut self, part: u32, command: Command) -> Result<Reply, Refusal> {
         match self.get_mut(part as usize) {
-            Some(partition) => Ok(partition.apply(0, command, POLICY)?.0),
+            Some(partition) => partition.apply(command, POLICY),
             None => Err(Refusal::NoSuchPartition),
         }
     }
