@@ -14,6 +14,7 @@ import package  # finds an interpreter that has numpy
 LIBRARY = TOP / "python" / "crackd" / "libcrackd.so"
 PAGE = TOP / "docs" / "PYTHON.md"
 BEGIN, END = "<!-- times: bench/run.py python -->\n", "<!-- end of times -->\n"
+SHARDS_BEGIN, SHARDS_END = "<!-- shards: bench/run.py shards -->\n", "<!-- end of shards -->\n"
 SORTED, MASKS, SQLITE = "numpy, sorted", "numpy, masks", "SQLite, a covering index"
 # what is reported of each step, by its name
 STEPS = {
@@ -59,11 +60,11 @@ def lines_of(seconds):
         yield f"| {told(text)} | {' | '.join(milliseconds(it[name]) for it in seconds.values())} |\n"
 
 
-def write_page(seconds):
-    """Puts the table into docs/PYTHON.md, in place of the old one."""
-    before, _, rest = PAGE.read_text(encoding="utf-8").partition(BEGIN)
-    after = rest.partition(END)[2]
-    PAGE.write_text(before + BEGIN + "".join(lines_of(seconds)) + END + after, encoding="utf-8")
+def write_page(begin, lines, end):
+    """Puts a table into docs/PYTHON.md, in place of the one between these lines."""
+    before, _, rest = PAGE.read_text(encoding="utf-8").partition(begin)
+    after = rest.partition(end)[2]
+    PAGE.write_text(before + begin + "".join(lines) + end + after, encoding="utf-8")
 
 
 def is_missing():
@@ -103,7 +104,51 @@ def measure_python(table, runs):
     for name, text, most in MOST:
         table.count(told(text), ours[name] * 1e9, most)
     if sizes.PART_ROWS == 500_000:
-        write_page(seconds)
+        write_page(BEGIN, lines_of(seconds), END)
 
 
-MEASURES = {"python": [measure_python]}
+def run_shards(rows, runs):
+    """What bench/python_shards.py measures."""
+    words = [str(it) for it in (rows, sizes.RANGES, sizes.CALLS, runs)]
+    ran = subprocess.run(
+        [package.interpreter(), str(TOP / "bench" / "python_shards.py"), *words],
+        capture_output=True,
+        text=True,
+        check=False,
+    )
+    if ran.returncode:
+        complaint = ran.stderr.strip().splitlines()[-1:] or ["it failed"]
+        sys.exit(f"shards aren't measured: {complaint[0]}")
+    return json.loads(ran.stdout)
+
+
+def lines_of_shards(found):
+    """The table of what several shards give."""
+    yield "| Milliseconds | several shards | one shard | numpy |\n|---|---|---|---|\n"
+    for rows, it in found.items():
+        several, one = it["several"], it["one"]
+        calls = it["threads"] * sizes.CALLS
+        for text, name, beside in (
+            (f"`from_arrays` of {rows} rows; an argsort and a take", "load", milliseconds(it["numpy"])),
+            (f"{sizes.RANGES} new counts and as many sums, in two calls", "many", ""),
+            (f"{calls} single calls of each kind, by one thread", "alone", ""),
+            (f"the same by {it['threads']} threads", "together", ""),
+        ):
+            yield f"| {text} | {milliseconds(several[name])} | {milliseconds(one[name])} | {beside} |\n"
+
+
+def measure_shards(table, runs):
+    if is_missing():
+        return
+    found = {rows: run_shards(rows, runs) for rows in sizes.SHARDED_ROWS}
+    for rows, it in found.items():
+        several, one = it["several"], it["one"]
+        table.line(f"from_arrays of {rows} rows, beside an argsort and a take", several["load"], it["numpy"], 1.0)
+        table.line("new counts and sums in two calls, beside one shard", several["many"], one["many"], 0.4)
+        table.line("single calls by several threads, beside one", several["together"], several["alone"], 1.0)
+        table.count("memory, bytes a row", it["memory"], 160)
+    if max(found) >= 500_000:
+        write_page(SHARDS_BEGIN, lines_of_shards(found), SHARDS_END)
+
+
+MEASURES = {"python": [measure_python], "shards": [measure_shards]}

@@ -1,12 +1,14 @@
 """Run by of_python.py, by an interpreter that has numpy: python_rows.py ROWS RANGES RUNS
 
 It has the same rows in a `crackd.Table`; in numpy arrays that are kept sorted, with sums of their prefixes; in such
-arrays that stay as they are, with late rows beside them; in numpy arrays that are queried by masks; and in an SQLite
-table in memory with an index that covers the queries. All are in this process and take turns. It prints, as JSON, the
-median seconds of each step by its name, in that order; all must give the same answers.
+arrays that stay as they are, with late rows beside them; in numpy arrays that are queried by masks; in a frame of
+pandas whose index has the sorted keys; in a SortedKeyList; and in an SQLite table in memory with an index that covers
+the queries. pandas and sortedcontainers are left out where they aren't installed. All are in this process and take
+turns. It prints, as JSON, the median seconds of each step by its name, in that order; all must give the same answers.
 """
 
 import json
+import operator
 import pathlib
 import sqlite3
 import statistics
@@ -18,6 +20,15 @@ sys.path.insert(0, str(pathlib.Path(__file__).resolve().parent.parent / "python"
 import numpy as np
 
 import crackd
+
+try:
+    import pandas as pd
+except ImportError:
+    pd = None
+try:
+    from sortedcontainers import SortedKeyList
+except ImportError:
+    SortedKeyList = None
 
 KEYS, PARTITIONS, BATCH, STEPS, ONE_BY_ONE = 2**32, 64, 10, 100, 1000
 WIDTH = KEYS // 100
@@ -155,6 +166,77 @@ class Masks:
         pass
 
 
+class Frame:
+    """A frame of pandas whose index has the keys in order, with row numbers and payloads."""
+
+    name = "pandas, a sorted index"
+
+    def __init__(self, keys, payloads):
+        self.count = 0
+        self.frame = self.numbered(keys, payloads).sort_index()
+
+    def numbered(self, keys, payloads):
+        numbers = np.arange(self.count, self.count + len(keys))
+        self.count += len(keys)
+        return pd.DataFrame({"number": numbers, "payload": payloads}, index=keys)
+
+    def counts(self, lows, highs):
+        index = self.frame.index
+        return (index.searchsorted(highs) - index.searchsorted(lows)).tolist()
+
+    def sums(self, lows, highs):
+        index, payloads = self.frame.index, self.frame["payload"]
+        bounds = zip(index.searchsorted(lows), index.searchsorted(highs))
+        return [int(payloads.iloc[first:end].sum()) for first, end in bounds]
+
+    def select(self, low, high):
+        first, end = self.frame.index.searchsorted([low, high])
+        return int(self.frame.iloc[first:end]["payload"].sum())
+
+    def step(self, keys, payloads, gone, low, high):
+        left = self.frame[~self.frame["number"].isin(gone)]
+        self.frame = pd.concat([left, self.numbered(keys, payloads)]).sort_index()
+        return self.sums([low], [high])[0]
+
+    def close(self):
+        pass
+
+
+class Keyed:
+    """A SortedKeyList of keys, row numbers and payloads."""
+
+    name = "a SortedKeyList"
+
+    def __init__(self, keys, payloads):
+        self.arrived = []
+        self.rows = SortedKeyList(self.numbered(keys, payloads), key=operator.itemgetter(0))
+
+    def numbered(self, keys, payloads):
+        first = len(self.arrived)
+        self.arrived += zip(keys.tolist(), range(first, first + len(keys)), payloads.tolist())
+        return self.arrived[first:]
+
+    def counts(self, lows, highs):
+        place = self.rows.bisect_key_left
+        return [place(high) - place(low) for low, high in zip(lows.tolist(), highs.tolist())]
+
+    def sums(self, lows, highs):
+        within = zip(lows.tolist(), highs.tolist())
+        return [sum(row[2] for row in self.rows.irange_key(low, high, (True, False))) for low, high in within]
+
+    def select(self, low, high):
+        return sum(row[2] for row in list(self.rows.irange_key(low, high, (True, False))))
+
+    def step(self, keys, payloads, gone, low, high):
+        for it in gone:
+            self.rows.remove(self.arrived[it])
+        self.rows.update(self.numbered(keys, payloads))
+        return sum(row[2] for row in self.rows.irange_key(low, high, (True, False)))
+
+    def close(self):
+        pass
+
+
 class Sqlite:
     """A table of SQLite in memory, with an index that has all that counts and sums read."""
 
@@ -201,7 +283,7 @@ class Sqlite:
         self.base.close()
 
 
-KINDS = [Ours, Sorted, Overlay, Masks, Sqlite]
+KINDS = [Ours, Sorted, Overlay, Masks, *[Frame] * bool(pd), *[Keyed] * bool(SortedKeyList), Sqlite]
 
 
 def timed(call, *words):
@@ -258,7 +340,7 @@ def main(rows, ranges, runs):
     for _ in range(runs):
         ran = [run_of(kind, rows, ranges) for kind in KINDS]
         if any(answers != ran[0][1] for _, answers in ran):
-            sys.exit("crackd, numpy and SQLite don't answer the same")
+            sys.exit("crackd and the others don't answer the same")
         rounds.append([seconds for seconds, _ in ran])
     medians = {}
     for at, kind in enumerate(KINDS):

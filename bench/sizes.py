@@ -38,6 +38,8 @@ MOST_PART_ROWS = 998_000
 TURNS, LOOKUPS = 20_000, 10_000
 # rounds of four requests that each wait for the previous reply, while other clients load the server
 LATENCY_ROUNDS = 30_000
+# rows of a table of several shards, and how many calls each of its threads makes
+SHARDED_ROWS, CALLS = (500_000, 8_000_000), 20_000
 EVERYTHING = f"0 {2**64}"
 # for a server whose clients count at full speed: how long its histories are, and after how many commands its memory is
 # read
@@ -76,5 +78,7 @@ def shrink():
         "TURNS": 200,
         "LATENCY_ROUNDS": 100,
         "LOOKUPS": 100,
+        "SHARDED_ROWS": (4000,),
+        "CALLS": 200,
     }
     globals().update(small)
