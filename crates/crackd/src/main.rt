@@ -9,7 +9,7 @@ use crack_csv::{export_csv, load_csv};
 use crack_row::{Policy, Refusal, Upkeep, Watched};
 use crack_server::{run_batch, run_service, run_witnessed_service};
 use crack_service::{Ending, Host, Notice, REPLY_BYTES, Terms};
-use crack_session::serving::serve_session;
+use crack_session::serve;
 use crack_table::{OpenGate, Table};
 use crack_witness::Naming;
 use crack_witness_table::UnnamedTable;
@@ -54,7 +54,7 @@ fn script(rt: &HostRuntime, opening: &Opening) -> Result<(), Refusal> {
 fn serve_input(rt: &HostRuntime, core: &mut Core, policy: Policy) -> Result<(), Refusal> {
     let mut reader = Watched::new(rt.stdin());
     let mut writer = Watched::new(rt.stdout());
-    match serve_session(rt.alloc(), core, policy, &mut reader, &mut writer) {
+    match serve(rt.alloc(), core, policy, &mut reader, &mut writer) {
         Ok(_) => Ok(()),
         Err(fault) => Err(fault.refusal),
     }
