@@ -1,8 +1,10 @@
 //! A batch: the lines of one input, each worker's on a thread of its own.
-ghost use Rattle.std.specs.Prelude.{◌<◌, ℕ, [], Option, Some, IfNone, vec_len};
+ghost use Rattle.std.specs.Prelude.{◌≡◌, ◌<◌, List, IfNone, map, vec_len};
+ghost use Rattle.std.specs.List.{concat};
+ghost use Rattle.crack_session.specs.Answers.{answer_text};
 ghost use Rattle.crack_session.specs.Calls.{AreAnswersOf};
 ghost use Rattle.crack_session.specs.Readings.{statements};
-ghost use Rattle.crack_session.specs.Written.{AreWritten};
+ghost use Rattle.crack_session.specs.declared.answer.Answer.{Answer};
 ghost use Rattle.crack_table.specs.Tables.{AsksTable};
 ghost use Rattle.crack_worker_desk.specs.Leads.{table_leads};
 
@@ -118,9 +120,9 @@ fn serve_share<Rt: Wait, G: Gate>(
 ) -> Served
     // If the session wasn't cut off, its part of the output is the texts of answers to all statements of its share,
     // made of exactly the calls that these require, by the current policy; they led the worker to its present state.
-    ensures { IfNone result.fault ((short : Option ℕ) × AreWritten (AreAnswersOf (table_leads table.now (λ part.
-        AsksTable table.now (G.may_refuse gate.now part) part)) table.now.splits policy worker result.worker)
-        (statements share.items) [] short (Some result.output.items)) }
+    ensures { IfNone result.fault ((answers : List Answer) × AreAnswersOf (table_leads table.now (λ part. AsksTable
+        table.now (G.may_refuse gate.now part) part)) table.now.splits policy worker result.worker (statements
+        share.items) answers × (result.output.items ≡ concat (map answer_text answers))) }
 {
     let mut desk = WorkerDesk::new(rt, table, gate, worker);
     let mut reader = Watched::new(share.as_slice());

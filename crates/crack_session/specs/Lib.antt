@@ -8,9 +8,7 @@ pub mod Plains
 pub mod Queries
 pub mod Readings
 pub mod Rounds
-pub mod Served
 pub mod Serving
 pub mod Sessions
 pub mod Telling
 pub mod Turns
-pub mod Written

@@ -1,25 +1,23 @@
 -- What private clauses alone cite.
 use Rattle.std.specs.List.{flat_map}
-use Rattle.std.specs.Prelude.{◌≡◌, ℕ, ◌+◌, ◌⊎◌, ◌++◌, codes, decimal, Bool, true, false, List, [], ◌∷◌, Option, None, Some, Result, is_ok, if◌then◌else◌}
+use Rattle.std.specs.Prelude.{◌≡◌, ℕ, ◌+◌, ◌⊎◌, ◌++◌, codes, decimal, List, [], ◌∷◌, Option, None, Some, Result}
 use Rattle.crack_row.specs.declared.Bound.{Bound}
 use Rattle.crack_row.specs.declared.command.Command.{Command}
 use Rattle.crack_row.specs.declared.command.Policy.{Policy}
 use Rattle.crack_row.specs.declared.command.Reply.{Reply}
 use Rattle.crack_row.specs.declared.refusal.Refusal.{Refusal}
-use Rattle.crack_row.specs.declared.watched.Watched.{Watched}
 use Rattle.crack_plain.specs.Plain.{PlainView}
 use Rattle.crack_commands.specs.Grammar.{Reading}
 use Rattle.crack_session.specs.declared.answer.Answer.{Answer}
-use Rattle.crack_session.specs.declared.session.Progress.{Progress}
 use Rattle.crack_row.specs.Ranges.{Range}
 use Rattle.crack_row.specs.declared.refusal.Refusal.TheVariants.{OutOfMemory}
-use Rattle.crack_commands.specs.Texts.{line_text, row_text, Writes}
+use Rattle.crack_commands.specs.Texts.{line_text, row_text}
 use Rattle.crack_session.specs.declared.answer.Answer.TheVariants.{Refused}
 use Rattle.crack_core.specs.declared.turns.PartReply.{PartReply}
 use Rattle.crack_core.specs.declared.asking.Query.{Query}
 use Rattle.crack_core.specs.Listing.{listed}
-use Rattle.crack_session.specs.Answers.{IsJoined, IsAnswer, is_short_answer, answer_text}
-use Rattle.crack_session.specs.Calls.{Call, Asked, Calls, IsReadingMadeOf, policy_after}
+use Rattle.crack_session.specs.Answers.{IsJoined}
+use Rattle.crack_session.specs.Calls.{Call, Asked, Calls}
 use Rattle.crack_core.specs.Steps.{Bounds, IsOutcomeAt, tables_after}
 
 -- A desk is asked: its tables, if they are known, change as its bounds and splits allow, and these stay; and such calls lead from one state to the
@@ -39,25 +37,6 @@ pub record AsksOnce {D : Type 0} (bounds : D → Bounds) (splits : D → List Bo
   pub bounds_are : bounds new ≡ bounds old
   pub splits_are : splits new ≡ splits old
   pub led : leads old (Asked part command policy outcome) new
-
--- the first lack of room, after the n-th statement
-abbrev pub marked : Option ℕ → ℕ → Bool → Option ℕ
-marked (Some k) n short = Some k
-marked None n true = Some n
-marked None n false = None
-
--- An answer is written: a first lack of room and another policy are noted, its text is written, and it is counted if that is whole.
-pub record Tells {W : Type 0} (contents : W → Option (List ℕ)) (answer : Answer) (old new : Progress) (result : Result (Unit {0}) Refusal) (writer writer' : Watched W) : Type 0 where
-  pub count : new.statements ≡ (if is_ok result then old.statements + 1 else old.statements)
-  pub short : new.first_short ≡ marked old.first_short (old.statements + 1) (is_short_answer answer)
-  pub policy : new.policy ≡ policy_after old.policy answer
-  pub writes : Writes contents (answer_text answer) result writer writer'
-
--- A statement is answered at a desk, and the answer is written.
-pub record Responds {D W : Type 0} (bounds : D → Bounds) (splits : D → List Bound) (tables : D → Option (List PlainView)) (leads : D → Call → D → Type 0) (contents : W → Option (List ℕ)) (reading : Reading) (old new : Progress) (result : Result (Unit {0}) Refusal) (desk desk' : D) (writer writer' : Watched W) : Type 0 where
-  pub answer : Answer
-  pub asks : AsksDesk bounds splits tables leads (λ bounds splits tables. IsAnswer bounds splits tables reading answer) (λ splits calls. IsReadingMadeOf splits old.policy reading answer calls) desk desk'
-  pub tells : Tells contents answer old new result writer writer'
 
 -- the rows that a partition listed
 abbrev pub list_text : PartReply → List ℕ

@@ -17,7 +17,8 @@ pub mod session;
 pub use desk::Desk;
 pub use feeding::{Fed, Session, Why};
 pub use rest::Output;
-pub use session::{End, Fault, How, serve};
+pub use serving::serve;
+pub use session::{End, Fault, How};
 
 /// The greatest length of a statement's line, in bytes, without its line feed and one carriage return.
 pub const LINE_BYTES: usize = 200;

@@ -25,7 +25,7 @@ use std::io::{Read, Write};
 /// full, and flushed before each read and at the end: if those of one read fit into output, there is one write for each
 /// read. Takes only the memory that the desk takes, and that for the replies of several partitions to one statement;
 /// none for a line, so it is never cut off by 8.
-pub fn serve_session<D: Desk, R: Read, W: Write>(
+pub fn serve<D: Desk, R: Read, W: Write>(
     alloc: Global,
     desk: &mut D,
     policy: Policy,

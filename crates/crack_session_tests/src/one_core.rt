@@ -1,11 +1,14 @@
 //! Two sessions over one core, and a session and an export: the second starts where the first ended, by the contract of
 //! `serve`.
-ghost use Rattle.std.specs.Prelude.{◌≡◌, ℕ, List, Some, IfOk};
+ghost use Rattle.std.specs.Prelude.{◌≡◌, ◌++◌, ℕ, List, Some, IfOk, map};
+ghost use Rattle.std.specs.List.{concat};
 ghost use Rattle.crack_row.specs.Devices.{device};
 ghost use Rattle.crack_plain.specs.Plain.{PlainView};
 ghost use Rattle.crack_core.specs.Steps.{bounds_of, tables_of};
+ghost use Rattle.crack_session.specs.Answers.{answer_text};
 ghost use Rattle.crack_session.specs.Readings.{statements};
-ghost use Rattle.crack_session.specs.Served.{AreTold};
+ghost use Rattle.crack_session.specs.Sessions.{AreAnswers, first_short};
+ghost use Rattle.crack_session.specs.declared.answer.Answer.{Answer};
 ghost use Rattle.crack_csv.specs.Exports.{IsExported};
 
 use crack_core::Core;
@@ -27,11 +30,15 @@ fn serve_both<R: Read, W: Write>(
 ) -> Result<(End, End), Refusal>
     ensures { IfOk result (λ ends. (bytes more out : List ℕ) →
         R.remaining (device first.old) ≡ Some bytes → R.remaining (device second.old) ≡ Some more →
-        W.contents (device writer.old) ≡ Some out → (between : List PlainView) × (written : List ℕ)
-        × AreTold (bounds_of core.old.limits) core.old.splits (tables_of core.old.parts) (statements bytes) out
-        ends.0.first_short (Some between) (Some written)
-        × AreTold (bounds_of core.old.limits) core.old.splits between (statements more) written ends.1.first_short
-        (Some (tables_of core.new.parts)) (W.contents (device writer.new))) }
+        W.contents (device writer.old) ≡ Some out →
+        (between : List PlainView) × (one : List Answer) × (other : List Answer)
+        × AreAnswers (bounds_of core.old.limits) core.old.splits (tables_of core.old.parts) (statements bytes) one
+        between
+        × AreAnswers (bounds_of core.old.limits) core.old.splits between (statements more) other
+        (tables_of core.new.parts)
+        × (ends.0.first_short ≡ first_short one) × (ends.1.first_short ≡ first_short other)
+        × (W.contents (device writer.new) ≡
+        Some ((out ++ concat (map answer_text one)) ++ concat (map answer_text other)))) }
 {
     match serve(alloc, core, Policy::Ripple, first, writer) {
         Ok(one) => match serve(alloc, core, Policy::Ripple, second, writer) {
@@ -52,11 +59,12 @@ fn serve_and_export<R: Read, W: Write>(
 ) -> Result<(End, u64), Refusal>
     ensures { IfOk result (λ told. (bytes out : List ℕ) →
         R.remaining (device reader.old) ≡ Some bytes → W.contents (device writer.old) ≡ Some out →
-        (between : List PlainView) × (written : List ℕ)
-        × AreTold (bounds_of core.old.limits) core.old.splits (tables_of core.old.parts) (statements bytes) out
-        told.0.first_short (Some between) (Some written)
+        (between : List PlainView) × (answers : List Answer)
+        × AreAnswers (bounds_of core.old.limits) core.old.splits (tables_of core.old.parts) (statements bytes) answers
+        between
+        × (told.0.first_short ≡ first_short answers)
         × IsExported (bounds_of core.old.limits) core.old.splits between told.1 (Some (tables_of core.new.parts))
-        (Some written) (W.contents (device writer.new))) }
+        (Some (out ++ concat (map answer_text answers))) (W.contents (device writer.new))) }
 {
     match serve(alloc, core, Policy::Ripple, reader, writer) {
         Ok(end) => match export_csv(alloc, core, Policy::Ripple, writer) {

@@ -5,7 +5,6 @@ use crack_failing::{Sink, Source};
 use crack_row::{GREATEST_LIMIT, Policy, Watched};
 use crack_session::{End, How};
 use std::alloc::Global;
-use std::io::BufWriter;
 use std::process::Abort;
 
 /// A session whose calls are counted.
@@ -18,12 +17,8 @@ struct Case {
     /// How many bytes a read gives at most, and which read fails, from 1.
     size: usize,
     fails_at: u64,
-    /// How many bytes the writer keeps before it writes.
-    room: usize,
     how: How,
     statements: u64,
-    /// Whether there are several writes, and no more of them than reads and one.
-    is_buffered: bool,
 }
 
 const CASES: &[Case] = &[
@@ -33,22 +28,18 @@ const CASES: &[Case] = &[
         last: b"count 0 9",
         size: 4096,
         fails_at: u64::MAX,
-        room: 8192,
         how: How::InputEnded,
         statements: 1001,
-        is_buffered: true,
     },
-    // each two bytes get ten, and the writer keeps the replies to a whole read
+    // each two bytes get ten, and output has room for the replies to a whole read
     Case {
         line: b"x\n",
         times: 8192,
         last: b"",
         size: 4096,
         fails_at: u64::MAX,
-        room: 24576,
         how: How::InputEnded,
         statements: 8192,
-        is_buffered: true,
     },
     // the reads cut the lines
     Case {
@@ -57,10 +48,8 @@ const CASES: &[Case] = &[
         last: b"count 0 9",
         size: 29,
         fails_at: u64::MAX,
-        room: 8,
         how: How::InputEnded,
         statements: 1001,
-        is_buffered: false,
     },
     // nothing is read after `quit`, though the reader would fail
     Case {
@@ -69,10 +58,8 @@ const CASES: &[Case] = &[
         last: b"quit\n",
         size: 4096,
         fails_at: 2,
-        room: 8,
         how: How::Quit,
         statements: 2,
-        is_buffered: false,
     },
 ];
 
@@ -95,8 +82,7 @@ fn log_it(rt: &impl Abort, alloc: Global, case: Case, log: &Log) {
     let device = source.failing_at(case.fails_at);
     let mut reader = Watched::new(Logged { device, log });
     let device = Sink::new(Vec::new(alloc));
-    let buffered = BufWriter::with_capacity(alloc, case.room, Logged { device, log });
-    let mut writer = Watched::new(buffered.expect(rt, "a buffer"));
+    let mut writer = Watched::new(Logged { device, log });
     let result = session(alloc, &mut desk, Policy::Complete, &mut reader, &mut writer);
     drop(writer);
     drop(desk);
@@ -109,7 +95,8 @@ fn log_it(rt: &impl Abort, alloc: Global, case: Case, log: &Log) {
 }
 
 /// Each whole line is answered before the next read, wherever the reads cut the lines, and each read asks for 4,096
-/// bytes. Output is flushed before each read and at the end, and so is buffered to at most one write for each read.
+/// bytes. There is one write for each read that finishes lines, and none for others. Output is flushed before each read
+/// and at the end.
 #[test]
 fn lines_are_answered_before_the_next_read(rt: HostRuntime) {
     'cases: for place in 0..CASES.len() {
@@ -123,7 +110,6 @@ fn lines_are_answered_before_the_next_read(rt: HostRuntime) {
             log.left.get() as u64,
         ];
         assert_eq!(rt; told, [case.statements, most, 0]);
-        let writes = log.writes.get();
-        assert!(rt; log.is_orderly.get() && (!case.is_buffered || 1 < writes && writes <= most));
+        assert!(rt; log.is_orderly.get() && log.writes.get() < most);
     }
 }

@@ -1,8 +1,10 @@
 //! A session over a worker of a table that witnesses its replies, up to the gathering of all workers.
-ghost use Rattle.std.specs.Prelude.{ℕ, List, [], Option, Some};
+ghost use Rattle.std.specs.Prelude.{◌≡◌, List, map};
+ghost use Rattle.std.specs.List.{concat};
 ghost use Rattle.crack_row.specs.declared.command.Policy.TheVariants.{Complete};
+ghost use Rattle.crack_session.specs.Answers.{answer_text};
 ghost use Rattle.crack_session.specs.Readings.{statements};
-ghost use Rattle.crack_session.specs.Written.{AreWritten};
+ghost use Rattle.crack_session.specs.declared.answer.Answer.{Answer};
 ghost use Rattle.crack_worker_desk.specs.Histories.{AreOfHistories};
 
 use crack_row::{Policy, Watched};
@@ -34,8 +36,8 @@ fn serve_and_gather<J: Naming, R: Wait + Abort>(
     mut others: Vec<Asker<J>>,
     input: &[u8],
 ) -> (Vec<u8>, Gathered<J>)
-    ensures { (short : Option ℕ) × AreWritten (AreOfHistories J.owner result.1.parts.items worker.worker table.splits
-        Complete) (statements input.now) [] short (Some result.0.items) }
+    ensures { (answers : List Answer) × AreOfHistories J.owner result.1.parts.items worker.worker table.splits Complete
+        (statements input.now) answers × (result.0.items ≡ concat (map answer_text answers)) }
 {
     let mut reader = Watched::new(input);
     let mut writer = Watched::new(Vec::new(alloc));

@@ -1,12 +1,6 @@
--- A desk's calls are its worker's, and all that follows from its answers holds of the output.
-use Rattle.std.proofs.Common.{◌≡◌, ℕ, ◌+◌, List, [], ◌∷◌, ◌++◌, Option, ap, ◌∙◌, subst, Some, map, inl, inr}
-use Rattle.std.specs.List.{concat}
-use Rattle.crack_commands.specs.Grammar.{Reading}
-use Rattle.crack_session.specs.declared.answer.Answer.{Answer}
-use Rattle.crack_session.specs.declared.session.Fault.{Fault}
+-- A desk's calls are its worker's.
+use Rattle.std.proofs.Common.{◌≡◌, ℕ, List, [], ◌∷◌, ap, ◌∙◌, subst}
 use Rattle.crack_session.specs.Calls.{Call, Calls}
-use Rattle.crack_session.specs.Answers.{answer_text}
-use Rattle.crack_session.specs.Written.{HaveAnswers, AreWritten, AreCutInLast, AreWrittenThen}
 use Rattle.crack_kept.specs.Receipts.{BookState}
 use Rattle.crack_table.specs.Tables.{TableState, AsksTable}
 use Rattle.crack_witness.specs.Witnesses.{AskerState}
@@ -39,14 +33,3 @@ module _ {D G S : Type 0} (stands : TableState → G → S → Call → S → Ty
         rest.1 ∙ one.1,
         (worker were.0, one.2, subst (λ (g : G). Lead (table old) g were.0 calls new) one.1 (subst (λ (t : TableState). Lead t (gate were.0) were.0 calls new) one.0 rest.2)),
       )
-
-module _ (Are Then : List Reading → List Answer → Type 0) (follows : (readings : List Reading) (answers : List Answer) → Are readings answers → Then readings answers) where
-  pub HaveAnswers-follows : (readings : List Reading) (short : Option ℕ) (IsOutput : List Answer → Type 0) → HaveAnswers Are readings short IsOutput → HaveAnswers Then readings short IsOutput
-  HaveAnswers-follows readings short IsOutput w = record { answers = w.answers; are = follows readings w.answers w.are; short_is = w.short_is; output = w.output }
-
-  pub AreWritten-follows : (readings : List Reading) (out : List ℕ) (short : Option ℕ) (written : Option (List ℕ)) → AreWritten Are readings out short written → AreWritten Then readings out short written
-  AreWritten-follows readings out short written w = HaveAnswers-follows readings short (λ answers. written ≡ Some (out ++ concat (map answer_text answers))) w
-
-  pub AreWrittenThen-follows : (bytes out : List ℕ) (fault : Fault) (written : Option (List ℕ)) → AreWrittenThen Are bytes out fault written → AreWrittenThen Then bytes out fault written
-  AreWrittenThen-follows bytes out fault written (inl w) = inl (AreWritten-follows _ out fault.first_short written w)
-  AreWrittenThen-follows bytes out fault written (inr w) = inr (w.0, w.1, HaveAnswers-follows _ fault.first_short (AreCutInLast out written) w.2)

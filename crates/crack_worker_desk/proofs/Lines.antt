@@ -1,19 +1,15 @@
 -- The answers of a session over a desk of a witnessed table are made of replies in the histories.
-use Rattle.std.proofs.Common.{ℕ, List, ◌∙◌, subst}
-use Rattle.crack_commands.specs.Grammar.{Reading}
-use Rattle.crack_row.specs.declared.command.Policy.{Policy}
-use Rattle.crack_session.specs.declared.answer.Answer.{Answer}
-use Rattle.crack_session.specs.Calls.{Call, Calls, AreAnswersOf}
+use Rattle.std.proofs.Common.{ℕ, ◌∙◌, subst}
+use Rattle.crack_session.specs.Calls.{Call}
 use Rattle.crack_table.specs.Tables.{TableState}
-use Rattle.crack_witness.specs.Witnesses.{AskerState, WitnessedState}
-use Rattle.crack_worker_desk.specs.Histories.{IsGathered, AreOfHistories, AreLinesOfHistories}
-use Rattle.crack_worker_desk.proofs.Holding.{witnessed_leads, IsStep, Lead, Lead-all, AreWritten-follows, AreWrittenThen-follows}
+use Rattle.crack_witness.specs.Witnesses.{AskerState}
+use Rattle.crack_worker_desk.specs.Histories.{IsGathered, AreLinesOfHistories}
+use Rattle.crack_worker_desk.proofs.Holding.{witnessed_leads, IsStep, Lead, Lead-all}
 use Rattle.crack_worker_desk.proofs.Standing.{stands}
 
 module _ {D G : Type 0} (owner : ℕ → ℕ) (may_refuse : G → ℕ → ℕ → Type 0) (leads : D → Call → D → Type 0) (table : D → TableState) (gate : D → G) (worker : D → AskerState) (step : IsStep (λ t g. witnessed_leads owner t (may_refuse g)) leads table gate worker) where
-  of_histories : (parts : List WitnessedState) (later : List Call) (policy : Policy) (old new last : D) → Calls leads new later last → IsGathered owner (table last) parts (worker last) → (readings : List Reading) (answers : List Answer)
-      → AreAnswersOf leads (table old).splits policy old new readings answers → AreOfHistories owner parts (worker old).worker (table old).splits policy readings answers
-  of_histories parts later policy old new last goes gathered readings answers are =
+  pub lines : (last : D) → AreLinesOfHistories leads table worker owner last
+  lines last = λ old new later parts policy readings answers goes gathered are.
       let here = Lead-all (λ t g. witnessed_leads owner t (may_refuse g)) leads table gate worker step are.0 old new are.1 in
       let then = Lead-all (λ t g. witnessed_leads owner t (may_refuse g)) leads table gate worker step later new last goes in
       let after : Lead (λ t g. witnessed_leads owner t (may_refuse g)) leads table gate worker (table old) (gate old) new later last =
@@ -23,10 +19,3 @@ module _ {D G : Type 0} (owner : ℕ → ℕ) (may_refuse : G → ℕ → ℕ �
         stands owner (table old) (may_refuse (gate old)) parts (worker last) (subst (λ (t : TableState). IsGathered owner t parts (worker last)) (then.0 ∙ here.0) gathered) are.0 later (worker old) (worker new) here.2 after,
         are.2,
       )
-
-  -- and so are the lines that it wrote
-  pub lines : (last : D) → AreLinesOfHistories leads table worker owner last
-  lines last = record {
-    written = λ old new later parts policy readings out short whole goes gathered. AreWritten-follows _ _ (of_histories parts later policy old new last goes gathered) readings out short whole;
-    written_in_part = λ old new later parts policy bytes out fault whole goes gathered. AreWrittenThen-follows _ _ (of_histories parts later policy old new last goes gathered) bytes out fault whole;
-  }

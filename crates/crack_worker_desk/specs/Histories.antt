@@ -1,5 +1,5 @@
--- The output of a session over a desk of a witnessed table, once its worker is gathered.
-use Rattle.std.specs.Prelude.{◌≡◌, ℕ, ◌==◌, List, [], ◌++◌, map, All, Contains, Option, slice_index_or}
+-- The answers of a session over a desk of a witnessed table, once its worker is gathered.
+use Rattle.std.specs.Prelude.{◌≡◌, ℕ, ◌==◌, List, [], ◌++◌, map, All, Contains, slice_index_or}
 use Rattle.std.specs.List.{filter}
 use Rattle.crack_row.specs.declared.Bound.{Bound}
 use Rattle.crack_row.specs.declared.command.Command.{Command}
@@ -8,9 +8,7 @@ use Rattle.crack_row.specs.declared.command.Policy.{Policy}
 use Rattle.crack_row.specs.declared.command.Reply.{Reply}
 use Rattle.crack_commands.specs.Grammar.{Reading}
 use Rattle.crack_session.specs.declared.answer.Answer.{Answer}
-use Rattle.crack_session.specs.declared.session.Fault.{Fault}
 use Rattle.crack_session.specs.Calls.{Call, Calls, AreMadeOf, AreAnswersOf}
-use Rattle.crack_session.specs.Written.{AreWritten, AreWrittenThen}
 use Rattle.crack_table.specs.Tables.{TableState}
 use Rattle.crack_plain.specs.Plain.{AreReplies, no_rows}
 use Rattle.crack_witness.specs.Histories.{history_of, calls_by}
@@ -40,14 +38,10 @@ pub record StandIn (owner : ℕ → ℕ) (parts : List WitnessedState) (worker :
 abbrev pub AreOfHistories : (ℕ → ℕ) → List WitnessedState → ℕ → List Bound → Policy → List Reading → List Answer → Type 0
 AreOfHistories owner parts worker splits policy readings answers = (calls : List Call) × StandIn owner parts worker calls × AreMadeOf splits policy readings answers calls
 
--- The output of sessions over a desk whose worker is gathered later: the texts of answers that are made of replies in the histories. The desk is
--- `old` before a session, `new` after it, and `last` when its worker is gathered.
-pub record AreLinesOfHistories {D : Type 0} (leads : D → Call → D → Type 0) (table : D → TableState) (asker : D → AskerState) (owner : ℕ → ℕ) (last : D) : Type 0 where
-  pub written : (old new : D) (later : List Call) (parts : List WitnessedState) (policy : Policy) (readings : List Reading) (out : List ℕ) (short : Option ℕ) (whole : Option (List ℕ))
-      → Calls leads new later last → IsGathered owner (table last) parts (asker last)
-      → AreWritten (AreAnswersOf leads (table old).splits policy old new) readings out short whole
-      → AreWritten (AreOfHistories owner parts (asker old).worker (table old).splits policy) readings out short whole
-  pub written_in_part : (old new : D) (later : List Call) (parts : List WitnessedState) (policy : Policy) (bytes out : List ℕ) (fault : Fault) (whole : Option (List ℕ))
-      → Calls leads new later last → IsGathered owner (table last) parts (asker last)
-      → AreWrittenThen (AreAnswersOf leads (table old).splits policy old new) bytes out fault whole
-      → AreWrittenThen (AreOfHistories owner parts (asker old).worker (table old).splits policy) bytes out fault whole
+-- The answers of sessions over a desk whose worker is gathered later are made of replies in the histories. The desk is `old` before a session, `new`
+-- after it, and `last` when its worker is gathered.
+abbrev pub AreLinesOfHistories : {D : Type 0} → (D → Call → D → Type 0) → (D → TableState) → (D → AskerState) → (ℕ → ℕ) → D → Type 0
+AreLinesOfHistories {D} leads table asker owner last = (old new : D) (later : List Call) (parts : List WitnessedState) (policy : Policy) (readings : List Reading) (answers : List Answer)
+    → Calls leads new later last → IsGathered owner (table last) parts (asker last)
+    → AreAnswersOf leads (table old).splits policy old new readings answers
+    → AreOfHistories owner parts (asker old).worker (table old).splits policy readings answers

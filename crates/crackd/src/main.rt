@@ -52,14 +52,9 @@ fn script(rt: &HostRuntime, opening: &Opening) -> Result<(), Refusal> {
 
 /// Answers the statements of standard input over a core.
 fn serve_input(rt: &HostRuntime, core: &mut Core, policy: Policy) -> Result<(), Refusal> {
-    let Ok(buffered) = BufWriter::with_capacity(rt.alloc(), REPLY_BYTES, rt.stdout()) else {
-        return Err(Refusal::OutOfMemory);
-    };
     let mut reader = Watched::new(rt.stdin());
-    let mut writer = Watched::new(buffered);
-    let served = serve(rt.alloc(), core, policy, &mut reader, &mut writer);
-    drop(writer);
-    match served {
+    let mut writer = Watched::new(rt.stdout());
+    match serve(rt.alloc(), core, policy, &mut reader, &mut writer) {
         Ok(_) => Ok(()),
         Err(fault) => Err(fault.refusal),
     }

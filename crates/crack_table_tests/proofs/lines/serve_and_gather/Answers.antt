@@ -6,7 +6,7 @@ use Rattle.crack_row.specs.Devices.{device}
 use Rattle.crack_row.specs.declared.command.Policy.TheVariants.{Complete}
 use Rattle.crack_session.specs.Calls.{Call, Calls}
 use Rattle.crack_session.specs.Readings.{statements}
-use Rattle.crack_session.specs.Written.{AreWritten}
+use Rattle.crack_session.proofs.Known.{told_if_known}
 use Rattle.crack_table.specs.Tables.{TableState}
 use Rattle.crack_witness.specs.Witnesses.{AskerState}
 use Rattle.crack_worker_desk.specs.Histories.{IsGathered, AreOfHistories}
@@ -31,25 +31,31 @@ of_value P (Err e) o x is some holds =
 pushed_last : {X : Type 0} (xs ys : List X) (x : X) → ys ≡ xs ++ x ∷ [] → Contains ys x
 pushed_last xs ys x is = subst (λ (l : List _). Contains l x) (sym is) (length xs, omega (arith, length-append xs (x ∷ [])), get_or_push xs x x (length xs) refl)
 
+-- known bytes are the same
+some_same : {xs ys : List ℕ} → ◌≡◌ {A = Option (List ℕ)} (Some xs) (Some ys) → xs ≡ ys
+some_same e = cc e
+
 pub returns : goal.returns
 returns g c =
     let own : ℕ → ℕ = g.J.Naming.owner in
     let old = c.new-desk.result in
     let last = c.serve-ended.new.desk in
-    let short = c.expect-end.result.first_short in
     let parts = c.expect-gathered.result.parts.items in
     let askers = c.push.new.self.items in
-    let lines : List ℕ = (device c.serve-ended.new.writer).items in
+    let read = c.args.input.now in
     let pushed : askers ≡ c.args.others.items ++ c.into_asker.result ∷ [] = rw c.expect.ensures at c.push.ensures.items in
     let held : Contains askers last.asker = subst (Contains askers) c.into_asker.ensures (pushed_last c.args.others.items askers c.into_asker.result pushed) in
-    let wrote = (rw c.expect-end.ensures at c.serve-ended.ensures.written) c.args.input.now [] (rw c.new-reader.ensures.device refl) (rw (c.new-writer.ensures.device, c.new.ensures.items) refl) in
-    let table : last.table.now ≡ c.args.table = same_table _ (λ d. d.table.now) (λ d call e led. led.0) wrote.are.0 old last wrote.are.1 ∙ c.new-desk.ensures.table in
+    let told = told_if_known _ _ _ _ Complete old last _ _ _ c.expect-end.result (rw c.expect-end.ensures at c.serve-ended.ensures.ends) read [] (rw c.new-reader.ensures.device refl) (rw (c.new-writer.ensures.device, c.new.ensures.items) refl) in
+    let answers = told.answers in
+    let made = told.are.made in
+    let table : last.table.now ≡ c.args.table = same_table _ (λ d. d.table.now) (λ d call e led. led.0) made.0 old last made.1 ∙ c.new-desk.ensures.table in
     let whole = of_value _ c.gather.result c.ok.result c.expect-gathered.result c.ok.ensures.value c.expect-gathered.ensures c.gather.ensures.gathered in
     let gathered : IsGathered own last.table.now parts last.asker = subst (λ (t : TableState). IsGathered own t parts last.asker) (sym table) (askers, held, whole) in
-    let told : AreWritten (AreOfHistories own parts old.asker.worker old.table.now.splits Complete) (statements c.args.input.now) [] short (Some lines) =
-    c.lines_stand_in_histories.ensures.written old last [] parts Complete (statements c.args.input.now) [] short (Some lines) refl gathered wrote in
+    let stand : AreOfHistories own parts old.asker.worker old.table.now.splits Complete (statements read) answers =
+    c.lines_stand_in_histories.ensures old last [] parts Complete (statements read) answers refl gathered made in
     rw c.into_inner.ensures (
-      short,
-      subst (λ (t : TableState). AreWritten (AreOfHistories own parts c.args.worker.worker t.splits Complete) (statements c.args.input.now) [] short (Some lines)) c.new-desk.ensures.table
-          (subst (λ (a : AskerState). AreWritten (AreOfHistories own parts a.worker old.table.now.splits Complete) (statements c.args.input.now) [] short (Some lines)) c.new-desk.ensures.asker told),
+      answers,
+      subst (λ (t : TableState). AreOfHistories own parts c.args.worker.worker t.splits Complete (statements read) answers) c.new-desk.ensures.table
+          (subst (λ (a : AskerState). AreOfHistories own parts a.worker old.table.now.splits Complete (statements read) answers) c.new-desk.ensures.asker stand),
+      some_same told.written_is,
     )

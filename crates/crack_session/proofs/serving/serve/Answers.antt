@@ -1,6 +1,6 @@
 use Rattle.std.proofs.Common.{◌≡◌, sym, ap}
 use Rattle.crack_session.specs.declared.session.Progress.{Progress}
-use Rattle.crack_session.proofs.serving.serve_session.Goals as goal
+use Rattle.crack_session.proofs.serving.serve.Goals as goal
 
 pub serve_reads-requires : goal.serve_reads-requires
 serve_reads-requires g c = record {
