@@ -4,6 +4,7 @@ import contextlib
 import io
 import json
 import pathlib
+import signal
 import tempfile
 import unittest
 from unittest import mock
@@ -11,7 +12,7 @@ from unittest import mock
 import ways  # finds the package
 
 from crackd.errors import REASONS
-from crackd.shell import console, modes, session, texts, typing
+from crackd.shell import child, console, modes, session, texts, typing
 from crackd.shell.child import Interrupts
 from crackd.shell.session import Loaded, Records, Session
 
@@ -431,6 +432,8 @@ class Lines(unittest.TestCase):
         }.items():
             shell, _, errors = self.run_lines(line, answer=lambda line: ["bye"] if line == "quit" else ["refused 5"])
             self.assertEqual((errors, shell.faults), (f"shell: {said}\n", 1))
+        for line in ("help", "help;", ".help"):
+            self.assertEqual(self.run_lines(line)[1], texts.HELP + "\n")
         answer = lambda line: ["bye"] if line == "quit" else served(line)
         for line, count in [(".layout", 2), (".layout 1", 1)]:
             _, out, _ = self.run_lines(line, answer=answer)
@@ -491,6 +494,7 @@ class Signals(unittest.TestCase):
             with contextlib.redirect_stderr(errors):
                 noting.tell_once()
                 noting.note()
+                self.assertEqual(errors.getvalue(), "")
                 noting.tell_once()
                 noting.tell_once()
             self.assertEqual(errors.getvalue().count("the server hasn't answered yet"), 1)
@@ -499,6 +503,166 @@ class Signals(unittest.TestCase):
             noting.forget()
             noting.check("nothing")
             noting.note()
+
+
+class Servers(unittest.TestCase):
+    """The server that the shell starts, played by scripts of the system's shell."""
+
+    def setUp(self):
+        room = tempfile.TemporaryDirectory()
+        self.addCleanup(room.cleanup)
+        self.room = pathlib.Path(room.name)
+
+    def script(self, text):
+        """A program that notes its words, and then does this."""
+        path = self.room / "program"
+        path.write_text(f'#!/bin/sh\necho "$@" >> {self.room}/words\n{text}\n')
+        path.chmod(0o755)
+        return str(path)
+
+    def words(self):
+        return (self.room / "words").read_text().splitlines()
+
+    def test_its_words(self):
+        waits = f"until [ -e {self.room}/end ]; do sleep 0.01; done"
+        program = self.script(f'echo "listening $3"; {waits}; echo accepted 5')
+        server = child.Server(program, ["--limit", "5", "10", "20"])
+        self.addCleanup(server.end)
+        (self.room / "end").touch()
+        common = f"serve --port {server.port} --workers 1 --sessions 1 --quiet"
+        self.assertEqual(self.words(), [f"{common} --limit 5 10 20"])
+        self.assertEqual(server.totals(), "accepted 5")
+
+    def test_a_server_that_does_not_begin(self):
+        for text, said in [
+            ("echo 'crackd: refused 12' >&2; exit 1", "no server: refused 12: there are more than 63 splits"),
+            ("echo 'some words' >&2; echo 'crackd: at last' >&2; exit 1", "no server: at last"),
+            ("exit 3", "no server: {} ended with status 3"),
+            ("kill -9 $$", "no server: {} was ended by signal 9"),
+            ("echo listening 1", "no server: {} ended with status 0"),
+        ]:
+            program = self.script(text)
+            with self.assertRaises(texts.Ended) as caught:
+                child.Server(program, [])
+            self.assertEqual(str(caught.exception), said.format(program))
+        for program in ("missing", "a\0b"):
+            with self.assertRaisesRegex(texts.Ended, f"^no server: {program}: "):
+                child.Server(program, [])
+
+    def test_a_port_that_is_taken_is_not_the_last_one(self):
+        refusing = "echo 'crackd: refused 17' >&2; exit 1"
+        program = self.script(f'[ $(wc -l < {self.room}/words) -gt 2 ] && echo "listening $3" || {{ {refusing}; }}')
+        server = child.Server(program, [])
+        self.addCleanup(server.end)
+        self.assertEqual((len(self.words()), f"--port {server.port} " in self.words()[2]), (3, True))
+        self.assertEqual(server.totals(), "")
+        program = self.script(refusing)
+        (self.room / "words").unlink()
+        self.assertRaisesRegex(texts.Ended, "^no server: no port was free$", child.Server, program, [])
+        self.assertEqual(len(self.words()), 5)
+
+    def test_how_it_ends(self):
+        for text, said in [("echo 'crackd: refused 8' >&2; exit 1", "refused 8: memory ran out; no row has changed")]:
+            server = child.Server(self.script(f'echo "listening $3"; {text}'), [])
+            self.assertEqual(server.why(), said)
+            server.end()
+            server = child.Server(self.script(f'echo "listening $3"; {text}'), [])
+            self.assertRaisesRegex(texts.Ended, f"^{said}$", server.totals)
+            server.end()
+        server = child.Server(self.script('echo "listening $3"; exec sleep 600'), [])
+        self.assertEqual(server.why(), "it cut the session off")
+        with mock.patch.object(child, "SECONDS_OF_AN_END", 0.01):
+            self.assertRaisesRegex(texts.Ended, "didn't end", server.totals)
+        self.assertIsNone(server.process.poll())
+        server.end()
+        self.assertEqual(server.process.poll(), -9)
+        server.end()
+
+    def test_a_control_c_while_it_begins_ends_it(self):
+        started = []
+
+        def interrupted(process):
+            started.append(process)
+            raise KeyboardInterrupt
+
+        program = self.script("exec sleep 600")
+        with mock.patch.object(child, "output_of", interrupted):
+            self.assertRaises(KeyboardInterrupt, child.Server, program, [])
+        self.assertEqual(started[0].poll(), -9)
+
+    def test_a_port_without_a_server(self):
+        with self.assertRaisesRegex(texts.Ended, "^no server on port [0-9]+: Connection refused$"):
+            child.channel_to(child.free_port(), mock.Mock())
+
+
+class Programs(unittest.TestCase):
+    """The shell as a program: its words, its status, and what it writes."""
+
+    def run_shell(self, words, text=""):
+        """The status of the shell, and what it writes to standard output and to standard error."""
+        out, errors = io.TextIOWrapper(io.BytesIO()), io.StringIO()
+        before = signal.getsignal(signal.SIGINT)
+        try:
+            with mock.patch("sys.stdin", io.TextIOWrapper(io.BytesIO(text.encode()))):
+                with contextlib.redirect_stdout(out), contextlib.redirect_stderr(errors):
+                    status = console.main(words)
+        except SystemExit as end:
+            status = end.code
+        finally:
+            signal.signal(signal.SIGINT, before)
+        return status, out.buffer.getvalue().decode(), errors.getvalue()
+
+    def test_wrong_words(self):
+        for words, said in [
+            (["--port", "0"], "a port must be 1 to 65535"),
+            (["--port", "65536"], "a port must be 1 to 65535"),
+            (["--port", "x"], "invalid int value"),
+            (["--policy", "some"], "invalid choice"),
+            *((["--port", "1", *more], "with --port there is a server already") for more in (
+                ["5"], ["--limit", "5"], ["--cells", "5"], ["--life", "5"], ["--program", "x"]
+            )),
+        ]:
+            status, out, errors = self.run_shell(words)
+            self.assertEqual((words, status, out, said in errors), (words, 2, "", True))
+
+    def test_no_server(self):
+        for port in (1, 65535):
+            with mock.patch.object(child, "Channel", side_effect=ConnectionRefusedError(111, "Connection refused")):
+                said = f"shell: no server on port {port}: Connection refused\n"
+                self.assertEqual(self.run_shell(["--port", str(port)]), (1, "", said))
+        self.assertEqual(self.run_shell(["--program", "/no/such"])[::2], (1, (
+            "shell: no server: /no/such: No such file or directory\n"
+        )))
+
+    def test_a_server_that_leaves(self):
+        with ways.standing_in(lambda connection: None) as port:
+            status, out, errors = self.run_shell(["--port", str(port), "--policy", "auto"], "count 0 1\n")
+            self.assertEqual((status, out, errors), (1, "", "shell: the server left\n"))
+
+    @ways.wants_program
+    def test_a_server_of_its_own(self):
+        for words, text, wanted in [
+            ([], "insert 7 70\ncount 0 9\n", (0, "row 0.0\ncount 1\n")),
+            (["5"], "insert 7 70\ninsert 4 1", (0, "row 1.0\nrow 0.0\n")),
+            (["--cells", "1"], "insert 7 70\ninsert 8 1\n", (1, "row 0.0\nrefused 9\n")),
+            (["--limit", "2"], "count 0 1\ncount 0 1\ncount 0 1\n", (1, "count 0\ncount 0\nrefused 6 2\n")),
+            (["--life", "1"], "count 0 1\ncount 0 1\n", (1, "count 0\nrefused 10\n")),
+        ]:
+            self.assertEqual((words, self.run_shell(words, text)), (words, (*wanted, "")))
+        status, out, errors = self.run_shell(["5", "5"])
+        self.assertEqual((status, out, errors[:27]), (1, "", "shell: no server: refused 11"[:27]))
+
+    @ways.wants_program
+    def test_its_policy(self):
+        rows = "".join(f"insert {it} 1\n" for it in range(9))
+        for policy, pending in [("complete", 0), ("ripple", 8)]:
+            _, out, _ = self.run_shell(["--policy", policy], rows + "count 0 1\nlayout 0\n")
+            self.assertIn(f" in {pending} ", out)
+        with ways.crackd.serve(workers=1) as served:
+            for policy, pending, text in [("ripple", 8, rows + "count 0 1\n"), ("complete", 0, "count 1 2\n")]:
+                text += "layout 0\n"
+                status, out, errors = self.run_shell(["--port", str(served.port), "--policy", policy], text)
+                self.assertEqual((status, f" in {pending} " in out and out, errors), (0, out, ""))
 
 
 if __name__ == "__main__":
