@@ -181,6 +181,14 @@ class Loads(unittest.TestCase):
                         told = [it.args[0] for it in progress.show.call_args_list]
                         self.assertEqual((len(told), told[-1]), (5, "6 rows"))
 
+    def test_it_waits_until_all_is_sent(self):
+        channel, loaded = Answering(lambda _: []), Loaded(sent=1, answered=1)
+        for steps in (0, 1, 3):
+            channel.unsent = steps * b"x"
+            with mock.patch.object(channel, "step", lambda: setattr(channel, "unsent", channel.unsent[1:])):
+                Session(channel, Calm(), "auto").settle(loaded, 5)
+            self.assertEqual((channel.unsent, loaded.answered), (b"", 1))
+
     def test_the_policy_is_set_only_if_nobody_knows_it(self):
         answer = lambda line: ["policy auto"] if line.startswith("policy") else ["row 0.0"]
         for policy, sent in [(None, ["policy auto"]), ("ripple", []), ("auto", [])]:
@@ -356,6 +364,45 @@ class Shown(unittest.TestCase):
             "x": [],
         }.items():
             self.assertEqual((line, typing.completions(line, line.split(" ")[-1])), (line, wanted))
+
+
+class Editing(unittest.TestCase):
+    """Lines at the prompt, with a stand-in for the module readline."""
+
+    def edit(self, doc="", **environment):
+        readline = mock.Mock(__doc__=doc)
+        readline.get_line_buffer.return_value, readline.get_endidx.return_value = "policy rest", 7
+        with mock.patch.dict("sys.modules", readline=readline), mock.patch.dict("os.environ", environment):
+            with typing.edited():
+                self.assertFalse(readline.write_history_file.called)
+        return readline
+
+    def test_words_are_completed_one_by_one(self):
+        readline = self.edit()
+        readline.set_completer_delims.assert_called_once_with(" ")
+        (completed,) = readline.set_completer.call_args.args
+        wanted = ["complete ", "gradual ", "ripple ", "auto ", None]
+        self.assertEqual([completed("", at) for at in range(5)], wanted)
+        self.assertEqual([completed("g", at) for at in range(2)], ["gradual ", None])
+
+    def test_tab_is_bound(self):
+        bindings = {None: "tab: complete", "GNU readline": "tab: complete", "libedit": "bind ^I rl_complete"}
+        for doc, bound in bindings.items():
+            self.edit(doc).parse_and_bind.assert_called_once_with(bound)
+
+    def test_lines_are_kept_in_a_file(self):
+        with mock.patch("os.path.expanduser", lambda path: path.replace("~", "/home")):
+            for named, path in [({"CRACKD_HISTORY": "/there"}, "/there"), ({}, "/home/.crackd_history")]:
+                readline = self.edit(**named)
+                readline.read_history_file.assert_called_once_with(path)
+                readline.write_history_file.assert_called_once_with(path)
+                readline.set_history_length.assert_called_once_with(1000)
+        readline = self.edit(CRACKD_HISTORY="")
+        self.assertFalse(readline.read_history_file.called or readline.write_history_file.called)
+
+    def test_without_the_module(self):
+        with mock.patch.dict("sys.modules", readline=None), typing.edited():
+            pass
 
 
 class Lines(unittest.TestCase):
