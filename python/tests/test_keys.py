@@ -290,6 +290,11 @@ class Kinds(unittest.TestCase):
     def test_kinds_of_lists(self):
         for keys, name in [([], "int64"), ([1], "int64"), ([-1, GREATEST], "int64"), ([2**63], "uint64")]:
             self.assertEqual(kind_of(keys), Keys.named(name))
+        # (one large key makes all unsigned, wherever it is)
+        for large, name in [(2**63 - 1, "int64"), (2**63, "uint64"), (UNSIGNED, "uint64")]:
+            down = range(large, large - 3, -1)
+            for keys in ([large, 0], [0, large], [5, large, 7], (1, 2, large), down, {large: 0, 1: 0}):
+                self.assertEqual((keys, kind_of(keys).name), (keys, name))
         for keys in ([1.5], [1, 1.5], [fractions.Fraction(1)], (0.5,)):
             self.assertEqual(kind_of(keys), Keys("f"))
         for keys in ([True], [1, True], [0.5, False], ["a"], [None], [1, None], [1j], b"ab", bytearray(1), "", "ab"):

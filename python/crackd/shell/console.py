@@ -330,15 +330,15 @@ def is_with_a_person() -> bool:
 
 def talk(port: int, policy: Optional[str], is_known: bool, interrupts: Interrupts) -> bool:
     """A session with the server at a port, whose policy is known or is set first. Returns whether all was done."""
-    channel, is_terminal = channel_to(port, interrupts), is_with_a_person()
-    session = Session(channel, interrupts, policy if is_known else None)
-    if policy and not is_known:
-        session.demand(f"policy {policy}")
-    if is_terminal:
-        print(f"crackd on port {port}; help lists the statements, control-D ends")
-    shell = Shell(session, interrupts, is_terminal)
-    shell.run(typed_lines(interrupts) if is_terminal else given_lines(interrupts))
-    channel.close()
+    is_terminal = is_with_a_person()
+    with contextlib.closing(channel_to(port, interrupts)) as channel:
+        session = Session(channel, interrupts, policy if is_known else None)
+        if policy and not is_known:
+            session.demand(f"policy {policy}")
+        if is_terminal:
+            print(f"crackd on port {port}; help lists the statements, control-D ends")
+        shell = Shell(session, interrupts, is_terminal)
+        shell.run(typed_lines(interrupts) if is_terminal else given_lines(interrupts))
     return is_terminal or not shell.faults
 
 
