@@ -33,7 +33,7 @@ CRATES = TOP / "crates"
 SECONDS, PATIENT_SECONDS, TRIES, MOST_WORKERS = 60, 120, 5, 64
 COMPILERS = ["cc", "gcc", "clang", "tcc"]
 PORT_IS_TAKEN = "crackd: refused 17\n"
-# the time of a line of a server's log, by RFC 3339 and in UTC, and the line itself; a refused run has a line without one
+# the time of a line of a server's log, by RFC 3339 and in UTC, and the line itself; that of a refused run has no time
 TIME = r"\d{4}-(?:0[1-9]|1[0-2])-(?:0[1-9]|[12]\d|3[01])T(?:[01]\d|2[0-3]):[0-5]\d:[0-5]\dZ"
 TIMED, REFUSED_RUN = re.compile(rf"({TIME}) (crackd: .+)"), re.compile(r"crackd: refused \d+")
 CONTROL_C, CONTROL_D = "\x03", "\x04"

@@ -97,12 +97,12 @@ class Crowd:
         def come(many: int, room: int | None = None) -> list[Client]:
             return [stack.enter_context(Client(port, room)) for _ in range(many)]
 
-        self.silent, self.deaf, self.slow, self.flooding = come(HOSTILE), come(HOSTILE, 4096), come(HOSTILE), come(HOSTILE)
-        self.resetting, self.half_closed, self.http, self.honest = come(HOSTILE), come(HOSTILE), come(HOSTILE), come(HONEST)
+        self.silent, self.slow, self.flooding, self.resetting = (come(HOSTILE) for _ in range(4))
+        self.half_closed, self.http, self.deaf = come(HOSTILE), come(HOSTILE), come(HOSTILE, 4096)
+        self.honest = come(HONEST)
 
     def misbehave(self) -> None:
-        """Floods, reads nothing, sends requests of HTTP, resets, and ends what is sent amid the replies. What isn't read
-        here changes no total."""
+        """Requests much and reads nothing, floods, sends requests of HTTP, and resets. None of it changes a total."""
         for it in self.deaf:
             push(it, "layout 0\n" * 100_000)
         for it in self.flooding:
@@ -300,9 +300,9 @@ class Servers(fixtures.Case):
             status, wrote, _ = it.ended()
             whole = [line for line in got if line.endswith("\n")]
             expect("replies", [f"row 0.{number}\n" for number in range(len(whole))], whole)
-            accepted = int(wrote.split()[1])
-            expect("totals", (0, f"accepted {accepted} inserted {accepted} deleted 0 held {accepted}\n"), (status, wrote))
-            self.assertLessEqual(len(whole), accepted)
+            many = int(wrote.split()[1])
+            expect("totals", (0, f"accepted {many} inserted {many} deleted 0 held {many}\n"), (status, wrote))
+            self.assertLessEqual(len(whole), many)
 
     def test_a_drain_that_ends(self) -> None:
         """A server that stops waits as long as --drain says for a client that takes no replies, and cuts it off."""

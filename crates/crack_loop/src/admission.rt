@@ -132,8 +132,8 @@ impl Admission {
         }
     }
 
-    /// How many clients were turned away since this last returned some, and the last of them: none if this was less than
-    /// a second ago, unless the server ends.
+    /// How many clients were turned away since this last returned some, and the last of them: none if this was less
+    /// than a second ago, unless the server ends.
     pub(crate) fn take_turned_away<Rt: Wait>(
         &self,
         rt: &Rt,
