@@ -102,7 +102,7 @@ fn words_of(refusal: Refusal, cause: Cause) -> &'static str {
     match (refusal, cause) {
         (Refusal::ReadFault, Cause::Fault) => "the connection was closed or failed at a read",
         (Refusal::ReadFault, Cause::Wait) => "the client sent nothing for too long",
-        (Refusal::ReadFault, Cause::Stop) => "the server stopped while the client was sending",
+        (Refusal::ReadFault, Cause::Stop) => "the server stopped before it answered the rest",
         (Refusal::WriteFault, Cause::Fault) => "the connection was closed or failed at a write",
         (Refusal::WriteFault, Cause::Wait) => "the client took no replies for too long",
         (Refusal::WriteFault, Cause::Stop) => {
