@@ -29,10 +29,13 @@ import unittest
 
 TOP = pathlib.Path(__file__).resolve().parent.parent
 CRATES = TOP / "crates"
-# how long a child or a server may take, how long a client may wait for a worker, and how often another port is tried
+# how long a child or a server may take, how long a client may wait for a reply, and how often another port is tried
 SECONDS, PATIENT_SECONDS, TRIES, MOST_WORKERS = 60, 120, 5, 64
 COMPILERS = ["cc", "gcc", "clang", "tcc"]
 PORT_IS_TAKEN = "crackd: refused 17\n"
+# the time of a line of a server's log, by RFC 3339 and in UTC, and the line itself; that of a refused run has no time
+TIME = r"\d{4}-(?:0[1-9]|1[0-2])-(?:0[1-9]|[12]\d|3[01])T(?:[01]\d|2[0-3]):[0-5]\d:[0-5]\dZ"
+TIMED, REFUSED_RUN = re.compile(rf"({TIME}) (crackd: .+)"), re.compile(r"crackd: refused \d+")
 CONTROL_C, CONTROL_D = "\x03", "\x04"
 # (a dumb terminal gets no escape sequences for line editing)
 DUMB = {"TERM": "dumb", "INPUTRC": "/dev/null"}
@@ -133,6 +136,14 @@ def free_port() -> int:
         return it.getsockname()[1]
 
 
+def untimed(log: str) -> str:
+    """The lines of a server's log without their times. Wrong if one has none."""
+    lines = [TIMED.fullmatch(it) or REFUSED_RUN.fullmatch(it) for it in log.splitlines()]
+    if None in lines:
+        raise Wrong(f"a line without a time: {log.splitlines()[lines.index(None)]!r}")
+    return "".join(f"{it[it.re.groups]}\n" for it in lines)
+
+
 class Server:
     """A server that listens, and its port. It is killed at the end if it still runs. `may_end`: it needn't listen."""
 
@@ -169,13 +180,14 @@ class Server:
         self.process.stdin.close()
 
     def ended(self) -> Ended:
-        """Waits for the server's end. Returns its status, its output after the first line, and its standard error."""
+        """Waits for the server's end. Returns its status, its output after the first line, and its standard error,
+        without the times of its lines."""
         try:
             status = self.process.wait(SECONDS)
         except subprocess.TimeoutExpired as error:
             raise Wrong("the server didn't end") from error
         self.log.seek(0)
-        return status, self.process.stdout.read(), self.log.read()
+        return status, self.process.stdout.read(), untimed(self.log.read())
 
     def wait(self, totals: typing.Sequence[object], *notes: str) -> None:
         """Waits for the server's end. It must have these totals, and these lines on standard error in any order."""
@@ -207,6 +219,7 @@ class Client:
             self.socket.setsockopt(socket.SOL_SOCKET, socket.SO_RCVBUF, room)
         self.socket.settimeout(seconds)
         self.socket.connect(("127.0.0.1", port))
+        self.address = "{}:{}".format(*self.socket.getsockname())
         self.lines = self.socket.makefile("r", encoding="ascii", newline="\n")
 
     def __enter__(self) -> typing.Any:

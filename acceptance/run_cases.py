@@ -215,7 +215,10 @@ def served(program: str, of: Case) -> fixtures.Ended:
                     clients[number] = stack.enter_context(fixtures.Client(server.port, seconds=SECONDS))
                 wrote += said(clients[number], text)
         status, totals, complained = server.ended()
-    return status, f"{wrote}{totals}".encode(), complained.replace(f":{server.port}", ":PORT").encode()
+    complained = complained.replace(f":{server.port}\n", ":PORT\n")
+    for number, client in clients.items():
+        complained = complained.replace(f"client {client.address}:", f"client {number}:")
+    return status, f"{wrote}{totals}".encode(), complained.encode()
 
 
 def ran(program: str, of: Case) -> fixtures.Ended:

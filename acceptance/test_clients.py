@@ -9,10 +9,9 @@ gives the same clients, but not the order in which a server takes them. If only 
 small limits, the limits hold for all of them together, and each entry is checkpointed once.
 
 An hour is scaled down. First come clients of all kinds except those that leave many rows; checkpoints are automatic,
-and 6 is no reply. Then steady clients connect, whose rows come, change and go while there are few at a time; once each
-has been answered the server's input ends. They go on until they have asked as much as they want, and get all of their
-answers. A session that was open from the beginning reads the table at the end. By standard error each automatic
-checkpoint removed as many entries as a history may have, and each entry was checkpointed once.
+and 6 is no reply. Then steady clients connect, whose rows come, change and go while there are few at a time. A session
+that was open from the beginning reads the table at the end, and is closed once the server's input ends. By standard
+error each automatic checkpoint removed as many entries as a history may have, and each entry was checkpointed once.
 """
 
 import concurrent.futures
@@ -212,7 +211,7 @@ def silent(guest: Guest) -> None:
 
 
 def reads_nothing(guest: Guest) -> None:
-    """Requests large lists and reads none, so that its worker can't go on; then leaves, or reads all."""
+    """Requests large lists and reads none, so that its session can't go on; then leaves, or reads all."""
     with Client(guest.port, FEW_BYTES) as it:
         for _ in range(LISTED // 200):
             guest.ask(it, *(guest.insert() for _ in range(200)))
@@ -335,7 +334,7 @@ OFTEN = {"insert": 34, "delete": 16, "update": 12, "count": 20, "sum": 10, "sele
 CHECKPOINTS = re.compile(r"crackd: (?:checkpoint|(\d+) checkpoints, the last) of partition (\d+): (\d+) entries")
 # how many entries automatic checkpoints remove before a line reports them
 TOLD = 1000
-CUT_OFF = re.compile(r"crackd: worker \d+: session cut off: refused (?:17|18): .*")
+CUT_OFF = re.compile(r"crackd: client 127\.0\.0\.1:\d+: session cut off: refused (?:17|18): .*")
 ENDED = re.compile(r"crackd: ended: sessions (\d+), cut off (\d+)")
 # how many commands there are before and after the memory is read, a thirtieth of what bench/ measures
 LIMIT, FEW, MANY = 2_184, 100_000, 1_000_000
@@ -537,10 +536,11 @@ class Hour(Storm):
             self.go_on(server)
             account.look(looking, self.clients, self.limits)
             peak.often.set()
-            looking.ask("quit", "bye")
+            server.close()
+            looking.is_at_end()
 
     def go_on(self, server: Server) -> None:
-        """Runs the steady clients, and ends the server's input once each of them is served."""
+        """Runs the steady clients, which are connected all at once."""
 
         def ask_all(guest: Guest) -> None:
             with connections[guest] as it:
@@ -554,9 +554,7 @@ class Hour(Storm):
             connections[guest] = Client(server.port)
             guest.ask(connections[guest], guest.insert())
         with concurrent.futures.ThreadPoolExecutor(STEADY + BACKLOG) as pool:
-            runs = [pool.submit(visit, it, ask_all) for it in connections]
-            server.close()
-            wait_for(runs)
+            wait_for([pool.submit(visit, it, ask_all) for it in connections])
 
 
 def check(program: str, seed: int) -> None:

@@ -1,24 +1,42 @@
-"""Servers with many clients, and servers that end when their input ends or a client is silent.
+"""Servers with many clients, and servers that stop when their input ends, or let a silent client go.
 
 The expected results are from docs/SPECIFICATION.md. The answers to clients one after the other are in
 cases/clients.cases and cases/ends.cases, batches at their bounds in pages/bounds.txt.
 """
 
 import contextlib
+import datetime
 import os
+import re
 import resource
 import signal
 import time
+import typing
 import unittest
 
 import fixtures
-from fixtures import Client, Server, expect, serving, side_by_side
+from fixtures import Client, Server, all_at_once, expect, serving, side_by_side
 from plain_session import MOST
 
-LOADED = 30_000
+# what fits into the buffer of a connection on its way to the server
+ARRIVED = 3_000
 ALL = f"count 0 {MOST}"
-CUT_OFF = "crackd: worker 0: session cut off: refused 18: writing to the client failed or waited too long"
-SILENT = "crackd: worker {}: session cut off: refused 17: reading from the client failed or waited too long"
+# how many clients there are at once: honest ones, and of each other kind; and with how many rows an honest one works
+HONEST, HOSTILE, ROWS = 300, 100, 5
+# how many descriptors a server has, and how many clients it has at once
+DESCRIPTORS, CLIENTS = 32, 100
+TOO_MANY = re.compile(r"crackd: (?:client|(\d+) clients, the last) 127\.0\.0\.1:\d+: refused 20 2: .+")
+CAUSES = {
+    "write failed": "refused 18: the connection was closed or failed at a write",
+    "silent": "refused 17: the client sent nothing for too long",
+    "deaf": "refused 18: the client took no replies for too long",
+    "stopped": "refused 18: the server stopped before the client took its replies",
+}
+
+
+def cut_off(client: Client, cause: str) -> str:
+    """The line of the log about a client that was cut off."""
+    return f"crackd: client {client.address}: session cut off: {CAUSES[cause]}"
 
 
 def inserts(many: int) -> str:
@@ -27,27 +45,111 @@ def inserts(many: int) -> str:
 
 
 def is_served(port: int) -> bool:
-    """Whether a connection is answered: it asks something that changes no total. Otherwise it is refused or closed, or
-    waits in the queue of a server whose other session is open."""
+    """Whether a connection is answered: it asks something that changes no total. Otherwise it is refused or closed."""
     try:
         with Client(port, seconds=30) as it:
             it.send("layout 0\nquit\n")
-            return it.lines.read() != ""
+            return it.lines.read().startswith("layout")
     except OSError:
         return False
+
+
+def fill(client: Client, text: str) -> None:
+    """Sends a text again and again until nothing more is taken for a second."""
+    client.socket.settimeout(1)
+    with contextlib.suppress(TimeoutError):
+        while True:
+            client.send(text)
+
+
+def push(client: Client, text: str) -> None:
+    """Sends as much of a text as the connection takes at once."""
+    client.socket.setblocking(False)
+    with contextlib.suppress(BlockingIOError):
+        client.send(text)
+    client.socket.setblocking(True)
+
+
+def work(client: Client, low: int) -> list[int]:
+    """Inserts rows with keys from here on, asks for them, and deletes one. Returns their serials."""
+    keys, serials = range(low, low + ROWS), []
+    for number, key in enumerate(keys, 1):
+        [reply] = client.answer(f"insert {key} -{key}")
+        serials.append(int(reply.removeprefix("row 0.")))
+        client.ask(f"count {low} {low + ROWS}", f"count {number}")
+    client.ask(f"sum {low} {low + ROWS}", f"sum -{sum(keys)}")
+    rows = [f"0.{serial} {key} -{key}" for serial, key in zip(serials, keys)]
+    client.ask(f"select {low} {low + ROWS}", f"rows {ROWS}", *rows)
+    client.ask(f"delete 0.{serials[0]}", f"gone {low} -{low}")
+    client.ask(f"count {low} {low + ROWS}", f"count {ROWS - 1}")
+    client.end()
+    return serials
+
+
+# what an honest client's work adds to the totals: commands, rows inserted, deleted and held
+WORKED = (2 * ROWS + 4, ROWS, 1, ROWS - 1)
+
+
+class Crowd:
+    """A thousand clients of a server, most of them bad ones, which are all connected at once."""
+
+    def __init__(self, port: int, stack: contextlib.ExitStack) -> None:
+        def come(many: int, room: int | None = None) -> list[Client]:
+            return [stack.enter_context(Client(port, room)) for _ in range(many)]
+
+        self.silent, self.slow, self.flooding, self.resetting = (come(HOSTILE) for _ in range(4))
+        self.half_closed, self.http, self.deaf = come(HOSTILE), come(HOSTILE), come(HOSTILE, 4096)
+        self.honest = come(HONEST)
+
+    def misbehave(self) -> None:
+        """Requests much and reads nothing, floods, sends requests of HTTP, and resets. None of it changes a total."""
+        for it in self.deaf:
+            push(it, "layout 0\n" * 100_000)
+        for it in self.flooding:
+            push(it, "x" * 1_000_000)
+        for it in self.http:
+            it.send("POST / HTTP/1.1\r\nHost: localhost\r\n\r\ninsert 1 1\n")
+        for it in self.resetting:
+            it.send("nonsense\n" * 1_000)
+            it.reset()
+            it.__exit__()
+
+    def send_slowly(self) -> None:
+        """Sends a statement of each slow client, a byte of each at a time, and reads the replies."""
+        for byte in "count 1 1\n":
+            for it in self.slow:
+                it.send(byte)
+        for it in self.slow:
+            expect("a slow client's count", ["count 0"], it.reply())
+
+    def end_halves(self) -> None:
+        """Sends statements, the last one without its end, and no more, and reads all replies."""
+        for it in self.half_closed:
+            it.send("count 1 1\n" * 1_000 + "count 1 1")
+            it.sends_no_more()
+        for it in self.half_closed:
+            expect("a half-closed client's counts", "count 0\n" * 1_001, it.lines.read())
+
+    def be_honest(self) -> list[int]:
+        """Has the honest clients work, many at a time. Returns the serials of all their rows."""
+        groups = [list(enumerate(self.honest, 1))[first::20] for first in range(20)]
+        done = all_at_once(lambda group: [serial for number, it in group for serial in work(it, 100 * number)], groups)
+        return [serial for serials in done for serial in serials]
+
+    def totals(self) -> typing.Iterator[int]:
+        """The totals that the replies come to."""
+        reads = len(self.slow) + 1_001 * len(self.half_closed)
+        return (of * len(self.honest) + more for of, more in zip(WORKED, (reads, 0, 0, 0)))
 
 
 class Servers(fixtures.Case):
     """Servers with many clients, and servers with --until-eof and --idle."""
 
     def test_one_reads_no_reply(self) -> None:
-        """A client that sends until nothing more is taken, and reads no reply, holds only its own worker."""
-        with serving(self.program, (2, 1, 0, 1), 2, 2) as port, Client(port) as stuck:
-            stuck.socket.settimeout(1)
-            with contextlib.suppress(TimeoutError):
-                while True:
-                    # (none of these lines is kept in a history, however many are read)
-                    stuck.send("nonsense\n" * 10000)
+        """A client that sends until nothing more is taken, and reads no reply, holds up no other."""
+        with serving(self.program, (2, 1, 0, 1), 1, 2) as port, Client(port) as stuck:
+            # (none of these lines is kept in a history, however many are read)
+            fill(stuck, "nonsense\n" * 10000)
             with Client(port) as it:
                 it.ask("insert 1 10", "row 0.0")
                 it.ask(ALL, "count 1")
@@ -55,38 +157,106 @@ class Servers(fixtures.Case):
             stuck.__exit__()
 
     def test_descriptors_that_run_out(self) -> None:
-        """A worker whose accepts fail for lack of a descriptor goes on, and serves again once there is one. Each
-        failure counts as a session; a pause follows it, so there are few."""
+        """A server whose accepts fail for lack of a descriptor goes on, and serves again once there is one. Each
+        failure counts as a session; few are tried in a second."""
         with Server(self.program, 2, "--sessions", "1000", "--quiet") as server:
             number = server.process.pid
-            least = len(os.listdir(f"/proc/{number}/fd"))
             with Client(server.port) as held:
                 held.ask("insert 1 1", "row 0.0")
+                few, most = resource.prlimit(number, resource.RLIMIT_NOFILE)
+                # (what is open stays open, and there is no other descriptor)
+                resource.prlimit(number, resource.RLIMIT_NOFILE, (3, most))
                 with Client(server.port) as it:
-                    it.ask(ALL, "count 1")
-                    # (what is open stays open, and the next free worker finds no other descriptor)
-                    few, most = resource.prlimit(number, resource.RLIMIT_NOFILE)
-                    resource.prlimit(number, resource.RLIMIT_NOFILE, (least, most))
-                    it.end()
-                time.sleep(0.2)
-                resource.prlimit(number, resource.RLIMIT_NOFILE, (few, most))
-                with Client(server.port) as it:
-                    it.ask(ALL, "count 1")
+                    it.send(f"{ALL}\n")
+                    held.ask(ALL, "count 1")
+                    time.sleep(1)
+                    held.ask(ALL, "count 1")
+                    resource.prlimit(number, resource.RLIMIT_NOFILE, (few, most))
+                    expect("the first reply", ["count 1"], it.reply())
                     it.end()
                 held.end()
 
-    def test_an_open_session_goes_on(self) -> None:
-        """A session that is open when the input ends is served to its end, and no further one is."""
+    def test_few_descriptors(self) -> None:
+        """Where there are fewer descriptors than clients, each is served once others have left."""
+
+        def visit(key: int) -> None:
+            with Client(server.port) as it:
+                self.assertRegex(it.answer(f"insert {key} 1")[0], r"\Arow 0\.\d+\Z")
+                it.ask(f"count {key} {key + 1}", "count 1")
+                it.end()
+
+        with Server(self.program, 2, "--until-eof", "--quiet") as server:
+            resource.prlimit(server.process.pid, resource.RLIMIT_NOFILE, (DESCRIPTORS, DESCRIPTORS))
+            all_at_once(visit, range(CLIENTS))
+            server.close()
+            server.wait((2 * CLIENTS, CLIENTS, 0, CLIENTS))
+
+    def test_a_thousand_clients(self) -> None:
+        """Beside silent, deaf, slow, flooding, resetting and half-closed clients and those of HTTP each honest one gets
+        the right replies, and the totals are what the replies say."""
+        few, most = resource.getrlimit(resource.RLIMIT_NOFILE)
+        resource.setrlimit(resource.RLIMIT_NOFILE, (most, most))
+        self.addCleanup(resource.setrlimit, resource.RLIMIT_NOFILE, (few, most))
+        with Server(self.program, 4, "--until-eof", "--quiet", "--drain", "1", "--policy", "auto") as server:
+            with contextlib.ExitStack() as stack:
+                crowd = Crowd(server.port, stack)
+                acts = [crowd.be_honest, crowd.send_slowly, crowd.end_halves, crowd.misbehave]
+                serials, *_ = all_at_once(lambda act: act(), acts)
+                expect("serials", list(range(HONEST * ROWS)), sorted(serials))
+                for it in crowd.http:
+                    expect("a reply to HTTP", "refused 1\n", it.lines.read())
+                for it in crowd.silent:
+                    it.ask("layout 1", "refused 5")
+                server.close()
+                server.wait(list(crowd.totals()))
+
+    def test_too_many_clients(self) -> None:
+        """One client more than there may be is refused, and one has a place once another has left. The log has each
+        refused client, in few lines."""
+        began, refused = time.monotonic(), 50
+        with Server(self.program, 2, "--until-eof", "--clients", "2") as server:
+            with Client(server.port) as one, Client(server.port) as other:
+                one.ask("insert 1 1", "row 0.0")
+                other.ask("insert 2 1", "row 0.1")
+                for _ in range(refused):
+                    with Client(server.port) as it:
+                        expect("what one too many gets", "refused 20 2\n", it.lines.read())
+                one.end()
+                other.ask(ALL, "count 2")
+                while not is_served(server.port):
+                    refused += 1
+                other.end()
+            server.close()
+            status, wrote, log = server.ended()
+        expect("status and totals", (0, "accepted 3 inserted 2 deleted 0 held 2\n"), (status, wrote))
+        found = [it for it in map(TOO_MANY.fullmatch, log.splitlines()) if it]
+        expect("refused clients", refused, sum(int(it[1] or 1) for it in found))
+        self.assertLessEqual(len(found), time.monotonic() - began + 2)
+
+    def test_lines_have_times(self) -> None:
+        """Each line of a server's log begins with the time in UTC, by RFC 3339."""
+        now = lambda: datetime.datetime.now(datetime.timezone.utc).replace(microsecond=0)
+        before = now()
+        with Server(self.program, 1, "--sessions", "1") as it:
+            with Client(it.port) as one:
+                one.end()
+            it.wait((0, 0, 0, 0), *it.notes(1))
+            it.log.seek(0)
+            lines = [fixtures.TIMED.fullmatch(line.rstrip("\n")) for line in it.log]
+        times = [datetime.datetime.fromisoformat(line[1].replace("Z", "+00:00")) for line in lines]
+        expect("lines", 2, len(times))
+        self.assertEqual(sorted([before, *times, now()]), [before, *times, now()])
+
+    def test_an_open_session_ends(self) -> None:
+        """A session that is open when the input ends is closed, and no further one is served."""
         with Server(self.program, 2, "--until-eof") as it:
             with Client(it.port) as one:
                 one.ask("insert 5 50", "row 0.0")
                 it.close()
+                one.is_at_end()
                 # (a client that comes before the server has noticed the end is still served)
                 others = sum(1 for _ in iter(lambda: is_served(it.port), False))
-                one.ask("insert 6 60", "row 0.1")
-                one.ask("sum 0 10", "sum 110")
-                one.end()
-            it.wait((3, 2, 0, 2), *it.notes(1 + others))
+            it.wait((1, 1, 0, 1), *it.notes(1 + others))
 
     def test_the_end_of_the_input_alone_ends_a_server(self) -> None:
         """What a server with --until-eof reads changes nothing: it accepts connections until the end."""
@@ -100,19 +270,55 @@ class Servers(fixtures.Case):
             it.close()
             it.wait((1, 1, 0, 1), *it.notes(1))
 
-    def test_a_load_loses_no_reply(self) -> None:
-        """A server whose input ends during a load answers all that was sent, and its totals agree with its replies."""
-        with Server(self.program, 2, "--until-eof") as it, Client(it.port) as one:
-            with side_by_side(lambda: one.send(inserts(LOADED) + "quit\n")):
+    def test_what_has_arrived_is_answered(self) -> None:
+        """A server whose input ends answers all that has arrived, also a line without its end, and its totals agree
+        with its replies."""
+        with Server(self.program, 2, "--until-eof") as it, Client(it.port) as one, Client(it.port) as other:
+            one.ask("layout 1", "refused 5")
+            other.ask("layout 1", "refused 5")
+            one.send(inserts(ARRIVED))
+            other.send(f"count 1 1\ncount {MOST} {MOST}")
+            it.close()
+            expect("replies", "".join(f"row 0.{number}\n" for number in range(ARRIVED)), one.lines.read())
+            expect("the reply to a whole line", "count 0\n", other.lines.read())
+            it.wait((ARRIVED + 1, ARRIVED, 0, ARRIVED), *it.notes(2))
+
+    def test_a_load_that_is_cut(self) -> None:
+        """A server whose input ends during a load answers the beginning of it, and its totals are what it answered."""
+        with Server(self.program, 2, "--until-eof", "--quiet") as it, Client(it.port) as one:
+
+            def load() -> None:
+                with contextlib.suppress(OSError):
+                    one.send(inserts(1_000_000))
+
+            with side_by_side(load):
                 expect("the first reply", ["row 0.0"], one.reply())
                 it.close()
-                replies = one.lines.read()
-            wanted = "".join(f"row 0.{number}\n" for number in range(1, LOADED))
-            expect("replies", f"{wanted}bye\n", replies)
-            it.wait((LOADED, LOADED, 0, LOADED), *it.notes(1))
+                got = ["row 0.0\n"]
+                with contextlib.suppress(OSError):
+                    got.extend(iter(one.lines.readline, ""))
+            status, wrote, _ = it.ended()
+            whole = [line for line in got if line.endswith("\n")]
+            expect("replies", [f"row 0.{number}\n" for number in range(len(whole))], whole)
+            many = int(wrote.split()[1])
+            expect("totals", (0, f"accepted {many} inserted {many} deleted 0 held {many}\n"), (status, wrote))
+            self.assertLessEqual(len(whole), many)
+
+    def test_a_drain_that_ends(self) -> None:
+        """A server that stops waits as long as --drain says for a client that takes no replies, and cuts it off."""
+        with Server(self.program, 1, "--until-eof", "--drain", "1") as it:
+            with Client(it.port, room=4096) as deaf, Client(it.port) as silent:
+                silent.ask("insert 1 1", "row 0.0")
+                fill(deaf, "nonsense\n" * 10000)
+                began = time.monotonic()
+                it.close()
+                silent.is_at_end()
+                self.assertLess(time.monotonic() - began, 0.9)
+                it.wait((1, 1, 0, 1), *it.notes(2, cut_off(deaf, "stopped")))
+                self.assertGreater(time.monotonic() - began, 0.9)
 
     def test_two_that_are_silent_are_let_go(self) -> None:
-        """With --idle 1 each of two silent clients is disconnected within two seconds; a line names its own worker."""
+        """With --idle 1 each of two silent clients is disconnected within two seconds; a line names each of them."""
         with Server(self.program, 2, "--until-eof", "--idle", "1") as it:
             with Client(it.port) as one, Client(it.port) as other:
                 one.ask("insert 1 1", "row 0.0")
@@ -124,18 +330,20 @@ class Servers(fixtures.Case):
                 one.is_at_end()
                 other.is_at_end()
             it.close()
-            it.wait((2, 2, 0, 2), *it.notes(2, SILENT.format(0), SILENT.format(1)))
+            it.wait((2, 2, 0, 2), *it.notes(2, cut_off(one, "silent"), cut_off(other, "silent")))
 
     def test_a_server_that_was_stopped_goes_on(self) -> None:
-        """With --idle a stop of the process interrupts the reads and writes of its sessions: they are repeated."""
-        with Server(self.program, 2, "--until-eof", "--idle", "60") as it:
+        """With --idle the time in which the process was stopped counts for no client."""
+        with Server(self.program, 2, "--until-eof", "--idle", "2") as it:
             with Client(it.port) as silent, Client(it.port, room=4096) as deaf:
                 silent.ask("insert 1 1", "row 0.0")
                 deaf.send(inserts(2_000) + f"select 0 {MOST}\n" * 300)
                 time.sleep(0.5)
                 it.process.send_signal(signal.SIGSTOP)
                 os.waitid(os.P_PID, it.process.pid, os.WSTOPPED)
+                time.sleep(2.5)
                 it.process.send_signal(signal.SIGCONT)
+                time.sleep(0.3)
                 silent.ask(f"count 2000 {MOST}", "count 0")
                 silent.end()
                 deaf.sends_no_more()
@@ -145,7 +353,7 @@ class Servers(fixtures.Case):
 
     @unittest.skipUnless(fixtures.library("unsent.c"), "no C compiler")
     def test_nothing_is_sent_after_a_fault(self) -> None:
-        """Once a reply couldn't be sent the connection is shut down: the session ends without trying it again."""
+        """Once a reply couldn't be sent the connection is closed: the session ends without trying it again."""
         failing = {"LD_PRELOAD": fixtures.library("unsent.c"), "UNSENT": "2"}
         with Server(self.program, 1, "--until-eof", environment=failing) as it:
             with Client(it.port) as unlucky:
@@ -156,7 +364,7 @@ class Servers(fixtures.Case):
                 next_one.ask(ALL, "count 2")
                 next_one.end()
             it.close()
-            it.wait((3, 2, 0, 2), *it.notes(2, CUT_OFF))
+            it.wait((3, 2, 0, 2), *it.notes(2, cut_off(unlucky, "write failed")))
 
     def test_a_client_that_takes_nothing_is_let_go(self) -> None:
         """With --idle a client that reads no reply is disconnected, once no more replies fit."""
@@ -165,10 +373,12 @@ class Servers(fixtures.Case):
                 deaf.send(inserts(2_000))
                 with contextlib.suppress(OSError):
                     deaf.send(f"select 0 {MOST}\n" * 1_000)
+                time.sleep(2.5)
                 with Client(it.port) as next_one:
                     next_one.ask("insert 1 1", "row 0.2000")
                     next_one.end()
             it.close()
             status, wrote, complained = it.ended()
-            expect("status and standard error", (0, it.notes(2, CUT_OFF)), (status, complained.splitlines()))
+            notes = it.notes(2, cut_off(deaf, "deaf"))
+            expect("status and standard error", (0, notes), (status, complained.splitlines()))
             self.assertRegex(wrote, r"\Aaccepted \d+ inserted 2001 deleted 0 held 2001\n\Z")

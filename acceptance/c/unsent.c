@@ -1,5 +1,5 @@
-/* Lets one send of a program that runs with this library preloaded fail, as if it had waited for longer than its time
-   limit: the call with the number UNSENT, from 1. */
+/* Lets one send of a program that runs with this library preloaded fail, as if the connection had been reset: the call
+   with the number UNSENT, from 1. */
 
 #define _GNU_SOURCE
 #include <dlfcn.h>
@@ -15,7 +15,7 @@ ssize_t send(int socket, const void *bytes, size_t length, int flags) {
     const char *number = getenv("UNSENT");
     uint64_t call = __atomic_add_fetch(&calls, 1, __ATOMIC_SEQ_CST);
     if (number && strtoull(number, NULL, 10) == call) {
-        errno = EAGAIN;
+        errno = ECONNRESET;
         return -1;
     }
     ssize_t (*real)(int, const void *, size_t, int);

@@ -19,6 +19,7 @@ REASONS = {
     13: "the number of workers isn't 1 to 64",
     14: "a limit is out of range",
     17: "the server can't listen on the port",
+    20: "the server has as many clients as it may",
     102: "the handle holds a table already",
     103: "lists differ in length",
     104: "the library has no such policy",

@@ -134,7 +134,7 @@ class Server:
     def connect(self, **options: Any) -> Client:
         """A new connection to the table, as `crackd.connect` makes it.
 
-        A server serves as many at a time as it has workers; further ones wait.
+        A server serves up to 10,000 at a time.
         """
         given: dict[str, Any] = {"key_type": self._keys, "policy": self._policy, **options}
         return connect("127.0.0.1", self.port, **given)
@@ -218,7 +218,7 @@ def serve(
     key_type, partitions, splits, policy
         Those of `Table`.
     workers : int, optional
-        How many connections it serves at a time, 1 to 64.
+        How many threads serve its connections, 1 to 64.
     history, cells : int, optional
         The limits of each partition, which empties its history when that is full.
     program : str, optional

@@ -25,7 +25,7 @@ macro_rules! with_refusals {
             "   8  memory ran out          17  reading or listening failed\n",
             "   9  no cell is free         18  writing failed\n",
             "  10  its life is over        19  not a CSV record: its number\n",
-            "  11  splits that don't rise"
+            "  11  splits that don't rise  20  too many clients: their number"
         )
     };
 }

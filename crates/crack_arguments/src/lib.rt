@@ -51,13 +51,20 @@ pub struct Staffed {
 /// How a server is started.
 #[derive(Drop)]
 pub struct Service {
-    pub table: Staffed,
+    pub opening: Opening,
+    /// How many workers it has; without it, as many as there are processors. Their number is also tested at the
+    /// opening.
+    pub workers: Option<u64>,
     /// The port of 127.0.0.1 that it listens on, which isn't 0.
     pub port: u16,
     /// How many connections it serves; without it, it serves until its input ends.
     pub sessions: Option<u64>,
-    /// How long one read or write of a connection may wait, in seconds, at least 1; without it, forever.
+    /// How long a connection may wait for its client, in seconds, at least 1; without it, forever.
     pub idle: Option<u32>,
+    /// How many clients may be connected at once, from 1 to `MOST_CLIENTS`.
+    pub clients: u64,
+    /// How long it waits for connections that are busy once its input has ended, in seconds.
+    pub drain: u32,
     /// Whether only refusals are written to standard error.
     pub is_quiet: bool,
     /// Whether its workers keep receipts of their replies, which are compared with the histories at the end.
@@ -104,6 +111,15 @@ struct Choice(&'static str, Value, &'static str);
 /// How many cells a partition has, unless `--cells` says otherwise.
 const DEFAULT_CELLS: u64 = 1048576;
 
+/// How many clients of a server may be connected at once, unless `--clients` says otherwise.
+const DEFAULT_CLIENTS: u64 = 10000;
+
+/// How many clients `--clients` may allow at most.
+const MOST_CLIENTS: u64 = 1000000;
+
+/// How many seconds a server waits at its end for connections that are busy, unless `--drain` says otherwise.
+const DEFAULT_DRAIN: u64 = 10;
+
 const WORKERS: Choice = Choice(
     "workers",
     Value::Required("W"),
@@ -135,13 +151,22 @@ static OPENING_CHOICES: [Choice; 4] = [
 
 static BATCH_CHOICES: [Choice; 1] = [WORKERS];
 
-static SERVER_CHOICES: [Choice; 7] = [
+static SERVER_CHOICES: [Choice; 9] = [
     Choice(
         "port",
         Value::Required("N"),
         "The port of 127.0.0.1 to listen on, 1 to 65535",
     ),
-    WORKERS,
+    Choice(
+        "workers",
+        Value::Number("W"),
+        "Threads that serve, 1 to 64 [default: one a processor]",
+    ),
+    Choice(
+        "clients",
+        Value::Number("N"),
+        "Connections at a time, 1 to 1000000 [default: 10000]",
+    ),
     Choice(
         "sessions",
         Value::Number("N"),
@@ -156,6 +181,11 @@ static SERVER_CHOICES: [Choice; 7] = [
         "idle",
         Value::Number("N"),
         "Ends a session that waits N seconds for its client",
+    ),
+    Choice(
+        "drain",
+        Value::Number("N"),
+        "Waits N seconds for busy sessions at its end [default: 10]",
     ),
     Choice(
         "quiet",
@@ -282,7 +312,7 @@ fn serve_command<'a>(alloc: Global) -> Built<'a> {
     let opening = opening_command(
         alloc,
         "serve",
-        "Serves connections to a port, one per worker at a time",
+        "Serves connections to a port, many at a time on each worker",
         help::OF_SERVE,
     );
     with_options(alloc, opening, SERVER_CHOICES.as_slice())
@@ -397,7 +427,21 @@ fn sessions_of(matches: &ArgMatches<'_>) -> Result<Option<u64>, ArgumentsError> 
     Ok(sessions)
 }
 
-/// How long a read or a write of a connection may wait, in seconds: 1 to 2^32 - 1.
+/// How many clients may be connected at once.
+fn clients_of(matches: &ArgMatches<'_>) -> Result<u64, ArgumentsError> {
+    match matches.get_one::<u64>("clients").unwrap_or(DEFAULT_CLIENTS) {
+        clients if clients > 0 && clients <= MOST_CLIENTS => Ok(clients),
+        _ => Err(ArgumentsError::Bad),
+    }
+}
+
+/// How long a server waits for connections that are busy, in seconds: 0 to 2^32 - 1.
+fn drain_of(matches: &ArgMatches<'_>) -> Result<u32, ArgumentsError> {
+    let seconds = matches.get_one::<u64>("drain").unwrap_or(DEFAULT_DRAIN);
+    u32::try_from(seconds).map_err(|_| ArgumentsError::Bad)
+}
+
+/// How long a connection may wait for its client, in seconds: 1 to 2^32 - 1.
 fn idle_of(matches: &ArgMatches<'_>) -> Result<Option<u32>, ArgumentsError> {
     let Some(seconds) = matches.get_one::<u64>("idle") else {
         return Ok(None);
@@ -415,7 +459,10 @@ fn service_of(alloc: Global, matches: &ArgMatches<'_>) -> Result<Service, Argume
         idle: idle_of(matches)?,
         is_quiet: matches.get_flag("quiet"),
         is_audited: matches.get_flag("audit"),
-        table: staffed_of(alloc, matches)?,
+        clients: clients_of(matches)?,
+        drain: drain_of(matches)?,
+        workers: matches.get_one::<u64>("workers"),
+        opening: opening_of(alloc, matches)?,
     })
 }
 

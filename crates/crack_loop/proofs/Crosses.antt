@@ -5,9 +5,9 @@ use Rattle.std.proofs.Crossing.{crosses}
 use Rattle.crack_loop.specs.contracts.admission.Admission as Admission
 use Rattle.crack_loop.specs.contracts.server.Post as Post
 
--- number, poll, listener, events
+-- poll, listener, events
 pub post-send : IsSend Post.the_field.row
-post-send = struct_send (shape Post.the_type) (search (sendable, crosses) depth 30, (search (sendable, crosses) depth 30, (search (sendable, crosses) depth 30, (search (sendable, crosses) depth 30, tt))))
+post-send = struct_send (shape Post.the_type) (search (sendable, crosses) depth 30, (search (sendable, crosses) depth 30, (search (sendable, crosses) depth 30, tt)))
 
 -- progress, is_over, is_stopping
 pub admission-sync : IsSync Admission.the_field.row

@@ -1,7 +1,9 @@
 //! The connections that a server accepts, on all its threads.
-use crack_service::Ending;
+use crate::connection::has_passed;
+use crate::terms::Ending;
 use mio::net::{TcpListener, TcpStream};
 use std::io::ErrorKind;
+use std::net::SocketAddr;
 use std::sync::atomic::{AtomicBool, Ordering};
 use std::sync::{Mutex, Wait};
 
@@ -13,13 +15,21 @@ pub(crate) struct Progress {
     open: u64,
     served: u64,
     cut_off: u64,
+    /// How many clients were turned away since the last report of this, and the last of them.
+    turned_away: u64,
+    last_away: Option<SocketAddr>,
+    /// When they were reported last.
+    reported: Option<u64>,
 }
+
+/// The least time between two reports of clients that were turned away, in milliseconds.
+const REPORT_MILLIS: u64 = 1000;
 
 /// What came of an accept.
 #[derive(Drop)]
 pub(crate) enum Arrival {
     /// A connection.
-    Accepted(TcpStream),
+    Accepted(TcpStream, SocketAddr),
     /// One more than the server may have.
     TurnedAway(TcpStream),
     /// None waits, or none is accepted any more.
@@ -52,6 +62,9 @@ impl Admission {
                 open: 0,
                 served: 0,
                 cut_off: 0,
+                turned_away: 0,
+                last_away: None,
+                reported: None,
             }),
             is_over: AtomicBool::new(most == 0),
             is_stopping: AtomicBool::new(false),
@@ -71,14 +84,18 @@ impl Admission {
             return Arrival::Nobody;
         }
         let arrival = match listener.accept() {
-            Ok((stream, _)) if progress.open >= clients => Arrival::TurnedAway(stream),
-            Ok((stream, _)) => Arrival::Accepted(stream),
+            Ok((stream, client)) if progress.open >= clients => {
+                progress.turned_away = progress.turned_away.saturating_add(1);
+                progress.last_away = Some(client);
+                Arrival::TurnedAway(stream)
+            }
+            Ok((stream, client)) => Arrival::Accepted(stream, client),
             Err(error) => match error.kind() {
                 ErrorKind::WouldBlock | ErrorKind::Interrupted => return Arrival::Nobody,
                 _ => Arrival::Failed,
             },
         };
-        if let Arrival::Accepted(_) = &arrival {
+        if let Arrival::Accepted(..) = &arrival {
             progress.open = progress.open.saturating_add(1);
         }
         if !matches!(&arrival, Arrival::TurnedAway(_)) {
@@ -112,6 +129,30 @@ impl Admission {
         progress.served = progress.served.saturating_add(1);
         if is_cut_off {
             progress.cut_off = progress.cut_off.saturating_add(1);
+        }
+    }
+
+    /// How many clients were turned away since this last returned some, and the last of them: none if this was less
+    /// than a second ago, unless the server ends.
+    pub(crate) fn take_turned_away<Rt: Wait>(
+        &self,
+        rt: &Rt,
+        now: u64,
+        is_end: bool,
+    ) -> Option<(u64, SocketAddr)> {
+        let mut progress = self.progress.lock(rt);
+        let is_due = match progress.reported {
+            Some(then) => is_end || has_passed(REPORT_MILLIS, then, now),
+            None => true,
+        };
+        let count = progress.turned_away;
+        match progress.last_away {
+            Some(client) if is_due && count > 0 => {
+                progress.turned_away = 0;
+                progress.reported = Some(now);
+                Some((count, client))
+            }
+            _ => None,
         }
     }
 

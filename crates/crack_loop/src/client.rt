@@ -8,13 +8,15 @@ use crack_session::Desk;
 use mio::net::TcpStream;
 use std::alloc::Global;
 use std::io::{ErrorKind, Read, Write};
+use std::net::SocketAddr;
 
 /// A connection, at the thread that serves it.
 #[derive(Drop)]
 pub(crate) struct Client {
     pub(crate) stream: TcpStream,
     pub(crate) connection: Connection,
-    /// When its stream last gave or took a byte, in milliseconds of the host's clock.
+    pub(crate) address: SocketAddr,
+    /// When its stream last gave or took a byte, by its thread's clock.
     pub(crate) heard: u64,
     /// Whether it is among those whose turn comes.
     pub(crate) is_queued: bool,

@@ -6,7 +6,7 @@ use crate::terms::Service;
 use crate::{READ_BYTES, Room};
 use arrayvec::ArrayString;
 use crack_row::Refusal;
-use crack_service::Host;
+use crack_service::{Cause, Host};
 use crack_session::{Desk, Output};
 use mio::net::{TcpListener, TcpStream};
 use mio::{Events, Interest, Poll, Token};
@@ -15,7 +15,7 @@ use std::alloc::Global;
 use std::collections::VecDeque;
 use std::fmt::Write as _;
 use std::io::{Read, Write};
-use std::net::Shutdown;
+use std::net::{Shutdown, SocketAddr};
 use std::sync::Wait;
 use std::time::Duration;
 
@@ -27,12 +27,14 @@ pub(crate) const WAKER: usize = usize::MAX - 1;
 
 /// How long a thread waits for events at most, and how often it looks for connections that have waited too long, in
 /// milliseconds.
-pub(crate) const LOOK_MILLIS: u64 = 1000;
+pub(crate) const LOOK_MILLIS: u64 = 250;
+
+/// By how much a thread's own time goes on in one round at most, in milliseconds.
+const MOST_ROUND_MILLIS: u64 = 2 * LOOK_MILLIS;
 
 /// The connections of one thread, and those whose turn comes.
 #[derive(Drop)]
 pub(crate) struct Crowd {
-    number: usize,
     poll: Poll,
     listener: TcpListener,
     clients: Slab<Client>,
@@ -41,15 +43,19 @@ pub(crate) struct Crowd {
     room: Room,
     /// Whether a connection may wait at the listener.
     may_arrive: bool,
+    /// The host's time, and the thread's own, which stands still while the process is stopped.
+    now: u64,
+    awake: u64,
+    /// When it last looked for connections that have waited too long.
+    looked: u64,
     /// When the server began to stop, if it has.
     stopping_since: Option<u64>,
 }
 
 impl Crowd {
     /// No connections.
-    pub(crate) fn new(alloc: Global, number: usize, poll: Poll, listener: TcpListener) -> Crowd {
+    pub(crate) fn new(alloc: Global, poll: Poll, listener: TcpListener, now: u64) -> Crowd {
         Crowd {
-            number,
             poll,
             listener,
             clients: Slab::new(alloc),
@@ -59,6 +65,9 @@ impl Crowd {
                 out: Output::new(),
             },
             may_arrive: true,
+            now,
+            awake: 0,
+            looked: now,
             stopping_since: None,
         }
     }
@@ -91,8 +100,17 @@ impl Crowd {
         }
     }
 
+    /// Reads the clock. The thread's own time goes on by what has passed since then, but not by much more than if it had
+    /// waited for events in vain, so that no client is blamed for a pause of the process.
+    pub(crate) fn read_clock<Rt: Wait, H: Host>(&mut self, service: &Service<'_, Rt, H>) {
+        let now = service.host.millis();
+        let passed = now.saturating_sub(self.now).min(MOST_ROUND_MILLIS);
+        self.awake = self.awake.saturating_add(passed);
+        self.now = now;
+    }
+
     /// Accepts one connection, if one waits.
-    pub(crate) fn accept<Rt: Wait, H: Host>(&mut self, service: &Service<'_, Rt, H>, now: u64) {
+    pub(crate) fn accept<Rt: Wait, H: Host>(&mut self, service: &Service<'_, Rt, H>) {
         if !self.may_arrive {
             return;
         }
@@ -102,8 +120,11 @@ impl Crowd {
             .admission
             .accept(service.rt, &self.listener, clients)
         {
-            Arrival::Accepted(stream) => self.admit(service, stream, now),
-            Arrival::TurnedAway(stream) => turn_away(&stream, clients, &mut self.room),
+            Arrival::Accepted(stream, client) => self.admit(service, stream, client),
+            Arrival::TurnedAway(stream) => {
+                turn_away(&stream, clients, &mut self.room);
+                service.report_turned_away(self.now, false);
+            }
             Arrival::Nobody | Arrival::Failed => self.may_arrive = false,
         }
         if !was_over && service.admission.is_over() {
@@ -116,7 +137,7 @@ impl Crowd {
         &mut self,
         service: &Service<'_, Rt, H>,
         stream: TcpStream,
-        now: u64,
+        address: SocketAddr,
     ) {
         let mut stream = stream;
         let _ = stream.set_nodelay(true);
@@ -127,19 +148,20 @@ impl Crowd {
             Interest::READABLE | Interest::WRITABLE,
         );
         if watched.is_err() {
-            service.end(self.number, Some(Refusal::ReadFault));
+            service.end(address, Some((Refusal::ReadFault, Cause::Fault)));
             return;
         }
         let client = Client {
             stream,
             connection: Connection::new(service.alloc, service.terms.policy),
-            heard: now,
+            address,
+            heard: self.awake,
             is_queued: false,
             is_half_closed: false,
         };
         let most = self.clients.len().saturating_add(1);
         if self.queue.reserve(most).is_err() || self.clients.insert(client).is_err() {
-            service.end(self.number, Some(Refusal::OutOfMemory));
+            service.end(address, Some((Refusal::OutOfMemory, Cause::Fault)));
             return;
         }
         self.enqueue(service, key, false);
@@ -157,7 +179,8 @@ impl Crowd {
             None => false,
         };
         if is_new && self.queue.push_back(key).is_err() {
-            self.remove(service, key, Some(Refusal::OutOfMemory));
+            let cut_off = (Refusal::OutOfMemory, Cause::Fault);
+            self.remove(service, key, Some(cut_off));
         }
     }
 
@@ -166,24 +189,23 @@ impl Crowd {
         &mut self,
         service: &Service<'_, Rt, H>,
         desk: &mut D,
-        now: u64,
     ) {
         let count = self.queue.len();
         'turns: for _ in 0..count {
             if let Some(key) = self.queue.pop_front() {
-                let after = self.turn(service.alloc, desk, key, now);
+                let after = self.turn(service.alloc, desk, key);
                 self.follow(service, key, after);
             }
         }
     }
 
     /// Has a connection take a turn.
-    fn turn<D: Desk>(&mut self, alloc: Global, desk: &mut D, key: usize, now: u64) -> After {
+    fn turn<D: Desk>(&mut self, alloc: Global, desk: &mut D, key: usize) -> After {
         let is_stopping = self.stopping_since.is_some();
         match self.clients.get_mut(key) {
             Some(client) => {
                 client.is_queued = false;
-                client.turn(alloc, desk, &mut self.room, now, is_stopping)
+                client.turn(alloc, desk, &mut self.room, self.awake, is_stopping)
             }
             None => After::Event,
         }
@@ -200,41 +222,46 @@ impl Crowd {
             After::Turn => self.enqueue(service, key, false),
             After::Event => {}
             After::End => self.remove(service, key, None),
-            After::CutOff(refusal) => self.remove(service, key, Some(refusal)),
+            After::CutOff(refusal) => self.remove(service, key, Some((refusal, Cause::Fault))),
         }
     }
 
-    /// Closes a connection, which was cut off if there is a refusal.
+    /// Closes a connection, which was cut off if there is a refusal with its cause.
     fn remove<Rt: Wait, H: Host>(
         &mut self,
         service: &Service<'_, Rt, H>,
         key: usize,
-        refusal: Option<Refusal>,
+        cut_off: Option<(Refusal, Cause)>,
     ) {
         if let Some(client) = self.clients.try_remove(key) {
             self.may_arrive = true;
-            service.end(self.number, refusal);
+            service.end(client.address, cut_off);
             drop(client);
         }
     }
 
-    /// Cuts off the connections that have waited too long. An accept that failed is tried again.
-    pub(crate) fn look<Rt: Wait, H: Host>(&mut self, service: &Service<'_, Rt, H>, now: u64) {
+    /// From time to time cuts off the connections that have waited too long, and tries an accept again that failed.
+    pub(crate) fn look<Rt: Wait, H: Host>(&mut self, service: &Service<'_, Rt, H>) {
+        if !has_passed(LOOK_MILLIS, self.looked, self.now) {
+            return;
+        }
+        self.looked = self.now;
         self.may_arrive = true;
+        service.report_turned_away(self.now, false);
         if let Some(idle) = service.terms.idle {
             let most = u64::from(idle) * 1000;
             'keys: for key in 0..self.clients.capacity() {
-                if let Some(refusal) = self.overdue(key, most, now) {
-                    self.remove(service, key, Some(refusal));
+                if let Some(refusal) = self.overdue(key, most) {
+                    self.remove(service, key, Some((refusal, Cause::Wait)));
                 }
             }
         }
     }
 
     /// Why a connection is cut off, if it has waited this long.
-    fn overdue(&self, key: usize, most: u64, now: u64) -> Option<Refusal> {
+    fn overdue(&self, key: usize, most: u64) -> Option<Refusal> {
         match self.clients.get(key) {
-            Some(client) if !client.is_queued && has_passed(most, client.heard, now) => {
+            Some(client) if !client.is_queued && has_passed(most, client.heard, self.awake) => {
                 Some(client.connection.fault())
             }
             _ => None,
@@ -242,9 +269,9 @@ impl Crowd {
     }
 
     /// If the server stops, each connection takes a turn, in which it ends unless it is busy.
-    pub(crate) fn heed_stop<Rt: Wait, H: Host>(&mut self, service: &Service<'_, Rt, H>, now: u64) {
+    pub(crate) fn heed_stop<Rt: Wait, H: Host>(&mut self, service: &Service<'_, Rt, H>) {
         if self.stopping_since.is_none() && service.admission.is_stopping() {
-            self.stopping_since = Some(now);
+            self.stopping_since = Some(self.now);
             'keys: for key in 0..self.clients.capacity() {
                 self.enqueue(service, key, false);
             }
@@ -252,25 +279,21 @@ impl Crowd {
     }
 
     /// Whether its thread ends: no more connections come, and there are none, or a stop has waited long enough.
-    pub(crate) fn is_done<Rt: Wait, H: Host>(
-        &self,
-        service: &Service<'_, Rt, H>,
-        now: u64,
-    ) -> bool {
+    pub(crate) fn is_done<Rt: Wait, H: Host>(&self, service: &Service<'_, Rt, H>) -> bool {
         let most = u64::from(service.terms.drain) * 1000;
         let waited = match self.stopping_since {
-            Some(since) => has_passed(most, since, now),
+            Some(since) => has_passed(most, since, self.now),
             None => false,
         };
         service.admission.is_over() && (waited || self.clients.is_empty())
     }
 
-    /// Cuts off all connections.
+    /// Cuts off the connections that a stop didn't wait for.
     pub(crate) fn cut_off_all<Rt: Wait, H: Host>(&mut self, service: &Service<'_, Rt, H>) {
         'keys: for key in 0..self.clients.capacity() {
             if let Some(client) = self.clients.get(key) {
                 let refusal = client.connection.fault();
-                self.remove(service, key, Some(refusal));
+                self.remove(service, key, Some((refusal, Cause::Stop)));
             }
         }
     }

@@ -12,7 +12,7 @@ pub mod terms;
 pub use connection::{Connection, Next};
 use crack_session::Output;
 pub use server::serve_connections;
-pub use terms::Terms;
+pub use terms::{Ending, Terms};
 
 /// How many bytes one read takes at most.
 pub const READ_BYTES: usize = 4096;

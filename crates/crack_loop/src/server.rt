@@ -1,10 +1,9 @@
 //! A server: connections at any desks, each desk's thread serving as many as come to it.
 use crate::admission::Admission;
-use crate::connection::has_passed;
-use crate::crowd::{Crowd, LISTENER, LOOK_MILLIS, WAKER};
-use crate::terms::{Service, Terms};
+use crate::crowd::{Crowd, LISTENER, WAKER};
+use crate::terms::{Ending, Service, Terms};
 use crack_row::Refusal;
-use crack_service::{Ending, Host, Notice};
+use crack_service::{Host, Notice};
 use crack_session::Desk;
 use mio::net::TcpListener;
 use mio::{Events, Interest, Poll, Token, Waker};
@@ -21,7 +20,6 @@ const EVENTS: usize = 1024;
 /// What a thread waits with.
 #[derive(Drop)]
 struct Post {
-    number: usize,
     poll: Poll,
     listener: TcpListener,
     events: Events,
@@ -57,6 +55,7 @@ pub fn serve_connections<
         wakers,
     };
     let ended = serve_posts(rt, alloc, &service, posts, desks, input)?;
+    service.report_turned_away(host.millis(), true);
     let (sessions, cut_off) = service.admission.served(rt);
     host.note(Notice::Ended { sessions, cut_off });
     Ok(ended)
@@ -111,13 +110,12 @@ fn posts<N: Net>(
     if listener.set_nonblocking(true).is_err() {
         return Err(Refusal::ReadFault);
     }
-    'threads: for number in 0..count {
+    'threads: for _ in 0..count {
         let events = Events::with_capacity(alloc, EVENTS)?;
         let Ok((poll, listener, waker)) = watch(net, listener) else {
             return Err(Refusal::ReadFault);
         };
         posts.push(Post {
-            number,
             poll,
             listener,
             events,
@@ -144,26 +142,21 @@ fn serve_post<Rt: Wait, D: Desk + Drop, H: Host>(
     desk: D,
 ) -> D {
     let Post {
-        number,
         poll,
         listener,
         events,
     } = post;
     let (mut desk, mut events) = (desk, events);
-    let mut crowd = Crowd::new(service.alloc, number, poll, listener);
+    let mut crowd = Crowd::new(service.alloc, poll, listener, service.host.millis());
     service.admission.await_start(service.rt);
-    let mut looked = service.host.millis();
     'rounds: for _ in 0..u64::MAX {
         crowd.wait(service, &mut events);
-        let now = service.host.millis();
-        crowd.accept(service, now);
-        crowd.heed_stop(service, now);
-        crowd.take_turns(service, &mut desk, now);
-        if has_passed(LOOK_MILLIS, looked, now) {
-            looked = now;
-            crowd.look(service, now);
-        }
-        if crowd.is_done(service, now) {
+        crowd.read_clock(service);
+        crowd.accept(service);
+        crowd.heed_stop(service);
+        crowd.take_turns(service, &mut desk);
+        crowd.look(service);
+        if crowd.is_done(service) {
             break;
         }
     }

@@ -1,8 +1,8 @@
 //! Servers over a plain table, and what their clients do.
-use crack_loop::{Terms, serve_connections};
+use crack_loop::{Ending, Terms, serve_connections};
 use crack_plain::PlainTable;
 use crack_row::{Policy, Refusal};
-use crack_service::{Alone, Ending};
+use crack_service::Alone;
 use std::alloc::Global;
 use std::io;
 use std::io::{Read, Write};
@@ -20,6 +20,7 @@ pub(crate) fn terms(ending: Ending) -> Terms {
         idle: None,
         clients: 10000,
         drain: 0,
+        notes_checkpoints: false,
     }
 }
 

@@ -1,6 +1,6 @@
 //! Many clients of one thread.
 use crate::clients::{answers, connect, listening, rest_of, rows_after, terms};
-use crack_service::Ending;
+use crack_loop::Ending;
 use std::alloc::Global;
 use std::io::Write;
 use std::net::{Net, Shutdown, TcpListener, TcpStream};

@@ -1,7 +1,6 @@
 //! Clients that keep a server's thread busy, or leave it waiting, beside honest ones.
 use crate::clients::{answers, connect, listening, rest_of, rows_after, terms};
-use crack_loop::Terms;
-use crack_service::Ending;
+use crack_loop::{Ending, Terms};
 use std::alloc::Global;
 use std::io::Write;
 use std::net::{Net, TcpListener, TcpStream};

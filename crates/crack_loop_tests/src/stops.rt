@@ -1,6 +1,6 @@
 //! Servers that stop at the end of their input.
 use crate::clients::{connect, listening, rest_of, rows_after, terms};
-use crack_service::Ending;
+use crack_loop::Ending;
 use std::alloc::Global;
 use std::io::{Read, Write};
 use std::net::{Net, TcpListener, TcpStream};

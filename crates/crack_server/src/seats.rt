@@ -1,6 +1,7 @@
 //! Desks for the workers of a table, at which they serve sessions: what all kinds of server have in common.
+use crack_loop::{Terms, serve_connections};
 use crack_row::Refusal;
-use crack_service::{Host, Terms, serve_desks};
+use crack_service::Host;
 use crack_session::Desk;
 use crack_table::{Gate, Table, Worker};
 use crack_witness::{Asker, Naming};
@@ -8,7 +9,7 @@ use crack_witness_table::WitnessedTable;
 use crack_worker_desk::{WitnessedDesk, WorkerDesk};
 use std::alloc::Global;
 use std::io::Read;
-use std::net::TcpListener;
+use std::net::{Net, TcpListener};
 use std::sync::Wait;
 use std::thread::Threads;
 
@@ -62,9 +63,9 @@ impl<'a, Rt: Wait + Sync, G: Gate + Sync, J: Naming + Send + Sync> Seats
     }
 }
 
-/// Has each worker serve sessions, at a desk of its own, and returns the workers. Refused as `serve_desks` is, or with
-/// 8 if no memory is found for the list of desks.
-pub(crate) fn serve_workers<Rt: Threads + Wait + Sync, S: Seats, H: Host + Sync, I: Read>(
+/// Has each worker serve connections, at a desk of its own, and returns the workers. Refused as `serve_connections` is,
+/// or with 8 if no memory is found for the list of desks.
+pub(crate) fn serve_workers<Rt: Threads + Wait + Net + Sync, S: Seats, H: Host + Sync, I: Read>(
     rt: &Rt,
     alloc: Global,
     listener: &TcpListener,
@@ -79,7 +80,7 @@ pub(crate) fn serve_workers<Rt: Threads + Wait + Sync, S: Seats, H: Host + Sync,
     'workers: for worker in workers {
         desks.push(seats.seat(worker))?;
     }
-    let served = serve_desks(rt, alloc, listener, desks, terms, host, input)?;
+    let served = serve_connections(rt, alloc, listener, desks, terms, host, input)?;
     'desks: for desk in served {
         back.push(S::leave(desk))?;
     }

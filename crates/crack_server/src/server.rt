@@ -2,20 +2,20 @@
 use crate::reporting::Reporting;
 use crate::seats::{AtTable, serve_workers};
 use crate::totals::totals_of;
+use crack_loop::{Ending, Terms};
 use crack_row::{Policy, Refusal};
-use crack_service::{Alone, Ending, Host, Terms};
+use crack_service::{Alone, Host};
 use crack_table::{Gate, Table, Worker};
 use std::alloc::Global;
 use std::io::{Read, Write};
-use std::net::TcpListener;
+use std::net::{Net, TcpListener};
 use std::sync::Wait;
 use std::thread::Threads;
 
-/// Serves this many connections of a listener, one at a time for each worker, then gathers the workers and writes the
-/// totals. An accept that fails, and a session that is cut off, count as sessions. A client that sends nothing, or
-/// reads no reply, holds only its own worker. Refused with 8 if a thread can't be started, before a connection is
-/// accepted; as `gather` is; with 18 if the writer fails.
-pub fn run_server<Rt: Threads + Wait + Sync, G: Gate + Sync, W: Write>(
+/// Serves this many connections of a listener, any number of them at a time at each worker, then gathers the workers
+/// and writes the totals. An accept that fails, and a session that is cut off, count as sessions. Refused as
+/// `serve_connections` is, before a connection is accepted; as `gather` is; with 18 if the writer fails.
+pub fn run_server<Rt: Threads + Wait + Net + Sync, G: Gate + Sync, W: Write>(
     rt: &Rt,
     alloc: Global,
     listener: &TcpListener,
@@ -30,6 +30,8 @@ pub fn run_server<Rt: Threads + Wait + Sync, G: Gate + Sync, W: Write>(
         policy,
         ending: Ending::AfterSessions(sessions),
         idle: None,
+        clients: u64::MAX,
+        drain: 0,
         notes_checkpoints: false,
     };
     let mut input: &[u8] = &[];
@@ -38,12 +40,15 @@ pub fn run_server<Rt: Threads + Wait + Sync, G: Gate + Sync, W: Write>(
     )
 }
 
-/// Serves connections as `run_server` does, with these options: under `Ending::AtEndOfInput` until `input` ends or
-/// fails. Then the workers that wait for a connection are woken by `host.knock()`, and those that have one serve it to
-/// its end. A read or a write of a connection that waits longer than `terms.idle` fails, so its session is cut off. The
-/// host is notified of each session that was cut off, of the end, and, if the options say so, of checkpoints that were
-/// due. Refused as `run_server` is.
-pub fn run_service<Rt: Threads + Wait + Sync, G: Gate + Sync, H: Host + Sync, I: Read, W: Write>(
+/// Serves connections as `run_server` does, with these options, and as `serve_connections` does. The host is notified
+/// of what that notifies it of, and, if the options say so, of checkpoints that were due. Refused as `run_server` is.
+pub fn run_service<
+    Rt: Threads + Wait + Net + Sync,
+    G: Gate + Sync,
+    H: Host + Sync,
+    I: Read,
+    W: Write,
+>(
     rt: &Rt,
     alloc: Global,
     listener: &TcpListener,

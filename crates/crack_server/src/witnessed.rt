@@ -2,14 +2,15 @@
 use crate::reporting::Reporting;
 use crate::seats::{AtTable, serve_workers};
 use crate::totals::witnessed_totals_of;
+use crack_loop::Terms;
 use crack_row::Refusal;
-use crack_service::{Host, Terms};
+use crack_service::Host;
 use crack_table::Gate;
 use crack_witness::{Asker, Naming};
 use crack_witness_table::WitnessedTable;
 use std::alloc::Global;
 use std::io::{Read, Write};
-use std::net::TcpListener;
+use std::net::{Net, TcpListener};
 use std::sync::Wait;
 use std::thread::Threads;
 
@@ -17,7 +18,7 @@ use std::thread::Threads;
 /// counts, so a server's memory, and the time that its end takes, don't grow with the number of commands that it
 /// answered. Refused as `run_service` is, except that its workers are gathered as `gather` of crack_witness_table does.
 pub fn run_witnessed_service<
-    Rt: Threads + Wait + Sync,
+    Rt: Threads + Wait + Net + Sync,
     G: Gate + Sync,
     H: Host + Sync,
     I: Read,

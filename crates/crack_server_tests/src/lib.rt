@@ -4,7 +4,7 @@
 #[cfg(test)]
 mod batches;
 #[cfg(test)]
-mod knocks;
+mod ends;
 #[cfg(test)]
 mod servers;
 #[cfg(test)]

@@ -12,7 +12,7 @@ use std::time::Duration;
 use std::{io, thread};
 
 /// The output of a server of this many workers and sessions.
-fn server<H: Threads + Wait + Sync>(
+fn server<H: Threads + Wait + Net + Sync>(
     rt: &H,
     alloc: Global,
     listener: &TcpListener,

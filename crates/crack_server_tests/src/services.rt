@@ -2,11 +2,12 @@
 ghost use Rattle.crack_witness.specs.Witnesses.{AreNames};
 
 use crate::servers::{client, port_of};
+use crack_loop::{Ending, Terms};
 use crack_row::{
     Command, GREATEST_CELLS, GREATEST_LIFE, Key, Limits, Payload, Policy, Refusal, Upkeep,
 };
 use crack_server::{run_server, run_service, run_witnessed_service};
-use crack_service::{Ending, Host, Notice, Terms};
+use crack_service::{Host, Notice};
 use crack_table::{Gate, Table};
 use crack_witness::Naming;
 use crack_witness_table::UnnamedTable;
@@ -83,10 +84,6 @@ impl Host for Notes {
         }
     }
 
-    fn knock(&self) -> bool {
-        true
-    }
-
     fn pause(&self) {}
 }
 
@@ -108,6 +105,8 @@ fn terms(way: Way) -> Terms {
         policy: Policy::Gradual,
         ending: Ending::AfterSessions(u64::from(!matches!(way, Way::Late))),
         idle: Some(60),
+        clients: 1,
+        drain: 0,
         notes_checkpoints: matches!(way, Way::NotingCheckpoints | Way::Witnessed),
     }
 }
@@ -121,7 +120,7 @@ const LIMITS: Limits = Limits {
 };
 
 /// Runs a server of one worker over a table.
-fn serve_plain<H: Threads + Wait + Sync>(
+fn serve_plain<H: Threads + Wait + Net + Sync>(
     rt: &H,
     alloc: Global,
     listener: &TcpListener,
@@ -164,7 +163,7 @@ fn serve_plain<H: Threads + Wait + Sync>(
 }
 
 /// Runs a server of one worker over a table that witnesses its replies.
-fn serve_witnessed<H: Threads + Wait + Sync>(
+fn serve_witnessed<H: Threads + Wait + Net + Sync>(
     rt: &H,
     alloc: Global,
     listener: &TcpListener,
@@ -178,7 +177,7 @@ fn serve_witnessed<H: Threads + Wait + Sync>(
 }
 
 /// Runs such a server, once its table's book has its name.
-fn serve_named<J: Naming + Send + Sync, H: Threads + Wait + Sync>(
+fn serve_named<J: Naming + Send + Sync, H: Threads + Wait + Net + Sync>(
     rt: &H,
     alloc: Global,
     listener: &TcpListener,
@@ -240,7 +239,7 @@ const WAYS: &[(Way, [u64; 5])] = &[
 ];
 
 /// The output of a server, and how it ends.
-fn service<H: Threads + Wait + Sync>(
+fn service<H: Threads + Wait + Net + Sync>(
     rt: &H,
     alloc: Global,
     listener: &TcpListener,

@@ -2,19 +2,51 @@
 use crack_row::Refusal;
 use std::fmt;
 use std::fmt::{Display, Formatter, Write};
+use std::net::SocketAddr;
+
+/// What cut a session off.
+#[derive(Clone, Copy, PartialEq, Eq, Debug, Drop)]
+pub enum Cause {
+    /// A read or a write of its connection failed, or no memory was found.
+    Fault,
+    /// It waited too long for its client.
+    Wait,
+    /// The server stopped, and didn't wait any longer.
+    Stop,
+}
 
 /// An event of a server. Its text is a line without its end.
 #[derive(Clone, Copy, Drop)]
 pub enum Notice {
     /// The server listens on this port of 127.0.0.1.
-    Listening { port: u16 },
+    Listening {
+        port: u16,
+    },
     /// Partitions made checkpoints by themselves, since their histories were full: how many since the last such notice,
     /// at least 1, and for the last one its partition, and how many entries its history had.
-    Checkpoints { count: u64, part: u32, entries: u64 },
-    /// A session was cut off: a read or a write of its connection failed or waited too long, or no memory was found.
-    CutOff { worker: usize, refusal: Refusal },
+    Checkpoints {
+        count: u64,
+        part: u32,
+        entries: u64,
+    },
+    /// The session of a client was cut off. The refusal is 17 if it was to be read from, 18 if it was to be written to.
+    CutOff {
+        client: SocketAddr,
+        refusal: Refusal,
+        cause: Cause,
+    },
+    /// Clients were refused, since this many were connected: how many since the last such notice, at least 1, and the
+    /// last one.
+    TurnedAway {
+        count: u64,
+        client: SocketAddr,
+        clients: u64,
+    },
     /// The server has served its last session: how many there were, including those that were cut off.
-    Ended { sessions: u64, cut_off: u64 },
+    Ended {
+        sessions: u64,
+        cut_off: u64,
+    },
 }
 
 impl Display for Notice {
@@ -34,10 +66,30 @@ impl Display for Notice {
                 f,
                 "{count} checkpoints, the last of partition {part}: {entries} entries"
             ),
-            Notice::CutOff { worker, refusal } => {
-                let cause = cause_of(refusal);
-                write!(f, "worker {worker}: session cut off: {refusal}: {cause}")
+            Notice::CutOff {
+                client,
+                refusal,
+                cause,
+            } => {
+                let words = words_of(refusal, cause);
+                write!(f, "client {client}: session cut off: {refusal}: {words}")
             }
+            Notice::TurnedAway {
+                count: 1,
+                client,
+                clients,
+            } => write!(
+                f,
+                "client {client}: refused 20 {clients}: too many clients are connected"
+            ),
+            Notice::TurnedAway {
+                count,
+                client,
+                clients,
+            } => write!(
+                f,
+                "{count} clients, the last {client}: refused 20 {clients}: too many clients are connected"
+            ),
             Notice::Ended { sessions, cut_off } => {
                 write!(f, "ended: sessions {sessions}, cut off {cut_off}")
             }
@@ -46,11 +98,17 @@ impl Display for Notice {
 }
 
 /// Why a session was cut off, in words.
-fn cause_of(refusal: Refusal) -> &'static str {
-    match refusal {
-        Refusal::ReadFault => "reading from the client failed or waited too long",
-        Refusal::WriteFault => "writing to the client failed or waited too long",
-        other => other.cause(),
+fn words_of(refusal: Refusal, cause: Cause) -> &'static str {
+    match (refusal, cause) {
+        (Refusal::ReadFault, Cause::Fault) => "the connection was closed or failed at a read",
+        (Refusal::ReadFault, Cause::Wait) => "the client sent nothing for too long",
+        (Refusal::ReadFault, Cause::Stop) => "the server stopped before it answered the rest",
+        (Refusal::WriteFault, Cause::Fault) => "the connection was closed or failed at a write",
+        (Refusal::WriteFault, Cause::Wait) => "the client took no replies for too long",
+        (Refusal::WriteFault, Cause::Stop) => {
+            "the server stopped before the client took its replies"
+        }
+        (other, _) => other.cause(),
     }
 }
 
@@ -58,10 +116,6 @@ fn cause_of(refusal: Refusal) -> &'static str {
 pub trait Host {
     /// Notes an event.
     fn note(&self, notice: Notice);
-
-    /// Connects to the server's own listener and closes the connection immediately, so that one worker that waits for a
-    /// connection goes on. Returns whether that succeeded.
-    fn knock(&self) -> bool;
 
     /// Waits for a moment, after a system call that failed and is to be repeated.
     fn pause(&self);
@@ -73,17 +127,12 @@ pub trait Host {
     }
 }
 
-/// A host that notes nothing and never waits, for servers that end after a number of sessions. Its knock reaches
-/// nobody.
+/// A host that notes nothing and never waits, for servers that end after a number of sessions.
 #[derive(Clone, Copy, Drop)]
 pub struct Alone;
 
 impl Host for Alone {
     fn note(&self, _notice: Notice) {}
-
-    fn knock(&self) -> bool {
-        true
-    }
 
     fn pause(&self) {}
 }

@@ -1,16 +1,11 @@
-//! Sessions at any desks, each desk's on a thread of its own, and the lines of a batch.
+//! What a server reports to the program that runs it, and the lines of a batch.
 #![tactic(auto)]
 
-pub mod connections;
 pub mod host;
 pub mod input;
-mod retried;
-pub mod tickets;
 
-pub use connections::{Terms, serve_desks};
-pub use host::{Alone, Host, Notice};
+pub use host::{Alone, Cause, Host, Notice};
 pub use input::{divide, read_input};
-pub use tickets::Ending;
 
 /// How many bytes the input of a batch may have.
 pub const MOST_INPUT_BYTES: u64 = 67108864;

@@ -6,20 +6,22 @@ ghost use Rattle.crack_witness.specs.Witnesses.{AreNames};
 use crack_arguments::{ArgumentsError, Opening, Request, Service, Staffed, asks_for_words};
 use crack_core::Core;
 use crack_csv::{export_csv, load_csv};
+use crack_loop::{Ending, Terms};
 use crack_row::{Policy, Refusal, Upkeep, Watched};
 use crack_server::{run_batch, run_service, run_witnessed_service};
-use crack_service::{Ending, Host, Notice, REPLY_BYTES, Terms};
+use crack_service::{Host, Notice, REPLY_BYTES};
 use crack_session::serve;
-use crack_table::{OpenGate, Table};
+use crack_table::{MOST_WORKERS, OpenGate, Table};
 use crack_witness::Naming;
 use crack_witness_table::UnnamedTable;
+use jiff::Timestamp;
 use std::io::{BufWriter, ErrorKind, Write};
 use std::marker::Brand;
 use std::net::{Ipv4Addr, Net, TcpListener, TcpStream};
 use std::process::ExitCode;
 use std::sync::Wait;
 use std::thread::Threads;
-use std::time::Duration;
+use std::time::{Clock, Duration};
 use std::{env, io, thread};
 
 /// The request of the command line, and whether errors are explained in words.
@@ -114,9 +116,10 @@ fn serve_port<H: Threads + Wait + Net<Listener = TcpListener, Stream = TcpStream
     if service.is_audited {
         return serve_audited(handle, rt, service);
     }
-    let Staffed { opening, workers } = &service.table;
+    let opening = &service.opening;
+    let workers = workers_of(handle, service);
     let splits = opening.splits.as_slice();
-    let table = UnnamedTable::open(rt.alloc(), splits, opening.limits, *workers)?;
+    let table = UnnamedTable::open(rt.alloc(), splits, opening.limits, workers)?;
     serve_named::<Brand, H>(handle, rt, service, table)
 }
 
@@ -126,12 +129,13 @@ fn serve_audited<H: Threads + Wait + Net<Listener = TcpListener, Stream = TcpStr
     rt: &HostRuntime,
     service: &Service,
 ) -> Result<(), Refusal> {
-    let Staffed { opening, workers } = &service.table;
+    let opening = &service.opening;
+    let workers = workers_of(handle, service);
     let splits = opening.splits.as_slice();
-    let (table, workers) = Table::open_with(rt.alloc(), splits, opening.limits, *workers)?;
+    let (table, workers) = Table::open_with(rt.alloc(), splits, opening.limits, workers)?;
     let mut writer = rt.stdout();
-    let host = console_of(handle, rt, service);
-    match listen(&host, &mut writer) {
+    let host = console_of(rt, service);
+    match listen(handle, &host, &mut writer) {
         Ok(listener) => run_service(
             handle,
             rt.alloc(),
@@ -161,8 +165,8 @@ fn serve_named<
 {
     let (table, askers) = table.named::<J>(rt.alloc())?;
     let mut writer = rt.stdout();
-    let host = console_of(handle, rt, service);
-    match listen(&host, &mut writer) {
+    let host = console_of(rt, service);
+    match listen(handle, &host, &mut writer) {
         Ok(listener) => run_witnessed_service(
             handle,
             rt.alloc(),
@@ -183,9 +187,20 @@ fn serve_named<
     }
 }
 
+/// How many workers a server has: as many as there are processors, unless the command line says otherwise.
+fn workers_of<H: Threads>(handle: &H, service: &Service) -> u64 {
+    match service.workers {
+        Some(workers) => workers,
+        None => match thread::available_parallelism(handle) {
+            Ok(processors) => (processors.get() as u64).min(MOST_WORKERS),
+            Err(_) => 1,
+        },
+    }
+}
+
 /// How a server serves.
 fn terms_of(service: &Service) -> Terms {
-    let opening = &service.table.opening;
+    let opening = &service.opening;
     Terms {
         policy: opening.policy,
         ending: match service.sessions {
@@ -193,6 +208,8 @@ fn terms_of(service: &Service) -> Terms {
             None => Ending::AtEndOfInput,
         },
         idle: service.idle,
+        clients: service.clients,
+        drain: service.drain,
         notes_checkpoints: !service.is_quiet && has_upkeep(opening),
     }
 }
@@ -204,49 +221,59 @@ fn has_upkeep(opening: &Opening) -> bool {
 
 /// The program as a server's host. Its notices are lines of standard error.
 #[derive(Drop)]
-struct Console<'a, H: Net<Listener = TcpListener, Stream = TcpStream>> {
-    handle: &'a H,
+struct Console<'a> {
     rt: &'a HostRuntime,
     port: u16,
     is_quiet: bool,
 }
 
 /// The console of a server with these options.
-fn console_of<'a, H: Net<Listener = TcpListener, Stream = TcpStream>>(
-    handle: &'a H,
-    rt: &'a HostRuntime,
-    service: &Service,
-) -> Console<'a, H> {
+fn console_of<'a>(rt: &'a HostRuntime, service: &Service) -> Console<'a> {
     Console {
-        handle,
         rt,
         port: service.port,
         is_quiet: service.is_quiet,
     }
 }
 
-impl<'a, H: Net<Listener = TcpListener, Stream = TcpStream>> Host for Console<'a, H> {
+impl<'a> Host for Console<'a> {
     fn note(&self, notice: Notice) {
         if !self.is_quiet {
-            let _ = eprintln!(self.rt; "crackd: {notice}");
+            let time = self.time();
+            let _ = eprintln!(self.rt; "{time} crackd: {notice}");
         }
-    }
-
-    fn knock(&self) -> bool {
-        TcpStream::connect(self.handle, (Ipv4Addr::LOCALHOST, self.port)).is_ok()
     }
 
     fn pause(&self) {
         thread::sleep(self.rt, Duration::from_millis(10));
     }
+
+    fn millis(&self) -> u64 {
+        match self.rt.monotonic() {
+            Ok(time) => u64::try_from(time.as_millis()).unwrap_or(u64::MAX),
+            Err(_) => 0,
+        }
+    }
+}
+
+impl<'a> Console<'a> {
+    /// The time of day, in seconds. A clock that can't be read shows the first second of 1970.
+    fn time(&self) -> Timestamp {
+        let seconds = match self.rt.since_1970() {
+            Ok(time) => i64::try_from(time.as_secs()).unwrap_or(0),
+            Err(_) => 0,
+        };
+        Timestamp::from_second(seconds).unwrap_or(Timestamp::UNIX_EPOCH)
+    }
 }
 
 /// Listens on the host's port, and reports it.
 fn listen<H: Net<Listener = TcpListener, Stream = TcpStream>, W: Write>(
-    host: &Console<'_, H>,
+    handle: &H,
+    host: &Console<'_>,
     writer: &mut W,
 ) -> Result<TcpListener, Refusal> {
-    let Ok(listener) = TcpListener::bind(host.handle, (Ipv4Addr::LOCALHOST, host.port)) else {
+    let Ok(listener) = TcpListener::bind(handle, (Ipv4Addr::LOCALHOST, host.port)) else {
         return Err(Refusal::ReadFault);
     };
     announce(host.port, writer)?;

@@ -31,6 +31,7 @@ MEANINGS = {
     "18": "writing failed",
     "19": "a record isn't a key from 0 to 18446744073709551615 and a payload from -9223372036854775808 to "
     "9223372036854775807",
+    "20": "the server has as many clients as it may",
 }
 
 HELP = """\
