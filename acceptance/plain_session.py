@@ -32,13 +32,13 @@ FIELDS = {
     "update": [PART, SERIAL, KEY, PAYLOAD],
     **dict.fromkeys(RANGES, [END, END]),
     **dict.fromkeys(["layout", "checkpoint"], [PART]),
-    "quit": [],
+    **dict.fromkeys(["ping", "quit"], []),
 }
 # the first word of a line of an HTTP request: a method, or the name of a header with a colon after it
 HTTP = re.compile(rb"(?:GET|POST|HEAD|PUT|DELETE|OPTIONS|CONNECT|TRACE|PATCH)\Z|[0-9A-Za-z-]+:")
 # what ends a session; and what asks no partition
 LAST = ("quit", "http")
-UNASKED = ("policy", *LAST)
+UNASKED = ("policy", "ping", *LAST)
 Said = str | tuple[str, list]
 HEADER, MARK = b"key,payload\n", b"\xef\xbb\xbf"
 # the quoted part of a field of CSV, its rest, and what ends it
@@ -309,7 +309,8 @@ class Session:
         if isinstance(said, str):
             return [said]
         if said[0] in UNASKED:
-            return [f"policy {said[1][0]}" if said[1] else {"quit": "bye", "http": "refused 1"}[said[0]]]
+            alone = {"ping": "pong", "quit": "bye", "http": "refused 1"}
+            return [f"policy {said[1][0]}" if said[1] else alone[said[0]]]
         (kind, numbers), parts = said, self.parts_of(said)
         try:
             if not parts:

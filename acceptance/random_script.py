@@ -24,7 +24,7 @@ KEYS = [20, 1000, MOST - 1]
 SPLITS = [(0, 700, 500), (4, 200, 230), (15, 200, 110)]
 # out of a thousand statements, how many of each kind
 KINDS = {"insert": 300, "delete": 120, "update": 120, "count": 120, "sum": 90, "select": 60, "layout": 80}
-KINDS |= {"checkpoint": 30, "policy": 20, "other part": 10, "bad range": 10, "bad line": 10}
+KINDS |= {"checkpoint": 30, "policy": 20, "ping": 10, "other part": 10, "bad range": 10, "bad line": 10}
 
 
 def random_bound(numbers: random.Random, splits: list[int], most: int) -> int:
@@ -87,6 +87,7 @@ def statement(kind: str, row: str, key: object, payload: object, low: object, hi
         "layout": row.split(".")[0],
         "checkpoint": row.split(".")[0],
         "policy": policy,
+        "ping": "",
         "quit": "",
     }
     return f"{kind} {words.get(kind, f'{low} {high}')}".rstrip(" ")

@@ -378,9 +378,10 @@ async def connect_async(
     except (OSError, asyncio.TimeoutError) as error:
         fault = TimedOut if isinstance(error, (TimeoutError, asyncio.TimeoutError)) else Disconnected
         raise fault(f"no server at {host}, port {port}: {getattr(error, 'strerror', None) or error}") from error
-    table = AsyncTable(Shared(Line(reader, writer, timeout), kind, policy, f"{host}:{port}"))
+    shared = Shared(Line(reader, writer, timeout), kind, policy, f"{host}:{port}")
+    table = AsyncTable(shared)
     try:
-        await table.ping()
+        await _awaited(shared._begin())
     except BaseException:
         await table.close()
         raise

@@ -24,7 +24,7 @@ class Client(RemoteTable):
         self._channel: Optional[Channel] = channel
         self._keys, self._policy, self._timeout, self._peer = keys, policy, channel.timeout, channel.peer
         self._lock, self._is_asking = threading.RLock(), False
-        self.ping()
+        self._begin()
 
     @property
     def timeout(self) -> Optional[float]:

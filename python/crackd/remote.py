@@ -26,7 +26,11 @@ class RemoteTable(AnyTable):
 
     def ping(self) -> Any:
         """Asks the server for a sign of life. Raises `Disconnected` if there is none."""
-        return self._say(wire.ping(self._policy))
+        return self._say(wire.ping())
+
+    def _begin(self) -> Any:
+        """The first statements of a connection. Raises `Disconnected` if they aren't answered."""
+        return self._say(wire.begin(self._policy))
 
     def _facts(self) -> Iterator[tuple[str, str]]:
         yield "policy", self._policy

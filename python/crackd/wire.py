@@ -124,9 +124,16 @@ def answered(text: bytes, lines: int) -> Exchanges:
 # What a table does
 
 
-def ping(policy: str) -> Exchanges:
-    """Asks for a sign of life, and says how rows are merged."""
+def begin(policy: str) -> Exchanges:
+    """Asks a new connection for a sign of life, and says how rows are merged."""
+    # (a server that has no room for a client refuses its first statement, and is gone)
+    check((yield b"ping\n", 1))
     check((yield b"policy %b\n" % policy.encode("ascii"), 1))
+
+
+def ping() -> Exchanges:
+    """Asks for a sign of life."""
+    check((yield b"ping\n", 1))
 
 
 def insert(key: int, payload: int) -> Exchanges:

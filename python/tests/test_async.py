@@ -18,7 +18,9 @@ def numbers(it):
 
 
 class Scripted:
-    """A server of the tests, in the same loop. `heard` has the lines that it got."""
+    """A server of the tests, in the same loop. `heard` has the lines that it got; the first two are a connection's."""
+
+    FIRST = {b"ping\n": b"pong\n", b"policy auto\n": b"policy auto\n"}
 
     def __init__(self, reply):
         self.reply, self.heard, self.writers = reply, [], []
@@ -37,7 +39,7 @@ class Scripted:
     @contextlib.asynccontextmanager
     async def connected(cls, reply, **options):
         """A table on a server that answers each line by what this function makes of it; None closes the connection."""
-        scripted = cls(lambda line, it: b"policy auto\n" if line.startswith(b"policy") else reply(line, it))
+        scripted = cls(lambda line, it: cls.FIRST.get(line) or reply(line, it))
         async with await asyncio.start_server(scripted.serve, "127.0.0.1", 0) as served:
             port = served.sockets[0].getsockname()[1]
             table = await crackd.connect_async(port=port, **options)
@@ -54,9 +56,9 @@ class Tasks(unittest.IsolatedAsyncioTestCase):
     async def test_calls_do_not_wait_for_replies(self):
         async with Scripted.connected(lambda line, it: b"") as (table, scripted):
             waiting = [asyncio.ensure_future(it) for it in (table.count(1, 2), table.sum(3, 4), table.select(5, 6))]
-            while len(scripted.heard) < 4:
+            while len(scripted.heard) < 5:
                 await asyncio.sleep(0)
-            self.assertEqual(scripted.heard[1:], [b"count 1 2\n", b"sum 3 4\n", b"select 5 6\n"])
+            self.assertEqual(scripted.heard[2:], [b"count 1 2\n", b"sum 3 4\n", b"select 5 6\n"])
             self.assertFalse(any(it.done() for it in waiting))
             for piece in (b"count 7\nsu", b"m -5\nrow", b"s 2\n0.1 5 8\n0.", b"2 5 -9\n"):
                 scripted.writers[0].write(piece)
@@ -67,7 +69,7 @@ class Tasks(unittest.IsolatedAsyncioTestCase):
     async def test_a_cancelled_task_leaves_the_connection(self):
         async with Scripted.connected(lambda line, it: b"") as (table, scripted):
             waiting = [asyncio.ensure_future(it) for it in (table.select(1, 2), table.count(3, 4), table.count(5, 6))]
-            while len(scripted.heard) < 4:
+            while len(scripted.heard) < 5:
                 await asyncio.sleep(0)
             for at in (0, 1):
                 waiting[at].cancel()
@@ -83,7 +85,7 @@ class Tasks(unittest.IsolatedAsyncioTestCase):
         async with Scripted.connected(lambda line, it: b"") as (table, scripted):
             calls = [table.insert_many([1, 2, 3], [1, 2, 3]), table.count(), table.insert_many([4], [4])]
             waiting = [asyncio.ensure_future(it) for it in calls]
-            while len(scripted.heard) < 6:
+            while len(scripted.heard) < 7:
                 await asyncio.sleep(0)
             scripted.writers[0].write(b"row 0.5\nrow 1.7\nrow 0.")
             await asyncio.sleep(0.01)
@@ -102,7 +104,7 @@ class Tasks(unittest.IsolatedAsyncioTestCase):
             with self.assertRaises(crackd.Disconnected) as caught:
                 await table.move(3, 9)
             self.assertEqual((caught.exception.row, list(caught.exception.answers)), ((5, 7), []))
-            self.assertEqual(scripted.heard[1:], [b"delete 0.3\n", b"insert 9 7\n"])
+            self.assertEqual(scripted.heard[2:], [b"delete 0.3\n", b"insert 9 7\n"])
 
     async def test_a_server_that_is_silent(self):
         def reply(line, it):
@@ -166,8 +168,9 @@ class Tasks(unittest.IsolatedAsyncioTestCase):
 
     async def test_a_refused_policy(self):
         async def refuse(reader, writer):
-            await reader.readline()
-            writer.write(b"refused 8\n")
+            for said in (b"pong\n", b"refused 8\n"):
+                await reader.readline()
+                writer.write(said)
             await reader.readline()
             writer.close()
 

@@ -185,7 +185,7 @@ class Scripted(unittest.TestCase):
         """A table on a server that answers statements by their first word, in turn."""
 
         def reply(line):
-            said = replies[line.split()[0].decode()]
+            said = {"ping": b"pong\n", **replies}[line.split()[0].decode()]
             return said.pop(0) if isinstance(said, list) else said
 
         with answering(reply) as port, crackd.connect(port=port, timeout=SECONDS) as table:
@@ -230,7 +230,7 @@ class Scripted(unittest.TestCase):
             table.close()
 
     def test_a_refused_policy(self):
-        for code, kind in [(8, crackd.OutOfMemory), (1, crackd.Refused)]:
+        for code, kind in [(8, crackd.OutOfMemory), (1, crackd.Refused), (20, crackd.Refused)]:
             with self.subTest(code), answering(lambda line, code=code: b"refused %d\n" % code) as port:
                 with self.assertRaises(kind):
                     crackd.connect(port=port)

@@ -49,7 +49,7 @@ def refusing(room, **environment):
 
 @contextlib.contextmanager
 def standing_in(play):
-    """The port of a stand-in for a server. It takes one connection, answers its first statement as a server does, and
+    """The port of a stand-in for a server. It takes one connection, answers its first statements as a server does, and
     then calls a function with it."""
     with socket.socket() as listening:
         listening.bind(("127.0.0.1", 0))
@@ -57,8 +57,9 @@ def standing_in(play):
 
         def answer():
             with listening.accept()[0] as connection:
-                connection.recv(4096)
-                connection.sendall(b"policy auto\n")
+                for said in (b"pong\n", b"policy auto\n"):
+                    connection.recv(4096)
+                    connection.sendall(said)
                 play(connection)
 
         thread = threading.Thread(target=answer)

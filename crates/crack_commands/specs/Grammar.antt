@@ -14,7 +14,7 @@ use Rattle.crack_row.specs.declared.refusal.Refusal.{Refusal}
 use Rattle.crack_row.specs.declared.refusal.Refusal.TheVariants.{BadStatement, BadRange}
 use Rattle.crack_commands.specs.declared.words.TheConstants.{MOST_DIGITS, GREATEST_PART, GREATEST_SERIAL}
 use Rattle.crack_commands.specs.declared.statement.Statement.{Statement}
-use Rattle.crack_commands.specs.declared.statement.Statement.TheVariants.{Insert, Delete, Update, Count, Sum, Select, Layout, Checkpoint, Policy, End}
+use Rattle.crack_commands.specs.declared.statement.Statement.TheVariants.{Insert, Delete, Update, Count, Sum, Select, Layout, Checkpoint, Policy, Ping, End}
 use Rattle.crack_commands.specs.declared.statement.Ending.TheVariants.{Quit, Http}
 
 -- the meaning of a line: a statement, or why it isn't one
@@ -115,6 +115,7 @@ named name arguments =
     else if bytes_eq name (codes "layout") then made Layout (number_up_to GREATEST_PART (only_word arguments))
     else if bytes_eq name (codes "checkpoint") then made Checkpoint (number_up_to GREATEST_PART (only_word arguments))
     else if bytes_eq name (codes "policy") then made Policy (policy_named (only_word arguments))
+    else if bytes_eq name (codes "ping") then if length arguments == 0 then Ok Ping else Err BadStatement
     else if bytes_eq name (codes "quit") then if length arguments == 0 then Ok (End Quit) else Err BadStatement
     else unnamed name
 

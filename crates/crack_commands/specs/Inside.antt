@@ -16,7 +16,7 @@ use Rattle.crack_row.specs.declared.RowNo.{RowNo}
 use Rattle.crack_row.specs.declared.refusal.Refusal.{Refusal}
 use Rattle.crack_row.specs.declared.refusal.Refusal.TheVariants.{BadStatement, BadRange}
 use Rattle.crack_commands.specs.declared.words.TheConstants.{GREATEST_PART}
-use Rattle.crack_commands.specs.declared.statement.Statement.TheVariants.{Insert, Delete, Update, Layout as AsksLayout, Checkpoint, Policy, End}
+use Rattle.crack_commands.specs.declared.statement.Statement.TheVariants.{Insert, Delete, Update, Layout as AsksLayout, Checkpoint, Policy, Ping, End}
 use Rattle.crack_commands.specs.declared.statement.Ending.TheVariants.{Quit}
 use Rattle.crack_commands.specs.Grammar.{Reading, words, is_digit, number_of, whole_number_of, number_up_to, row_number_of, key_of, payload_of, two_of, only_word, policy_named, made}
 use Rattle.crack_commands.specs.Texts.{line_text, row_text, field_text}
@@ -128,6 +128,10 @@ checkpoint_of arguments = made Checkpoint (number_up_to GREATEST_PART (only_word
 -- `policy NAME`
 abbrev pub policy_of : List (List ℕ) → Reading
 policy_of arguments = made Policy (policy_named (only_word arguments))
+
+-- `ping`
+abbrev pub ping_of : List (List ℕ) → Reading
+ping_of arguments = if length arguments == 0 then Ok Ping else Err BadStatement
 
 -- `quit`
 abbrev pub quit_of : List (List ℕ) → Reading

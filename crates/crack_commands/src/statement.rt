@@ -4,7 +4,7 @@ ghost use Rattle.std.specs.List.{list_all};
 ghost use Rattle.crack_commands.specs.Grammar.{statement_of, words, named, number_of, two_of, over, policy_named};
 ghost use Rattle.crack_commands.specs.Grammar.{long_of, unnamed, is_http, is_method, has_header, is_name_byte};
 ghost use Rattle.crack_commands.specs.Inside.{insert_of, delete_of, update_of, update_from, range_from, layout_of};
-ghost use Rattle.crack_commands.specs.Inside.{checkpoint_of, policy_of, quit_of};
+ghost use Rattle.crack_commands.specs.Inside.{checkpoint_of, policy_of, ping_of, quit_of};
 ghost use Rattle.crack_commands.specs.declared.statement.Statement.TheVariants.{Count, Sum, Select};
 
 use crate::words::{
@@ -40,6 +40,8 @@ pub enum Statement {
     Checkpoint(u32),
     /// Change how pending rows are merged from now on.
     Policy(Policy),
+    /// Tell that the session is alive.
+    Ping,
     /// End the session.
     End(Ending),
 }
@@ -96,6 +98,8 @@ fn parse_named(name: &[u8], rest: &[u8]) -> Result<Statement, Refusal>
         parse_checkpoint(rest)
     } else if name == b"policy".as_slice() {
         parse_policy(rest)
+    } else if name == b"ping".as_slice() {
+        parse_ping(rest)
     } else if name == b"quit".as_slice() {
         parse_quit(rest)
     } else if name == b"insert".as_slice() {
@@ -291,6 +295,18 @@ fn policy_named(name: &[u8]) -> Option<Policy>
         Some(Policy::Auto)
     } else {
         None
+    }
+}
+
+/// A ping, if no word is after its name.
+fn parse_ping(rest: &[u8]) -> Result<Statement, Refusal>
+    ensures { result ≡ ping_of (words rest.now) }
+{
+    let (word, _) = next_word(rest);
+    if word.is_empty() {
+        Ok(Statement::Ping)
+    } else {
+        Err(Refusal::BadStatement)
     }
 }
 

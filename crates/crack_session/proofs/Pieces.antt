@@ -10,7 +10,7 @@ use Rattle.crack_row.specs.declared.Bound.{Bound}
 use Rattle.crack_plain.specs.Plain.{PlainView}
 use Rattle.crack_commands.specs.Grammar.{Reading}
 use Rattle.crack_commands.specs.declared.statement.Ending.{Ending}
-use Rattle.crack_commands.specs.declared.statement.Statement.TheVariants.{Insert, Delete, Update, Count, Sum, Select, Layout, Checkpoint, Policy, End}
+use Rattle.crack_commands.specs.declared.statement.Statement.TheVariants.{Insert, Delete, Update, Count, Sum, Select, Layout, Checkpoint, Policy, Ping, End}
 use Rattle.crack_core.specs.Steps.{Bounds}
 use Rattle.crack_session.specs.declared.answer.Answer.{Answer}
 use Rattle.crack_session.specs.declared.session.Progress.{Progress}
@@ -96,6 +96,7 @@ last_noted ending (Ok (Select r)) h = absurd (false≢true h)
 last_noted ending (Ok (Layout p)) h = absurd (false≢true h)
 last_noted ending (Ok (Checkpoint p)) h = absurd (false≢true h)
 last_noted ending (Ok (Policy p)) h = absurd (false≢true h)
+last_noted ending (Ok Ping) h = absurd (false≢true h)
 last_noted ending (Ok (End last)) h = (last, refl)
 
 pub not_last_noted : (ending : Option Ending) (r : Reading) → is_last r ≡ false → ended_by ending r ≡ ending
@@ -109,6 +110,7 @@ not_last_noted ending (Ok (Select r)) h = refl
 not_last_noted ending (Ok (Layout p)) h = refl
 not_last_noted ending (Ok (Checkpoint p)) h = refl
 not_last_noted ending (Ok (Policy p)) h = refl
+not_last_noted ending (Ok Ping) h = refl
 not_last_noted ending (Ok (End last)) h = absurd (false≢true (sym h))
 
 -- nothing follows a statement that ends the session

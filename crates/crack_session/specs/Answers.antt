@@ -15,11 +15,11 @@ use Rattle.crack_plain.specs.Plain.{PlainView, checkpointed}
 use Rattle.crack_commands.specs.Grammar.{Reading}
 use Rattle.crack_commands.specs.Texts.{line_text, reply_text, row_text, layout_text, policy_text, refusal_text}
 use Rattle.crack_commands.specs.declared.statement.Statement.{Statement}
-use Rattle.crack_commands.specs.declared.statement.Statement.TheVariants.{Insert, Delete, Update, Count, Sum, Select, Layout, Checkpoint, Policy, End}
+use Rattle.crack_commands.specs.declared.statement.Statement.TheVariants.{Insert, Delete, Update, Count, Sum, Select, Layout, Checkpoint, Policy, Ping, End}
 use Rattle.crack_commands.specs.declared.statement.Ending.{Ending}
 use Rattle.crack_commands.specs.declared.statement.Ending.TheVariants.{Quit, Http}
 use Rattle.crack_session.specs.declared.answer.Answer.{Answer}
-use Rattle.crack_session.specs.declared.answer.Answer.TheVariants.{Replied, Counted, Summed, Listed, Laid, Folded, Set, Refused, Bye}
+use Rattle.crack_session.specs.declared.answer.Answer.TheVariants.{Replied, Counted, Summed, Listed, Laid, Folded, Set, Pong, Refused, Bye}
 use Rattle.crack_core.specs.declared.turns.PartReply.{PartReply}
 use Rattle.crack_core.specs.Asking.{InTurn, asking}
 use Rattle.crack_core.specs.Listing.{listed}
@@ -86,6 +86,7 @@ IsAnswerTo bounds splits tables (Select range) answer new = AsksParts bounds spl
 IsAnswerTo bounds splits tables (Layout part) answer new = IsLaidOut splits tables part answer × (new ≡ tables)
 IsAnswerTo bounds splits tables (Checkpoint part) answer new = IsFolded tables part answer new
 IsAnswerTo bounds splits tables (Policy policy) answer new = (answer ≡ Set policy) × (new ≡ tables)
+IsAnswerTo bounds splits tables Ping answer new = (answer ≡ Pong) × (new ≡ tables)
 IsAnswerTo bounds splits tables (End ending) answer new = (answer ≡ farewell ending) × (new ≡ tables)
 
 -- an answer to the reading of a line, and the partitions afterwards
@@ -112,5 +113,6 @@ answer_text (Listed total lists) = line_text (codes "rows ") (decimal total) ++ 
 answer_text (Laid part layout) = layout_text part layout
 answer_text (Folded count) = line_text (codes "folded ") (decimal count)
 answer_text (Set policy) = policy_text policy
+answer_text Pong = codes "pong\n"
 answer_text (Refused e) = refusal_text e
 answer_text Bye = codes "bye\n"

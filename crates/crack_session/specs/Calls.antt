@@ -11,10 +11,10 @@ use Rattle.crack_row.specs.declared.refusal.Refusal.{Refusal}
 use Rattle.crack_row.specs.declared.refusal.Refusal.TheVariants.{OutOfMemory}
 use Rattle.crack_commands.specs.Grammar.{Reading}
 use Rattle.crack_commands.specs.declared.statement.Statement.{Statement}
-use Rattle.crack_commands.specs.declared.statement.Statement.TheVariants.{Insert, Delete, Update, Count, Sum, Select, Layout, Checkpoint, Policy, End}
+use Rattle.crack_commands.specs.declared.statement.Statement.TheVariants.{Insert, Delete, Update, Count, Sum, Select, Layout, Checkpoint, Policy, Ping, End}
 use Rattle.crack_core.specs.Routes.{route, parts_of}
 use Rattle.crack_session.specs.declared.answer.Answer.{Answer}
-use Rattle.crack_session.specs.declared.answer.Answer.TheVariants.{Replied, Counted, Summed, Listed, Laid, Folded, Set, Refused}
+use Rattle.crack_session.specs.declared.answer.Answer.TheVariants.{Replied, Counted, Summed, Listed, Laid, Folded, Set, Pong, Refused}
 use Rattle.crack_core.specs.declared.turns.PartReply.{PartReply}
 use Rattle.crack_core.specs.Asking.{InTurn, rows_told, sum_told}
 use Rattle.crack_session.specs.Answers.{answer_from, farewell}
@@ -59,6 +59,7 @@ IsMadeOf splits policy (Select range) answer calls = ArePartsAsked policy (λ pa
 IsMadeOf splits policy (Layout part) answer calls = (outcome : Result PartLayout Refusal) × (calls ≡ Looked part outcome ∷ []) × (answer ≡ answer_from (Laid part) outcome)
 IsMadeOf splits policy (Checkpoint part) answer calls = (outcome : Result ℕ Refusal) × (calls ≡ Checkpointed part outcome ∷ []) × (answer ≡ answer_from Folded outcome)
 IsMadeOf splits policy (Policy other) answer calls = (answer ≡ Set other) × (calls ≡ [])
+IsMadeOf splits policy Ping answer calls = (answer ≡ Pong) × (calls ≡ [])
 IsMadeOf splits policy (End ending) answer calls = (answer ≡ farewell ending) × (calls ≡ [])
 
 -- the same for the reading of a line

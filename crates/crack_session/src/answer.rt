@@ -41,6 +41,8 @@ pub enum Answer {
     Folded(u64),
     /// The session has this policy from now on.
     Set(Policy),
+    /// The session is alive.
+    Pong,
     /// The line or its command was refused.
     Refused(Refusal),
     /// The session is over.
@@ -76,6 +78,7 @@ impl Answer {
             Answer::Laid { part, layout } => write_layout(*part, layout, writer),
             Answer::Folded(count) => write_folded(*count, writer),
             Answer::Set(policy) => write_text(policy_line(*policy), writer),
+            Answer::Pong => write_text(b"pong", writer),
             Answer::Refused(refusal) => write_refusal(refusal, writer),
             Answer::Bye => write_text(b"bye", writer),
         }
@@ -146,6 +149,7 @@ pub fn answer_statement<D: Desk>(
         Statement::Layout(part) => return lay_out(desk, part),
         Statement::Checkpoint(part) => return fold_part(desk, part),
         Statement::Policy(next) => return Answer::Set(next),
+        Statement::Ping => return Answer::Pong,
         Statement::End(ending) => return farewell(ending),
     };
     ask_part(desk, policy, part, command)

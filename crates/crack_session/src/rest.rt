@@ -198,6 +198,7 @@ pub fn append_answer(answer: Answer, out: &mut Output) -> Rest
             push(out, policy_line(policy));
             push(out, b"\n");
         }
+        Answer::Pong => push(out, b"pong\n"),
         Answer::Refused(refusal) => push_refusal(out, &refusal),
         Answer::Bye => push(out, b"bye\n"),
     }

@@ -44,6 +44,7 @@ select LO HI      these rows, a line P.S K V for each
 layout P          how the rows of partition P are laid out, as numbers
 checkpoint P      empties the history of partition P; its rows stay, and the reply is how many entries it had
 policy NAME       how inserts and deletes are merged: complete, gradual, ripple or auto
+ping              the reply is pong
 quit              ends the session; so does exit
 
 A ; at the end of a statement is ignored. Keys are whole numbers from 0 to 18446744073709551615,

@@ -18,6 +18,7 @@ WORDS = [
     "layout",
     "checkpoint",
     "policy",
+    "ping",
     "quit",
     "exit",
     "help",
