@@ -3,8 +3,8 @@
 It loads ROWS rows into a `crackd.Table` with as many shards as processors, and into one with one shard, and asks each
 for the counts and sums of RANGES new ranges, each kind in one call; then as many threads as there are processors make
 CALLS calls each, of counts, sums, inserts and deletes, and one thread makes as many in all. Beside them numpy sorts the
-keys and takes the payloads in their order. It prints, as JSON, the least seconds of each step by its name, and the bytes
-of memory a row; all must give the same answers.
+keys and takes the payloads in their order. It prints, as JSON, the least seconds of each step by its name, and the
+bytes of memory a row; all must give the same answers.
 """
 
 import json
