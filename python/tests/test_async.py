@@ -132,6 +132,24 @@ class Tasks(unittest.IsolatedAsyncioTestCase):
             with self.assertRaises(ValueError):
                 table.timeout = 0
 
+    async def test_a_timeout_that_is_set_while_a_call_waits(self):
+        for before, after in [(None, 0.05), (60, 0.05), (0.3, None), (0.3, 60)]:
+            async with Scripted.connected(lambda line, it: b"", timeout=before) as (table, scripted):
+                waiting = asyncio.ensure_future(table.count(1, 2))
+                while len(scripted.heard) < 2:
+                    await asyncio.sleep(0)
+                table.timeout = after
+                self.assertEqual(table.timeout, after)
+                if after == 0.05:
+                    with self.assertRaises(crackd.TimedOut):
+                        await asyncio.wait_for(waiting, 30)
+                    continue
+                # (until after the moment at which the wait would have ended)
+                await asyncio.wait([waiting], timeout=0.5)
+                self.assertFalse(waiting.done())
+                scripted.writers[0].write(b"count 7\n")
+                self.assertEqual(await waiting, 7)
+
     async def test_a_full_history_is_emptied_with_nothing_in_between(self):
         """Statements that are refused for a full history are sent again in one piece with the checkpoints."""
         full = [b"refused 6 0\n", b"row 0.1\n"]

@@ -4,6 +4,7 @@ what happens between two calls."""
 import collections
 import contextlib
 import ctypes
+import itertools
 import os
 import threading
 import time
@@ -329,6 +330,65 @@ class Histories(InProcess, unittest.TestCase):
                 for _ in range(4):
                     self.assertEqual(len(table.select(0, 1000).rows), 1000)
                 self.assertEqual(table.checkpoint() < 6, way != "none")
+
+    def test_each_way_to_insert_and_to_delete_counts(self):
+        # (a select lists 100 rows, and is two entries: it counts first. With 400 rows all four are kept; with 100 rows
+        # the third is the first to list more than 100 beyond these)
+        for shards in (1,) if np is None else (1, 2):
+            for insert, delete in itertools.product(self.INSERTS, self.DELETES):
+                with self.subTest(shards=shards, insert=insert, delete=delete):
+                    with mock.patch.object(local, "LISTED", 100):
+                        with crackd.Table(splits=[1000], shards=shards, rows=1000) as table:
+                            rows = numbers(self.INSERTS[insert](table))
+                            self.assertEqual(self.entries_of_four(table), 8)
+                            self.DELETES[delete](table, rows[100:])
+                            self.assertEqual(self.entries_of_four(table), 2)
+
+    @staticmethod
+    def few(table):
+        """Inserts 400 rows, 20 at a time."""
+        return [row for at in range(0, 400, 20) for row in table.insert_many(range(at, at + 20), [1] * 20)]
+
+    @staticmethod
+    def moved(table):
+        """Inserts 400 rows whose keys come from another partition."""
+        rows = table.insert_many(range(1000, 1400), [1] * 400)
+        return [table.move(row, key) for key, row in enumerate(numbers(rows))]
+
+    INSERTS = {
+        "one": lambda table: [table.insert(key, 1) for key in range(400)],
+        "few": few,
+        "many": lambda table: table.insert_many(range(400), [1] * 400),
+        "reported": lambda table: table.insert_rows(range(400), [1] * 400, progress=lambda *_: None),
+        "moved": moved,
+    }
+    DELETES = {
+        "one": lambda table, rows: [table.delete(it) for it in rows + rows],
+        "few": lambda table, rows: [table.delete_many(rows[at : at + 20]) for at in range(0, len(rows), 20)],
+        "many": lambda table, rows: table.delete_many(rows + rows),
+        "range": lambda table, rows: table.delete_range(100, 400),
+    }
+
+    def entries_of_four(self, table):
+        """How many entries the histories have after four selects of 100 rows."""
+        table.settle(), table.checkpoint()
+        for _ in range(4):
+            self.assertEqual(len(table.select(0, 100).rows), 100)
+        return table.checkpoint()
+
+    def test_a_deletion_that_is_refused_counts_as_far_as_it_came(self):
+        def refusing(real, *words):
+            # (nothing is deleted; the last flags aren't of rows that were reached)
+            ctypes.memset(words[-3], 1, words[-2])
+            words[-1]._obj.value = 300
+            return 8
+
+        with mock.patch.object(local, "LISTED", 100), crackd.Table() as table:
+            rows = table.insert_many(range(400), [1] * 400)
+            with standing_in(delete_many=refusing):
+                self.assertRaises(crackd.OutOfMemory, table.delete_many, [*rows, *rows, *rows])
+            # (300 count as gone, as if 100 were left)
+            self.assertEqual(self.entries_of_four(table), 2)
 
     def test_memory_of_a_loop_of_selects(self):
         def resident():

@@ -3,6 +3,7 @@
 import contextlib
 import ctypes
 import importlib.util
+import itertools
 import unittest
 from unittest import mock
 
@@ -363,6 +364,28 @@ class OfArrow:
             data = Data({"k": ("l", [[1], [2]])}, fault=at)
             self.assertRaisesRegex(OSError, "the Arrow stream ended: the disk is gone", self.filled, data)
             self.assertEqual(data.alive, 0)
+
+
+@wants_numpy
+class Gaps(unittest.TestCase):
+    """Bits that say which items of an array of Arrow are missing."""
+
+    def test_each_gap_at_each_offset(self):
+        column = arrow.Column.__new__(arrow.Column)
+        column.name = "k"
+        for offset, more, length in itertools.product((0, 1, 7, 8, 9), (0, 1, 7, 8), (1, 2, 7, 8, 9, 17)):
+            before = offset + more
+            for gap in (None, *range(length)):
+                is_there = [False] * before + [at != gap for at in range(length)]
+                bits = np.packbits(np.array(is_there), bitorder="little")
+                buffers = (ctypes.c_void_p * 2)(bits.ctypes.data, None)
+                of_array = {"length": length + more, "null_count": -1, "offset": offset, "n_buffers": 2}
+                own = arrow.Array(**of_array, buffers=ctypes.cast(buffers, ctypes.POINTER(ctypes.c_void_p)))
+                if gap is None:
+                    column.check_whole(own, more, length, 100)
+                else:
+                    with self.assertRaisesRegex(ValueError, f"^column 'k' has a gap at row {100 + gap}$"):
+                        column.check_whole(own, more, length, 100)
 
 
 @wants_library

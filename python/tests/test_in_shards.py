@@ -2,7 +2,9 @@
 them."""
 
 import contextlib
+import functools
 import gc
+import itertools
 import os
 import random
 import signal
@@ -219,6 +221,45 @@ class Rows(InShards, unittest.TestCase):
 
 
 @wants_shards
+class Orders(InShards, unittest.TestCase):
+    """The order in which shards are asked, and items within a shard."""
+
+    def test_items_of_a_shard_keep_their_order(self):
+        drawn = random.Random(5)
+        for shards in (2, 16, 17, 40):
+            with self.subTest(shards=shards), self.table(splits=range(10, 10 * shards, 10), shards=shards) as table:
+                keys = [drawn.randrange(10 * shards) for _ in range(3000)]
+                rows = numbers(table.insert_many(keys, range(3000)))
+                # (a row's number has its partition above 48 bits, and its place in time below)
+                serials = {}
+                for row, key in zip(rows, keys):
+                    self.assertEqual(row, (key // 10) << 54 | serials.setdefault(key // 10, 0))
+                    serials[key // 10] += 1
+                again = [drawn.randrange(3000) for _ in range(9000)]
+                last = dict(zip(range(3000), range(3000))) | {at: -it for it, at in enumerate(again)}
+                words = [rows[it] for it in again], [keys[it] for it in again], [-it for it in range(9000)]
+                self.assertTrue(all(table.update_many(*words)))
+                found = table.select()
+                wanted = {rows[at]: it for at, it in last.items()}
+                self.assertEqual(dict(zip(numbers(found.rows), numbers(found.payloads))), wanted)
+                twice = [rows[it] for it in again[:200] * 2]
+                gone = [row not in twice[:at] for at, row in enumerate(twice)]
+                self.assertEqual(list(table.delete_many(twice)), gone)
+
+    def test_a_move_locks_the_lower_shard_first(self):
+        # (else two moves that cross would wait for each other)
+        with self.table(splits=SPLITS) as table:
+            for origin, target in itertools.product((50, 150, 250), repeat=2):
+                row, locked = table.insert(origin, 1), []
+                with contextlib.ExitStack() as stack:
+                    for at, it in enumerate(table._shards):
+                        alone = functools.partial(lambda at, alone: (locked.append(at), alone())[1], at, it.alone)
+                        stack.enter_context(mock.patch.object(it, "alone", alone))
+                    self.assertTrue(table.delete(table.move(row, target)))
+                self.assertEqual(locked, sorted((origin // 100, target // 100)))
+
+
+@wants_shards
 class Refusals(InShards, unittest.TestCase):
     """A shard that is refused amid others: the others have done their items, and the error says which."""
 
@@ -248,6 +289,21 @@ class Refusals(InShards, unittest.TestCase):
                     self.assertEqual((error.code, error.done, error.later), (8, done, 2 * EACH + count - done))
                     self.assertEqual(table.sum(), EACH - count)
                     self.assertEqual(table.sum(shard * 100, shard * 100 + 100), EACH - count)
+
+    def test_the_first_row_that_is_refused_says_why(self):
+        # (a row of the shard, one whose key is another shard's, and two that no row can be)
+        with self.table(splits=SPLITS) as table:
+            row = int(table.insert_many([150], [1])[0])
+            rows = {0: (row, 150), 4: (row, 250), 5: (9 << 54, 150), -5: (row | 1 << 48, 150)}
+            for count in (1, 40):
+                for order in itertools.permutations([0] * 2 + [4, 5, -5], 3):
+                    codes = [*order] * count
+                    words = [rows[it][0] for it in codes], [rows[it][1] for it in codes], [2] * len(codes)
+                    first = next(it for it in range(len(codes)) if codes[it])
+                    with self.assertRaises(crackd.Refused) as caught:
+                        table.update_many(*words)
+                    error = caught.exception
+                    self.assertEqual((error.code, error.done, error.later), (abs(codes[first]), first, 0))
 
     def test_queries(self):
         with self.table(splits=SPLITS) as table:

@@ -77,6 +77,12 @@ class Texts(unittest.TestCase):
         self.assertIn("pending insertions", lines[5])
         self.assertIn("pending deletions", lines[6])
 
+    def test_bars_beside_wide_names_fit_into_a_line(self):
+        lines = list(part([1, 5], Keys("i")).drawn())[1:]
+        self.assertTrue(lines[0].strip().startswith(f"{-SIGN} to {9 - SIGN} "))
+        self.assertEqual((max(map(len, lines)), lines[1].count("#")), (80, 23))
+        self.assertEqual(lines[0].count("#"), 4)
+
     def test_no_rows(self):
         lines = list(part([0]).drawn())
         self.assertEqual([it[-1] for it in lines[1:]], ["0"] * 4)

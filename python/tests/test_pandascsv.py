@@ -145,6 +145,22 @@ class Alike(unittest.TestCase):
             for column in (csvfile.Column(), csvfile.Column(is_float=True)):
                 self.expect(text, column, drawn.randrange(2))
 
+    def test_zero_bytes_and_blocks_in_each_place(self):
+        rows = "".join(f"{it},{it * 7}.25\n" for it in range(9))
+        columns = [(0, csvfile.Column()), (1, csvfile.Column(decimals=2))]
+        for size in (1, 4, 1000):
+            with mock.patch.multiple(pandascsv, CHARACTERS_AT_ONCE=size, FIELDS_AT_ONCE=size), by_pandas():
+                for place in (None, *range(len(rows))):
+                    text = rows if place is None else f"{rows[:place]}\0{rows[place:]}"
+                    self.path.write_text(text, encoding="ascii")
+                    file = csvfile.CsvFile(self.path, ",", False, "utf-8")
+                    found = pandascsv.columns_of_pandas(file, columns)
+                    if place is None:
+                        wanted = [[*range(9)], [it * 700 + 25 for it in range(9)]]
+                        self.assertEqual([it.tolist() for it in found], wanted)
+                    else:
+                        self.assertIsNone(found)
+
     def test_small_files_do_not_import_pandas(self):
         self.path.write_text("1,2\n", encoding="ascii")
         with mock.patch.dict("sys.modules"):
