@@ -179,6 +179,14 @@ class Server:
         """Ends the server's input."""
         self.process.stdin.close()
 
+    def wait_for_line(self, text: str) -> None:
+        """Waits until the log has a line with this text."""
+        until = time.monotonic() + SECONDS
+        while self.log.seek(0) or text not in self.log.read():
+            if time.monotonic() > until:
+                raise Wrong(f"the log has no {text!r}")
+            time.sleep(0.05)
+
     def ended(self) -> Ended:
         """Waits for the server's end. Returns its status, its output after the first line, and its standard error,
         without the times of its lines."""

@@ -21,8 +21,8 @@ from plain_session import MOST
 # what fits into the buffer of a connection on its way to the server
 ARRIVED = 3_000
 ALL = f"count 0 {MOST}"
-# how many clients there are at once: honest ones, and of each other kind; and with how many rows an honest one works
-HONEST, HOSTILE, ROWS = 300, 100, 5
+# how many clients there are at once: a thousand in all; and with how many rows an honest one works
+HONEST, SILENT, DEAF, HOSTILE, ROWS = 300, 180, 20, 100, 5
 # how many descriptors a server has, and how many clients it has at once
 DESCRIPTORS, CLIENTS = 32, 100
 TOO_MANY = re.compile(r"crackd: (?:client|(\d+) clients, the last) 127\.0\.0\.1:\d+: refused 20 2: .+")
@@ -97,14 +97,13 @@ class Crowd:
         def come(many: int, room: int | None = None) -> list[Client]:
             return [stack.enter_context(Client(port, room)) for _ in range(many)]
 
-        self.silent, self.slow, self.flooding, self.resetting = (come(HOSTILE) for _ in range(4))
-        self.half_closed, self.http, self.deaf = come(HOSTILE), come(HOSTILE), come(HOSTILE, 4096)
-        self.honest = come(HONEST)
+        self.slow, self.flooding, self.resetting, self.half_closed, self.http = (come(HOSTILE) for _ in range(5))
+        self.deaf, self.silent, self.honest = come(DEAF, 4096), come(SILENT), come(HONEST)
 
     def misbehave(self) -> None:
         """Requests much and reads nothing, floods, sends requests of HTTP, and resets. None of it changes a total."""
         for it in self.deaf:
-            push(it, "layout 0\n" * 100_000)
+            push(it, "layout 0\n" * 300)
         for it in self.flooding:
             push(it, "x" * 1_000_000)
         for it in self.http:
@@ -371,12 +370,13 @@ class Servers(fixtures.Case):
         with Server(self.program, 1, "--until-eof", "--idle", "1") as it:
             with Client(it.port, room=4096) as deaf:
                 deaf.send(inserts(2_000))
+                expect("replies", 2_000, sum(len(deaf.reply()) for _ in range(2_000)))
                 with contextlib.suppress(OSError):
                     deaf.send(f"select 0 {MOST}\n" * 1_000)
-                time.sleep(2.5)
                 with Client(it.port) as next_one:
                     next_one.ask("insert 1 1", "row 0.2000")
                     next_one.end()
+                it.wait_for_line("session cut off")
             it.close()
             status, wrote, complained = it.ended()
             notes = it.notes(2, cut_off(deaf, "deaf"))

@@ -20,7 +20,7 @@ LIMITS = [
     ("crack_arguments", "DEFAULT_CLIENTS", ["after `--clients N`, {} without it", "Up to {} clients are connected",
      "is told `refused 20 {}`", "a time, 1 to 1000000 [default: {}]"]),
     ("crack_arguments", "DEFAULT_DRAIN", ["by `--drain N`, or {} without it", "it waits {} seconds, or as long as",
-     "at its end [default: {}]"]),
+     "at its end for clients [default: {}]"]),
     ("crack_arguments", "MOST_CLIENTS", ["clients are 1 to {}, seconds", "as `--clients` says, {} at most",
      "at a time, 1 to {} ["]),
     ("crack_commands", "GREATEST_PART", ["P is at most {} and S"]),

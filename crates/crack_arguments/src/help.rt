@@ -70,8 +70,7 @@ pub const OF_BATCH: &str = with_statements!(
 
 /// After the help of `serve`.
 pub const OF_SERVE: &str = with_statements!(
-    "  crackd serve --port 4000 --workers 2 --sessions 1 &\n",
-    "  python3 examples/client.py 4000"
+    "  crackd serve --port 4000 --sessions 1 & python3 examples/client.py 4000"
 );
 
 /// After the help of `csv`.

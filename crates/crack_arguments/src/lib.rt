@@ -185,7 +185,7 @@ static SERVER_CHOICES: [Choice; 9] = [
     Choice(
         "drain",
         Value::Number("N"),
-        "Waits N seconds for busy sessions at its end [default: 10]",
+        "Waits N seconds at its end for clients [default: 10]",
     ),
     Choice(
         "quiet",

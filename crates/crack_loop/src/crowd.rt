@@ -100,8 +100,8 @@ impl Crowd {
         }
     }
 
-    /// Reads the clock. The thread's own time goes on by what has passed since then, but not by much more than if it had
-    /// waited for events in vain, so that no client is blamed for a pause of the process.
+    /// Reads the clock. The thread's own time goes on by what has passed, but not by much more than if it had waited
+    /// for events in vain, so that no client is blamed for a pause of the process.
     pub(crate) fn read_clock<Rt: Wait, H: Host>(&mut self, service: &Service<'_, Rt, H>) {
         let now = service.host.millis();
         let passed = now.saturating_sub(self.now).min(MOST_ROUND_MILLIS);
