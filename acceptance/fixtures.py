@@ -130,6 +130,25 @@ def fed(command: list[str], given: bytes, piece: int = 65536) -> Ended:
         return ran(command, stdin=file)
 
 
+def fed_in_turns(command: list[str], pieces: list[bytes]) -> Ended:
+    """The same for a child that is given each of these pieces once it has read those before: no read gives more."""
+    source, target = os.pipe()
+    ended = threading.Event()
+
+    def feed() -> None:
+        with contextlib.suppress(BrokenPipeError), open(target, "wb", buffering=0) as file:
+            for it in pieces:
+                file.write(it)
+                while any(fcntl.ioctl(file, termios.FIONREAD, bytes(4))) and not ended.is_set():
+                    time.sleep(0)
+
+    with side_by_side(feed), open(source, "rb") as file:
+        try:
+            return ran(command, stdin=file)
+        finally:
+            ended.set()
+
+
 def free_port() -> int:
     with socket.socket() as it:
         it.bind(("127.0.0.1", 0))

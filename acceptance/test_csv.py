@@ -65,6 +65,19 @@ def check(program: str, seed: int) -> None:
         check_input(program, it, splits, limits, piece)
 
 
+def check_pieces(program: str, seed: int) -> None:
+    """Checks that random records are loaded as a whole if each read gives a random number of their bytes."""
+    numbers = random.Random(seed)
+    given, splits = random_input(numbers), random_script.random_splits(numbers, 300, numbers.randrange(3))
+    most, pieces, at = numbers.choice([10, 100, 4096]), [], 0
+    while at < len(given):
+        pieces.append(given[at : at + numbers.randint(1, most)])
+        at += len(pieces[-1])
+    words = ["csv", *map(str, splits)]
+    what = f"{given[:80]!r} (of {len(given)} bytes, in {len(pieces)} pieces), {' '.join(words)}"
+    expect(what, exported(given, splits), fixtures.fed_in_turns([program, *words], pieces))
+
+
 class Csv(fixtures.Case):
     """CSV of all kinds."""
 
@@ -93,3 +106,4 @@ class Csv(fixtures.Case):
 
 
 fixtures.add_seeds(Csv, range(1, 21), check)
+fixtures.add_seeds(Csv, range(101, 121), check_pieces)
