@@ -121,7 +121,7 @@ fn serve_port<H: Threads + Wait + Net<Listener = TcpListener, Stream = TcpStream
     }
     let Staffed { opening, workers } = &service.table;
     let splits = opening.splits.as_slice();
-    let table = UnnamedTable::open(rt.alloc(), splits, opening.limits, *workers)?;
+    let table = UnnamedTable::open(rt.alloc(), splits, opening.limits, *workers, false)?;
     serve_named::<Brand, H>(handle, rt, service, table)
 }
 
