@@ -172,7 +172,7 @@ fn serve_witnessed<H: Threads + Wait + Net + Sync>(
     host: &Notes,
     output: &mut Vec<u8>,
 ) -> Result<(), Refusal> {
-    let table = UnnamedTable::open(alloc, &[], LIMITS, 1)?;
+    let table = UnnamedTable::open(alloc, &[], LIMITS, 1, false)?;
     serve_named::<Brand, H>(rt, alloc, listener, way, table, gate, host, output)
 }
 

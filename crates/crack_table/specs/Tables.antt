@@ -1,5 +1,5 @@
 -- What contracts see of a table and of its workers, and their outcomes.
-use Rattle.std.specs.Prelude.{ℕ, ◌≡◌, ◌+◌, ◌<◌, ◌≤◌, ◌⊎◌, List, [], ◌∷◌, ◌++◌, length, Some, Result, Err, IfOk, IfErr, OnErr, OnOk}
+use Rattle.std.specs.Prelude.{Bool, ℕ, ◌≡◌, ◌+◌, ◌<◌, ◌≤◌, ◌⊎◌, List, [], ◌∷◌, ◌++◌, length, Some, Result, Err, IfOk, IfErr, OnErr, OnOk}
 use Rattle.crack_row.specs.Layouts.{IsLayout}
 use Rattle.crack_row.specs.Ranges.{Range}
 use Rattle.crack_row.specs.declared.Bound.{Bound}
@@ -15,12 +15,14 @@ use Rattle.crack_kept.specs.Refusals.{refusal_of}
 use Rattle.crack_kept.specs.Receipts.{BookState}
 use Rattle.crack_table.specs.declared.TheConstants.{GATE_TURNS}
 
--- where one partition ends and the next begins, the limits of each partition, how many workers there are, and how many locks
+-- where one partition ends and the next begins, the limits of each partition, how many workers there are, how many locks, and whether there is an
+-- audit: then the workers keep receipts
 pub record TableState : Type 0 where
   pub splits : List Bound
   pub limits : Limits
   pub workers : ℕ
   pub locks : ℕ
+  pub audited : Bool
 
 -- a refusal as a worker receives it: a full history with this limit, since nothing outside the lock knows the partition's own
 abbrev pub with_limit : ℕ → Refusal → Refusal

@@ -27,7 +27,7 @@ pub struct Table {
 }
 
 impl Model for Table {
-    ghost use Rattle.std.specs.Prelude.{vec_len};
+    ghost use Rattle.std.specs.Prelude.{vec_len, true};
     ghost use Rattle.crack_table.specs.Keeps.{IsTable};
     ghost use Rattle.crack_table.specs.Tables.{TableState};
 
@@ -38,6 +38,7 @@ impl Model for Table {
       limits = t.limits;
       workers = t.workers;
       locks = vec_len t.locks;
+      audited = true;
     } };
 
     ghost invariant = { λ t. IsTable t.splits.items t.limits t.workers (vec_len t.locks) };
@@ -116,7 +117,7 @@ impl Table {
 /// The first fault of an opening.
 pub fn fault(splits: &[Bound], limits: Limits, workers: u64) -> Option<Refusal>
     ensures value { result ≡ table_fault splits.now limits workers }
-    ensures good { result ≡ None → AreSplits splits.now × AreLimits limits × (workers ≤ 64) }
+    ensures good { result ≡ None → AreSplits splits.now × AreLimits limits × (0 < workers) × (workers ≤ 64) }
 {
     if let Some(refusal) = splits_fault(splits) {
         return Some(refusal);

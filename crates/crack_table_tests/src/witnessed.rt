@@ -62,7 +62,7 @@ fn witnessed_workers_are_gathered_or_refused(rt: HostRuntime) {
             upkeep: upkeep_of(way),
             ..Limits::of_history(history)
         };
-        let opened = UnnamedTable::open(alloc, &splits, limits, workers);
+        let opened = UnnamedTable::open(alloc, &splits, limits, workers, false);
         assert_way::<Brand, _>(&rt, alloc, opened.expect(&rt, "a table"), way);
     }
 }

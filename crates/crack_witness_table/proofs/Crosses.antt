@@ -9,11 +9,11 @@ use Rattle.crack_witness_table.specs.contracts.table.WitnessedTable as Witnessed
 use Rattle.crack_witness_table.specs.contracts.table.WitnessedTable.TheInside as table
 
 module _ (J : RattleType) (g : Ghosts J.Denot) (s : IsSend J) where
-  -- locks, splits, limits, workers
+  -- locks, splits, limits, workers, whether there is an audit
   inside-sync : IsSync (table.the_field J g).row
   inside-sync =
       let w = witnessed-send J g s in
-      struct_sync (shape (table.the_type J g)) (search (sendable, crosses) depth 30, (search (sendable, crosses) depth 30, (search (sendable, crosses) depth 30, (search (sendable, crosses) depth 30, tt))))
+      struct_sync (shape (table.the_type J g)) (search (sendable, crosses) depth 30, (search (sendable, crosses) depth 30, (search (sendable, crosses) depth 30, (search (sendable, crosses) depth 30, (search (sendable, crosses) depth 30, tt)))))
 
   pub table-sync : IsSync (WitnessedTable.the_row J g)
   table-sync = let i = inside-sync in search (sendable, crosses) depth 30

@@ -1,5 +1,5 @@
 -- New workers, and the partitions that they are to ask.
-use Rattle.std.proofs.Common.{◌≡◌, Bool, false, ◌+◌, ℕ, zero, suc, List, [], ◌∷◌, ◌++◌, length, Some, refl, ap, sym, subst, arith, length-append}
+use Rattle.std.proofs.Common.{◌≡◌, Bool, ◌+◌, ℕ, zero, suc, List, [], ◌∷◌, ◌++◌, length, Some, refl, ap, sym, subst, arith, length-append}
 use Rattle.std.specs.List.{slice_get}
 use Rattle.crack_part.specs.Parts.{Part}
 use Rattle.crack_witness.specs.Witnesses.{AskerState, WitnessedState, AreNewFrom, IsNewAsker}
@@ -12,10 +12,10 @@ push_each P [] y old new (suc k) x is = absurd (cc is)
 push_each P (z ∷ zs) y old new zero x is = old zero x is
 push_each {X} P (z ∷ zs) y old new (suc k) x is = push_each (λ (n : ℕ) (v : X). P (suc n) v) zs y (λ j v e. old (suc j) v e) new k x is
 
-pub new_more : (n parts : ℕ) (askers : List AskerState) (a : AskerState) → AreNewAskers n parts askers → IsNewAsker n parts false a → AreNewAskers (n + 1) parts (askers ++ a ∷ [])
-new_more n parts askers a old new = record {
+pub new_more : (n parts : ℕ) (audited : Bool) (askers : List AskerState) (a : AskerState) → AreNewAskers n parts audited askers → IsNewAsker n parts audited a → AreNewAskers (n + 1) parts audited (askers ++ a ∷ [])
+new_more n parts audited askers a old new = record {
   count = omega (arith, old.count, length-append askers (a ∷ []));
-  numbered = push_each (λ (k : ℕ) (x : AskerState). IsNewAsker k parts false x) askers a old.numbered (subst (λ (k : ℕ). IsNewAsker k parts false a) (sym old.count) new);
+  numbered = push_each (λ (k : ℕ) (x : AskerState). IsNewAsker k parts audited x) askers a old.numbered (subst (λ (k : ℕ). IsNewAsker k parts audited a) (sym old.count) new);
 }
 
 -- as many partitions are witnessed as there are

@@ -9,6 +9,7 @@ use Rattle.crack_row.specs.declared.refusal.Refusal.TheVariants.{NoSuchPartition
 use Rattle.crack_plain.specs.Plain.{IsSmall}
 use Rattle.crack_part.specs.Parts.{Part}
 use Rattle.crack_part.specs.Refusals.{refusal_of}
+use Rattle.crack_witness.specs.Audits.{and_one}
 use Rattle.crack_witness.specs.Histories.{calls_at, AreHistories}
 use Rattle.crack_witness.specs.Witnesses.{AskerState, IsGiven}
 use Rattle.crack_table.specs.Tables.{TableState, AnswersAt, with_limit}
@@ -24,11 +25,12 @@ MayRefuseAsker table may_refuse part command asker e =
     ⊎ ((e ≡ StrangeReceipt part (slice_index_or asker.counts part 0)) ⊎ ((e ≡ NoSuchPartition) × (length asker.fronts ≤ part)))))
 
 -- A worker asks one partition. If it is answered, its entry ends the history of that partition, as far as the worker now sees it; all that it had
--- seen before precedes the entry, every history is legal, and the worker's entries there are those of its replies. If it is refused, there is a
--- cause, and the worker has seen nothing new.
+-- seen before precedes the entry, every history is legal, the worker's entries there are those of its replies, and with an audit it has one more receipt.
+-- If it is refused, there is a cause, and the worker has seen nothing new.
 pub record AsksWitnessed (owner : ℕ → ℕ) (table : TableState) (may_refuse : ℕ → Type 0) (part : ℕ) (command : Command) (result : Result Reply Refusal) (old new : AskerState) : Type 0 where
   pub given : IfOk result (λ reply. IsGiven owner part (record { worker = old.worker; command = command; reply = reply }) old.seen new.seen)
   pub mine : IfOk result (λ reply. calls_at owner part old.worker new.seen ≡ calls_at owner part old.worker (slice_index_or old.fronts part []) ++ record { worker = old.worker; command = command; reply = reply } ∷ [])
+  pub receipts : IfOk result (λ reply. (position : ℕ) × (new.receipts ≡ and_one old.receipts (record { part = part; position = position; worker = old.worker; command = command; reply = reply })))
   pub fronts : OnOk result (new.fronts ≡ slice_set old.fronts part new.seen)
   pub legal : OnOk result (AreHistories new.seen)
   pub small : IfOk result IsSmall

@@ -1,6 +1,6 @@
 -- What private clauses alone cite.
 -- The invariants of tables that witness their replies.
-use Rattle.std.specs.Prelude.{◌≡◌, ℕ, ◌+◌, ◌≤◌, List, length, Some, slice_get}
+use Rattle.std.specs.Prelude.{◌≡◌, ℕ, ◌+◌, ◌<◌, ◌≤◌, List, length, Some, slice_get}
 use Rattle.crack_row.specs.Limits.{AreLimits}
 use Rattle.crack_row.specs.declared.Bound.{Bound}
 use Rattle.crack_row.specs.declared.limit.Limits.{Limits}
@@ -11,6 +11,7 @@ use Rattle.crack_witness.specs.Witnesses.{AreApart, AreDistinct, WitnessedState}
 pub record IsUnnamed (ids : List ℕ) (splits : List Bound) (limits : Limits) (workers : ℕ) : Type 0 where
   pub rising : AreSplits splits
   pub limited : AreLimits limits
+  pub some : 0 < workers
   pub few : workers ≤ 64
   pub owners : length ids ≡ length splits + 1
   pub distinct : AreDistinct ids

@@ -2,10 +2,11 @@
 ghost use Rattle.std.specs.Prelude.{◌≡◌, ◌⊎◌, ℕ, ◌+◌, ◌<◌, ◌≤◌, [], ◌∷◌, ◌++◌, length, Err, IfOk, IfErr, OnErr, OnOk};
 ghost use Rattle.std.specs.Prelude.{Ok, MatchResult, slice_index_or, slice_set};
 ghost use mathlib.Core.List.{IsPrefix};
-ghost use Rattle.crack_plain.specs.Plain.{IsSmall, reply_to};
+ghost use Rattle.crack_plain.specs.Plain.{IsSmall, accepted_of, reply_to};
 ghost use Rattle.crack_part.specs.Parts.{state_of, table_of};
 ghost use Rattle.crack_part.specs.Upkeep.{answered};
 ghost use Rattle.crack_table.specs.Tables.{with_limit};
+ghost use Rattle.crack_witness.specs.Audits.{and_one};
 ghost use Rattle.crack_witness.specs.Histories.{calls_at, AreHistories};
 ghost use Rattle.crack_witness.specs.Witnesses.{IsGiven, Knows, MayRefuseAt, replies_at, replies_to};
 
@@ -41,6 +42,14 @@ pub(crate) fn ask_behind<J: Naming, G: Gate>(
     ensures mine { IfOk result (λ answered. IfOk answered (λ reply. calls_at J.owner part asker.old.worker
         asker.new.seen ≡ calls_at J.owner part asker.old.worker (slice_index_or asker.old.fronts part []) ++
         record { worker = asker.old.worker; command = command; reply = reply } ∷ [])) }
+    ensures receipts { IfOk result (λ answered. IfOk answered (λ reply. asker.new.receipts ≡ and_one asker.old.receipts
+        (record {
+          part = part;
+          position = accepted_of (table_of witnessed.old.held);
+          worker = asker.old.worker;
+          command = command;
+          reply = reply;
+        }))) }
     ensures count { IfOk result (λ answered. OnOk answered (replies_to asker.new ≡ replies_to asker.old + 1)) }
     ensures fronts { IfOk result (λ answered. OnOk answered (asker.new.fronts ≡ slice_set asker.old.fronts part
         asker.new.seen)) }

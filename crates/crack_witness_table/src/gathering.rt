@@ -77,6 +77,7 @@ pub fn gather<J: Naming>(
         splits,
         limits,
         workers,
+        is_audited,
     } = table;
     match close(alloc, &mut locks, &splits, limits, workers, &askers) {
         Ok(gathered) => Ok(gathered),
@@ -87,6 +88,7 @@ pub fn gather<J: Naming>(
                 splits,
                 limits,
                 workers,
+                is_audited,
             },
             askers,
         }),

@@ -14,14 +14,16 @@ use crack_witness::{Asker, Naming, Witnessed};
 use std::marker::Model;
 use std::sync::{Mutex, Wait};
 
-/// Partitions with the scribes of their histories, each with a lock of its own. Many threads may share it. Contracts
-/// see what it was opened with; the workers' own state has the events that they have seen.
+/// Partitions with the scribes of their histories, each with a lock of its own. Many threads may share it. With an
+/// audit each partition lists its entries, and each worker keeps its receipts. Contracts see what it was opened with;
+/// the workers' own state has the events that they have seen.
 #[derive(Drop)]
 pub struct WitnessedTable<J: Naming> {
     pub(crate) locks: Vec<Mutex<Witnessed<J>>>,
     pub(crate) splits: Vec<Bound>,
     pub(crate) limits: Limits,
     pub(crate) workers: u64,
+    pub(crate) is_audited: bool,
 }
 
 impl<J: Naming> Model for WitnessedTable<J> {
@@ -36,6 +38,7 @@ impl<J: Naming> Model for WitnessedTable<J> {
       limits = t.limits;
       workers = t.workers;
       locks = vec_len t.locks;
+      audited = t.is_audited;
     } };
 
     ghost invariant = { λ t. IsWitnessedTable J.owner t.splits.items t.limits t.workers (vec_len t.locks) };
@@ -74,7 +77,8 @@ impl<J: Naming> WitnessedTable<J> {
     /// there is no such partition; under the lock with 7 if the gate refuses at each turn; with 16, with the partition
     /// and the number of its replies there, if the worker is another table's; then as `Partition::apply` is, with 4, 6,
     /// 10, 9 and 8. After a refusal nothing was seen or written. Costs, beyond `Partition::apply`, O(1) and the gate's
-    /// turns, and no memory.
+    /// turns, and no memory; with an audit amortised O(1), the copies of a select's list, and the memory of an entry
+    /// and a receipt.
     pub fn ask<R: Wait, G: Gate>(
         &self,
         rt: &R,

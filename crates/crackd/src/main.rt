@@ -119,7 +119,7 @@ fn serve_port<H: Threads + Wait + Net<Listener = TcpListener, Stream = TcpStream
     let opening = &service.opening;
     let workers = workers_of(handle, service);
     let splits = opening.splits.as_slice();
-    let table = UnnamedTable::open(rt.alloc(), splits, opening.limits, workers)?;
+    let table = UnnamedTable::open(rt.alloc(), splits, opening.limits, workers, false)?;
     serve_named::<Brand, H>(handle, rt, service, table)
 }
 

@@ -63,7 +63,7 @@ pub fn run<R: Host>(rt: &R, run: Run) -> Outcome {
     let splits = splits(rt.alloc(), run.parts())?;
     let limits = Limits::of_history(GREATEST_LIMIT);
     let workers = u64::from(run.workers);
-    let opened = UnnamedTable::open(rt.alloc(), splits.as_slice(), limits, workers);
+    let opened = UnnamedTable::open(rt.alloc(), splits.as_slice(), limits, workers, false);
     drop(splits);
     match opened {
         Ok(table) => run_named::<Brand, R>(rt, table, run),

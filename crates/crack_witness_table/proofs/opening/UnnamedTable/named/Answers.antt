@@ -1,4 +1,4 @@
-use Rattle.std.proofs.Common.{◌≡◌, false, ◌+◌, ◌≤◌, ℕ, length, ap, sym, subst, ◌∙◌, arith, vec_len}
+use Rattle.std.proofs.Common.{◌≡◌, ◌+◌, ◌≤◌, ℕ, length, ap, sym, subst, ◌∙◌, arith, vec_len}
 use Rattle.crack_witness.specs.Witnesses.{AreApart}
 use Rattle.crack_table.specs.Tables.{TableState}
 use Rattle.crack_witness_table.specs.Opening.{UnnamedState, AreNewAskers}
@@ -7,13 +7,13 @@ use Rattle.crack_witness_table.proofs.opening.UnnamedTable.named.Goals as goal
 
 pub hire-requires-clause-parts : goal.hire-requires-clause-parts
 hire-requires-clause-parts g c =
-    let all : length c.in_ok-front.witnessed.items ≡ length c.in_ok-parts.parts.items = witnessed_count g.J.Naming.owner c.self.inside.workers false 0 c.in_ok-parts.parts.items c.in_ok-front.witnessed.items c.in_ok-front.ensures.parts in
+    let all : length c.in_ok-front.witnessed.items ≡ length c.in_ok-parts.parts.items = witnessed_count g.J.Naming.owner c.self.inside.workers c.self.inside.is_audited 0 c.in_ok-parts.parts.items c.in_ok-front.witnessed.items c.in_ok-front.ensures.parts in
     let parts : length c.in_ok-parts.parts.items ≡ length c.self.inside.splits.items + 1 = rw c.deref.ensures.value at c.in_ok-parts.ensures.parts.count in
     omega (arith, all, parts, c.self.invariant.rising.few, c.len-2.ensures)
 
 pub invariant_of-table : goal.invariant_of-table
 invariant_of-table g c =
-    let all : length c.in_ok-front.witnessed.items ≡ length c.in_ok-parts.parts.items = witnessed_count g.J.Naming.owner c.self.inside.workers false 0 c.in_ok-parts.parts.items c.in_ok-front.witnessed.items c.in_ok-front.ensures.parts in
+    let all : length c.in_ok-front.witnessed.items ≡ length c.in_ok-parts.parts.items = witnessed_count g.J.Naming.owner c.self.inside.workers c.self.inside.is_audited 0 c.in_ok-parts.parts.items c.in_ok-front.witnessed.items c.in_ok-front.ensures.parts in
     let parts : length c.in_ok-parts.parts.items ≡ length c.self.inside.splits.items + 1 = rw c.deref.ensures.value at c.in_ok-parts.ensures.parts.count in
     let locks : vec_len c.lock.new.locks ≡ length c.in_ok-parts.parts.items = omega (arith, all, c.lock.ensures) in record {
       rising = c.self.invariant.rising;
@@ -25,19 +25,19 @@ invariant_of-table g c =
 
 pub returns-clause-table : goal.returns-clause-table
 returns-clause-table g c =
-    let all : length c.in_ok-front.witnessed.items ≡ length c.in_ok-parts.parts.items = witnessed_count g.J.Naming.owner c.self.inside.workers false 0 c.in_ok-parts.parts.items c.in_ok-front.witnessed.items c.in_ok-front.ensures.parts in
+    let all : length c.in_ok-front.witnessed.items ≡ length c.in_ok-parts.parts.items = witnessed_count g.J.Naming.owner c.self.inside.workers c.self.inside.is_audited 0 c.in_ok-parts.parts.items c.in_ok-front.witnessed.items c.in_ok-front.ensures.parts in
     let parts : length c.in_ok-parts.parts.items ≡ length c.self.inside.splits.items + 1 = rw c.deref.ensures.value at c.in_ok-parts.ensures.parts.count in
     let locks : vec_len c.lock.new.locks ≡ length c.self.inside.splits.items + 1 = omega (arith, all, parts, c.lock.ensures) in
-    let with : ℕ → TableState = λ n. record { splits = c.self.inside.splits.items; limits = c.self.inside.limits; workers = c.self.inside.workers; locks = n } in
+    let with : ℕ → TableState = λ n. record { splits = c.self.inside.splits.items; limits = c.self.inside.limits; workers = c.self.inside.workers; locks = n; audited = c.self.inside.is_audited } in
     subst (λ (t : UnnamedState). with (vec_len c.lock.new.locks) ≡ t.table) c.self.view_is (ap with locks)
 
 pub returns-clause-askers : goal.returns-clause-askers
 returns-clause-askers g c =
-    let all : length c.in_ok-front.witnessed.items ≡ length c.in_ok-parts.parts.items = witnessed_count g.J.Naming.owner c.self.inside.workers false 0 c.in_ok-parts.parts.items c.in_ok-front.witnessed.items c.in_ok-front.ensures.parts in
+    let all : length c.in_ok-front.witnessed.items ≡ length c.in_ok-parts.parts.items = witnessed_count g.J.Naming.owner c.self.inside.workers c.self.inside.is_audited 0 c.in_ok-parts.parts.items c.in_ok-front.witnessed.items c.in_ok-front.ensures.parts in
     let parts : length c.in_ok-parts.parts.items ≡ length c.self.inside.splits.items + 1 = rw c.deref.ensures.value at c.in_ok-parts.ensures.parts.count in
     let asked : c.len-2.result ≡ length c.self.inside.splits.items + 1 = omega (arith, all, parts, c.len-2.ensures) in
-    let new : AreNewAskers c.self.inside.workers (length c.self.inside.splits.items + 1) c.in_ok-askers.askers.items = subst (λ (n : ℕ). AreNewAskers c.self.inside.workers n c.in_ok-askers.askers.items) asked c.in_ok-askers.ensures in
-    subst (λ (t : UnnamedState). AreNewAskers t.table.workers t.table.locks c.in_ok-askers.askers.items) c.self.view_is new
+    let new : AreNewAskers c.self.inside.workers (length c.self.inside.splits.items + 1) c.self.inside.is_audited c.in_ok-askers.askers.items = subst (λ (n : ℕ). AreNewAskers c.self.inside.workers n c.self.inside.is_audited c.in_ok-askers.askers.items) asked c.in_ok-askers.ensures in
+    subst (λ (t : UnnamedState). AreNewAskers t.table.workers t.table.locks t.table.audited c.in_ok-askers.askers.items) c.self.view_is new
 
 pub returns-clause-apart : goal.returns-clause-apart
 returns-clause-apart g c =

@@ -12,12 +12,13 @@ returns-in_err-reply g c =
     let limited : c.with_table_limit.result ≡ Err e0 = search rules in
     let cause = answered-err c.in_ok-answered.answered c.with_table_limit.result c.self.inside.limits.history e0 c.with_table_limit.ensures limited in
     let same = rw (cause.1) at told.err in
-    let table : TableState = record { splits = c.self.inside.splits.items; limits = c.self.inside.limits; workers = c.self.inside.workers; locks = vec_len c.self.inside.locks } in
+    let table : TableState = record { splits = c.self.inside.splits.items; limits = c.self.inside.limits; workers = c.self.inside.workers; locks = vec_len c.self.inside.locks; audited = c.self.inside.is_audited } in
     let there : c.args.part ≤ length c.self.inside.splits.items = search rules in
     let causes = causes-witnessed g.J.Naming.owner table (g.G.Gate.may_refuse c.args.gate.now c.args.part) c.args.part c.deref_mut.result.now c.args.command c.args.asker.now c.in_ok-answered.answered c.with_table_limit.result told.causes c.with_table_limit.ensures in
     rw (given, ← c.self.view_is) (record {
       given = tt;
       mine = tt;
+      receipts = tt;
       fronts = tt;
       legal = tt;
       small = tt;
