@@ -97,8 +97,8 @@ fn see(rt: &impl Abort, alloc: Global, limit: u64, input: &[u8], devices: Device
 }
 
 /// Asserts that the statements in the whole lines that were read are done, and that the output is a prefix of all
-/// replies. If the reader fails, these replies are written whole; if the writer does, those to the lines before the last
-/// read, and it isn't called again.
+/// replies. If the reader fails, these replies are written whole; if the writer does, those to the lines before the
+/// last read, and it isn't called again.
 fn fail(
     rt: &impl Abort,
     alloc: Global,
