@@ -1,12 +1,10 @@
 -- How far a refused export has come.
-use Rattle.std.proofs.Common.{◌≡◌, ℕ, zero, suc, ◌+◌, ◌-◌, ◌<◌, ◌≤◌, ◌⊎◌, Bool, true, Option, Some, Ok, Err, inl, inr, List, [], ◌∷◌, ◌++◌, length, map, take, drop, refl, sym, ap, ◌∙◌, arith, length-append, append_assoc, subst}
+use Rattle.std.proofs.Common.{◌≡◌, ℕ, zero, suc, ◌+◌, ◌<◌, ◌⊎◌, Bool, true, Option, Some, Ok, Err, inl, inr, List, [], ◌∷◌, ◌++◌, length, map, refl, sym, ap, ◌∙◌, arith, length-append, append_assoc, subst}
 use Rattle.std.specs.Prelude.{slice_get, slice_set}
 use Rattle.std.specs.List.{concat, flat_map}
 use Rattle.std.specs.Io.KnownBytes.{Appends, Keeps}
-use Rattle.std.proofs.lemmas.List.{map-append, take-map, take-append-drop}
+use Rattle.std.proofs.lemmas.List.{map-append}
 use Rattle.std.proofs.lemmas.List.Folds.{concat-append}
-use Rattle.std.proofs.lemmas.Grind.{flat_map-append}
-use Rattle.std.proofs.Math.Seq.{take-append-add}
 use Rattle.crack_row.specs.Ranges.{Range}
 use Rattle.crack_row.specs.declared.Bound.{Bound}
 use Rattle.crack_row.specs.declared.command.Command.TheVariants.{Select}
@@ -18,10 +16,10 @@ use Rattle.crack_core.specs.Routes.{keys_of_part}
 use Rattle.crack_core.specs.Steps.{Bounds, IsOutcome, IsOutcomeAt, tables_after, table_after, upkept_by, fresh_table}
 use Rattle.crack_core.specs.Listing.{listed}
 use Rattle.crack_commands.specs.Texts.{AppendsFront}
-use Rattle.crack_commands.proofs.Sending.{Appends-then, front_first, front_then}
+use Rattle.crack_commands.proofs.Sending.{front_first, front_then}
 use Rattle.crack_csv.specs.Exports.{header_text, record_text, rows_from, asked, lines_of, AreUnsent, IsExportCut}
 use Rattle.crack_csv.specs.Inside.{rows_at, IsUnlisted, IsUnwritten, IsPartCut}
-use Rattle.crack_csv.proofs.Exporting.{Exporting, batch_more, keeps_appends, kept_written, replied_rows, index_there, asked-after, next_is, next_is_there, next_asked, next_rows}
+use Rattle.crack_csv.proofs.Exporting.{Exporting, keeps_appends, kept_written, replied_rows, index_there, asked-after, next_is, next_is_there, next_asked, next_rows}
 
 pub concat_map : {X : Type 0} (f : X → List ℕ) (xs : List X) → concat (map f xs) ≡ flat_map f xs
 concat_map f [] = refl

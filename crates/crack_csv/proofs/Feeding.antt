@@ -1,5 +1,5 @@
 -- A load over a reader: what was read, and what its loader took.
-use Rattle.std.proofs.Common.{◌≡◌, ℕ, ◌+◌, ◌-◌, ◌^◌, ◌≤◌, ◌⊎◌, Bool, true, Option, Some, None, List, [], ◌∷◌, ◌++◌, take, drop, refl, sym, ap, ◌∙◌, subst, inl, inr, append_assoc, take-append-drop}
+use Rattle.std.proofs.Common.{◌≡◌, ℕ, ◌+◌, Bool, Option, Some, None, List, [], ◌++◌, take, drop, sym, ap, ◌∙◌, subst, append_assoc, take-append-drop}
 use Rattle.std.proofs.KnownBytes.{Consumes-trans, Consumes-nil}
 use Rattle.std.specs.Io.KnownBytes.{Consumes, IsAtEnd}
 use Rattle.csv.specs.Reading.{strip_bom}
@@ -9,7 +9,7 @@ use Rattle.crack_row.specs.declared.refusal.Refusal.TheVariants.{ReadFault}
 use Rattle.crack_plain.specs.Plain.{PlainView}
 use Rattle.crack_core.specs.Steps.{Bounds}
 use Rattle.crack_session.specs.Calls.{Call}
-use Rattle.crack_session.proofs.Running.{AllOf, all_of, all_at_end}
+use Rattle.crack_session.proofs.Running.{all_of, all_at_end}
 use Rattle.crack_csv.specs.declared.load.LoadFault.{LoadFault}
 use Rattle.crack_csv.specs.Asked.{AreBytesOf, IsAskedFirst, MayBeUnread}
 use Rattle.crack_csv.specs.Loaders.{EndsWith, HasEnded, HasLoaded, HasStopped, LoaderState, StopsAtEnd, StopsBehind, Takes, all_records_in, records_in}

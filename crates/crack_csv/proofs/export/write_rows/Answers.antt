@@ -14,7 +14,7 @@ batches-init g c = record {
 
 pub batches-preserved : goal.batches-preserved
 batches-preserved g c = record {
-  written = Written-more _ _ _ c.batches.invariant.written c.push_rows.ensures.text c.in_default.ensures.writes.ok;
+  written = Written-more _ _ _ c.batches.invariant.written c.push_rows-done.ensures.text c.in_default.ensures.writes.ok;
   unfailed = c.in_default.ensures.writes.unfailed ∙ c.batches.invariant.unfailed;
   empty = c.send_all.ensures.empty;
 }
@@ -24,7 +24,7 @@ returns-in-Err-clause-writes g c = record {
   ok = tt;
   unfailed = tt;
   err = c.in-Err.ensures.writes.err;
-  front = written_front _ _ _ c.batches.invariant.written c.push_rows.ensures.text c.in-Err.ensures.writes.front;
+  front = written_front _ _ _ c.batches.invariant.written c.push_rows-done.ensures.text c.in-Err.ensures.writes.front;
 }
 
 pub returns-clause-writes : goal.returns-clause-writes

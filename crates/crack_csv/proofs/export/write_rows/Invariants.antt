@@ -1,4 +1,4 @@
-use Rattle.std.proofs.Common.{◌≡◌, ◌≤◌, ◌-◌, [], drop, length}
+use Rattle.std.proofs.Common.{◌≡◌, ◌-◌, [], drop, length}
 use Rattle.std.specs.List.{flat_map}
 use Rattle.crack_row.specs.Devices.{device, has_failed}
 use Rattle.crack_csv.specs.Exports.{record_text}
