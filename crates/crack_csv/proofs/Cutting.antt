@@ -1,12 +1,10 @@
 -- How far a refused export has come.
-use Rattle.std.proofs.Common.{◌≡◌, ℕ, zero, suc, ◌+◌, ◌-◌, ◌<◌, ◌≤◌, ◌⊎◌, Bool, true, Option, Some, Ok, Err, inl, inr, List, [], ◌∷◌, ◌++◌, length, map, take, drop, refl, sym, ap, ◌∙◌, arith, length-append, append_assoc, subst}
+use Rattle.std.proofs.Common.{◌≡◌, ℕ, zero, suc, ◌+◌, ◌<◌, ◌⊎◌, Bool, true, Option, Some, Ok, Err, inl, inr, List, [], ◌∷◌, ◌++◌, length, map, refl, sym, ap, ◌∙◌, arith, length-append, append_assoc, subst}
 use Rattle.std.specs.Prelude.{slice_get, slice_set}
 use Rattle.std.specs.List.{concat, flat_map}
 use Rattle.std.specs.Io.KnownBytes.{Appends, Keeps}
-use Rattle.std.proofs.lemmas.List.{map-append, take-map, take-append-drop}
+use Rattle.std.proofs.lemmas.List.{map-append}
 use Rattle.std.proofs.lemmas.List.Folds.{concat-append}
-use Rattle.std.proofs.lemmas.Grind.{flat_map-append}
-use Rattle.std.proofs.Math.Seq.{take-append-add}
 use Rattle.crack_row.specs.Ranges.{Range}
 use Rattle.crack_row.specs.declared.Bound.{Bound}
 use Rattle.crack_row.specs.declared.command.Command.TheVariants.{Select}
@@ -18,43 +16,25 @@ use Rattle.crack_core.specs.Routes.{keys_of_part}
 use Rattle.crack_core.specs.Steps.{Bounds, IsOutcome, IsOutcomeAt, tables_after, table_after, upkept_by, fresh_table}
 use Rattle.crack_core.specs.Listing.{listed}
 use Rattle.crack_commands.specs.Texts.{AppendsFront}
-use Rattle.crack_commands.proofs.Sending.{Appends-then, front_first, front_then}
+use Rattle.crack_commands.proofs.Sending.{front_first, front_then}
 use Rattle.crack_csv.specs.Exports.{header_text, record_text, rows_from, asked, lines_of, AreUnsent, IsExportCut}
-use Rattle.crack_csv.specs.Inside.{rows_at, IsUnsent, IsUnlisted, IsUnwritten, IsPartCut}
-use Rattle.crack_csv.proofs.Exporting.{Exporting, batch_more, keeps_appends, kept_written, replied_rows, index_there, asked-after, next_is, next_is_there, next_asked, next_rows}
+use Rattle.crack_csv.specs.Inside.{rows_at, IsUnlisted, IsUnwritten, IsPartCut}
+use Rattle.crack_csv.proofs.Exporting.{Exporting, keeps_appends, kept_written, replied_rows, index_there, asked-after, next_is, next_is_there, next_asked, next_rows}
 
 pub concat_map : {X : Type 0} (f : X → List ℕ) (xs : List X) → concat (map f xs) ≡ flat_map f xs
 concat_map f [] = refl
 concat_map f (x ∷ xs) = ap (λ z. f x ++ z) (concat_map f xs)
 
-length_map : {X Y : Type 0} (f : X → Y) (xs : List X) → length (map f xs) ≡ length xs
-length_map f [] = refl
-length_map f (x ∷ xs) = let l = length_map f xs in omega (arith, l)
-
--- a batch of the rows isn't written
-pub batch_unsent : {X : Type 0} (f : X → List ℕ) (xs : List X) (m n : ℕ) (e : Refusal) (failed failed' : Bool) (a b c : Option (List ℕ)) → m < n → n ≤ length xs
-    → Appends a b (flat_map f (take m xs)) → IsUnsent (flat_map f (take (n - m) (drop m xs))) e failed failed' b c → AreUnsent (map f xs) e failed failed' a c
-batch_unsent f xs m n e failed failed' a b c grows within sent (inl (short, same, kept)) =
-    let l = length_map f xs in
-    inl (short, same, m, omega (arith, l, grows, within), rw (take-map f m xs, concat_map f (take m xs)) (kept_written _ _ _ _ sent (keeps_appends _ _ kept)))
-batch_unsent f xs m n e failed failed' a b c grows within sent (inr (cut, is, front)) =
-    let until : AppendsFront a c (flat_map f (take n xs)) = subst (AppendsFront a c) (sym (batch_more f xs m n (omega (arith, grows)))) (front_then a b c _ _ sent front) in
-    let whole : flat_map f (take n xs) ++ flat_map f (drop n xs) ≡ flat_map f xs = sym (flat_map-append f (take n xs) (drop n xs)) ∙ ap (flat_map f) (take-append-drop n xs) in
-    inr (cut, is, rw (concat_map f xs, ← whole) (front_first a c _ (flat_map f (drop n xs)) until))
-
 -- whole texts are written, and those after them aren't
-pub unsent_behind : (xs ys : List (List ℕ)) (e : Refusal) (failed failed' : Bool) (a b c : Option (List ℕ)) → Appends a b (concat xs) → AreUnsent ys e failed failed' b c → AreUnsent (xs ++ ys) e failed failed' a c
-unsent_behind xs ys e failed failed' a b c sent (inl (short, same, count, few, wrote)) =
-    let l = length-append xs ys in
-    let both : concat (take (length xs + count) (xs ++ ys)) ≡ concat xs ++ concat (take count ys) = ap concat (take-append-add xs ys count) ∙ concat-append xs (take count ys) in
-    inl (short, same, length xs + count, omega (arith, l, few), Appends-then a b c _ _ _ sent wrote both)
-unsent_behind xs ys e failed failed' a b c sent (inr (cut, is, front)) =
-    inr (cut, is, subst (AppendsFront a c) (sym (concat-append xs ys)) (front_then a b c (concat xs) (concat ys) sent front))
+pub unsent_behind : (xs ys : List (List ℕ)) (e : Refusal) (failed' : Bool) (a b c : Option (List ℕ)) → Appends a b (concat xs) → AreUnsent ys e failed' b c → AreUnsent (xs ++ ys) e failed' a c
+unsent_behind xs ys e failed' a b c sent (cut, is, front) = (cut, is, subst (AppendsFront a c) (sym (concat-append xs ys)) (front_then a b c (concat xs) (concat ys) sent front))
 
--- one text alone
-pub one_unsent : (text : List ℕ) (e : Refusal) (failed failed' : Bool) (a b : Option (List ℕ)) → IsUnsent text e failed failed' a b → AreUnsent (text ∷ []) e failed failed' a b
-one_unsent text e failed failed' a b (inl (short, same, kept)) = inl (short, same, 0, omega arith, keeps_appends a b kept)
-one_unsent text e failed failed' a b (inr (cut, is, front)) = inr (cut, is, front_first a b text [] front)
+-- the texts of items, and one text alone
+pub texts_unsent : {X : Type 0} (f : X → List ℕ) (xs : List X) (e : Refusal) (failed' : Bool) (a b : Option (List ℕ)) → e ≡ WriteFault → failed' ≡ true → AppendsFront a b (flat_map f xs) → AreUnsent (map f xs) e failed' a b
+texts_unsent f xs e failed' a b cut is front = (cut, is, subst (AppendsFront a b) (sym (concat_map f xs)) front)
+
+pub one_unsent : (text : List ℕ) (e : Refusal) (failed' : Bool) (a b : Option (List ℕ)) → e ≡ WriteFault → failed' ≡ true → AppendsFront a b text → AreUnsent (text ∷ []) e failed' a b
+one_unsent text e failed' a b cut is front = (cut, is, front_first a b text [] front)
 
 get_there : {X : Type 0} (xs : List X) (i : ℕ) → i < length xs → (x : X) × (slice_get xs i ≡ Some x)
 get_there [] i below = absurd (omega (arith, below))
@@ -81,7 +61,7 @@ part_unlisted bounds splits tables part keys e accepted accepted' failed left ou
 -- a partition lists the rows of all its keys, and their records aren't all written
 pub part_unwritten : (bounds : Bounds) (splits : List Bound) (tables : List PlainView) (part : ℕ) (keys : Range) (reply : Reply) (e : Refusal) (accepted accepted' : ℕ) (failed failed' : Bool) (left : Option (List PlainView)) (out out' : Option (List ℕ)) → keys ≡ keys_of_part splits part
     → IsOutcomeAt bounds splits tables part (Select keys) (Ok reply) → left ≡ Some (tables_after bounds tables part (Select keys) (Ok reply)) → accepted' ≡ accepted + 1
-    → AreUnsent (map record_text (listed reply)) e failed failed' out out' → IsPartCut bounds splits tables part e accepted accepted' failed failed' left out out'
+    → AreUnsent (map record_text (listed reply)) e failed' out out' → IsPartCut bounds splits tables part e accepted accepted' failed failed' left out out'
 part_unwritten bounds splits tables part keys reply e accepted accepted' failed failed' left out out' all outcome after one unsent =
     let replied = replied_rows bounds (keys_of_part splits part) (slice_get tables part) keys reply outcome in
     let rows : listed reply ≡ rows_at splits part replied.0 = ap listed replied.2 ∙ ap (λ (k : Range). rows_in k replied.0.state.rows) all in
@@ -89,22 +69,22 @@ part_unwritten bounds splits tables part keys reply e accepted accepted' failed 
       table = replied.0;
       there = replied.1;
       how = inr (record {
-        cause = subst (λ rows. AreUnsent (map record_text rows) e failed failed' out out') rows unsent;
+        cause = subst (λ rows. AreUnsent (map record_text rows) e failed' out out') rows unsent;
         left_is = after ∙ ap (λ (t : PlainView). Some (slice_set tables part t)) (ap (λ (t : PlainView). table_after (upkept_by bounds t) (Select keys)) (index_there tables part replied.0 fresh_table replied.1) ∙ asked-after bounds replied.0 keys);
         accepted_are = one;
       });
     }
 
 -- the header isn't written
-pub header_unsent : (bounds : Bounds) (splits : List Bound) (tables : List PlainView) (e : Refusal) (accepted : ℕ) (failed failed' : Bool) (left : Option (List PlainView)) (out out' : Option (List ℕ)) → left ≡ Some tables → IsUnsent header_text e failed failed' out out'
+pub header_unsent : (bounds : Bounds) (splits : List Bound) (tables : List PlainView) (e : Refusal) (accepted : ℕ) (failed failed' : Bool) (left : Option (List PlainView)) (out out' : Option (List ℕ)) → left ≡ Some tables → e ≡ WriteFault → failed' ≡ true → AppendsFront out out' header_text
     → IsExportCut bounds splits tables e accepted accepted failed failed' left out out'
-header_unsent bounds splits tables e accepted failed failed' left out out' known unsent = record {
+header_unsent bounds splits tables e accepted failed failed' left out out' known cut is front = record {
   done = [];
   rest = tables;
   split = refl;
   left_is = known;
   accepted_are = omega arith;
-  cause = inl (one_unsent header_text e failed failed' out out' unsent);
+  cause = inl (one_unsent header_text e failed' out out' cut is front);
 }
 
 lines_text : (splits : List Bound) (done : List PlainView) (out out' : Option (List ℕ)) → Appends out out' (header_text ++ flat_map record_text (rows_from splits 0 done)) → Appends out out' (concat (lines_of splits done))
@@ -136,7 +116,7 @@ unlisted_next bounds splits tables part table e accepted now accepted' failed fa
 -- the records of the next partition aren't all written
 unwritten_next : (bounds : Bounds) (splits : List Bound) (tables : List PlainView) (part : ℕ) (table : PlainView) (e : Refusal) (accepted now accepted' : ℕ) (failed failed' : Bool) (left : Option (List PlainView)) (out out' out'' : Option (List ℕ)) (done rest : List PlainView)
     → tables ≡ done ++ rest → length done ≡ part → now ≡ accepted + part → Appends out out' (header_text ++ flat_map record_text (rows_from splits 0 done)) → slice_get (map (asked bounds) done ++ rest) part ≡ Some table
-    → IsUnwritten bounds splits (map (asked bounds) done ++ rest) part table e now accepted' failed failed' left out' out'' → IsExportCut bounds splits tables e accepted accepted' failed failed' left out out''
+    → IsUnwritten bounds splits (map (asked bounds) done ++ rest) part table e now accepted' failed' left out' out'' → IsExportCut bounds splits tables e accepted accepted' failed failed' left out out''
 unwritten_next bounds splits tables part table e accepted now accepted' failed failed' left out out' out'' done [] split reached so_far written there next = absurd (next_is_there bounds done part table reached there)
 unwritten_next bounds splits tables part table e accepted now accepted' failed failed' left out out' out'' done (t ∷ rest) split reached so_far written there next =
     let same : table ≡ t = next_is bounds done t rest part table reached there in
@@ -149,12 +129,12 @@ unwritten_next bounds splits tables part table e accepted now accepted' failed f
       split = split ∙ sym (append_assoc done (t ∷ []) rest);
       left_is = next.left_is ∙ ap Some (next_asked bounds done t rest part table reached same);
       accepted_are = let one = next.accepted_are in let l = length-append done (t ∷ []) in omega (arith, one, so_far, reached, l);
-      cause = inl (subst (λ z. AreUnsent z e failed failed' out out'') (sym lines) (unsent_behind (lines_of splits done) (map record_text (rows_at splits part table)) e failed failed' out out' out'' (lines_text splits done out out' written) next.cause));
+      cause = inl (subst (λ z. AreUnsent z e failed' out out'') (sym lines) (unsent_behind (lines_of splits done) (map record_text (rows_at splits part table)) e failed' out out' out'' (lines_text splits done out out' written) next.cause));
     }
 
 how_next : (bounds : Bounds) (splits : List Bound) (tables : List PlainView) (part : ℕ) (table : PlainView) (e : Refusal) (accepted now accepted' : ℕ) (failed failed' : Bool) (left : Option (List PlainView)) (out out' out'' : Option (List ℕ)) (done rest : List PlainView)
     → tables ≡ done ++ rest → length done ≡ part → now ≡ accepted + part → Appends out out' (header_text ++ flat_map record_text (rows_from splits 0 done)) → slice_get (map (asked bounds) done ++ rest) part ≡ Some table
-    → IsUnlisted bounds splits (map (asked bounds) done ++ rest) part table e now accepted' failed failed' left out' out'' ⊎ IsUnwritten bounds splits (map (asked bounds) done ++ rest) part table e now accepted' failed failed' left out' out''
+    → IsUnlisted bounds splits (map (asked bounds) done ++ rest) part table e now accepted' failed failed' left out' out'' ⊎ IsUnwritten bounds splits (map (asked bounds) done ++ rest) part table e now accepted' failed' left out' out''
     → IsExportCut bounds splits tables e accepted accepted' failed failed' left out out''
 how_next bounds splits tables part table e accepted now accepted' failed failed' left out out' out'' done rest split reached so_far written there (inl next) =
     unlisted_next bounds splits tables part table e accepted now accepted' failed failed' left out out' out'' done rest split reached so_far written there next

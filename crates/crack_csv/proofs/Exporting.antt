@@ -1,7 +1,7 @@
 -- How an export goes on, one partition after another.
-use Rattle.std.proofs.Common.{◌≡◌, ℕ, zero, suc, ◌+◌, ◌-◌, ◌≤◌, Option, Some, None, Result, Ok, Err, ◌⊎◌, inl, inr, List, [], ◌∷◌, ◌++◌, length, map, take, drop, refl, sym, ap, ◌∙◌, arith, append_assoc, append-nil, length-append}
+use Rattle.std.proofs.Common.{◌≡◌, ℕ, zero, suc, ◌+◌, Option, Some, None, Result, Ok, Err, ◌⊎◌, inl, inr, List, [], ◌∷◌, ◌++◌, length, map, refl, sym, ap, ◌∙◌, arith, append_assoc, append-nil, length-append}
 use Rattle.std.specs.Prelude.{IsOk, Bool, true, false, cond, slice_get, slice_set, slice_index_or}
-use Rattle.std.proofs.lemmas.List.{map-append, drop-take, take-take, take-append-drop}
+use Rattle.std.proofs.lemmas.List.{map-append}
 use Rattle.std.proofs.lemmas.Grind.{flat_map-append}
 use Rattle.std.specs.List.{flat_map}
 use Rattle.std.specs.Io.KnownBytes.{Appends, Keeps}
@@ -175,14 +175,3 @@ part_exported bounds splits tables part keys reply left out out' all outcome aft
       left_is = after ∙ ap (λ (t : PlainView). Some (slice_set tables part t)) (ap (λ (t : PlainView). table_after (upkept_by bounds t) (Select keys)) (index_there tables part replied.0 fresh_table replied.1) ∙ asked-after bounds replied.0 keys);
       written = rw (← rows) written;
     }
-
--- the texts of rows up to one place, and from there on to another
-pub batch_more : {X : Type 0} (f : X → List ℕ) (xs : List X) (m n : ℕ) → m ≤ n → flat_map f (take n xs) ≡ flat_map f (take m xs) ++ flat_map f (take (n - m) (drop m xs))
-batch_more f xs m n within =
-    let e : m + (n - m) ≡ n = omega (arith, within) in
-    let whole = take-append-drop m (take n xs) in
-    let front : take m (take n xs) ≡ take m xs = take-take m n xs within in
-    let back : drop m (take (m + (n - m)) xs) ≡ take (n - m) (drop m xs) = drop-take m (n - m) xs in
-    ap (flat_map f) (sym whole) ∙ flat_map-append f (take m (take n xs)) (drop m (take n xs))
-    ∙ ap (λ z. flat_map f z ++ flat_map f (drop m (take n xs))) front
-    ∙ ap (λ z. flat_map f (take m xs) ++ flat_map f z) (ap (λ k. drop m (take k xs)) (sym e) ∙ back)

@@ -1,6 +1,8 @@
+pub mod Batches
 pub mod Cutting
 pub mod Exporting
 pub mod Fed
+pub mod Feeding
 pub mod Fields
 pub mod Inserting
 pub mod Keeping
@@ -10,4 +12,5 @@ pub mod Loading
 pub mod Short
 pub mod Stopping
 pub mod Texts
+pub mod Unquoted
 pub mod Within

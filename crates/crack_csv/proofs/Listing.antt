@@ -11,13 +11,14 @@ use Rattle.crack_row.specs.declared.command.Policy.{Policy}
 use Rattle.crack_row.specs.declared.command.Reply.{Reply}
 use Rattle.crack_row.specs.declared.refusal.Refusal.{Refusal}
 use Rattle.crack_row.specs.declared.refusal.Refusal.TheVariants.{WriteFault}
+use Rattle.crack_commands.specs.Texts.{AppendsFront}
 use Rattle.crack_commands.proofs.Sending.{Appends-then}
 use Rattle.crack_session.specs.Calls.{Call, Calls}
 use Rattle.crack_core.specs.Listing.{listed}
 use Rattle.crack_session.proofs.Calling.{Calls-push}
 use Rattle.crack_csv.specs.Asked.{listing, listings, lines_in, IsListed, IsListedFirst}
 use Rattle.crack_csv.specs.Exports.{header_text, record_text, AreUnsent}
-use Rattle.crack_csv.specs.Inside.{IsUnsent, AsksAndWrites, AsksAndCuts}
+use Rattle.crack_csv.specs.Inside.{AsksAndWrites, AsksAndCuts}
 use Rattle.crack_csv.proofs.Cutting.{concat_map, unsent_behind, one_unsent}
 use Rattle.crack_csv.proofs.Exporting.{kept_written, keeps_appends}
 
@@ -66,8 +67,8 @@ module _ {D : Type 0} (leads : D → Call → D → Type 0) (splits : List Bound
   pub Listing-end : {part count : ℕ} {now : D} {out : Option (List ℕ)} (out' : Option (List ℕ)) → Listing part count now out → part ≡ length splits + 1 → Keeps out out' → IsListed leads splits policy count old now out0 out'
   Listing-end {out = out} out' was all kept = (was.replies, was.reached ∙ all, was.were, was.count_is, kept_written out0 out out' _ was.written (keeps_appends out out' kept))
 
-  pub Listing-unsent : (e : Refusal) (failed failed' : Bool) (out : Option (List ℕ)) → IsUnsent header_text e failed failed' out0 out → IsListedFirst leads splits policy e old old failed failed' out0 out
-  Listing-unsent e failed failed' out unsent = ([], omega arith, [], refl, inl (refl, one_unsent header_text e failed failed' out0 out unsent))
+  pub Listing-unsent : (e : Refusal) (failed failed' : Bool) (out : Option (List ℕ)) → e ≡ WriteFault → failed' ≡ true → AppendsFront out0 out header_text → IsListedFirst leads splits policy e old old failed failed' out0 out
+  Listing-unsent e failed failed' out cut is front = ([], omega arith, [], refl, inl (refl, one_unsent header_text e failed' out0 out cut is front))
 
   pub Listing-cut : {part count : ℕ} {now : D} {out : Option (List ℕ)} (e : Refusal) (failed failed' : Bool) (next : D) (out' : Option (List ℕ)) (splits' : List Bound) → Listing part count now out → part < length splits + 1 → splits' ≡ splits → AsksAndCuts leads splits' policy part e now next failed failed' out out' → IsListedFirst leads splits policy e old next failed failed' out0 out'
   Listing-cut {part} {now = now} {out = out} e failed failed' next out' splits' was there same (inl (asked, unfailed, kept)) = (
@@ -87,7 +88,7 @@ module _ {D : Type 0} (leads : D → Call → D → Type 0) (splits : List Bound
         let l = length-append was.replies (reply ∷ []) in let r = was.reached in omega (arith, l, r, there),
         [],
         subst (λ (l : List Call). Calls leads old l next) (sym (append-nil (listings splits policy 0 replies))) (called part was.replies reply next splits' was.reached was.were same asked),
-        inl (refl, subst (λ (z : List (List ℕ)). AreUnsent z e failed failed' out0 out') (sym (lines-push was.replies reply)) (unsent_behind (lines_in was.replies) (map record_text (listed reply)) e failed failed' out0 out out' was.written unsent)),
+        inl (refl, subst (λ (z : List (List ℕ)). AreUnsent z e failed' out0 out') (sym (lines-push was.replies reply)) (unsent_behind (lines_in was.replies) (map record_text (listed reply)) e failed' out0 out out' was.written unsent)),
       )
 
   pub Listing-kept : {part count : ℕ} {now : D} {out : Option (List ℕ)} (failed failed' : Bool) (out' : Option (List ℕ)) → Listing part count now out → part ≡ length splits + 1 → failed' ≡ true → Keeps out out' → IsListedFirst leads splits policy WriteFault old now failed failed' out0 out'

@@ -13,7 +13,6 @@ use Rattle.crack_csv.specs.declared.record.NewRow.{NewRow}
 use Rattle.crack_csv.specs.declared.load.LoadFault.{LoadFault}
 use Rattle.crack_csv.specs.declared.TheConstants.{MOST_RECORDS}
 use Rattle.crack_csv.specs.Asked.{insertion, IsRefusedBy}
-use Rattle.crack_csv.specs.Inside.{Fields, AsksRow, BringsRow}
 use Rattle.csv.specs.Machine.{step, is_end, ends_at_end, field_after}
 use Rattle.csv.specs.Reading.{default_config, strip_bom}
 use Rattle.csv.specs.declared.parser.Action.{Action}
@@ -26,12 +25,12 @@ use Rattle.crack_csv.specs.Loads.{Refuses, with_row}
 use Rattle.crack_csv.specs.Records.{is_header, without_header, new_row_of}
 use Rattle.crack_csv.specs.Taking.{ended, kept_by, kept_with, TakesRecord, StopsAtRecord, kept_is_header, kept_row}
 use Rattle.crack_session.proofs.Calling.{Calls-push}
-use Rattle.crack_csv.proofs.Inserting.{AllZip-add, IsAnswered}
+use Rattle.crack_csv.proofs.Inserting.{AllZip-add, AsksRow, IsAnswered}
 use Rattle.crack_csv.proofs.Fed.{are_all}
 use Rattle.crack_csv.proofs.Keeping.{kept_byte, kept_last}
 use Rattle.crack_csv.proofs.Short.{header_kept, row_kept}
 use Rattle.crack_csv.proofs.Texts.{begun_more, records_more}
-use Rattle.crack_csv.proofs.Loading.{AreInserted-push, AreInserted-header, no_header, first_is_header, without_header-push}
+use Rattle.crack_csv.proofs.Loading.{BringsRow, Fields, AreInserted-push, AreInserted-header, no_header, first_is_header, without_header-push}
 
 -- the next record is read by what is kept of it
 pub header_is : (k : Kept) (state : State) (fields : Fields) (number : ℕ) (is t : Bool) → k ≡ kept_of (ended state fields) → is ≡ (number == 1 && kept_is_header k) → is ≡ t → (number == 1 && is_header fields) ≡ t

@@ -1,12 +1,11 @@
 -- A load that stops has asked for the first records of the whole text, whatever follows the bytes that it took.
-use Rattle.std.proofs.Common.{◌≡◌, ℕ, ◌+◌, ◌<◌, ◌⊎◌, Bool, true, Option, Some, List, [], ◌∷◌, ◌++◌, length, refl, sym, ap, ◌∙◌, subst, inl, inr, append-nil, append_assoc}
+use Rattle.std.proofs.Common.{◌≡◌, ℕ, ◌+◌, ◌-◌, ◌^◌, ◌<◌, ◌≤◌, ◌⊎◌, Bool, true, Option, Some, List, [], ◌∷◌, ◌++◌, length, refl, sym, ap, ◌∙◌, subst, inl, inr, append-nil, append_assoc}
 use Rattle.csv.specs.Reading.{default_config, strip_bom, Reached}
 use Rattle.csv.specs.declared.parser.State.{State}
 use Rattle.csv.specs.declared.parser.State.TheVariants as st
 use Rattle.crack_row.specs.declared.Bound.{Bound}
 use Rattle.crack_row.specs.declared.command.Policy.{Policy}
-use Rattle.crack_row.specs.declared.refusal.Refusal.{Refusal}
-use Rattle.crack_row.specs.declared.refusal.Refusal.TheVariants.{ReadFault, OutOfMemory}
+use Rattle.crack_row.specs.declared.refusal.Refusal.TheVariants.{ReadFault}
 use Rattle.crack_plain.specs.Plain.{PlainView}
 use Rattle.crack_core.specs.Steps.{Bounds}
 use Rattle.crack_session.specs.Calls.{Call, Calls}
@@ -14,12 +13,12 @@ use Rattle.crack_session.proofs.Calling.{Calls-then}
 use Rattle.crack_csv.specs.declared.TheConstants.{MOST_RECORDS}
 use Rattle.crack_csv.specs.declared.load.LoadFault.{LoadFault}
 use Rattle.crack_csv.specs.Asked.{AreInsertions, IsAskedFirst, IsLastRefused, IsRefusedBy, MayBeUnread}
-use Rattle.crack_csv.specs.Inside.{Fields}
 use Rattle.crack_csv.specs.Loaders.{HasLoaded, HasStopped, LoaderState, all_records_in, records_in}
 use Rattle.crack_csv.specs.Loads.{AreInserted, IsCutShort}
 use Rattle.crack_csv.specs.Records.{AreFirstOf, new_row_of, without_header}
 use Rattle.crack_csv.proofs.Fed.{are_all, are_first}
 use Rattle.crack_csv.proofs.Inserting.{is_refused_last}
+use Rattle.crack_csv.proofs.Loading.{Fields}
 use Rattle.crack_csv.proofs.Texts.{records_grow}
 
 -- the first of records that are reached are reached
@@ -70,8 +69,8 @@ module _ {D : Type 0} (bounds : D → Bounds) (splits : D → List Bound) (table
   )
     where
       by : ((it.last ≡ []) × (fault.loaded ≡ MOST_RECORDS) × (fault.refusal ≡ ReadFault)) ⊎ ((fault.loaded < MOST_RECORDS) × IsRefusedBy (splits origin) policy (length it.first + 1) (new_row_of it.fields) fault.refusal it.last)
-          → ((it.last ≡ []) × ((fault.refusal ≡ ReadFault) ⊎ (fault.refusal ≡ OutOfMemory))) ⊎ ((fields : Fields) × AreFirstOf (strip_bom bytes) (it.first ++ fields ∷ []) × (without_header (it.first ++ fields ∷ []) ≡ without_header it.first ++ fields ∷ []) × IsRefusedBy (splits origin) policy (length it.first + 1) (new_row_of fields) fault.refusal it.last)
-      by (inl full) = inl (full.0, inl full.2)
+          → ((it.last ≡ []) × (fault.refusal ≡ ReadFault)) ⊎ ((fields : Fields) × AreFirstOf (strip_bom bytes) (it.first ++ fields ∷ []) × (without_header (it.first ++ fields ∷ []) ≡ without_header it.first ++ fields ∷ []) × IsRefusedBy (splits origin) policy (length it.first + 1) (new_row_of fields) fault.refusal it.last)
+      by (inl full) = inl (full.0, full.2)
       by (inr refused) = inr (it.fields, whole bytes it front, header_apart it, refused.1)
 
   -- and their rows are inserted
@@ -84,20 +83,20 @@ module _ {D : Type 0} (bounds : D → Bounds) (splits : D → List Bound) (table
         records = it.first;
         first = front it.first (it.fields ∷ []) it.split;
         inserted = record { rows = was.rows; are = was.are; count_is = was.count_is; left_is = after.0 };
-        cause = inr (inr (record { fields = it.fields; first = whole bytes it front; no_header = header_apart it; cause = after.1 }));
+        cause = inr (record { fields = it.fields; first = whole bytes it front; no_header = header_apart it; cause = after.1 });
       }
 
   -- it is refused with 17 if there are as many as allowed, or by the desk
-  pub stopped-causes : {records : List Fields} {fault : LoadFault} {now : D} (failed : Bool) → HasStopped bounds splits tables accepted leads policy origin records fault now → MayBeUnread leads (splits origin) policy failed fault now
-  stopped-causes {records} {fault} {now} failed it is = by it.cause
+  pub stopped-causes : {records : List Fields} {fault : LoadFault} {now : D} (failed : Bool) (reads : ℕ) → HasStopped bounds splits tables accepted leads policy origin records fault now → MayBeUnread leads (splits origin) policy failed reads fault now
+  stopped-causes {records} {fault} {now} failed reads it is = by it.cause
     where
       by : ((it.last ≡ []) × (fault.loaded ≡ MOST_RECORDS) × (fault.refusal ≡ ReadFault)) ⊎ ((fault.loaded < MOST_RECORDS) × IsRefusedBy (splits origin) policy (length it.first + 1) (new_row_of it.fields) fault.refusal it.last)
-          → (failed ≡ true) ⊎ ((fault.loaded ≡ MOST_RECORDS) ⊎ IsLastRefused leads (splits origin) policy ReadFault now)
-      by (inl full) = inr (inl full.1)
-      by (inr refused) = inr (inr (is_refused_last leads (splits origin) (splits origin) policy (length it.first + 1) it.fields fault.refusal it.between now is refl (it.last, it.was, refused.1)))
+          → (failed ≡ true) ⊎ ((2 ^ 64 - 1 ≤ reads) ⊎ ((fault.loaded ≡ MOST_RECORDS) ⊎ IsLastRefused leads (splits origin) policy ReadFault now))
+      by (inl full) = inr (inr (inl full.1))
+      by (inr refused) = inr (inr (inr (is_refused_last leads (splits origin) (splits origin) policy (length it.first + 1) it.fields fault.refusal it.between now is refl (it.last, it.was, refused.1))))
 
   -- a text that isn't read on: the desk was asked for the records that its first bytes finish
-  pub unread-asked : {s : LoaderState} {now : D} (bytes more : List ℕ) (fault : LoadFault) → HasLoaded bounds splits tables accepted leads policy origin bytes s now → fault.loaded ≡ s.loaded → (fault.refusal ≡ ReadFault) ⊎ (fault.refusal ≡ OutOfMemory)
+  pub unread-asked : {s : LoaderState} {now : D} (bytes more : List ℕ) (fault : LoadFault) → HasLoaded bounds splits tables accepted leads policy origin bytes s now → fault.loaded ≡ s.loaded → fault.refusal ≡ ReadFault
       → IsAskedFirst leads (splits origin) policy (bytes ++ more) fault origin now
   unread-asked {s} {now} bytes more fault it same cause = (
     records_in bytes,
@@ -109,15 +108,11 @@ module _ {D : Type 0} (bounds : D → Bounds) (splits : D → List Bound) (table
     inl (refl, cause),
   )
 
-  pub unread-cut : {s : LoaderState} {now : D} (bytes more : List ℕ) (known : List PlainView) (fault : LoadFault) → HasLoaded bounds splits tables accepted leads policy origin bytes s now → fault.loaded ≡ s.loaded → (fault.refusal ≡ ReadFault) ⊎ (fault.refusal ≡ OutOfMemory) → tables origin ≡ Some known
+  pub unread-cut : {s : LoaderState} {now : D} (bytes more : List ℕ) (known : List PlainView) (fault : LoadFault) → HasLoaded bounds splits tables accepted leads policy origin bytes s now → fault.loaded ≡ s.loaded → fault.refusal ≡ ReadFault → tables origin ≡ Some known
       → IsCutShort (bounds origin) (splits origin) known (bytes ++ more) fault (tables now)
   unread-cut {s} {now} bytes more known fault it same cause h = record {
     records = records_in bytes;
     first = first_of bytes more (records_in bytes) [] (sym (append-nil (records_in bytes)));
     inserted = subst (λ (n : ℕ). AreInserted (bounds origin) (splits origin) known (records_in bytes) n (tables now)) (sym same) (it.loaded.told known h);
-    cause = one_of cause;
+    cause = inl cause;
   }
-    where
-      one_of : {A B C : Type 0} → A ⊎ B → A ⊎ B ⊎ C
-      one_of (inl a) = inl a
-      one_of (inr b) = inr (inl b)

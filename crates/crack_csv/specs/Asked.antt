@@ -1,8 +1,7 @@
 -- The calls of a desk by a load and an export, whatever is known of its rows.
-use Rattle.std.specs.Prelude.{◌≡◌, ℕ, ◌+◌, ◌≤◌, ◌⊎◌, Bool, true, List, [], ◌∷◌, ◌++◌, length, map, Option, None, Some, Result, Ok, Err, codes}
+use Rattle.std.specs.Prelude.{◌≡◌, ℕ, ◌+◌, ◌-◌, ◌^◌, ◌≤◌, ◌⊎◌, Bool, true, List, [], ◌∷◌, ◌++◌, length, map, Option, None, Some, Result, Ok, Err}
 use Rattle.std.specs.List.{AllZip, concat, flat_map}
 use Rattle.std.specs.Io.KnownBytes.{Appends}
-use Rattle.csv.specs.Writing.{default_writer, row_text}
 use Rattle.csv.specs.Reading.{default_config, AreRecords, strip_bom}
 use Rattle.csv.specs.declared.parser.State.TheVariants as st
 use Rattle.crack_row.specs.declared.Bound.{Bound}
@@ -10,14 +9,14 @@ use Rattle.crack_row.specs.declared.command.Command.TheVariants.{Insert, Select}
 use Rattle.crack_row.specs.declared.command.Policy.{Policy}
 use Rattle.crack_row.specs.declared.command.Reply.{Reply}
 use Rattle.crack_row.specs.declared.refusal.Refusal.{Refusal}
-use Rattle.crack_row.specs.declared.refusal.Refusal.TheVariants.{OutOfMemory, WriteFault, ReadFault, BadRecord}
+use Rattle.crack_row.specs.declared.refusal.Refusal.TheVariants.{WriteFault, ReadFault, BadRecord}
 use Rattle.crack_core.specs.Routes.{route, keys_of_part}
 use Rattle.crack_session.specs.Calls.{Call, Asked, Calls}
 use Rattle.crack_core.specs.Listing.{listed}
 use Rattle.crack_csv.specs.declared.TheConstants.{MOST_RECORDS}
 use Rattle.crack_csv.specs.declared.load.LoadFault.{LoadFault}
 use Rattle.crack_csv.specs.declared.record.NewRow.{NewRow}
-use Rattle.crack_csv.specs.Exports.{record_text, AreUnsent}
+use Rattle.crack_csv.specs.Exports.{header_text, record_text, AreUnsent}
 use Rattle.crack_csv.specs.Records.{without_header, new_row_of, AreFirstOf}
 
 -- the call that asks the partition of its key to insert a row, and its outcome
@@ -31,6 +30,10 @@ pub record AreInsertions (splits : List Bound) (policy : Policy) (records : List
   pub count_is : length rows ≡ count
   pub each : AllZip (λ (row : NewRow) (call : Call). (reply : Reply) × (call ≡ insertion splits policy row (Ok reply))) rows calls
 
+-- these are a reader's bytes, if those are known
+abbrev pub AreBytesOf : Option (List ℕ) → List ℕ → Type 0
+AreBytesOf known bytes = (all : List ℕ) → known ≡ Some all → bytes ≡ all
+
 -- on Ok a desk is asked the insertions of all records of the bytes, and nothing else
 abbrev pub IsAskedAll : {D : Type 0} → (D → Call → D → Type 0) → List Bound → Policy → List ℕ → ℕ → D → D → Type 0
 IsAskedAll leads splits policy bytes count old new = (records : List (List (List ℕ))) × AreRecords default_config st.StartRecord (strip_bom bytes) records × (calls : List Call) × Calls leads old calls new × AreInsertions splits policy records count calls
@@ -43,15 +46,16 @@ IsRefusedBy splits policy number (Some row) e calls = calls ≡ insertion splits
 -- on a fault it is asked the insertions of the first records, and nothing else, or the one by which the next record is refused
 abbrev pub IsAskedFirst : {D : Type 0} → (D → Call → D → Type 0) → List Bound → Policy → List ℕ → LoadFault → D → D → Type 0
 IsAskedFirst leads splits policy bytes fault old new = (records : List (List (List ℕ))) × AreFirstOf (strip_bom bytes) records × (calls : List Call) × (last : List Call) × Calls leads old (calls ++ last) new × AreInsertions splits policy records fault.loaded calls
-    × (((last ≡ []) × ((fault.refusal ≡ ReadFault) ⊎ (fault.refusal ≡ OutOfMemory))) ⊎ ((fields : List (List ℕ)) × AreFirstOf (strip_bom bytes) (records ++ fields ∷ []) × (without_header (records ++ fields ∷ []) ≡ without_header records ++ fields ∷ []) × IsRefusedBy splits policy (length records + 1) (new_row_of fields) fault.refusal last))
+    × (((last ≡ []) × (fault.refusal ≡ ReadFault)) ⊎ ((fields : List (List ℕ)) × AreFirstOf (strip_bom bytes) (records ++ fields ∷ []) × (without_header (records ++ fields ∷ []) ≡ without_header records ++ fields ∷ []) × IsRefusedBy splits policy (length records + 1) (new_row_of fields) fault.refusal last))
 
 -- the last call of a desk asked it to insert a row, and it refused
 abbrev pub IsLastRefused : {D : Type 0} → (D → Call → D → Type 0) → List Bound → Policy → Refusal → D → Type 0
 IsLastRefused {D} leads splits policy e new = (row : NewRow) × (old : D) × leads old (insertion splits policy row (Err e)) new
 
--- why a load is refused with 17: its reader has failed, there are as many records as allowed, or the desk gave this refusal
-abbrev pub MayBeUnread : {D : Type 0} → (D → Call → D → Type 0) → List Bound → Policy → Bool → LoadFault → D → Type 0
-MayBeUnread leads splits policy failed fault new = fault.refusal ≡ ReadFault → (failed ≡ true) ⊎ ((fault.loaded ≡ MOST_RECORDS) ⊎ IsLastRefused leads splits policy ReadFault new)
+-- why a load is refused with 17: its reader has failed, or was read as often as is counted; there are as many records as allowed; or the desk gave this
+-- refusal
+abbrev pub MayBeUnread : {D : Type 0} → (D → Call → D → Type 0) → List Bound → Policy → Bool → ℕ → LoadFault → D → Type 0
+MayBeUnread leads splits policy failed reads fault new = fault.refusal ≡ ReadFault → (failed ≡ true) ⊎ ((2 ^ 64 - 1 ≤ reads) ⊎ ((fault.loaded ≡ MOST_RECORDS) ⊎ IsLastRefused leads splits policy ReadFault new))
 
 -- the call that asks a partition for all its rows, and its outcome
 abbrev pub listing : List Bound → Policy → ℕ → Result Reply Refusal → Call
@@ -64,7 +68,7 @@ listings splits policy part (reply ∷ replies) = listing splits policy part (Ok
 
 -- the header, and a record for each row that replies list
 abbrev pub lines_in : List Reply → List (List ℕ)
-lines_in replies = row_text default_writer (codes "key" ∷ codes "payload" ∷ []) ∷ map record_text (flat_map listed replies)
+lines_in replies = header_text ∷ map record_text (flat_map listed replies)
 
 -- on Ok a desk is asked for the rows of all its partitions, and nothing else; the header and their records are written
 abbrev pub IsListed : {D : Type 0} → (D → Call → D → Type 0) → List Bound → Policy → ℕ → D → D → Option (List ℕ) → Option (List ℕ) → Type 0
@@ -74,6 +78,6 @@ IsListed leads splits policy count old new out out' = (replies : List Reply) × 
 -- there is no other, and the output can't be flushed
 abbrev pub IsListedFirst : {D : Type 0} → (D → Call → D → Type 0) → List Bound → Policy → Refusal → D → D → Bool → Bool → Option (List ℕ) → Option (List ℕ) → Type 0
 IsListedFirst leads splits policy e old new failed failed' out out' = (replies : List Reply) × (length replies ≤ length splits + 1) × (last : List Call) × Calls leads old (listings splits policy 0 replies ++ last) new
-    × (((last ≡ []) × AreUnsent (lines_in replies) e failed failed' out out')
+    × (((last ≡ []) × AreUnsent (lines_in replies) e failed' out out')
     ⊎ (((last ≡ listing splits policy (length replies) (Err e) ∷ []) × (failed' ≡ failed) × Appends out out' (concat (lines_in replies)))
     ⊎ ((last ≡ []) × (e ≡ WriteFault) × (failed' ≡ true) × (length replies ≡ length splits + 1) × Appends out out' (concat (lines_in replies)))))

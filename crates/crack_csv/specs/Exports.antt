@@ -1,14 +1,13 @@
 -- What `export_csv` leaves.
-use Rattle.std.specs.Prelude.{◌≡◌, ℕ, ◌+◌, ◌<◌, ◌⊎◌, List, [], ◌∷◌, ◌++◌, length, map, take, slice_get, Option, Some, Err, codes, decimal, Bool, true}
+use Rattle.std.specs.Prelude.{◌≡◌, ℕ, ◌+◌, ◌⊎◌, List, [], ◌∷◌, ◌++◌, length, map, slice_get, Option, Some, Err, codes, decimal, Bool, true}
 use Rattle.std.specs.List.{concat, flat_map}
 use Rattle.std.specs.Fmt.{signed_decimal}
 use Rattle.std.specs.Io.KnownBytes.{Appends}
-use Rattle.csv.specs.Writing.{default_writer, row_text}
 use Rattle.crack_row.specs.declared.Bound.{Bound}
 use Rattle.crack_row.specs.declared.Row.{Row}
 use Rattle.crack_row.specs.declared.command.Command.TheVariants.{Select}
 use Rattle.crack_row.specs.declared.refusal.Refusal.{Refusal}
-use Rattle.crack_row.specs.declared.refusal.Refusal.TheVariants.{OutOfMemory, WriteFault}
+use Rattle.crack_row.specs.declared.refusal.Refusal.TheVariants.{WriteFault}
 use Rattle.crack_plain.specs.Plain.{PlainView, rows_in}
 use Rattle.crack_core.specs.Routes.{keys_of_part}
 use Rattle.crack_core.specs.Steps.{Bounds, IsOutcome, upkept_by}
@@ -16,11 +15,11 @@ use Rattle.crack_commands.specs.Texts.{AppendsFront}
 
 -- the text of the header
 abbrev pub header_text : List ℕ
-header_text = row_text default_writer (codes "key" ∷ codes "payload" ∷ [])
+header_text = codes "key,payload\n"
 
 -- the text of a row's record: its key and its payload
 abbrev pub record_text : Row → List ℕ
-record_text row = row_text default_writer (decimal row.key.0 ∷ signed_decimal row.payload.0 ∷ [])
+record_text row = decimal row.key.0 ++ (codes "," ++ (signed_decimal row.payload.0 ++ codes "\n"))
 
 -- the rows of these partitions, whose numbers rise from this one on: those of each in turn, by rising serial
 abbrev pub rows_from : List Bound → ℕ → List PlainView → List Row
@@ -41,15 +40,14 @@ pub record IsExported (bounds : Bounds) (splits : List Bound) (tables : List Pla
 abbrev pub lines_of : List Bound → List PlainView → List (List ℕ)
 lines_of splits tables = header_text ∷ map record_text (rows_from splits 0 tables)
 
--- why texts aren't all written: for lack of memory, and the first of them are, each whole; or the writer failed, and a prefix of all is
-abbrev pub AreUnsent : List (List ℕ) → Refusal → Bool → Bool → Option (List ℕ) → Option (List ℕ) → Type 0
-AreUnsent texts e failed failed' out out' = ((e ≡ OutOfMemory) × (failed' ≡ failed) × (count : ℕ) × (count < length texts) × Appends out out' (concat (take count texts)))
-    ⊎ ((e ≡ WriteFault) × (failed' ≡ true) × AppendsFront out out' (concat texts))
+-- why texts aren't all written: the writer failed; a prefix of them is written
+abbrev pub AreUnsent : List (List ℕ) → Refusal → Bool → Option (List ℕ) → Option (List ℕ) → Type 0
+AreUnsent texts e failed' out out' = (e ≡ WriteFault) × (failed' ≡ true) × AppendsFront out out' (concat texts)
 
 -- why an export stops after these partitions, before the rest: the lines aren't all written; or they are, and the next partition refuses the
 -- list of its rows; or there is no other, and the output can't be flushed
 abbrev pub IsStopped : Bounds → List Bound → List PlainView → List PlainView → Refusal → Bool → Bool → Option (List ℕ) → Option (List ℕ) → Type 0
-IsStopped bounds splits done rest e failed failed' out out' = AreUnsent (lines_of splits done) e failed failed' out out'
+IsStopped bounds splits done rest e failed failed' out out' = AreUnsent (lines_of splits done) e failed' out out'
     ⊎ ((table : PlainView) × (slice_get rest 0 ≡ Some table) × IsOutcome bounds (keys_of_part splits (length done)) (Some table) (Select (keys_of_part splits (length done))) (Err e) × (failed' ≡ failed) × Appends out out' (concat (lines_of splits done)))
     ⊎ ((e ≡ WriteFault) × (failed' ≡ true) × (rest ≡ []) × Appends out out' (concat (lines_of splits done)))
 

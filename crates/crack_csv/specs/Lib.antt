@@ -4,5 +4,6 @@ pub mod Exports
 pub mod Inside
 pub mod Loaders
 pub mod Loads
+pub mod Readers
 pub mod Records
 pub mod Taking

@@ -5,7 +5,7 @@ use Rattle.csv.specs.declared.parser.State.TheVariants as st
 use Rattle.crack_row.specs.declared.Bound.{Bound}
 use Rattle.crack_row.specs.declared.command.Command.TheVariants.{Insert}
 use Rattle.crack_row.specs.declared.refusal.Refusal.{Refusal}
-use Rattle.crack_row.specs.declared.refusal.Refusal.TheVariants.{OutOfMemory, ReadFault, BadRecord}
+use Rattle.crack_row.specs.declared.refusal.Refusal.TheVariants.{ReadFault, BadRecord}
 use Rattle.crack_plain.specs.Plain.{PlainView}
 use Rattle.crack_core.specs.Routes.{route}
 use Rattle.crack_core.specs.Steps.{Bounds, IsOutcomeAt, fresh_table, table_after, upkept_by}
@@ -49,4 +49,4 @@ pub record IsCutShort (bounds : Bounds) (splits : List Bound) (tables : List Pla
   pub records : List (List (List ℕ))
   pub first : AreFirstOf (strip_bom bytes) records
   pub inserted : AreInserted bounds splits tables records fault.loaded left
-  pub cause : (fault.refusal ≡ ReadFault) ⊎ (fault.refusal ≡ OutOfMemory) ⊎ IsRefused bounds splits (fold (with_row bounds splits) tables inserted.rows) bytes records fault
+  pub cause : (fault.refusal ≡ ReadFault) ⊎ IsRefused bounds splits (fold (with_row bounds splits) tables inserted.rows) bytes records fault

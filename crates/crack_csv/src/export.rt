@@ -1,32 +1,28 @@
 //! Exports rows as CSV.
-ghost use Rattle.std.specs.Prelude.{◌≡◌, ◌+◌, ◌≤◌, ◌<◌, ◌^◌, ◌⊎◌, ◌++◌, List, Some, length, map, IfOk, IfErr, OnOk};
+ghost use Rattle.std.specs.Prelude.{◌≡◌, ◌+◌, ◌≤◌, ◌<◌, ◌^◌, ◌++◌, [], List, Some, length, drop, IfOk, IfErr, OnOk};
 ghost use Rattle.std.specs.List.{flat_map};
-ghost use Rattle.std.specs.Io.KnownBytes.{Appends, Keeps};
 ghost use Rattle.crack_row.specs.Devices.{device, has_failed};
 ghost use Rattle.crack_plain.specs.Plain.{PlainView};
 ghost use Rattle.crack_core.specs.Steps.{tables_of};
+ghost use Rattle.crack_commands.specs.Texts.{Writes};
 ghost use Rattle.crack_core.specs.Listing.{listed};
-ghost use Rattle.crack_csv.specs.Exports.{header_text, record_text, rows_from, IsExported, AreUnsent, IsExportCut};
+ghost use Rattle.crack_csv.specs.Exports.{record_text, rows_from, IsExported, IsExportCut};
 ghost use Rattle.crack_csv.specs.Asked.{IsListed, IsListedFirst};
-ghost use Rattle.crack_csv.specs.Inside.{IsPartExported, IsUnsent, IsPartCut, AsksAndWrites, AsksAndCuts};
+ghost use Rattle.crack_csv.specs.Inside.{IsPartExported, IsPartCut, AsksAndWrites, AsksAndCuts};
 
-use crate::text::{header_text, rows_text};
+use crate::text::{HEADER, RECORD_BYTES, push_record};
 use crack_commands::send;
 use crack_core::{Core, keys_of_part};
 use crack_row::{Command, Policy, Refusal, Reply, Row, Watched};
-use crack_session::Desk;
-use std::alloc::Global;
+use crack_session::rest::has_room;
+use crack_session::{Desk, Output};
 use std::io::Write;
-
-/// The records of this many rows are in memory at once.
-const BATCH_ROWS: usize = 256;
 
 /// Writes the header `key,payload` and then a record for each row, and returns how many rows there were; records end
 /// with a line feed. Each partition is asked for a list of all its rows, which a history keeps if the desk has one. The
-/// output is flushed at the end. The first refusal ends the export: 6, 7, 8 or 10 of a partition, 8 for the text of a
-/// batch of rows, or 18. The list of one partition's rows is in memory, and the text of a batch of them.
+/// output is flushed at the end. The first refusal ends the export: 6, 7, 8 or 10 of a partition, or 18. The list of one
+/// partition's rows is in memory; texts take none.
 pub fn export_csv<D: Desk, W: Write>(
-    alloc: Global,
     desk: &mut D,
     policy: Policy,
     writer: &mut Watched<W>,
@@ -54,13 +50,14 @@ pub fn export_csv<D: Desk, W: Write>(
     ensures splits { D.splits desk.new ≡ D.splits desk.old }
     ensures bounds { D.bounds desk.new ≡ D.bounds desk.old }
 {
-    if let Err(refusal) = write_header(alloc, writer) {
+    let mut out = Output::new();
+    if let Err(refusal) = send(writer, HEADER) {
         return Err(refusal);
     }
     let parts = desk.splits().len() as u32 + 1;
     let mut count = 0;
     'parts: for part in 0..parts {
-        match export_part(alloc, desk, policy, part, writer) {
+        match export_part(desk, policy, part, writer, &mut out) {
             Ok(rows) => count += rows,
             Err(refusal) => return Err(refusal),
         }
@@ -81,13 +78,14 @@ pub fn leaves_no_row_out(core: &Core)
 
 /// Asks one partition for all its rows, and writes a record for each.
 fn export_part<D: Desk, W: Write>(
-    alloc: Global,
     desk: &mut D,
     policy: Policy,
     part: u32,
     writer: &mut Watched<W>,
+    out: &mut Output,
 ) -> Result<u64, Refusal>
-    requires { part ≤ length (D.splits desk.old) }
+    requires there { part ≤ length (D.splits desk.old) }
+    requires empty { out.old.items ≡ [] }
     ensures exported { IfOk result (λ count. (tables : List PlainView) → D.tables desk.old ≡ Some tables →
         IsPartExported (D.bounds desk.old) (D.splits desk.old) tables part count (D.tables desk.new)
         (W.contents (device writer.old)) (W.contents (device writer.new))) }
@@ -105,12 +103,13 @@ fn export_part<D: Desk, W: Write>(
     ensures accepted { OnOk result (D.accepted desk.new ≡ D.accepted desk.old + 1) }
     ensures splits { D.splits desk.new ≡ D.splits desk.old }
     ensures bounds { D.bounds desk.new ≡ D.bounds desk.old }
+    ensures empty { out.new.items ≡ [] }
 {
     let keys = keys_of_part(desk.splits(), part as usize);
     match desk.ask(part, Command::Select(keys), policy) {
         Ok(reply) => {
             let rows = listed(&reply);
-            if let Err(refusal) = write_rows(alloc, rows, writer) {
+            if let Err(refusal) = write_rows(rows, writer, out) {
                 return Err(refusal);
             }
             Ok(rows.len() as u64)
@@ -129,55 +128,50 @@ fn listed(reply: &Reply) -> &[Row]
     }
 }
 
-/// Writes the header.
-fn write_header<W: Write>(alloc: Global, writer: &mut Watched<W>) -> Result<(), Refusal>
-    ensures text { OnOk result (Appends (W.contents (device writer.old)) (W.contents (device writer.new)) header_text) }
-    ensures unfailed { OnOk result (has_failed writer.new ≡ has_failed writer.old) }
-    ensures cut { IfErr result (λ e.
-        IsUnsent header_text e (has_failed writer.old) (has_failed writer.new) (W.contents (device writer.old))
-        (W.contents (device writer.new))) }
-{
-    match header_text(alloc) {
-        Ok(text) => send(writer, text.as_slice()),
-        Err(refusal) => Err(refusal),
-    }
-}
-
-/// Writes a record for each of the rows, the text of a batch of them at a time.
-fn write_rows<W: Write>(alloc: Global, rows: &[Row], writer: &mut Watched<W>) -> Result<(), Refusal>
-    ensures text { OnOk result (Appends (W.contents (device writer.old)) (W.contents (device writer.new))
-        (flat_map record_text rows.now)) }
-    ensures unfailed { OnOk result (has_failed writer.new ≡ has_failed writer.old) }
-    ensures cut { IfErr result (λ e.
-        AreUnsent (map record_text rows.now) e (has_failed writer.old) (has_failed writer.new)
-        (W.contents (device writer.old)) (W.contents (device writer.new))) }
+/// Writes a record for each of the rows: fills output with them, and writes that each time it is full, and at the end.
+fn write_rows<W: Write>(
+    rows: &[Row],
+    writer: &mut Watched<W>,
+    out: &mut Output,
+) -> Result<(), Refusal>
+    requires empty { out.old.items ≡ [] }
+    ensures writes { Writes W.contents (flat_map record_text rows.now) result writer.old writer.new }
+    ensures empty { out.new.items ≡ [] }
 {
     let mut done = 0;
     'batches: while done < rows.len() {
-        let end = rows.len().min(done.saturating_add(BATCH_ROWS));
-        if let Err(refusal) = write_batch(alloc, &rows[done..end], writer) {
+        done = push_rows(rows, done, out);
+        if let Err(refusal) = send_all(writer, out) {
             return Err(refusal);
         }
-        done = end;
     }
     Ok(())
 }
 
-/// Writes a record for each of the rows, all at once.
-fn write_batch<W: Write>(
-    alloc: Global,
-    rows: &[Row],
-    writer: &mut Watched<W>,
-) -> Result<(), Refusal>
-    ensures text { OnOk result (Appends (W.contents (device writer.old)) (W.contents (device writer.new))
-        (flat_map record_text rows.now)) }
-    ensures unfailed { OnOk result (has_failed writer.new ≡ has_failed writer.old) }
-    ensures cut { IfErr result (λ e.
-        IsUnsent (flat_map record_text rows.now) e (has_failed writer.old) (has_failed writer.new)
-        (W.contents (device writer.old)) (W.contents (device writer.new))) }
+/// Adds a record for each of the rows from one of them on, while there is room, and returns the place of the first
+/// that isn't added.
+fn push_rows(rows: &[Row], at: usize, out: &mut Output) -> usize
+    requires there { at < length rows.now }
+    requires empty { out.old.items ≡ [] }
+    ensures text { out.new.items ++ flat_map record_text (drop result rows.now) ≡
+        flat_map record_text (drop at rows.now) }
+    ensures some { at < result }
 {
-    match rows_text(alloc, rows) {
-        Ok(text) => send(writer, text.as_slice()),
-        Err(refusal) => Err(refusal),
+    push_record(out, &rows[at]);
+    let mut next = at + 1;
+    'rows: while next < rows.len() && has_room(out, RECORD_BYTES) {
+        push_record(out, &rows[next]);
+        next += 1;
     }
+    next
+}
+
+/// Writes what output holds, and empties it.
+fn send_all<W: Write>(writer: &mut Watched<W>, out: &mut Output) -> Result<(), Refusal>
+    ensures writes { Writes W.contents out.old.items result writer.old writer.new }
+    ensures empty { out.new.items ≡ [] }
+{
+    let sent = send(writer, out.as_slice());
+    out.clear();
+    sent
 }

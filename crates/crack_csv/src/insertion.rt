@@ -1,49 +1,17 @@
 //! The insertion of a record's row.
 ghost use Rattle.std.specs.Prelude.{◌≡◌, ◌+◌, List, Some, Ok, Err, is_ok, IfErr, OnOk, if◌then◌else◌};
-ghost use Rattle.csv.specs.Records.{fields_of};
 ghost use Rattle.crack_row.specs.declared.command.Command.TheVariants.{Insert};
 ghost use Rattle.crack_plain.specs.Plain.{PlainView};
 ghost use Rattle.crack_core.specs.Routes.{route};
 ghost use Rattle.crack_core.specs.Steps.{IsOutcomeAt};
-ghost use Rattle.crack_csv.specs.Records.{new_row_of};
 ghost use Rattle.crack_row.specs.declared.command.Reply.{Reply};
 ghost use Rattle.crack_csv.specs.Asked.{insertion};
-ghost use Rattle.crack_csv.specs.Inside.{BringsRow, AsksRow, AsksNoRow};
-ghost use Rattle.crack_csv.specs.Loads.{with_row, Refuses};
+ghost use Rattle.crack_csv.specs.Loads.{with_row};
 
-use crate::record::{NewRow, new_row};
+use crate::record::NewRow;
 use crack_core::route;
 use crack_row::{Command, Policy, Refusal};
 use crack_session::Desk;
-use csv::ByteRecord;
-
-/// Inserts the row of the record with this number. Refused with 19 if it isn't a row, and else as the partition of
-/// its key refuses.
-pub fn insert_record<D: Desk>(
-    desk: &mut D,
-    policy: Policy,
-    number: u64,
-    fields: &ByteRecord,
-) -> Result<(), Refusal>
-    ensures inserted { OnOk result ((tables : List PlainView) → D.tables desk.old ≡ Some tables →
-        BringsRow (D.bounds desk.old) (D.splits desk.old) tables (fields_of fields.now) (D.tables desk.new)) }
-    ensures kept { IfErr result (λ _. (tables : List PlainView) → D.tables desk.old ≡ Some tables →
-        D.tables desk.new ≡ Some tables) }
-    ensures refused { IfErr result (λ e. (tables : List PlainView) → D.tables desk.old ≡ Some tables →
-        Refuses (D.bounds desk.old) (D.splits desk.old) tables number (new_row_of (fields_of fields.now)) e) }
-    ensures splits { D.splits desk.new ≡ D.splits desk.old }
-    ensures bounds { D.bounds desk.new ≡ D.bounds desk.old }
-    ensures accepted { D.accepted desk.new ≡ (if is_ok result then D.accepted desk.old + 1 else D.accepted desk.old) }
-    // Whatever is known of the rows: the partition of the row's key is asked to insert it, once and by this policy.
-    ensures asks { OnOk result (AsksRow D.leads (D.splits desk.old) policy (fields_of fields.now) desk.old desk.new) }
-    ensures asks_in_vain { IfErr result (λ e. AsksNoRow D.leads (D.splits desk.old) policy number (fields_of fields.now)
-        e desk.old desk.new) }
-{
-    match new_row(fields) {
-        Some(row) => insert_row(desk, policy, row),
-        None => Err(Refusal::BadRecord { number }),
-    }
-}
 
 /// Inserts a row into the partition of its key.
 pub(crate) fn insert_row<D: Desk>(desk: &mut D, policy: Policy, row: NewRow) -> Result<(), Refusal>

@@ -1,21 +1,19 @@
-//! Loads rows from CSV.
-ghost use Rattle.std.specs.Prelude.{◌≡◌, ◌+◌, ◌≤◌, ℕ, List, Some, IfOk, IfErr};
-ghost use Rattle.csv.specs.Reading.{reader_source, reader_state, source_of, strip_bom};
-ghost use Rattle.csv.specs.declared.parser.State.TheVariants as st;
-ghost use Rattle.crack_row.specs.Devices.{device, has_failed};
+//! Loads rows from CSV: read, and feed a loader.
+ghost use Rattle.std.specs.Prelude.{◌≡◌, ◌+◌, ◌≤◌, ℕ, List, Some, IfErr, IfOk, OnOk};
+ghost use Rattle.crack_row.specs.Devices.{device, has_failed, reads_of};
 ghost use Rattle.crack_plain.specs.Plain.{PlainView};
-ghost use Rattle.crack_csv.specs.Asked.{IsAskedAll, IsAskedFirst, MayBeUnread};
-ghost use Rattle.crack_csv.specs.Inside.{IsReady};
+ghost use Rattle.crack_csv.specs.Asked.{AreBytesOf, IsAskedAll, IsAskedFirst, MayBeUnread};
 ghost use Rattle.crack_csv.specs.Loads.{IsLoaded, IsCutShort};
+ghost use Rattle.crack_csv.specs.Readers.{HasReadAll, HasReadFirst, begun_by};
 
 use crate::MOST_RECORDS;
-use crate::insertion::insert_record;
-use crate::record::{is_header_at, read_next};
+use crate::loader::Loader;
 use crack_row::{Policy, Refusal, Watched};
 use crack_session::Desk;
-use csv::{ByteRecord, Reader, ReaderBuilder};
-use std::alloc::Global;
 use std::io::Read;
+
+/// How many bytes are read at a time, at most.
+const ROOM_BYTES: usize = 8192;
 
 /// A load that was cut short. The rows that it inserted stay.
 #[derive(Clone, Copy, PartialEq, Eq, Debug)]
@@ -26,98 +24,82 @@ pub struct LoadFault {
     pub loaded: u64,
 }
 
-/// Inserts the row of each record in a reader's bytes, in order, each into the partition of its key, and
-/// returns how many, with the reader. A first record of the fields `key` and `payload` is a header, which is skipped.
-/// Records are read with commas and double quotes; a record that doesn't have two fields, or with a field that isn't a
-/// number of 1 to 20 digits in range, for a payload with or without a minus sign, is refused with 19. A reader that
-/// fails is refused with 17, and so is one record more than `MOST_RECORDS`. One record at a time is in memory.
-pub fn load_csv<D: Desk, R: Read + Drop>(
-    alloc: Global,
+/// Inserts the row of each record in a reader's bytes, in order, each into the partition of its key, and returns how
+/// many. A first record of the fields `key` and `payload` is a header, which is skipped. Records are read with commas
+/// and double quotes; a record that doesn't have two fields, or with a field that isn't a number of 1 to 20 digits in
+/// range, for a payload with or without a minus sign, is refused with 19. A reader that fails is refused with 17, and
+/// so is one record more than `MOST_RECORDS`. Takes only the memory that the desk takes.
+pub fn load_csv<D: Desk, R: Read>(
     desk: &mut D,
     policy: Policy,
-    reader: Watched<R>,
-) -> (Result<u64, LoadFault>, Watched<R>)
-    // All records that the bytes have are inserted.
-    ensures loaded { IfOk result.0 (λ count. (bytes : List ℕ) (tables : List PlainView) →
-        R.remaining (device reader) ≡ Some bytes → D.tables desk.old ≡ Some tables →
-        IsLoaded (D.bounds desk.old) (D.splits desk.old) tables bytes count (D.tables desk.new)) }
-    // The first of them are, up to where the reader failed, or up to a refused one.
-    ensures cut_short { IfErr result.0 (λ fault. (bytes : List ℕ) (tables : List PlainView) →
-        R.remaining (device reader) ≡ Some bytes → D.tables desk.old ≡ Some tables →
-        IsCutShort (D.bounds desk.old) (D.splits desk.old) tables bytes fault (D.tables desk.new)) }
-    // Whatever is known of the rows: the desk is asked to insert the rows of exactly the records that are read, in
-    // order, each once, by this policy, and each is answered; on a fault the last call may be the refused one.
-    ensures asks { IfOk result.0 (λ count. (bytes : List ℕ) → R.remaining (device reader) ≡ Some bytes →
-        IsAskedAll D.leads (D.splits desk.old) policy bytes count desk.old desk.new) }
-    ensures asks_in_part { IfErr result.0 (λ fault. (bytes : List ℕ) → R.remaining (device reader) ≡ Some bytes →
-        IsAskedFirst D.leads (D.splits desk.old) policy bytes fault desk.old desk.new) }
-    ensures causes { IfErr result.0 (λ fault. MayBeUnread D.leads (D.splits desk.old) policy (has_failed result.1) fault
-        desk.new) }
-    ensures few { IfOk result.0 (λ count. count ≤ MOST_RECORDS) }
-    ensures accepted { IfOk result.0 (λ count. D.accepted desk.new ≡ D.accepted desk.old + count) }
-    ensures accepted_of_fault { IfErr result.0 (λ fault. D.accepted desk.new ≡ D.accepted desk.old + fault.loaded) }
-    ensures splits { D.splits desk.new ≡ D.splits desk.old }
-    ensures bounds { D.bounds desk.new ≡ D.bounds desk.old }
-{
-    let mut source = ReaderBuilder::new()
-        .has_headers(false)
-        .flexible(true)
-        .from_reader(alloc, reader);
-    let ended = load_records(alloc, desk, policy, &mut source);
-    (ended, source.into_inner())
-}
-
-/// Inserts the row of each record that is left in a reader of records, which has read none.
-fn load_records<D: Desk, R: Read + Drop>(
-    alloc: Global,
-    desk: &mut D,
-    policy: Policy,
-    source: &mut Reader<Watched<R>>,
+    reader: &mut Watched<R>,
 ) -> Result<u64, LoadFault>
-    requires ready { IsReady source.old }
-    requires start { reader_state source.old ≡ st.StartRecord }
-    ensures loaded { IfOk result (λ count. (bytes : List ℕ) (tables : List PlainView) →
-        source_of (λ w. R.remaining (device w)) source.old ≡ Some (strip_bom bytes) →
-        D.tables desk.old ≡ Some tables →
-        IsLoaded (D.bounds desk.old) (D.splits desk.old) tables bytes count (D.tables desk.new)) }
-    ensures cut_short { IfErr result (λ fault. (bytes : List ℕ) (tables : List PlainView) →
-        source_of (λ w. R.remaining (device w)) source.old ≡ Some (strip_bom bytes) →
-        D.tables desk.old ≡ Some tables →
-        IsCutShort (D.bounds desk.old) (D.splits desk.old) tables bytes fault (D.tables desk.new)) }
-    ensures asks { IfOk result (λ count. (bytes : List ℕ) →
-        source_of (λ w. R.remaining (device w)) source.old ≡ Some (strip_bom bytes) →
-        IsAskedAll D.leads (D.splits desk.old) policy bytes count desk.old desk.new) }
-    ensures asks_in_part { IfErr result (λ fault. (bytes : List ℕ) →
-        source_of (λ w. R.remaining (device w)) source.old ≡ Some (strip_bom bytes) →
-        IsAskedFirst D.leads (D.splits desk.old) policy bytes fault desk.old desk.new) }
-    ensures causes { IfErr result (λ fault. MayBeUnread D.leads (D.splits desk.old) policy
-        (has_failed (reader_source source.new)) fault desk.new) }
+    // Whatever the reader does, the desk was asked to insert the rows of exactly the records in some bytes, in order,
+    // each once, by this policy, and each was answered. If the reader's bytes are known, these are they.
+    ensures asks { IfOk result (λ count. (bytes : List ℕ) × AreBytesOf (R.remaining (device reader.old)) bytes
+        × IsAskedAll D.leads (D.splits desk.old) policy bytes count desk.old desk.new) }
+    // On a fault it was asked for the first of these records, and the last call may be the refused one.
+    ensures asks_in_part { IfErr result (λ fault. (bytes : List ℕ) × AreBytesOf (R.remaining (device reader.old)) bytes
+        × IsAskedFirst D.leads (D.splits desk.old) policy bytes fault desk.old desk.new) }
+    // If the rows are known, those of all records are added to them.
+    ensures loaded { IfOk result (λ count. (tables : List PlainView) → D.tables desk.old ≡ Some tables →
+        (bytes : List ℕ) × AreBytesOf (R.remaining (device reader.old)) bytes
+        × IsLoaded (D.bounds desk.old) (D.splits desk.old) tables bytes count (D.tables desk.new)) }
+    // Or those of the first, up to where the reader failed, or up to a refused one.
+    ensures cut_short { IfErr result (λ fault. (tables : List PlainView) → D.tables desk.old ≡ Some tables →
+        (bytes : List ℕ) × AreBytesOf (R.remaining (device reader.old)) bytes
+        × IsCutShort (D.bounds desk.old) (D.splits desk.old) tables bytes fault (D.tables desk.new)) }
+    // It is refused with 17 only by the reader, after as many records as allowed, or by the desk.
+    ensures causes { IfErr result (λ fault. MayBeUnread D.leads (D.splits desk.old) policy (has_failed reader.new)
+        (reads_of reader.new) fault desk.new) }
     ensures few { IfOk result (λ count. count ≤ MOST_RECORDS) }
+    ensures unfailed { OnOk result (has_failed reader.new ≡ has_failed reader.old) }
     ensures accepted { IfOk result (λ count. D.accepted desk.new ≡ D.accepted desk.old + count) }
     ensures accepted_of_fault { IfErr result (λ fault. D.accepted desk.new ≡ D.accepted desk.old + fault.loaded) }
     ensures splits { D.splits desk.new ≡ D.splits desk.old }
     ensures bounds { D.bounds desk.new ≡ D.bounds desk.old }
 {
-    let mut fields = ByteRecord::new(alloc);
-    let mut loaded = 0;
-    'records: for number in 1..MOST_RECORDS + 3 {
-        match read_next(source, &mut fields) {
-            Ok(true) => {}
-            Ok(false) => return Ok(loaded),
-            Err(refusal) => return Err(LoadFault { refusal, loaded }),
-        }
-        if is_header_at(number, &fields) {
-            continue;
-        }
-        if loaded == MOST_RECORDS {
-            let refusal = Refusal::ReadFault;
-            return Err(LoadFault { refusal, loaded });
-        }
-        match insert_record(desk, policy, number, &fields) {
-            Ok(()) => loaded += 1,
-            Err(refusal) => return Err(LoadFault { refusal, loaded }),
+    let mut loader = Loader::new(policy);
+    load_reads(desk, &mut loader, reader)
+}
+
+/// Feeds a loader that begins what a reader gives, up to the end of its input.
+fn load_reads<D: Desk, R: Read>(
+    desk: &mut D,
+    loader: &mut Loader,
+    reader: &mut Watched<R>,
+) -> Result<u64, LoadFault>
+    requires begins { loader.old ≡ begun_by loader.old.policy }
+    ensures ends { IfOk result (λ count. HasReadAll D.bounds D.splits D.tables D.accepted D.leads loader.old.policy
+        desk.old (R.remaining (device reader.old)) count desk.new) }
+    ensures stops { IfErr result (λ fault. HasReadFirst D.bounds D.splits D.tables D.accepted D.leads loader.old.policy
+        desk.old (R.remaining (device reader.old)) fault desk.new) }
+    ensures causes { IfErr result (λ fault. MayBeUnread D.leads (D.splits desk.old) loader.old.policy
+        (has_failed reader.new) (reads_of reader.new) fault desk.new) }
+    ensures few { IfOk result (λ count. count ≤ MOST_RECORDS) }
+    ensures unfailed { OnOk result (has_failed reader.new ≡ has_failed reader.old) }
+{
+    let mut room = [0u8; ROOM_BYTES];
+    'reads: while reader.reads() < u64::MAX {
+        match reader.read(&mut room) {
+            Ok(count) if count > 0 => {
+                if let Err(fault) = loader.feed(desk, &room[..count]) {
+                    return Err(fault);
+                }
+            }
+            Ok(_) => return loader.end(desk),
+            Err(_) => return Err(unread(loader)),
         }
     }
-    let refusal = Refusal::ReadFault;
-    Err(LoadFault { refusal, loaded })
+    Err(unread(loader))
+}
+
+/// The fault of a loader whose text isn't read on.
+fn unread(loader: &Loader) -> LoadFault
+    ensures { result ≡ record { refusal = Refusal.ReadFault; loaded = loader.now.loaded } }
+{
+    LoadFault {
+        refusal: Refusal::ReadFault,
+        loaded: loader.loaded(),
+    }
 }

@@ -72,7 +72,8 @@ impl Loader {
 
     /// How many rows were inserted.
     pub fn loaded(&self) -> u64
-        ensures { result ≡ self.now.loaded }
+        ensures value { result ≡ self.now.loaded }
+        ensures few { result ≤ MOST_RECORDS }
     {
         self.loaded
     }
@@ -107,6 +108,7 @@ impl Loader {
         // Or the last of them is refused.
         ensures stops { IfErr result (λ fault. StopsAtEnd D.bounds D.splits D.tables D.accepted D.leads self.old
             desk.old desk.new fault) }
+        ensures few { IfOk result (λ count. count ≤ MOST_RECORDS) }
     {
         if !self.takes_last() {
             return Ok(self.loaded());

@@ -1,77 +1,47 @@
 //! Rows as texts of CSV records.
-ghost use Rattle.std.specs.Prelude.{◌≡◌, ◌≢◌, ◌++◌, ◌∷◌, [], codes, IfOk, IfErr, OnOk};
-ghost use Rattle.std.specs.List.{flat_map};
-ghost use Rattle.std.specs.Io.KnownBytes.{Appends};
-ghost use Rattle.csv.specs.Writing.{text_written, row_text, default_writer};
-ghost use Rattle.crack_csv.specs.Exports.{header_text, record_text};
-ghost use Rattle.crack_csv.specs.Inside.{IsFresh};
+ghost use Rattle.std.specs.Prelude.{◌≡◌, ◌+◌, ◌≤◌, ◌++◌, decimal, length};
+ghost use Rattle.std.specs.Fmt.{signed_decimal};
+ghost use Rattle.crack_csv.specs.Exports.{record_text};
 
-use crack_row::{Refusal, Row};
-use csv::{Writer, WriterBuilder};
-use std::alloc::Global;
-use std::io::Write;
+use arrayvec::ArrayVec;
+use crack_commands::push;
+use crack_row::{Key, Payload, Row};
 
-/// The text of the header. Refused with 8 if no memory is found.
-pub fn header_text(alloc: Global) -> Result<Vec<u8>, Refusal>
-    ensures text { IfOk result (λ text. text.items ≡ header_text) }
-    ensures err { IfErr result (λ e. e ≡ Refusal.OutOfMemory) }
+/// Room for a record: two numbers of at most 20 bytes, and two bytes more.
+pub const RECORD_BYTES: usize = 42;
+
+/// The record of the names of the two fields.
+pub const HEADER: &[u8] = b"key,payload\n";
+
+/// Adds the record of a row.
+pub fn push_record<const ROOM: usize>(text: &mut ArrayVec<u8, ROOM>, row: &Row)
+    requires { length text.old.items + RECORD_BYTES ≤ ROOM }
+    ensures { text.new.items ≡ text.old.items ++ record_text row.now }
 {
-    let mut writer = WriterBuilder::new().from_writer(Vec::new(alloc));
-    write_record(&mut writer, b"key", b"payload")?;
-    text_of(writer)
+    push_key(text, row.key);
+    push(text, b",");
+    push_payload(text, row.payload);
+    push(text, b"\n");
 }
 
-/// The texts of the records of rows. Refused with 8 if no memory is found.
-pub fn rows_text(alloc: Global, rows: &[Row]) -> Result<Vec<u8>, Refusal>
-    ensures text { IfOk result (λ text. text.items ≡ flat_map record_text rows.now) }
-    ensures err { IfErr result (λ e. e ≡ Refusal.OutOfMemory) }
+/// Adds a key in decimal.
+#[inline(always)]
+fn push_key<const ROOM: usize>(text: &mut ArrayVec<u8, ROOM>, key: Key)
+    requires { length text.old.items + 20 ≤ ROOM }
+    ensures digits { text.new.items ≡ text.old.items ++ decimal key.0 }
+    ensures few { length text.new.items ≤ length text.old.items + 20 }
 {
-    let mut writer = WriterBuilder::new().from_writer(Vec::new(alloc));
-    'rows: for row in rows {
-        write_row(&mut writer, row)?;
-    }
-    text_of(writer)
+    let mut digits = itoa::Buffer::new();
+    push(text, digits.format(key.number()).as_bytes());
 }
 
-/// Writes the record of a row.
-fn write_row(writer: &mut Writer<Vec<u8>>, row: &Row) -> Result<(), Refusal>
-    requires { IsFresh writer.old }
-    ensures fresh { OnOk result (IsFresh writer.new) }
-    ensures text { OnOk result (Appends (text_written ⟦<Vec<u8> as Write>⟧.contents writer.old)
-        (text_written ⟦<Vec<u8> as Write>⟧.contents writer.new) (record_text row.now)) }
-    ensures err { IfErr result (λ e. e ≡ Refusal.OutOfMemory) }
+/// Adds a payload in decimal: at most 19 digits and a minus sign.
+#[inline(always)]
+fn push_payload<const ROOM: usize>(text: &mut ArrayVec<u8, ROOM>, payload: Payload)
+    requires { length text.old.items + 20 ≤ ROOM }
+    ensures digits { text.new.items ≡ text.old.items ++ signed_decimal payload.0 }
+    ensures few { length text.new.items ≤ length text.old.items + 20 }
 {
-    let mut key = itoa::Buffer::new();
-    let mut payload = itoa::Buffer::new();
-    write_record(
-        writer,
-        key.format(row.key.number()).as_bytes(),
-        payload.format(row.payload.number()).as_bytes(),
-    )
-}
-
-/// Writes a record of two fields.
-fn write_record(writer: &mut Writer<Vec<u8>>, first: &[u8], second: &[u8]) -> Result<(), Refusal>
-    requires { IsFresh writer.old }
-    ensures fresh { OnOk result (IsFresh writer.new) }
-    ensures text { OnOk result (Appends (text_written ⟦<Vec<u8> as Write>⟧.contents writer.old)
-        (text_written ⟦<Vec<u8> as Write>⟧.contents writer.new)
-        (row_text default_writer (first.now ∷ second.now ∷ []))) }
-    ensures err { IfErr result (λ e. e ≡ Refusal.OutOfMemory) }
-{
-    match writer.write_fields(&[first, second]) {
-        Ok(()) => Ok(()),
-        Err(_) => Err(Refusal::OutOfMemory),
-    }
-}
-
-/// The text that was written.
-fn text_of(writer: Writer<Vec<u8>>) -> Result<Vec<u8>, Refusal>
-    ensures text { IfOk result (λ text. text_written ⟦<Vec<u8> as Write>⟧.contents writer ≡ Some text.items) }
-    ensures err { IfErr result (λ e. e ≡ Refusal.OutOfMemory) }
-{
-    match writer.into_inner() {
-        Ok(text) => Ok(text),
-        Err(_) => Err(Refusal::OutOfMemory),
-    }
+    let mut digits = itoa::Buffer::new();
+    push(text, digits.format(payload.number()).as_bytes());
 }

@@ -67,7 +67,7 @@ fn serve_and_export<R: Read, W: Write>(
         (Some (out ++ concat (map answer_text answers))) (W.contents (device writer.new))) }
 {
     match serve(alloc, core, Policy::Ripple, reader, writer) {
-        Ok(end) => match export_csv(alloc, core, Policy::Ripple, writer) {
+        Ok(end) => match export_csv(core, Policy::Ripple, writer) {
             Ok(count) => Ok((end, count)),
             Err(refusal) => Err(refusal),
         },

@@ -11,20 +11,19 @@ use std::process::Abort;
 const TEXT: &[u8] = b"key,payload\n150,6\n50,5\n";
 
 /// How a load ends. It promises nothing, so that no test carries all that `load_csv` promises.
-fn load(alloc: Global, core: &mut Core, source: Source<'_>) -> Result<u64, LoadFault> {
-    let (ended, _reader) = load_csv(alloc, core, Policy::Ripple, Watched::new(source));
-    ended
+fn load(core: &mut Core, source: Source<'_>) -> Result<u64, LoadFault> {
+    load_csv(core, Policy::Ripple, &mut Watched::new(source))
 }
 
 /// How an export ends. It promises nothing either.
-fn export(alloc: Global, core: &mut Core, writer: &mut Watched<Sink>) -> Result<u64, Refusal> {
-    export_csv(alloc, core, Policy::Ripple, writer)
+fn export(core: &mut Core, writer: &mut Watched<Sink>) -> Result<u64, Refusal> {
+    export_csv(core, Policy::Ripple, writer)
 }
 
 /// How a load of a reader's bytes into one partition ends.
 fn end_of(rt: &impl Abort, alloc: Global, source: Source<'_>) -> Result<u64, LoadFault> {
     let mut desk = core(rt, alloc, &[], GREATEST_LIMIT);
-    let ended = load(alloc, &mut desk, source);
+    let ended = load(&mut desk, source);
     drop(desk);
     ended
 }
@@ -280,8 +279,8 @@ fn assert_case(rt: &impl Abort, alloc: Global, case: Case) {
     let sink = Sink::new(Vec::new(alloc)).failing_at(case.call);
     let mut desk = core(rt, alloc, case.splits, case.limit);
     let mut writer = Watched::new(sink);
-    let loaded = load(alloc, &mut desk, source.failing_at(case.read));
-    let exported = export(alloc, &mut desk, &mut writer);
+    let loaded = load(&mut desk, source.failing_at(case.read));
+    let exported = export(&mut desk, &mut writer);
     drop(desk);
     let written = writer.into_inner().into_bytes();
     assert_eq!(rt;

@@ -53,7 +53,7 @@ fn assert_load<R: Wait + Abort>(
     let worker = workers.pop().expect(rt, "a worker");
     let mut desk = WorkerDesk::new(rt, &table, &OpenGate, worker);
     let source = Source::new(bytes).cut(ONE_BYTE);
-    let (ended, _reader) = load_csv(alloc, &mut desk, Policy::Ripple, Watched::new(source));
+    let ended = load_csv(&mut desk, Policy::Ripple, &mut Watched::new(source));
     assert!(rt; workers.push(desk.into_worker()).is_ok());
     assert!(rt; ended == wanted, "{} bytes", bytes.len());
     assert_totals(rt, alloc, table, workers, [loaded, loaded, 0, loaded]);

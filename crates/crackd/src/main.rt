@@ -72,13 +72,12 @@ fn csv(rt: &HostRuntime, opening: &Opening) -> Result<(), Refusal> {
 
 /// Loads standard input into a core, and writes the core's rows to standard output.
 fn copy_csv(rt: &HostRuntime, core: &mut Core, policy: Policy) -> Result<(), Refusal> {
-    let (loaded, reader) = load_csv(rt.alloc(), core, policy, Watched::new(rt.stdin()));
-    drop(reader);
-    if let Err(fault) = loaded {
+    let mut reader = Watched::new(rt.stdin());
+    if let Err(fault) = load_csv(core, policy, &mut reader) {
         return Err(fault.refusal);
     }
     let mut writer = Watched::new(rt.stdout());
-    match export_csv(rt.alloc(), core, policy, &mut writer) {
+    match export_csv(core, policy, &mut writer) {
         Ok(_) => Ok(()),
         Err(refusal) => Err(refusal),
     }

@@ -13,6 +13,7 @@ parts-preserved g c = record {
   accepted = let more = c.in-Ok.ensures.accepted in let was = c.parts.invariant.accepted in omega (arith, more, was);
   splits = c.export_part.ensures.splits ∙ c.parts.invariant.splits;
   bounds = c.export_part.ensures.bounds ∙ c.parts.invariant.bounds;
+  empty = c.export_part.ensures.empty;
 }
 
 pub returns-in-Ok-flush-clause-exported : goal.returns-in-Ok-flush-clause-exported
@@ -23,7 +24,7 @@ returns-in-Ok-flush-clause-exported g c = λ tables e.
     Exporting-end _ (c.parts.invariant.exporting tables e) all (keeps_appends _ _ c.flush.ensures.bytes)
 
 pub returns-in-Err-clause-cut : goal.returns-in-Err-clause-cut
-returns-in-Err-clause-cut g c = λ tables e. header_unsent _ _ tables _ _ _ _ _ _ _ e c.in-Err.ensures.cut
+returns-in-Err-clause-cut g c = λ tables e. header_unsent _ _ tables _ _ _ _ _ _ _ e c.in-Err.ensures.err.0 c.in-Err.ensures.err.1 c.in-Err.ensures.front
 
 pub returns-in-Err-export_part-clause-cut : goal.returns-in-Err-export_part-clause-cut
 returns-in-Err-export_part-clause-cut g c = λ tables e.
@@ -43,7 +44,7 @@ returns-in-Ok-flush-clause-asks g c =
     Listing-end _ _ _ _ _ _ c.parts.invariant.listing all c.flush.ensures.bytes
 
 pub returns-in-Err-clause-asks_in_part : goal.returns-in-Err-clause-asks_in_part
-returns-in-Err-clause-asks_in_part g c = Listing-unsent _ _ _ _ _ _ _ _ _ c.in-Err.ensures.cut
+returns-in-Err-clause-asks_in_part g c = Listing-unsent _ _ _ _ _ _ _ _ _ c.in-Err.ensures.err.0 c.in-Err.ensures.err.1 c.in-Err.ensures.front
 
 pub returns-in-Err-export_part-clause-asks_in_part : goal.returns-in-Err-export_part-clause-asks_in_part
 returns-in-Err-export_part-clause-asks_in_part g c =

@@ -1,4 +1,4 @@
-use Rattle.std.proofs.Common.{◌≡◌, ◌+◌, ◌*◌, ◌≤◌, List, Some}
+use Rattle.std.proofs.Common.{◌≡◌, ◌+◌, ◌*◌, ◌≤◌, [], List, Some}
 use Rattle.crack_row.specs.Devices.{device, has_failed}
 use Rattle.crack_plain.specs.Plain.{PlainView}
 use Rattle.crack_csv.proofs.Exporting.{Exporting}
@@ -14,4 +14,5 @@ invariant-parts g l = record {
   accepted : g.D.Desk.accepted l.desk ≡ g.D.Desk.accepted l.fn.desk + l.part;
   splits : g.D.Desk.splits l.desk ≡ g.D.Desk.splits l.fn.desk;
   bounds : g.D.Desk.bounds l.desk ≡ g.D.Desk.bounds l.fn.desk;
+  empty : l.out.items ≡ [];
 }

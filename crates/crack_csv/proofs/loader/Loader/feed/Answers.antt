@@ -24,7 +24,7 @@ returns-in-Err-clause-stops g c =
     let below : c.bytes.at < length c.args.bytes.now = let test = c.bytes-test.true in omega (arith, test) in (
       c.bytes.at + 1,
       omega (arith, below),
-      rw (c.loaded.ensures, take_more c.args.bytes.now c.bytes.at 0 below)
+      rw (c.loaded.ensures.value, take_more c.args.bytes.now c.bytes.at 0 below)
           (StopsBehind-then g.D.Desk.bounds g.D.Desk.splits g.D.Desk.tables g.D.Desk.accepted g.D.Desk.leads c.args.self.now c.bytes.self _ (take c.bytes.at c.args.bytes.now) (get_or c.args.bytes.now c.bytes.at 0 ∷ [])
           c.args.desk.now c.bytes.desk c.take_byte.new.desk c.bytes.invariant.policy c.bytes.invariant.takes c.in-Err.ensures.stops),
     )

@@ -1,0 +1,34 @@
+-- What private clauses alone cite.
+use Rattle.std.specs.Prelude.{◌≡◌, ℕ, ◌+◌, List, Option, Some}
+use Rattle.csv.specs.declared.parser.State.TheVariants as st
+use Rattle.crack_row.specs.declared.Bound.{Bound}
+use Rattle.crack_row.specs.declared.command.Policy.{Policy}
+use Rattle.crack_plain.specs.Plain.{PlainView}
+use Rattle.crack_core.specs.Steps.{Bounds}
+use Rattle.crack_session.specs.Calls.{Call}
+use Rattle.crack_csv.specs.declared.load.LoadFault.{LoadFault}
+use Rattle.crack_csv.specs.Asked.{AreBytesOf, IsAskedFirst}
+use Rattle.crack_csv.specs.Begun.{kept_of, none_begun}
+use Rattle.crack_csv.specs.Loaders.{HasEnded, LoaderState}
+use Rattle.crack_csv.specs.Loads.{IsCutShort}
+
+-- a load that begins, by this policy
+abbrev pub begun_by : Policy → LoaderState
+begun_by policy = record { policy = policy; head = 0; kept = kept_of (none_begun st.StartRecord); number = 0; loaded = 0 }
+
+module _ {D : Type 0} (bounds : D → Bounds) (splits : D → List Bound) (tables : D → Option (List PlainView)) (accepted : D → ℕ) (leads : D → Call → D → Type 0) (policy : Policy) (origin : D) (known : Option (List ℕ)) where
+  -- A desk was asked to insert the rows of all records of some bytes, which are a reader's, if those are known.
+  pub record HasReadAll (count : ℕ) (now : D) : Type 0 where
+    pub bytes : List ℕ
+    pub bytes_are : AreBytesOf known bytes
+    pub ended : HasEnded bounds splits tables accepted leads policy origin bytes count now
+
+  -- It was asked so for the first of them, up to a fault.
+  pub record HasReadFirst (fault : LoadFault) (now : D) : Type 0 where
+    pub bytes : List ℕ
+    pub bytes_are : AreBytesOf known bytes
+    pub asked : IsAskedFirst leads (splits origin) policy bytes fault origin now
+    pub told : (rows : List PlainView) → tables origin ≡ Some rows → IsCutShort (bounds origin) (splits origin) rows bytes fault (tables now)
+    pub accepted_are : accepted now ≡ accepted origin + fault.loaded
+    pub splits_are : splits now ≡ splits origin
+    pub bounds_are : bounds now ≡ bounds origin
