@@ -226,11 +226,13 @@ class ManyShards(unittest.TestCase):
                     self.assertEqual((table.delete(row), table.delete(row)), (True, False))
                     del left[row]
                 found = table.select()
-                self.assertEqual(dict(zip(found.rows.tolist(), zip(found.keys.tolist(), found.payloads.tolist()))), left)
+                rows, keys, payloads = (it.tolist() for it in found)
+                self.assertEqual(dict(zip(rows, zip(keys, payloads))), left)
                 self.assertEqual([it.rows for it in table.layout().parts], [
                     sum(row >> routing.SHARD_SHIFT == it for row in left) for it in range(shards)
                 ])
-                for call in (table.get, table.delete, lambda row: table.move(row, 5), lambda row: table.update(row, 5, 5)):
+                calls = table.get, table.delete, lambda row: table.move(row, 5), lambda row: table.update(row, 5, 5)
+                for call in calls:
                     for row in (shards << routing.SHARD_SHIFT, 1 << 48, (shards - 1) << routing.SHARD_SHIFT | 1 << 48):
                         self.assertRaises(crackd.NoSuchPartition, call, row)
 
@@ -264,8 +266,9 @@ class ManyShards(unittest.TestCase):
                         self.assertEqual(table.get(row), (key, key))
                     for shard, size in enumerate(each):
                         if size < 64:
-                            self.assertRaises(crackd.NoSuchPartition, table.delete, shard << 54 | size << 48)
-                            self.assertRaises(crackd.NoSuchPartition, table.delete_many, [shard << 54 | size << 48] * 40)
+                            nowhere = shard << 54 | size << 48
+                            self.assertRaises(crackd.NoSuchPartition, table.delete, nowhere)
+                            self.assertRaises(crackd.NoSuchPartition, table.delete_many, [nowhere] * 40)
 
 
 if __name__ == "__main__":
