@@ -166,14 +166,14 @@ class FewItemsShapes(Shapes, InShards, unittest.TestCase):
 class ManyShards(unittest.TestCase):
     """Tables with more and more shards, against plain lists."""
 
-    COUNTS = (2, 15, 16, 17, 18, 40)
+    COUNTS, opened = (2, 15, 16, 17, 18, 40), crackd.Table
 
     def filled(self, shards, rows=500):
         """A table of this many shards with ten keys each, and its rows as numbers, keys and payloads."""
         drawn = random.Random(shards)
         keys = [drawn.randrange(-5, 10 * shards + 5) for _ in range(rows - shards)] + list(range(0, 10 * shards, 10))
         payloads = [drawn.randrange(-(2**63), 2**63) for _ in keys]
-        table = crackd.Table(splits=range(10, 10 * shards, 10), shards=shards, key_type="int64")
+        table = self.opened(splits=range(10, 10 * shards, 10), shards=shards, key_type="int64")
         return table, list(zip(numbers(table.insert_many(keys, payloads)), keys, payloads)), drawn
 
     def ranges(self, shards, drawn, count):
@@ -254,7 +254,7 @@ class ManyShards(unittest.TestCase):
         for partitions, shards in [(7, 3), (8, 3), (5, 4), (64, 63), (65, 2), (130, 3)]:
             with self.subTest(partitions=partitions, shards=shards):
                 splits = range(1, partitions)
-                with crackd.Table(splits=splits, shards=shards, key_type="int64") as table:
+                with self.opened(splits=splits, shards=shards, key_type="int64") as table:
                     each = [len(it.cuts) + 1 for it in table._shards]
                     self.assertEqual((sum(each), max(each) - min(each) <= 1), (partitions, True))
                     rows = numbers(table.insert_many(range(partitions), range(partitions)))
