@@ -1,14 +1,19 @@
 """Calls of several steps, closed tables, and loads that are reported, whatever the number of shards."""
 
+import contextlib
 import fractions
+import functools
+import io
+import os
 import pathlib
 import tempfile
+import threading
 import unittest
 from unittest import mock
 
 from ways import crackd, np, wants_shards
 
-from crackd import local, progress
+from crackd import library, local, progress
 
 SHARDS = (1, 2, 3, 5, 17)
 
@@ -61,6 +66,66 @@ class Held(unittest.TestCase):
                     self.assertGreaterEqual(len(own), 1 if shards == 1 else 2)
                     self.assertEqual([it for it in own if not all(it)], [])
                 self.assertFalse(any(it.is_asking for it in table._shards))
+
+
+@wants_shards
+class Moments(unittest.TestCase):
+    """What is said of several partitions of a shard is of one moment."""
+
+    def test_no_other_thread_comes_between_two_partitions(self):
+        for name in ("layout", "_rows", "__repr__", "checkpoint"):
+            with self.subTest(name), crackd.Table(splits=[10, 20, 30]) as table:
+                row, (shard,), threads = table.insert(25, 7), table._shards, []
+                called = getattr(table, name)
+
+                def coming(real, *words):
+                    found = real(*words)
+                    if not threads:
+                        # (it waits until the call ends; if it didn't, the row would be missing)
+                        threads.append(threading.Thread(target=table.move, args=(row, 5)))
+                        threads[0].start()
+                        threads[0].join(0.1)
+                    return found
+
+                # (each partition's answer is looked at by `_check`, before the next one is asked)
+                with mock.patch.object(shard, "_check", functools.partial(coming, shard._check)):
+                    found = called()
+                    self.assertEqual(threads[0].is_alive(), True)
+                threads[0].join()
+                rows = found.rows if name == "layout" else found
+                self.assertIn("1 row" if name != "checkpoint" else "1", f"{rows} row")
+                self.assertEqual([it.rows for it in table.layout().parts], [1, 0, 0, 0])
+
+
+class Libraries(unittest.TestCase):
+    """Which file is the library."""
+
+    def test_the_proved_one_is_first_and_a_named_one_before_it(self):
+        with tempfile.TemporaryDirectory() as room, mock.patch.object(library, "HERE", pathlib.Path(room)):
+            with mock.patch.dict(os.environ):
+                os.environ.pop("CRACKD_LIBRARY", None)
+                self.assertIsNone(library.find_library())
+                for name in ("libcrackd-unproved.so", "libcrackd.so"):
+                    path = pathlib.Path(room) / name
+                    path.touch()
+                    self.assertEqual(library.find_library(), str(path))
+                os.environ["CRACKD_LIBRARY"] = "/another.so"
+                self.assertEqual(library.find_library(), "/another.so")
+                (pathlib.Path(room) / "libcrackd.so").unlink()
+                os.environ["CRACKD_LIBRARY"] = ""
+                self.assertEqual(library.find_library(), f"{room}/libcrackd-unproved.so")
+
+    def test_one_that_is_missing_or_is_none(self):
+        with tempfile.TemporaryDirectory() as room, mock.patch.object(library, "_loaded", None):
+            with mock.patch.object(library, "find_library", lambda: None):
+                self.assertRaisesRegex(ImportError, "make lib", library.library)
+            path = pathlib.Path(room) / "libcrackd.so"
+            for content in (None, b"", b"no library"):
+                if content is not None:
+                    path.write_bytes(content)
+                with mock.patch.object(library, "find_library", lambda: str(path)):
+                    self.assertRaisesRegex(ImportError, f"{path} can't be loaded", library.library)
+            self.assertIsNone(library._loaded)
 
 
 @wants_shards
@@ -167,18 +232,43 @@ class Reported(unittest.TestCase):
                 self.assertEqual(len(caught.exception.answers), 4 * at)
 
 
+class Bars(unittest.TestCase):
+    """A bar on standard error: after a second, then five times a second, and at the end."""
+
+    def told(self, times, rows=1000):
+        written = io.StringIO()
+        with mock.patch("crackd.progress.time.monotonic", side_effect=[100.0, *(100 + it for it in times)]):
+            with contextlib.redirect_stderr(written):
+                bar = progress.reporter(True)
+                for at in range(len(times)):
+                    bar(rows * (at + 1) // len(times), rows)
+        return [int(it.split(" of ")[0].replace(",", "")) for it in written.getvalue().split("\rcrackd: ")[1:]]
+
+    def test_when(self):
+        for times, wanted in [
+            ([0.999], []),
+            ([1.0], [1000]),
+            ([0.9, 1.0, 1.1, 1.19, 1.25, 1.4, 1.5, 1.6, 9, 9.1], [200, 500, 700, 900, 1000]),
+            ([0.9, 1.0, 1.1, 1.19, 1.25, 1.4, 1.5, 1.6, 9, 9.3], [200, 500, 700, 900, 1000]),
+            ([0.1, 0.2, 0.3, 1.5], [1000]),
+            ([2, 4, 6, 8], [250, 500, 750, 1000]),
+        ]:
+            self.assertEqual(self.told(times), wanted, times)
+        self.assertEqual(self.told([1.5], 0), [0])
+
+
 @wants_shards
 class Samples(unittest.TestCase):
     """What a table is divided by."""
 
     def test_arrays_in_each_order_are_divided_evenly(self):
-        rising = np.arange(60_000)
+        rising = np.arange(24_000)
         for keys in (rising, rising[::-1], np.repeat(rising[::4], 4), np.tile(rising[::4], 4)):
             for given in (keys, keys.astype(float), keys.tolist()):
                 with crackd.Table.from_arrays(given, shards=4, partitions=8) as table:
                     sizes = [it.rows for it in table.layout().parts]
-                    self.assertEqual((len(sizes), sum(sizes)), (8, 60_000))
-                    self.assertTrue(all(7000 < it < 8000 for it in sizes), sizes)
+                    self.assertEqual((len(sizes), sum(sizes)), (8, 24_000))
+                    self.assertTrue(all(2800 < it < 3200 for it in sizes), sizes)
 
     def test_keys_that_come_one_by_one(self):
         for keys in ((it for it in range(100)), {it: 0 for it in range(100)}, set(range(100)), map(int, range(100))):
@@ -223,6 +313,10 @@ class Empty(unittest.TestCase):
                         self.assertEqual([str(it.dtype) for it in rows], ["uint64", key_type, "int64"])
                     self.assertEqual((table.mean(), table.delete_range(), len(table), table.sum()), (None, 0, 0, 0))
                     self.assertEqual(table.sum_by(splits).dtype, np.dtype("int64"))
+                with crackd.Table(key_type=key_type) as table, table.rebalanced().table as other:
+                    found = table.rebalanced(other)
+                    self.assertEqual((len(found.old), len(found.new), len(found.new_of([]))), (0, 0, 0))
+                    self.assertRaises(KeyError, found.new_of, [0])
                 for it in made:
                     with crackd.Table.from_arrays(it, key_type=key_type) as table:
                         found = len(table), table.shards, table.partitions, table.row_numbers.tolist()
