@@ -75,7 +75,7 @@ def items_of(it: Any, what: str) -> Any:
 
 def types_of(items: Any) -> set[type]:
     """The types of the items of a list."""
-    return {int} if isinstance(items, range) else set(map(type, items))
+    return {int} if isinstance(items, range) and items else set(map(type, items))
 
 
 def whole(number: Any, what: str) -> int:

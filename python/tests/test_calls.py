@@ -103,6 +103,12 @@ class OneAtATime(InProcess, unittest.TestCase):
             "checkpoint": lambda: table.checkpoint(),
             "layout": lambda: table.layout(),
             "len": lambda: len(table),
+            "repr": lambda: repr(table),
+            "get": lambda: table.get(row),
+            "move": lambda: table.move(row, 1),
+            "mean": lambda: table.mean(),
+            "delete_range": lambda: table.delete_range(3, 9),
+            "insert_rows": lambda: table.insert_rows([1], [2], progress=lambda *_: None),
         }
 
     def test_each_method_beside_each(self):
@@ -135,6 +141,13 @@ class OneAtATime(InProcess, unittest.TestCase):
 @wants_shards
 class OneAtATimeInShards(InShards, OneAtATime):
     """The calls of the library on a shard don't overlap either."""
+
+
+@wants_shards
+class OneAtATimeFewItems(OneAtATimeInShards):
+    """Nor do they item by item."""
+
+    AT_ONCE = False
 
 
 @wants_library

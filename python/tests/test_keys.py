@@ -288,6 +288,8 @@ class Kinds(unittest.TestCase):
     """The kind of keys that a sample has."""
 
     def test_kinds_of_lists(self):
+        for keys in (range(0), range(5, 5), (), {}):
+            self.assertEqual(kind_of(keys), Keys.named("int64"))
         for keys, name in [([], "int64"), ([1], "int64"), ([-1, GREATEST], "int64"), ([2**63], "uint64")]:
             self.assertEqual(kind_of(keys), Keys.named(name))
         # (one large key makes all unsigned, wherever it is)

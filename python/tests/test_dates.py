@@ -1,0 +1,111 @@
+"""Dates as text, and kinds of keys beside each other, by days that are counted here."""
+
+import fractions
+import itertools
+import pickle
+import unittest
+
+from kinds import DATE_TYPES, days_before
+from ways import InProcess, InShards, crackd, np, wants_numpy, wants_shards
+
+from crackd.keys import Keys
+
+# texts, with the year, month, day, and seconds of that day
+TEXTS = {
+    "0001-01-01": (1, 1, 1, 0),
+    "0000-03": (0, 3, 1, 0),
+    "-0001-12-31": (-1, 12, 31, 0),
+    "-9999": (-9999, 1, 1, 0),
+    "+2020-02-29": (2020, 2, 29, 0),
+    "10000-01-01": (10_000, 1, 1, 0),
+    "9999-12-31T23:59:59": (9999, 12, 31, 86_399),
+    "+123456-07-04 01:02:03": (123_456, 7, 4, 3723),
+    "-123456-07": (-123_456, 7, 1, 0),
+    "1600-02-29T23": (1600, 2, 29, 82_800),
+    "1900-03-01 00:01": (1900, 3, 1, 60),
+    "1970-01-01T00:00:00.000000000000000001": (1970, 1, 1, fractions.Fraction(1, 10**18)),
+    "1969-12-31 23:59:59.9": (1969, 12, 31, fractions.Fraction(863_999, 10)),
+    "2020-01-31T12:30:00.5": (2020, 1, 31, fractions.Fraction(90_001, 2)),
+    "2262-04-11T23:47:16.854775808": (2262, 4, 11, 85_636 + fractions.Fraction(854_775_808, 10**9)),
+}
+NO_TEXTS = ["", "now", "today", "NaT", "nat", "2020-1-1", "20-01-01", "2020-01-01T", "2020-01-01 ", " 2020", "2020-"]
+NO_TEXTS += ["2020-13-01", "2020-00-01", "2021-02-29", "2020-01-32", "2020-01-01T24:00", "2020-01-01T12:60"]
+NO_TEXTS += ["2020-01-01Z", "2020-01-01T00:00+01:00", "2020-01-01T12:30:00.", "2020-01-01T12:30.5", "2020-01-01.5"]
+NO_TEXTS += ["2020-01-01T12:30:00.1234567890123456789", "1234567-01-01", "123", "2020/01/01", "20200101x", "\u0662020"]
+
+
+@wants_numpy
+class Dates:
+    """Ends of ranges that are text."""
+
+    def test_each_text_beside_the_dates_around_it(self):
+        for text, (year, month, day, seconds) in TEXTS.items():
+            moment = (days_before(year, month) + day - 1) * 86_400 + seconds
+            for unit, size in [("D", 86_400), ("h", 3600), ("s", 1), ("us", fractions.Fraction(1, 10**6))]:
+                # (the least number of units that isn't before it)
+                least = -(-moment // size)
+                with self.subTest(text, unit=unit):
+                    if -(2**63) < least - 2 and least + 2 < 2**63:
+                        keys = np.arange(least - 2, least + 2, dtype="int64").view(f"datetime64[{unit}]")
+                        with self.table(splits=keys[1:4:2], key_type=f"datetime64[{unit}]") as table:
+                            table.insert_many(keys, [1, 2, 4, 8])
+                            self.assertEqual((table.sum(text), table.sum(None, text)), (12, 3))
+                            self.assertEqual(table.sum_many([text, None, keys[0]], [None, text, text]), [12, 3, 3])
+                            self.assertEqual(table.count_by([keys[0], text, None]).tolist(), [2, 2])
+
+    def test_what_is_no_date(self):
+        with self.table(key_type="datetime64[s]") as table:
+            table.insert(np.datetime64("2020-01-01"), 1)
+            for text in NO_TEXTS:
+                with self.subTest(text):
+                    self.assertRaises(ValueError, table.count, text)
+                    self.assertRaises(ValueError, table.sum, None, text)
+                    self.assertRaises(ValueError, table.count_many, [text], None)
+                    self.assertRaises(ValueError, table.count_by, ["1900", text])
+            for text in ("2020-01-01", "2020"):
+                # (an end may be text, and a key not)
+                self.assertRaises(TypeError, table.insert, text, 1)
+                self.assertRaises(TypeError, table.insert_many, [text], [1])
+            self.assertEqual(table.count(), 1)
+
+
+@wants_numpy
+class Kinds(unittest.TestCase):
+    """Which kinds of keys are the same."""
+
+    NAMES = ["int64", "uint64", "float64", *DATE_TYPES]
+
+    def test_each_beside_each(self):
+        for one, other in itertools.product(self.NAMES, repeat=2):
+            kinds = Keys.named(one), Keys.named(other)
+            self.assertEqual((kinds[0] == kinds[1], len(set(kinds))), (one == other, 1 if one == other else 2))
+        for name in self.NAMES:
+            kind = Keys.named(name)
+            self.assertEqual((kind.name, repr(kind)), (name, f"Keys({name})"))
+            for same in (Keys.named(kind), Keys.named(np.dtype(name)), pickle.loads(pickle.dumps(kind))):
+                self.assertEqual((same, hash(same)), (kind, hash(kind)))
+            self.assertNotEqual(kind, name)
+            turned = np.dtype(name).newbyteorder()
+            self.assertEqual((Keys.of_dtype(turned), Keys.of_dtype(turned).name), (kind, name))
+
+    def test_smaller_types(self):
+        for kind, names in {"int64": ("i1", "i2", "i4", "i8"), "uint64": ("u1", "u8"), "float64": ("f2", "f4")}.items():
+            for name in names:
+                self.assertEqual(Keys.named(name), Keys.named(kind))
+        self.assertEqual((Keys.named(int), Keys.named(float)), (Keys("i"), Keys("f")))
+        for name in ("bool", "g", "D", "S3", "U3", "O", "m8[s]", "datetime64", None, "x", 5, object, [("a", "i8")]):
+            self.assertRaises(TypeError, Keys.named, name)
+
+
+@wants_numpy
+class InProcessDates(Dates, InProcess, unittest.TestCase):
+    """In this process."""
+
+
+@wants_shards
+class InShardsDates(Dates, InShards, unittest.TestCase):
+    """In several shards."""
+
+
+if __name__ == "__main__":
+    unittest.main()
