@@ -224,7 +224,7 @@ fn ask_with_twin<J: Naming, R: Wait + Abort>(
     drop(twin);
 }
 
-/// The first of some workers, which have asked nothing, asks a table, and then another one with the second one's number.
+/// The first of some workers, which have asked nothing, asks a table, and then a new one with the second one's number.
 fn ask_unlisted<J: Naming, R: Wait + Abort>(
     rt: &R,
     alloc: Global,

@@ -53,8 +53,9 @@ pub struct GatherRefused<J: Naming> {
 /// With an audit the receipts of all workers are also these entries, one by one. Refused with 15, one bit for each
 /// missing number, if a worker of the table is missing; then with 8 if it finds no memory; then with 16 at the first
 /// partition that isn't the table's; then, with an audit, as `cover` of crack_table is, and with 8 if it finds no
-/// memory; and then as `compare` of crack_witness is. The table and the workers are then handed back. O(partitions × workers),
-/// however many entries there are; an audit takes O(entries + receipts), up to a logarithm, and a byte for each entry.
+/// memory; and then as `compare` of crack_witness is. The table and the workers are then handed back. O(partitions ×
+/// workers), however many entries there are; an audit takes O(entries + receipts), up to a logarithm, and a byte for
+/// each entry.
 pub fn gather<J: Naming>(
     alloc: Global,
     table: WitnessedTable<J>,
