@@ -38,6 +38,10 @@ enum Way {
     Order,
     /// A gate looks at partitions whose checkpoints were due.
     Notes,
+    /// With an audit two workers ask on threads of their own.
+    Audited,
+    /// With an audit a second worker of the second one's number asks after the first one.
+    Unlisted,
 }
 
 /// What happens at a table whose histories may have so many entries, and which has so many workers.
@@ -50,6 +54,8 @@ const WAYS: &[(Way, u64, u64)] = &[
     (Way::Session, 10, 2),
     (Way::Order, 100000, 2),
     (Way::Notes, 1, 2),
+    (Way::Audited, 100000, 2),
+    (Way::Unlisted, 10, 2),
 ];
 
 #[test]
@@ -62,7 +68,8 @@ fn witnessed_workers_are_gathered_or_refused(rt: HostRuntime) {
             upkeep: upkeep_of(way),
             ..Limits::of_history(history)
         };
-        let opened = UnnamedTable::open(alloc, &splits, limits, workers, false);
+        let is_audited = matches!(way, Way::Audited | Way::Unlisted);
+        let opened = UnnamedTable::open(alloc, &splits, limits, workers, is_audited);
         assert_way::<Brand, _>(&rt, alloc, opened.expect(&rt, "a table"), way);
     }
 }
@@ -91,7 +98,7 @@ fn assert_way<J: Naming + Send + Sync, R: Threads + Wait + Abort + Sync>(
             assert_totals(rt, alloc, table, workers, Err(strange_at(1)));
         }
         Way::Stranger => refuse_stranger(rt, alloc, table, workers),
-        Way::Threads => work_on_threads(rt, alloc, table, workers),
+        Way::Threads | Way::Audited => work_on_threads(rt, alloc, table, workers),
         Way::Parts => {
             assert_parts(rt, &table, &mut workers);
             assert_totals(rt, alloc, table, workers, Ok([3, 3, 0, 3]));
@@ -99,6 +106,14 @@ fn assert_way<J: Naming + Send + Sync, R: Threads + Wait + Abort + Sync>(
         Way::Session => assert_lines(rt, alloc, table, workers),
         Way::Order => assert_order(rt, alloc, table, workers),
         Way::Notes => assert_released(rt, table, workers),
+        Way::Unlisted => {
+            ask_unlisted(rt, alloc, &table, &mut workers);
+            let unlisted = Refusal::StrangeReceipt {
+                part: 0,
+                position: 1,
+            };
+            assert_totals(rt, alloc, table, workers, Err(unlisted));
+        }
     }
 }
 
@@ -206,6 +221,24 @@ fn ask_with_twin<J: Naming, R: Wait + Abort>(
     let made = Asker::new(alloc, first.number(), first.front().again(), 2, false);
     let mut twin = made.expect(rt, "a twin");
     ask_both(rt, table, first, &mut twin);
+    drop(twin);
+}
+
+/// The first of some workers, which have asked nothing, asks a table, and then a new one with the second one's number.
+fn ask_unlisted<J: Naming, R: Wait + Abort>(
+    rt: &R,
+    alloc: Global,
+    table: &WitnessedTable<J>,
+    workers: &mut Vec<Asker<J>>,
+)
+    requires { (place : ℕ) (a : AskerState) → slice_get workers.old.items place ≡ Some a → AreEmpty a.seen }
+{
+    let first = workers.first_mut().expect(rt, "a worker");
+    let made = Asker::new(alloc, 1, first.front().again(), 2, true);
+    let mut twin = made.expect(rt, "a twin");
+    let one = ask(rt, table, first, 0, insert(7));
+    let two = ask(rt, table, &mut twin, 0, insert(8));
+    assert!(rt; one.is_ok() && two.is_ok());
     drop(twin);
 }
 

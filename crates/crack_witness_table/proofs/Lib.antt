@@ -1,5 +1,6 @@
 mod Causes
 mod Hiring
+mod Lists
 mod Partitions
 mod Placing
 mod Counts

@@ -1,4 +1,5 @@
 pub mod Opening
 pub mod Asking
+pub mod Audits
 pub mod Gather
 pub mod Keeps

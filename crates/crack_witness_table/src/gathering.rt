@@ -1,16 +1,19 @@
 //! The end of a table that witnesses its replies: its workers are gathered by counts.
 ghost use Rattle.std.specs.Prelude.{◌≡◌, ◌+◌, ◌≤◌, ◌==◌, length, All, IfOk, IfErr, IfNone, IfSome, IsTrue, OnOk, OnErr};
-ghost use Rattle.std.specs.Prelude.{◌↔◌, vec_len};
+ghost use Rattle.std.specs.Prelude.{◌↔◌, true, is_some, map, vec_len};
 ghost use Rattle.std.specs.List.{list_any};
 ghost use Rattle.crack_part.specs.Parts.{IsSound};
 ghost use Rattle.crack_core.specs.Opening.{AreParts};
 ghost use Rattle.crack_core.specs.Routes.{AreSplits};
 ghost use Rattle.crack_witness.specs.Witnesses.{AskerState, WitnessedState, IsWhole};
+ghost use Rattle.crack_table.specs.Cover.{Covers};
 ghost use Rattle.crack_table.specs.Gather.{missing_below};
+ghost use Rattle.crack_witness_table.specs.Audits.{history_told, receipts_of};
 ghost use Rattle.crack_witness_table.specs.Gather.{held_by, AreGathered, AreHistoryTotals, IsTables};
 ghost use Rattle.crack_witness_table.specs.Keeps.{AreNumbered};
 ghost use Rattle.crack_witness_table.specs.Gather.{IsTablesAt, IsFirstStrange, MayNotMatch, MayNotGather};
 
+use crate::auditing::{audit, is_listed};
 use crate::locks::{lock, unlock};
 use crate::table::WitnessedTable;
 use crate::totals::{Sums, sums_of};
@@ -47,9 +50,12 @@ pub struct GatherRefused<J: Naming> {
 
 /// Ends a table whose workers are all handed back: each partition's history since its opening begins with all that the
 /// workers saw of it, and has exactly the entries of each worker for which it received replies, as both have counted.
-/// Refused with 15, one bit for each missing number, if a worker of the table is missing; then with 8 if it finds no
-/// memory; then with 16 at the first partition that isn't the table's, and then as `compare` of crack_witness is. The
-/// table and the workers are then handed back. O(partitions × workers), however many entries there are.
+/// With an audit the receipts of all workers are also these entries, one by one. Refused with 15, one bit for each
+/// missing number, if a worker of the table is missing; then with 8 if it finds no memory; then with 16 at the first
+/// partition that isn't the table's; then, with an audit, as `cover` of crack_table is, and with 8 if it finds no
+/// memory; and then as `compare` of crack_witness is. The table and the workers are then handed back. O(partitions ×
+/// workers), however many entries there are; an audit takes O(entries + receipts), up to a logarithm, and a byte for
+/// each entry.
 pub fn gather<J: Naming>(
     alloc: Global,
     table: WitnessedTable<J>,
@@ -59,6 +65,8 @@ pub fn gather<J: Naming>(
     ensures gathered { IfOk result (λ s. AreGathered J.owner table.splits table.limits table.workers askers.items
         s.parts.items) }
     ensures totals { IfOk result (λ s. AreHistoryTotals J.owner s.parts.items s.accepted s.inserted s.deleted s.held) }
+    ensures covered { IfOk result (λ s. table.audited ≡ true → Covers (map (history_told J.owner) s.parts.items)
+        (receipts_of askers.items)) }
 
     ensures table { IfErr result (λ e. e.table ≡ table) }
     ensures askers { IfErr result (λ e. e.askers.items ≡ askers.items) }
@@ -79,7 +87,9 @@ pub fn gather<J: Naming>(
         workers,
         is_audited,
     } = table;
-    match close(alloc, &mut locks, &splits, limits, workers, &askers) {
+    match close(
+        alloc, &mut locks, &splits, limits, workers, is_audited, &askers,
+    ) {
         Ok(gathered) => Ok(gathered),
         Err(refusal) => Err(GatherRefused {
             refusal,
@@ -103,6 +113,7 @@ fn close<J: Naming>(
     splits: &[Bound],
     limits: Limits,
     workers: u64,
+    is_audited: bool,
     askers: &Vec<Asker<J>>,
 ) -> Result<Gathered<J>, Refusal>
     requires all { vec_len locks.old ≡ length splits.now + 1 }
@@ -110,12 +121,16 @@ fn close<J: Naming>(
     ensures gathered { IfOk result (λ s. AreGathered J.owner splits.now limits workers askers.now.items
         s.parts.items) }
     ensures totals { IfOk result (λ s. AreHistoryTotals J.owner s.parts.items s.accepted s.inserted s.deleted s.held) }
+    ensures covered { IfOk result (λ s. is_audited ≡ true → Covers (map (history_told J.owner) s.parts.items)
+        (receipts_of askers.now.items)) }
     ensures locked { OnErr result (vec_len locks.new ≡ vec_len locks.old) }
-    ensures causes { IfErr result (MayNotMatch J.owner splits.now limits workers askers.now.items) }
+    ensures causes { IfErr result (MayNotMatch J.owner splits.now limits workers is_audited askers.now.items) }
 {
     let mut parts = Vec::with_capacity(alloc, locks.len())?;
     unlock(locks, &mut parts);
-    match match_all(splits, limits, workers, &mut parts, askers) {
+    match match_all(
+        alloc, splits, limits, workers, is_audited, &mut parts, askers,
+    ) {
         Ok(sums) => Ok(Gathered {
             accepted: sums.accepted,
             inserted: sums.inserted,
@@ -132,9 +147,11 @@ fn close<J: Naming>(
 
 /// Checks whether partitions are the table's, and whether they and the workers agree; returns their totals.
 fn match_all<J: Naming>(
+    alloc: Global,
     splits: &[Bound],
     limits: Limits,
     workers: u64,
+    is_audited: bool,
     parts: &mut Vec<Witnessed<J>>,
     askers: &Vec<Asker<J>>,
 ) -> Result<Sums, Refusal>
@@ -145,12 +162,15 @@ fn match_all<J: Naming>(
         parts.old.items) }
     ensures totals { IfOk result (λ s. AreHistoryTotals J.owner parts.old.items s.accepted s.inserted s.deleted
         s.held) }
-    ensures causes { IfErr result (MayNotMatch J.owner splits.now limits workers askers.now.items) }
+    ensures covered { OnOk result (is_audited ≡ true → Covers (map (history_told J.owner) parts.old.items)
+        (receipts_of askers.now.items)) }
+    ensures causes { IfErr result (MayNotMatch J.owner splits.now limits workers is_audited askers.now.items) }
 {
     facts(parts);
-    if let Some(part) = first_strange(splits, limits, workers, parts) {
+    if let Some(part) = first_strange(splits, limits, workers, is_audited, parts) {
         return Err(Refusal::StrangeReceipt { part, position: 0 });
     }
+    audit(alloc, is_audited, parts, askers)?;
     compare(askers, parts)?;
     Ok(sums_of(parts))
 }
@@ -170,6 +190,7 @@ fn first_strange<J: Naming>(
     splits: &[Bound],
     limits: Limits,
     workers: u64,
+    is_audited: bool,
     parts: &Vec<Witnessed<J>>,
 ) -> Option<u32>
     requires count { length parts.now.items ≡ length splits.now + 1 }
@@ -177,31 +198,34 @@ fn first_strange<J: Naming>(
     requires sound { All (λ (w : WitnessedState). IsSound w.held) parts.now.items }
     ensures none { IfNone result (AreParts splits.now limits (held_by parts.now.items) ×
         AreNumbered workers parts.now.items) }
-    ensures some { IfSome result (IsFirstStrange splits.now limits workers parts.now.items) }
+    ensures listed { IfNone result (All (λ (w : WitnessedState). is_some w.entries ≡ is_audited) parts.now.items) }
+    ensures some { IfSome result (IsFirstStrange splits.now limits workers is_audited parts.now.items) }
 {
     'parts: for (place, part) in parts.iter().enumerate() {
-        if !is_tables_at(splits, limits, workers, place, part) {
+        if !is_tables_at(splits, limits, workers, is_audited, place, part) {
             return Some(place as u32);
         }
     }
     None
 }
 
-/// Whether a partition has the number of its place, counts the table's workers, and has the table's keys and limits
-/// there.
+/// Whether a partition has the number of its place, counts the table's workers, lists its entries if there is an audit,
+/// and has the table's keys and limits there.
 fn is_tables_at<J: Naming>(
     splits: &[Bound],
     limits: Limits,
     workers: u64,
+    is_audited: bool,
     place: usize,
     part: &Witnessed<J>,
 ) -> bool
     requires rising { AreSplits splits.now }
     requires there { place ≤ length splits.now }
-    ensures { IsTrue result ↔ IsTablesAt splits.now limits workers place part.now }
+    ensures { IsTrue result ↔ IsTablesAt splits.now limits workers is_audited place part.now }
 {
     part.part() as usize == place
         && part.workers() as u64 == workers
+        && is_listed(part) == is_audited
         && is_tables(splits, limits, place, part.partition())
 }
 

@@ -2,6 +2,7 @@
 #![tactic(auto)]
 
 mod asking;
+mod auditing;
 pub mod gathering;
 mod locks;
 pub mod opening;

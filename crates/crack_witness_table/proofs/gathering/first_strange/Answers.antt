@@ -1,9 +1,12 @@
 use Rattle.std.proofs.Common.{arith}
-use Rattle.crack_witness_table.proofs.Partitions.{one_more, are_parts, are_numbered, first_strange}
+use Rattle.crack_witness_table.proofs.Partitions.{one_more, are_parts, are_numbered, are_listed, first_strange}
 use Rattle.crack_witness_table.proofs.gathering.first_strange.Goals as goal
 
 pub parts-preserved : goal.parts-preserved
-parts-preserved g c = one_more c.args.splits.now c.args.limits c.args.workers c.args.parts.now.items c.parts.place c.part-item.result (omega arith) (rw c.deref-part-items.ensures.value at c.part-item.is) (c.is_tables_at.ensures.0 c.if-not-is_tables_at.false) c.parts.invariant
+parts-preserved g c = one_more c.args.splits.now c.args.limits c.args.workers c.args.is_audited c.args.parts.now.items c.parts.place c.part-item.result (omega arith) (rw c.deref-part-items.ensures.value at c.part-item.is) (c.is_tables_at.ensures.0 c.if-not-is_tables_at.false) c.parts.invariant
 
 pub returns-clause-none : goal.returns-clause-none
-returns-clause-none g c = (are_parts c.args.splits.now c.args.limits c.args.workers c.args.parts.now.items c.parts.place c.requires.count c.requires.sound (omega arith) c.parts.invariant, are_numbered c.args.splits.now c.args.limits c.args.workers c.args.parts.now.items c.parts.place (omega arith) c.parts.invariant)
+returns-clause-none g c = (are_parts c.args.splits.now c.args.limits c.args.workers c.args.is_audited c.args.parts.now.items c.parts.place c.requires.count c.requires.sound (omega arith) c.parts.invariant, are_numbered c.args.splits.now c.args.limits c.args.workers c.args.is_audited c.args.parts.now.items c.parts.place (omega arith) c.parts.invariant)
+
+pub returns-clause-listed : goal.returns-clause-listed
+returns-clause-listed g c = are_listed c.args.splits.now c.args.limits c.args.workers c.args.is_audited c.args.parts.now.items c.parts.place (omega arith) c.parts.invariant
