@@ -20,8 +20,8 @@ use std::io::Write;
 
 /// Writes the header `key,payload` and then a record for each row, and returns how many rows there were; records end
 /// with a line feed. Each partition is asked for a list of all its rows, which a history keeps if the desk has one. The
-/// output is flushed at the end. The first refusal ends the export: 6, 7, 8 or 10 of a partition, or 18. The list of one
-/// partition's rows is in memory; texts take none.
+/// output is flushed at the end. The first refusal ends the export: 6, 7, 8 or 10 of a partition, or 18. The list of
+/// one partition's rows is in memory; texts take none.
 pub fn export_csv<D: Desk, W: Write>(
     desk: &mut D,
     policy: Policy,
