@@ -332,6 +332,27 @@ class Defaults(unittest.TestCase):
             with crackd.Table(sample, rows) as table:
                 self.assertEqual((table.partitions, len(table)), (wanted, 0))
 
+    def test_options_that_are_wrong(self):
+        for policy in ("", "Auto", "best", None, 5, "auto "):
+            with self.assertRaisesRegex(ValueError, "one of complete, gradual, ripple, auto, not "):
+                crackd.Table(policy=policy)
+        for value in (True, 1.5, "2", b"2", [2]):
+            self.assertRaisesRegex(TypeError, "shards must be an integer", crackd.Table, range(9), shards=value)
+            self.assertRaisesRegex(TypeError, "history must be an integer", crackd.Table, history=value)
+            self.assertRaisesRegex(TypeError, "cells must be an integer", crackd.Table, cells=value)
+        for value in (0, -1, 1025, 2**64):
+            self.assertRaisesRegex(ValueError, "shards must be 1 to 1024, not", crackd.Table, range(9), shards=value)
+        for options in ({}, {"partitions": 2}, {"rows": 10**6}, {"sample": []}):
+            self.assertRaises(ValueError, crackd.Table, shards=2, **options)
+        for value in (0, -1, 2**64, 2**64 + 1, -(2**64), 10**400):
+            self.assertRaises(crackd.BadLimit, crackd.Table, history=value)
+            self.assertRaises(crackd.BadLimit, crackd.Table, cells=value)
+            self.assertRaises(crackd.BadLimit, crackd.Table, splits=[5], shards=2, cells=value)
+        with crackd.Table(history=np.int8(9), cells=np.uint16(7), splits=[5], shards=np.int64(2)) as table:
+            self.assertEqual((table.shards, len(table.insert_many(range(7), range(7)))), (2, 7))
+            self.assertRaises(crackd.Full, table.insert_many, [9] * 6, [1] * 6)
+            self.assertEqual(len(table), 12)
+
     def test_chunks_are_refused_at_once(self):
         with of_shards(3) as table:
             table.insert_many(range(30), range(30))
