@@ -367,6 +367,8 @@ class Defaults(unittest.TestCase):
                     steps = range(0, len(rows.rows), size)
                     for one, many in zip(zip(*chunks), rows):
                         self.assertEqual([it.tolist() for it in one], [many[at : at + size].tolist() for at in steps])
+                        # (they are views)
+                        self.assertTrue(all(np.shares_memory(it, many) for it in one))
 
 
 @wants_shards
