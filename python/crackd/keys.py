@@ -173,7 +173,7 @@ class Keys:
             found = rescaled(dates, self.unit)
             if found is not None:
                 return self._of_signed(found)
-        return from_ints("Q", map(self._of_date, dates), "keys")
+        return from_ints("Q", [self._of_date(it) for it in dates], "keys")
 
     def _of_date(self, key: Any) -> int:
         moment = moment_of(key, "a key")

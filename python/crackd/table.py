@@ -6,7 +6,7 @@ from bisect import bisect_right
 from functools import partial
 from typing import Any, Callable, Optional, Sequence
 
-from .arrays import np, whole
+from .arrays import items_of, np, whole
 from .base import MOST_PARTS, POLICIES, POLICY, SHIFT
 from .errors import Error, Refused, refused
 from .keys import Keys, kind_of
@@ -153,8 +153,7 @@ class Table(TableHere, Sharded):
         Table
             `row_numbers` has the numbers of the rows, in the order of the arrays.
         """
-        if not hasattr(keys, "__len__"):
-            keys = list(keys)
+        keys = items_of(keys, "keys")
         # (of a long array only those keys are mapped here that are looked at)
         sample = keys[:: max(1, len(keys) // SAMPLED)] if np is not None and isinstance(keys, np.ndarray) else keys
         table = cls(sample, len(keys), **options)

@@ -1,5 +1,6 @@
 """Dates as text, and kinds of keys beside each other, by days that are counted here."""
 
+import datetime
 import fractions
 import itertools
 import pickle
@@ -36,12 +37,14 @@ NO_TEXTS += ["2020-01-01T12:30:00.1234567890123456789", "1234567-01-01", "123", 
 
 @wants_numpy
 class Dates:
-    """Ends of ranges that are text."""
+    """Ends of ranges that are text, and keys of other units."""
+
+    UNITS = DATE_TYPES
 
     def test_each_text_beside_the_dates_around_it(self):
         for text, (year, month, day, seconds) in TEXTS.items():
             moment = (days_before(year, month) + day - 1) * 86_400 + seconds
-            for unit, size in [("D", 86_400), ("h", 3600), ("s", 1), ("us", fractions.Fraction(1, 10**6))]:
+            for unit, size in [("D", 86_400), ("s", 1), ("us", fractions.Fraction(1, 10**6))]:
                 # (the least number of units that isn't before it)
                 least = -(-moment // size)
                 with self.subTest(text, unit=unit):
@@ -67,6 +70,38 @@ class Dates:
                 self.assertRaises(TypeError, table.insert, text, 1)
                 self.assertRaises(TypeError, table.insert_many, [text], [1])
             self.assertEqual(table.count(), 1)
+
+
+    def test_the_epoch_of_each_unit_in_each_other(self):
+        # (some units are more than 2**63 of another)
+        for own in self.UNITS:
+            with self.table(key_type=own) as table:
+                for other in DATE_TYPES:
+                    with self.subTest(own, other=other):
+                        zeros = np.zeros(3, other)
+                        rows = table.insert_many(zeros, [1, 2, 4])
+                        rows = [*rows, *table.insert_many([zeros[0], datetime.date(1970, 1, 1)], [8, 16])]
+                        self.assertEqual(table.sum(zeros[0], np.int64(1).view(own)), 31)
+                        self.assertEqual(table.sum_many(zeros[:2], None), [31, 31])
+                        self.assertEqual(table.count_by([None, zeros[1], None]).tolist(), [0, 5])
+                        self.assertTrue(all(table.update_many(rows[:3], zeros, [0, 0, 0])))
+                        self.assertEqual((table.sum(), len(table)), (24, 5))
+                        table.delete_many(rows)
+
+    def test_keys_that_do_not_fit_are_named(self):
+        far, near = np.datetime64("9999-01-01"), np.datetime64("2020-01-01T00:00:00.5", "ms")
+        with self.table(key_type="datetime64[ns]") as table:
+            said = "the key 9999-01-01 doesn't fit into datetime64.ns."
+            day = datetime.date(9999, 1, 1)
+            for keys in ([far], [near, far], np.array([far]), np.array([near, far], object), [day]):
+                self.assertRaisesRegex(OverflowError, said, table.insert_many, keys, [1] * len(keys))
+            self.assertRaisesRegex(OverflowError, said, table.insert, far, 1)
+        with self.table(key_type="datetime64[s]") as table:
+            said = "the key 2020-01-01T00:00:00.500 isn't exact as datetime64.s."
+            for keys in ([near], [far, near], np.array([near]), np.array([far, near], object)):
+                self.assertRaisesRegex(ValueError, said, table.insert_many, keys, [1] * len(keys))
+            self.assertRaisesRegex(ValueError, said, table.insert, near, 1)
+            self.assertEqual(table.count(), 0)
 
 
 @wants_numpy
@@ -105,6 +140,8 @@ class InProcessDates(Dates, InProcess, unittest.TestCase):
 @wants_shards
 class InShardsDates(Dates, InShards, unittest.TestCase):
     """In several shards."""
+
+    UNITS = ("datetime64[W]", "datetime64[ns]")
 
 
 if __name__ == "__main__":

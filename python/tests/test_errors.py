@@ -1,8 +1,10 @@
 """What errors are, what they say, and what is left of them when they are copied."""
 
 import copy
+import gc
 import pickle
 import unittest
+import weakref
 
 from ways import InProcess, InShards, crackd, np, wants_library, wants_numpy, wants_shards
 
@@ -126,6 +128,37 @@ class Raised:
         with self.table(key_type="uint64") as table:
             self.assertRaisesRegex(OverflowError, "the key -1 doesn't fit into an unsigned", table.insert, -1, 1)
             self.assertRaisesRegex(OverflowError, "keys must fit into unsigned", table.insert_many, [-1], [1])
+
+
+@wants_shards
+class LetGo(unittest.TestCase):
+    """An error is gone as soon as nothing refers to it, with the row numbers that it has."""
+
+    def calls(self, table, row):
+        yield lambda: table.insert_many([1], [1])
+        yield lambda: table.insert_many([1] * 50, [1] * 50)
+        yield lambda: table.insert_rows([1], [1], progress=lambda *_: None)
+        yield lambda: table.insert(1, 1)
+        yield lambda: table.move(row, 15)
+        yield lambda: table.delete_many([99 << 54])
+        yield lambda: table.update_many([99 << 54] * 50, [1] * 50, [1] * 50)
+        yield lambda: table.get(99 << 54)
+
+    def test_each(self):
+        gc.collect(), gc.disable()
+        self.addCleanup(gc.enable)
+        for shards in (1, 3):
+            with crackd.Table(splits=[10, 20], shards=shards, cells=2) as table:
+                row = int(table.insert_many([1, 2, 11, 12, 21, 22], [1] * 6)[0])
+                for at, call in enumerate(self.calls(table, row)):
+                    with self.subTest(at, shards=shards):
+                        found = None
+                        try:
+                            call()
+                        except crackd.Refused as error:
+                            found = weakref.ref(error)
+                        self.assertIsNotNone(found)
+                        self.assertIsNone(found())
 
 
 @wants_numpy

@@ -261,14 +261,35 @@ class Bars(unittest.TestCase):
 class Samples(unittest.TestCase):
     """What a table is divided by."""
 
+    @mock.patch.object(crackd.table, "SAMPLED", 100)
     def test_arrays_in_each_order_are_divided_evenly(self):
-        rising = np.arange(24_000)
+        rising = np.arange(2400)
         for keys in (rising, rising[::-1], np.repeat(rising[::4], 4), np.tile(rising[::4], 4)):
             for given in (keys, keys.astype(float), keys.tolist()):
                 with crackd.Table.from_arrays(given, shards=4, partitions=8) as table:
                     sizes = [it.rows for it in table.layout().parts]
-                    self.assertEqual((len(sizes), sum(sizes)), (8, 24_000))
-                    self.assertTrue(all(2800 < it < 3200 for it in sizes), sizes)
+                    self.assertEqual((len(sizes), sum(sizes)), (8, 2400))
+                    self.assertTrue(all(250 < it < 400 for it in sizes), sizes)
+
+    @mock.patch.object(crackd.table, "SAMPLED", 100)
+    def test_what_is_wrong_is_found_also_beside_the_sample(self):
+        keys = np.ma.masked_array(np.arange(300), np.zeros(300, bool))
+        keys[205] = keys[208] = np.ma.masked
+        self.assertRaisesRegex(ValueError, "item 205 of the array is masked", crackd.Table.from_arrays, keys)
+        payloads = np.arange(300)
+        self.assertRaisesRegex(ValueError, "item 205 of the array is masked", crackd.Table.from_arrays, payloads, keys)
+        for at in (0, 1, 205, 299):
+            keys = np.arange(300).astype(object)
+            keys[at] = at + 0.5
+            for given in (keys, keys.tolist()):
+                with crackd.Table.from_arrays(given) as table:
+                    found = table.key_type, table.count(at + 0.5, at + 0.6), len(table)
+                    self.assertEqual(found, ("float64", 1, 300))
+            keys[at] = None
+            self.assertRaises(TypeError, crackd.Table.from_arrays, keys)
+        keys = np.arange(300.0)
+        keys[205] = np.nan
+        self.assertRaisesRegex(ValueError, "NaN can't be a key", crackd.Table.from_arrays, keys)
 
     def test_keys_that_come_one_by_one(self):
         for keys in ((it for it in range(100)), {it: 0 for it in range(100)}, set(range(100)), map(int, range(100))):
@@ -288,6 +309,66 @@ class Samples(unittest.TestCase):
                             self.assertEqual((other.partitions, other.shards), wanted)
                     with table.rebalanced(policy="ripple").table as other:
                         self.assertEqual((other.policy, len(other)), ("ripple", 9))
+
+
+@wants_shards
+class Defaults(unittest.TestCase):
+    """What a table has if nothing is said."""
+
+    def test_histories_are_emptied_after_65536_commands_of_a_partition(self):
+        for rows, left in [(65_536, 65_536), (65_537, 1)]:
+            with crackd.Table() as table:
+                table.insert_many(np.arange(rows), np.arange(rows))
+                self.assertEqual((table.checkpoint(), table.checkpoint()), (left, 0))
+        with crackd.Table(history=100) as table:
+            table.insert_many(range(250), range(250))
+            self.assertEqual(table.checkpoint(), 50)
+
+    def test_options(self):
+        with crackd.Table() as table:
+            self.assertEqual((table.key_type, table.policy, table.shards, table.partitions), ("int64", "auto", 1, 1))
+            self.assertEqual((len(table), table.layout().parts[0].cells), (0, 0))
+        for sample, rows, wanted in [(range(8191), None, 1), (range(8192), None, 2), (range(100), 12_288, 3)]:
+            with crackd.Table(sample, rows) as table:
+                self.assertEqual((table.partitions, len(table)), (wanted, 0))
+
+    def test_options_that_are_wrong(self):
+        for policy in ("", "Auto", "best", None, 5, "auto "):
+            with self.assertRaisesRegex(ValueError, "one of complete, gradual, ripple, auto, not "):
+                crackd.Table(policy=policy)
+        for value in (True, 1.5, "2", b"2", [2]):
+            self.assertRaisesRegex(TypeError, "shards must be an integer", crackd.Table, range(9), shards=value)
+            self.assertRaisesRegex(TypeError, "history must be an integer", crackd.Table, history=value)
+            self.assertRaisesRegex(TypeError, "cells must be an integer", crackd.Table, cells=value)
+        for value in (0, -1, 1025, 2**64):
+            self.assertRaisesRegex(ValueError, "shards must be 1 to 1024, not", crackd.Table, range(9), shards=value)
+        for options in ({}, {"partitions": 2}, {"rows": 10**6}, {"sample": []}):
+            self.assertRaises(ValueError, crackd.Table, shards=2, **options)
+        for value in (0, -1, 2**64, 2**64 + 1, -(2**64), 10**400):
+            self.assertRaises(crackd.BadLimit, crackd.Table, history=value)
+            self.assertRaises(crackd.BadLimit, crackd.Table, cells=value)
+            self.assertRaises(crackd.BadLimit, crackd.Table, splits=[5], shards=2, cells=value)
+        with crackd.Table(history=np.int8(9), cells=np.uint16(7), splits=[5], shards=np.int64(2)) as table:
+            self.assertEqual((table.shards, len(table.insert_many(range(7), range(7)))), (2, 7))
+            self.assertRaises(crackd.Full, table.insert_many, [9] * 6, [1] * 6)
+            self.assertEqual(len(table), 12)
+
+    def test_chunks_are_refused_at_once(self):
+        with of_shards(3) as table:
+            table.insert_many(range(30), range(30))
+            for low, high in [(None, None), (5, 5), (5, 25)]:
+                for size, error in [(0, ValueError), (-1, ValueError), (1.0, TypeError), (True, TypeError)]:
+                    self.assertRaises(error, table.select_chunks, low, high, size)
+                    self.assertRaises(error, lambda size=size: list(table.select(low, high).chunks(size)))
+            self.assertRaises(ValueError, table.select_chunks, 9, 5)
+            for rows in (table.select(), table.select(0, 7), table.select(3, 4)):
+                for size in range(1, 35):
+                    chunks = list(rows.chunks(size))
+                    steps = range(0, len(rows.rows), size)
+                    for one, many in zip(zip(*chunks), rows):
+                        self.assertEqual([it.tolist() for it in one], [many[at : at + size].tolist() for at in steps])
+                        # (they are views)
+                        self.assertTrue(all(np.shares_memory(it, many) for it in one))
 
 
 @wants_shards

@@ -158,6 +158,48 @@ class Blocks(unittest.TestCase):
             self.assertEqual((count, found.tolist()), (size, list(range(0, size, step))))
 
 
+@wants_cluster
+class Waiting(unittest.TestCase):
+    """An answer is waited for as long as its shard is there."""
+
+    def future(self, *results):
+        """An answer that is done once only one of these is left, of which errors are raised."""
+        results, future = list(results), mock.Mock()
+
+        def result(timeout=None):
+            self.assertTrue(timeout is not None or len(results) == 1)
+            found = results.pop(0) if len(results) > 1 else results[0]
+            if isinstance(found, BaseException):
+                raise found
+            return found
+
+        future.done, future.result = lambda: len(results) == 1, result
+        return future
+
+    def test_until_it_comes(self):
+        late, gone = TimeoutError(), lambda: False
+        self.assertEqual(crackd.shard.waited(self.future(7), gone), 7)
+        self.assertEqual(crackd.shard.waited(self.future(late, late, late, 7), lambda: True), 7)
+        # (it came before its shard was gone)
+        self.assertEqual(crackd.shard.waited(self.future(late, 7), gone), 7)
+        self.assertRaises(KeyError, crackd.shard.waited, self.future(KeyError(5)), gone)
+        self.assertRaises(KeyError, crackd.shard.waited, self.future(late, KeyError(5)), gone)
+
+    def test_until_its_shard_is_gone(self):
+        late, there = TimeoutError(), [True, True, False]
+        with self.assertRaisesRegex(ConnectionError, "its worker is gone"):
+            crackd.shard.waited(self.future(*[late] * 9, 7), lambda: there.pop(0))
+        self.assertEqual(there, [])
+
+    def test_where_an_actor_is(self):
+        client = mock.Mock()
+        client.has_what = lambda workers: {it: ("key 1", "key 2") for it in workers if it == "one"}
+        for address, key, wanted in [("one", "key 1", True), ("one", "key 3", False), ("two", "key 1", False)]:
+            self.assertEqual(crackd.shard.has_actor(client, address, key), wanted)
+            with mock.patch.object(crackd.shard, "get_client", lambda: client):
+                self.assertEqual(crackd.shard.is_there(crackd.shard.Place(address, key, "token")), wanted)
+
+
 @wants_library
 @wants_cluster
 class Arrays(unittest.TestCase):
