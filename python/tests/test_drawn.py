@@ -71,7 +71,9 @@ class Texts(unittest.TestCase):
 
     def test_statements(self):
         for line, wanted in {
-            "count 0 end;\n": f"count 0 {TOP}", " sum  1   end ": f"sum 1 {TOP}", "select end end": f"select {TOP} {TOP}",
+            "count 0 end;\n": f"count 0 {TOP}",
+            " sum  1   end ": f"sum 1 {TOP}",
+            "select end end": f"select {TOP} {TOP}",
             "insert 1 1 ;": "insert 1 1", "count 1 2;;": "count 1 2;", "policy end": "policy end", "": "", " \n": "",
         }.items():
             self.assertEqual((line, picture.as_program_reads(line)), (line, wanted))
@@ -157,7 +159,8 @@ class Scripts(unittest.TestCase):
 
     def works(self, drawn):
         """The numbers beside the bars."""
-        return [int(it) for it in re.findall(r'class="text" x="[0-9.]+" y="[0-9.]+" text-anchor="start">(\d+)<', drawn)]
+        found = re.findall(r'class="text" x="[0-9.]+" y="[0-9.]+" text-anchor="start">(\d+)<', drawn)
+        return [int(it) for it in found]
 
     def test_one_query(self):
         text = "insert 10 1\ninsert 20 2\ninsert 30 3\ncount 15 end\n"
@@ -195,7 +198,8 @@ class Scripts(unittest.TestCase):
     def test_rows_of_a_file(self):
         text = "count 15 end\n"
         wanted = self.drawn("insert 10 1\ninsert 20 -2\n" + text)
-        for rows in (b"10,1\n20,-2\n", b"\xef\xbb\xbfkey,payload\r\n10,1\r\n\r\n20,-2", b"key,payload\n10,1\n\n20,-2\n\n"):
+        marked = b"\xef\xbb\xbfkey,payload\r\n10,1\r\n\r\n20,-2"
+        for rows in (b"10,1\n20,-2\n", marked, b"key,payload\n10,1\n\n20,-2\n\n"):
             self.assertEqual(self.drawn(text, rows=rows), wanted)
 
     def test_keys_of_updates(self):

@@ -318,10 +318,13 @@ class Statements(InARoom):
 
     def test_times(self):
         for seconds, text in [
-            (0, "(0.000 ms)"), (0.0000125, "(0.013 ms)"), (0.9994, "(999.400 ms)"), (1, "(1.00 s)"), (61.5, "(61.50 s)"),
+            (0, "(0.000 ms)"),
+            (0.0000126, "(0.013 ms)"),
+            (0.9994, "(999.400 ms)"),
+            (1, "(1.00 s)"),
+            (61.5, "(61.50 s)"),
         ]:
-            # (either way to round a half)
-            self.assertIn(texts.time_text(seconds), (text, text.replace("13", "12")))
+            self.assertEqual(texts.time_text(seconds), text)
 
 
 class Progresses(unittest.TestCase):
