@@ -120,7 +120,9 @@ class Column:
         text = field.strip()
         if WHOLE.fullmatch(text) is None:
             raise ValueError(f"{quoted(field)} isn't an integer")
-        return self._bounded(int(text) if len(text) <= MOST_SHOWN else TOP, field)
+        digits = text.lstrip("+-0") or "0"
+        number = int(digits) if len(digits) <= MOST_SHOWN else TOP
+        return self._bounded(-number if text.startswith("-") else number, field)
 
     def _decimal(self, field: str) -> int:
         text = field.strip()

@@ -1,4 +1,4 @@
-"""What a client says and what it makes of the replies: full histories, refusals, and connections that end amid them."""
+"""What a client says and what it makes of the replies: full histories, refusals, and connections that end."""
 
 import contextlib
 import itertools
@@ -190,8 +190,8 @@ class Statements(unittest.TestCase):
 
     def test_lines_that_are_announced(self):
         for said, more in {
-            b"rows 0\n": 0, b"rows 12\n": 12, b"count 12\n": 0, b"row 0.12\n": 0, b"refused 6 12\n": 0, b"gone 3 12\n": 0,
-            b"folded 3\nrows 2\n": 2, b"rows 7\ncount 3\n": 0, b"layout 0 rows 3 pieces 4\n": 4,
+            b"rows 0\n": 0, b"rows 12\n": 12, b"count 12\n": 0, b"row 0.12\n": 0, b"refused 6 12\n": 0,
+            b"gone 3 12\n": 0, b"folded 3\nrows 2\n": 2, b"rows 7\ncount 3\n": 0, b"layout 0 rows 3 pieces 4\n": 4,
         }.items():
             self.assertEqual((said, wire.listed(said)), (said, more))
 
@@ -400,10 +400,14 @@ class Moments(unittest.TestCase):
 
     def test_it_calls_while_nothing_comes(self):
         calls = []
+
+        def wait():
+            calls.append(len(calls))
+            if len(calls) == 3:
+                other.sendall(b"a\n")
+
         with mock.patch.object(channel, "SECONDS_OF_A_STEP", 0.01):
-            with self.channel(on_wait=lambda: calls.append(len(calls)) or len(calls) == 3 and other.sendall(b"a\n")) as (
-                it, other
-            ):
+            with self.channel(on_wait=wait) as (it, other):
                 self.assertEqual((it.line(), calls), ("a", [0, 1, 2]))
                 other.sendall(b"b\nc\n")
                 select.select([it.socket], [], [], SECONDS)
