@@ -405,6 +405,20 @@ class Empty(unittest.TestCase):
 
 
 @wants_shards
+class Copies(unittest.TestCase):
+    """Copies that are refused."""
+
+    def test_the_new_table_is_closed(self):
+        made = []
+        with crackd.Table.from_arrays([1, 2, 3]) as table:
+            real = table._anew
+            with mock.patch.object(table, "_anew", lambda *words: made.append(real(*words)) or made[-1]):
+                self.assertRaises(crackd.Full, table.rebalanced, cells=1)
+            self.assertRaises(crackd.Closed, made[0].count)
+            self.assertEqual((len(made), len(table)), (1, 3))
+
+
+@wants_shards
 class Loads(unittest.TestCase):
     """Files of rows."""
 
