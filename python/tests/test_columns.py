@@ -55,6 +55,10 @@ class Fields(WithFiles, unittest.TestCase):
         for decimals in (39, 40):
             text = f".{'0' * 37}7,1\n"
             self.assertEqual(self.rows(text, key_decimals=decimals), [(1, 7 * 10 ** (decimals - 38))])
+        # (a field has up to 40 characters)
+        self.assertEqual(self.rows(f".{'0' * 38}7,1\n", key_decimals=40), [(1, 70)])
+        self.assertEqual(self.rows(f"{'0' * 35}12.34,1\n", key_decimals=2), [(1, 1234)])
+        self.wrong(1, 1, f"{'0' * 36}12.34,1\n", key_decimals=2)
         for name in ("key_decimals", "payload_decimals"):
             for wrong in (-1, 41):
                 with self.assertRaisesRegex(ValueError, f"{name} must be 0 to 40, not {wrong}"):
@@ -110,6 +114,8 @@ class Fields(WithFiles, unittest.TestCase):
             for after in ("", "3,4\n"):
                 said = self.wrong(lines + 1, 1, f"{before}{LONG},1\n{after}")
                 self.assertIn("field larger than field limit", said)
+        for words in (("b",), ("b", "a"), (0, "b")):
+            self.assertIn("field larger", self.wrong(1, 1, f"{LONG},b\n1,2\n", *words))
         # (a wrong field before it is the first)
         self.wrong(2, 1, f"1,2\nx,4\n{LONG},1\n")
         self.wrong(2, 2, f"1,2\n3\n{LONG},1\n")
