@@ -74,8 +74,8 @@ class Fields(WithFiles, unittest.TestCase):
 
     def test_floats_have_no_decimals_and_no_format(self):
         for options in ({"key_decimals": 1}, {"key_format": "%Y"}, {"key_decimals": 1, "key_format": "%Y"}):
-            with self.assertRaises(ValueError):
-                self.rows("1,1\n", key_type="float64", **options)
+            with self.assertRaisesRegex(ValueError, "key_decimals and key_format are for integers and dates"):
+                self.rows("2000,1\n", key_type="float64", **options)
         self.assertEqual(self.rows("1.5,2.5\n", key_type="float64", payload_decimals=1), [(25, 1.5)])
         for wrong in ("int32", "datetime64[us]", None, str, "float32"):
             with self.assertRaises(ValueError):
