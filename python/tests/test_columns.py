@@ -26,7 +26,12 @@ LONG = "9" * 131_073
 
 @wants_library
 class Fields(WithFiles, unittest.TestCase):
-    """Fields at their limits."""
+    """Fields at their limits, as they are read without pandas."""
+
+    def setUp(self):
+        patch = mock.patch.object(pandascsv, "pandas_for", lambda _: None)
+        patch.start()
+        self.addCleanup(patch.stop)
 
     def test_zeros_before_a_number(self):
         """They don't count, whatever other fields are beside it."""
