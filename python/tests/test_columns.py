@@ -26,7 +26,12 @@ LONG = "9" * 131_073
 
 @wants_library
 class Fields(WithFiles, unittest.TestCase):
-    """Fields at their limits."""
+    """Fields at their limits, as they are read without pandas."""
+
+    def setUp(self):
+        patch = mock.patch.object(pandascsv, "pandas_for", lambda _: None)
+        patch.start()
+        self.addCleanup(patch.stop)
 
     def test_zeros_before_a_number(self):
         """They don't count, whatever other fields are beside it."""
@@ -55,6 +60,10 @@ class Fields(WithFiles, unittest.TestCase):
         for decimals in (39, 40):
             text = f".{'0' * 37}7,1\n"
             self.assertEqual(self.rows(text, key_decimals=decimals), [(1, 7 * 10 ** (decimals - 38))])
+        # (a field has up to 40 characters)
+        self.assertEqual(self.rows(f".{'0' * 38}7,1\n", key_decimals=40), [(1, 70)])
+        self.assertEqual(self.rows(f"{'0' * 35}12.34,1\n", key_decimals=2), [(1, 1234)])
+        self.wrong(1, 1, f"{'0' * 36}12.34,1\n", key_decimals=2)
         for name in ("key_decimals", "payload_decimals"):
             for wrong in (-1, 41):
                 with self.assertRaisesRegex(ValueError, f"{name} must be 0 to 40, not {wrong}"):
@@ -70,8 +79,8 @@ class Fields(WithFiles, unittest.TestCase):
 
     def test_floats_have_no_decimals_and_no_format(self):
         for options in ({"key_decimals": 1}, {"key_format": "%Y"}, {"key_decimals": 1, "key_format": "%Y"}):
-            with self.assertRaises(ValueError):
-                self.rows("1,1\n", key_type="float64", **options)
+            with self.assertRaisesRegex(ValueError, "key_decimals and key_format are for integers and dates"):
+                self.rows("2000,1\n", key_type="float64", **options)
         self.assertEqual(self.rows("1.5,2.5\n", key_type="float64", payload_decimals=1), [(25, 1.5)])
         for wrong in ("int32", "datetime64[us]", None, str, "float32"):
             with self.assertRaises(ValueError):
@@ -110,6 +119,8 @@ class Fields(WithFiles, unittest.TestCase):
             for after in ("", "3,4\n"):
                 said = self.wrong(lines + 1, 1, f"{before}{LONG},1\n{after}")
                 self.assertIn("field larger than field limit", said)
+        for words in (("b",), ("b", "a"), (0, "b")):
+            self.assertIn("field larger", self.wrong(1, 1, f"{LONG},b\n1,2\n", *words))
         # (a wrong field before it is the first)
         self.wrong(2, 1, f"1,2\nx,4\n{LONG},1\n")
         self.wrong(2, 2, f"1,2\n3\n{LONG},1\n")

@@ -156,6 +156,22 @@ class FullHistories(unittest.TestCase):
             steps.send(b"folded 9\nrefused 8\n" + b"refused 5\n" * 62 + b"rows 1\n0.4 3 -7\n")
         self.assertEqual([numbers(it) for it in caught.exception.value], [[4], [3], [-7]])
 
+    def test_a_checkpoint_that_is_refused_beside_one_that_makes_room(self):
+        """What found room is done, and what found none has the refusal, without another try."""
+        for answers in itertools.product((b"row 0.%d\n", b"refused 6 9\n"), repeat=3):
+            steps = wire.insert_many([1, 2, 3], [4, 5, 6])
+            self.assertEqual(next(steps)[1], 3)
+            self.assertEqual(steps.send(b"refused 6 9\n" * 3)[1], 67)
+            said = [it % at if b"%" in it else it for at, it in enumerate(answers)]
+            done = [at for at, it in enumerate(said) if it.startswith(b"row")]
+            with self.assertRaises(crackd.OutOfMemory if len(done) < 3 else StopIteration) as caught:
+                steps.send(b"folded 9\nrefused 8\n" + b"refused 5\n" * 62 + b"".join(said))
+            error = caught.exception
+            self.assertEqual(numbers(error.value if len(done) == 3 else error.answers), done)
+            if len(done) < 3:
+                first = next(at for at in range(3) if at not in done)
+                self.assertEqual((error.done, error.later), (first, len(done) - first))
+
 
 class Statements(unittest.TestCase):
     """What is sent, and the refusal of each kind of reply."""

@@ -6,7 +6,6 @@ import os
 import pathlib
 import signal
 import tempfile
-import threading
 import unittest
 from unittest import mock
 
@@ -92,7 +91,7 @@ class Replacing(InARoom):
         pipe, got = self.room / "pipe", []
         os.mkfifo(pipe)
         # (open for both, so that neither side waits)
-        end = os.open(pipe, os.O_RDWR)
+        end = os.open(pipe, os.O_RDWR | os.O_NONBLOCK)
         try:
             _, out, errors = self.run_lines(f".save {pipe}")
             got.append(os.read(end, 4096))
