@@ -218,13 +218,13 @@ const CASES: &[Case] = &[
         exported: Ok(3),
         written: b"key,payload\n18446744073709551615,-9223372036854775808\n4294967296,-1\n1,0\n",
     },
-    // a reader fails after two records; its first byte is read separately
+    // a reader fails after two records, at the read that would find the end
     Case {
         splits: &[],
         limit: GREATEST_LIMIT,
         text: TEXT,
         sizes: &[5],
-        read: 7,
+        read: 6,
         loaded: Err(LoadFault {
             refusal: Refusal::ReadFault,
             loaded: 2,
