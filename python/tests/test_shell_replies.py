@@ -5,6 +5,7 @@ import io
 import json
 import pathlib
 import signal
+import sys
 import tempfile
 import unittest
 from unittest import mock
@@ -682,9 +683,24 @@ class Programs(unittest.TestCase):
         )))
 
     def test_a_server_that_leaves(self):
-        with ways.standing_in(lambda connection: None) as port:
+        with ways.standing_in(lambda connection: None, [b"policy auto\n"]) as port:
             status, out, errors = self.run_shell(["--port", str(port), "--policy", "auto"], "count 0 1\n")
             self.assertEqual((status, out, errors), (1, "", "shell: the server left\n"))
+
+    def test_its_server_is_in_a_session_of_its_own(self):
+        """No control-C of the terminal reaches it: what was asked is still answered."""
+        with tempfile.TemporaryDirectory() as room:
+            program = pathlib.Path(room, "program")
+            program.write_text(
+                f"#!{sys.executable}\nimport os, sys\n"
+                'print("listening", sys.argv[sys.argv.index("--port") + 1], flush=True)\n'
+                "print(os.getpid(), os.getsid(0), flush=True)\n"
+            )
+            program.chmod(0o755)
+            served = child.Server(str(program), [])
+            process, session = map(int, served.totals().split())
+            self.assertEqual((process, session), (served.process.pid, served.process.pid))
+            served.end()
 
     @ways.wants_program
     def test_a_server_of_its_own(self):
