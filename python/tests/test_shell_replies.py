@@ -690,17 +690,16 @@ class Programs(unittest.TestCase):
     def test_its_server_is_in_a_session_of_its_own(self):
         """No control-C of the terminal reaches it: what was asked is still answered."""
         with tempfile.TemporaryDirectory() as room:
-            program = pathlib.Path(room, "program")
+            program, wrote = pathlib.Path(room, "program"), pathlib.Path(room, "session")
             program.write_text(
                 f"#!{sys.executable}\nimport os, sys\n"
+                f'open({str(wrote)!r}, "w").write(f"{{os.getpid()}} {{os.getsid(0)}} {{os.getpgid(0)}}")\n'
                 'print("listening", sys.argv[sys.argv.index("--port") + 1], flush=True)\n'
-                "print(os.getpid(), os.getsid(0), flush=True)\n"
             )
             program.chmod(0o755)
             served = child.Server(str(program), [])
-            process, session = map(int, served.totals().split())
-            self.assertEqual((process, session), (served.process.pid, served.process.pid))
-            served.end()
+            self.addCleanup(served.end)
+            self.assertEqual([int(it) for it in wrote.read_text().split()], [served.process.pid] * 3)
 
     @ways.wants_program
     def test_a_server_of_its_own(self):
