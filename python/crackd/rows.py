@@ -112,7 +112,8 @@ def dates_of_pandas(keys: Any) -> Any:
 
     try:
         found = pandas.Series(keys)
-    except (TypeError, ValueError) as error:
+    except (TypeError, ValueError, AssertionError) as error:
+        # (pandas 1.5 asserts that it hasn't a unit of several nanoseconds)
         raise ValueError(f"pandas has no dates of {keys.dtype} that are exact here") from error
     back = found.to_numpy()
     # (numpy compares dates of any two units exactly, unless one is far from 1970: then it wraps)

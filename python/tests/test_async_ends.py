@@ -45,7 +45,7 @@ class Ends(unittest.IsolatedAsyncioTestCase):
                 async with Scripted.connected(lambda line, it: b"") as (table, scripted):
                     calls = [table.count(), table.insert_many([1, 2, 3], [4, 5, 6]), table.select()]
                     waiting = [asyncio.ensure_future(it) for it in calls]
-                    await heard_by(scripted, 6)
+                    await heard_by(scripted, 7)
                     scripted.writers[0].write(said[:cut])
                     scripted.writers[0].close()
                     found = await asyncio.wait_for(asyncio.gather(*waiting, return_exceptions=True), SECONDS)
@@ -62,7 +62,7 @@ class Ends(unittest.IsolatedAsyncioTestCase):
     async def test_a_connection_that_is_reset(self):
         async with Scripted.connected(lambda line, it: b"") as (table, scripted):
             waiting = [asyncio.ensure_future(it) for it in (table.count(), table.sum())]
-            await heard_by(scripted, 3)
+            await heard_by(scripted, 4)
             table._table.line._reader.set_exception(ConnectionResetError(errno.ECONNRESET, "reset"))
             found = await asyncio.wait_for(asyncio.gather(*waiting, return_exceptions=True), SECONDS)
             self.assertEqual([type(it) for it in found], [crackd.Disconnected] * 2)
@@ -73,7 +73,7 @@ class Ends(unittest.IsolatedAsyncioTestCase):
         async with Scripted.connected(lambda line, it: b"") as (table, scripted):
             calls = [table.insert_many([1, 2], [1, 2]), table.insert_many([3, 4], [3, 4]), table.insert_many([5], [5])]
             waiting = [asyncio.ensure_future(it) for it in calls]
-            await heard_by(scripted, 6)
+            await heard_by(scripted, 7)
             scripted.writers[0].write(b"row 0.1\nrow 0.2\nrow 0.3\n")
             scripted.writers[0].close()
             found = await asyncio.gather(*waiting, return_exceptions=True)
@@ -83,7 +83,7 @@ class Ends(unittest.IsolatedAsyncioTestCase):
     async def test_a_task_that_was_cancelled_before_the_end(self):
         async with Scripted.connected(lambda line, it: b"") as (table, scripted):
             waiting = [asyncio.ensure_future(it) for it in (table.count(), table.sum(), table.count(1, 2))]
-            await heard_by(scripted, 4)
+            await heard_by(scripted, 5)
             waiting[0].cancel()
             waiting[2].cancel()
             await asyncio.sleep(0)
@@ -104,7 +104,7 @@ class Closing(unittest.IsolatedAsyncioTestCase):
             while line := await reader.readline():
                 ends.append(line)
                 await asyncio.sleep(0.01)
-                writer.write({b"quit\n": b"bye\n"}.get(line, b"count 7\n" if line[:1] == b"c" else b"policy auto\n"))
+                writer.write({**Scripted.FIRST, b"quit\n": b"bye\n"}.get(line, b"count 7\n"))
             ends.append(b"")
             writer.close()
 
@@ -120,12 +120,12 @@ class Closing(unittest.IsolatedAsyncioTestCase):
             while ends[-1:] != [b""]:
                 await asyncio.sleep(0.001)
             asked = [b"count %d %d\n" % (it, it + 1) for it in range(3)]
-            self.assertEqual(ends, [b"policy auto\n", *asked, b"quit\n", b""])
+            self.assertEqual(ends, [*Scripted.FIRST, *asked, b"quit\n", b""])
 
     async def test_a_server_that_goes_meanwhile(self):
         async with Scripted.connected(lambda line, it: None) as (table, scripted):
             await asyncio.wait_for(table.close(), SECONDS)
-            self.assertEqual(scripted.heard[1:], [b"quit\n"])
+            self.assertEqual(scripted.heard[2:], [b"quit\n"])
             with self.assertRaises(crackd.Closed):
                 await table.count()
 
@@ -141,11 +141,10 @@ class Closing(unittest.IsolatedAsyncioTestCase):
         heard, ended = [], asyncio.Event()
 
         async def refuse(reader, writer):
+            for reply in (b"pong\n", b"refused 8\n", b"bye\n"):
+                heard.append(await reader.readline())
+                writer.write(reply)
             heard.append(await reader.readline())
-            writer.write(b"refused 8\n")
-            while line := await reader.readline():
-                heard.append(line)
-                writer.write(b"bye\n")
             ended.set()
             writer.close()
 
@@ -153,7 +152,8 @@ class Closing(unittest.IsolatedAsyncioTestCase):
             with self.assertRaises(crackd.OutOfMemory):
                 await crackd.connect_async(port=served.sockets[0].getsockname()[1])
             await asyncio.wait_for(ended.wait(), SECONDS)
-        self.assertEqual(heard, [b"policy auto\n", b"quit\n"])
+        # (a connection begins with a sign of life, and nothing comes after its end)
+        self.assertEqual(heard, [b"ping\n", b"policy auto\n", b"quit\n", b""])
 
 
 class Waits(unittest.IsolatedAsyncioTestCase):
@@ -173,7 +173,7 @@ class Waits(unittest.IsolatedAsyncioTestCase):
         async with Scripted.connected(lambda line, it: b"", timeout=0.5) as (table, scripted):
             await asyncio.sleep(0.4)
             waiting, loop = asyncio.ensure_future(table.count()), asyncio.get_running_loop()
-            await heard_by(scripted, 2)
+            await heard_by(scripted, 3)
             for byte in b"count 7":
                 await asyncio.sleep(0.1)
                 scripted.writers[0].write(bytes([byte]))
@@ -214,8 +214,9 @@ class Turns(unittest.IsolatedAsyncioTestCase):
         got = bytearray()
 
         async def serve(reader, writer):
-            await reader.readline()
-            writer.write(b"policy auto\n")
+            for reply in Scripted.FIRST.values():
+                await reader.readline()
+                writer.write(reply)
             while got.count(b"\n") < count:
                 got.extend(await reader.read(1 << 20))
             writer.write(b"".join(b"row 0.%d\n" % it for it in range(count)))
@@ -236,20 +237,20 @@ class Turns(unittest.IsolatedAsyncioTestCase):
                     with self.assertRaises(ValueError):
                         async for _ in table.select_chunks(*words, size=size):
                             pass
-            self.assertEqual(scripted.heard[1:], [])
+            self.assertEqual(scripted.heard[2:], [])
             self.assertEqual([it async for it in table.select_chunks(5, 5)], [])
 
     async def test_a_move_goes_on_without_its_task(self):
         """A task that is cancelled after the deletion was sent: the row is inserted nevertheless."""
         async with Scripted.connected(lambda line, it: b"") as (table, scripted):
             moving = asyncio.ensure_future(table.move(3, 9))
-            await heard_by(scripted, 2)
+            await heard_by(scripted, 3)
             moving.cancel()
             with self.assertRaises(asyncio.CancelledError):
                 await moving
             scripted.writers[0].write(b"gone 5 7\n")
-            await asyncio.wait_for(heard_by(scripted, 3), SECONDS)
-            self.assertEqual(scripted.heard[1:], [b"delete 0.3\n", b"insert 9 7\n"])
+            await asyncio.wait_for(heard_by(scripted, 4), SECONDS)
+            self.assertEqual(scripted.heard[2:], [b"delete 0.3\n", b"insert 9 7\n"])
             scripted.writers[0].write(b"row 0.4\n")
             with contextlib.suppress(asyncio.TimeoutError):
                 await asyncio.wait_for(asyncio.gather(*table._moving), SECONDS)

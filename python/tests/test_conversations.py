@@ -186,7 +186,7 @@ class Statements(unittest.TestCase):
     def test_refusals(self):
         keys = Keys.named("uint64")
         for code in (1, 2, 7, 8, 10, 99):
-            for steps in (wire.ping("auto"), wire.layouts(keys), wire.checkpoint(), wire.settle("auto")):
+            for steps in (wire.ping(), wire.begin("auto"), wire.layouts(keys), wire.checkpoint(), wire.settle("auto")):
                 _, lines = next(steps)
                 with self.assertRaises(crackd.Refused) as caught:
                     steps.send(b"refused %d\n" % code * lines)

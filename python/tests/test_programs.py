@@ -95,6 +95,14 @@ class Programs(unittest.TestCase):
                 time.sleep(0.01)
             self.assertEqual(self.starts(), 1)
 
+    def test_a_control_c_of_the_terminal_does_not_reach_it(self):
+        """It goes to all processes of the session's foreground group, or of a notebook's kernel: not to the server."""
+        text = 'import os\nopen(here + "/session", "w").write(f"{os.getpid()} {os.getsid(0)} {os.getpgid(0)}")\n'
+        with crackd.serve(program=self.program(text + READY + "sys.stdin.read()\n")) as served:
+            found = [int(it) for it in (self.room / "session").read_text().split()]
+            self.assertEqual(found, [served._process.pid] * 3)
+            self.assertNotIn(os.getsid(0), found)
+
     def test_its_words(self):
         text = 'open(here + "/words", "w").write(" ".join(sys.argv[4:]))\n' + READY + "sys.stdin.read()\n"
         cases = [

@@ -250,6 +250,24 @@ class ManyShards(unittest.TestCase):
         for shards in (0, -1, 1025):
             self.assertRaises(ValueError, crackd.Table, splits=range(1, 2000), shards=shards)
 
+    def test_many_rows_of_many_shards(self):
+        """Rows of shards whose numbers differ by 256 and more, in one call: each goes to the shard of its key."""
+        for shards in (257, 1024):
+            with contextlib.closing(crackd.Table(splits=range(1, shards), shards=shards, key_type="int64")) as table:
+                keys = [it * 389 % shards for it in range(2 * shards)]
+                rows = numbers(table.insert_many(keys, range(2 * shards)))
+                self.assertEqual([it >> routing.SHARD_SHIFT for it in rows], keys)
+                self.assertEqual(numbers(table.count_many(range(shards), range(1, shards + 1))), [2] * shards)
+                payloads = [[at for at, it in enumerate(keys) if it == key] for key in range(shards)]
+                self.assertEqual(table.sum_many(range(shards), range(1, shards + 1)), [sum(it) for it in payloads])
+                self.assertEqual(numbers(table.select().payloads), [each for it in payloads for each in it])
+                self.assertEqual(numbers(table.update_many(rows, keys, [-it for it in keys])), [1] * len(rows))
+                self.assertEqual(table.sum(), -sum(keys))
+                # (the rows of each other key)
+                gone = [row for row, key in zip(rows, keys) if key % 2]
+                self.assertEqual(numbers(table.delete_many(gone)), [1] * len(gone))
+                self.assertEqual(numbers(table.count_by(range(shards + 1))), [2 - it % 2 * 2 for it in range(shards)])
+
     def test_partitions_that_are_not_the_same_in_each_shard(self):
         for partitions, shards in [(7, 3), (8, 3), (5, 4), (64, 63), (65, 2), (130, 3)]:
             with self.subTest(partitions=partitions, shards=shards):

@@ -228,7 +228,10 @@ class Parts(unittest.TestCase):
         self.assertEqual(crackd.routing.shard_of(many, keys[:6]).tolist(), [0, 1, 4, 5, 6, 39])
 
     def test_blocks_keep_the_order_of_rows(self):
-        for shards in ([], [3], [0, 0, 0], [5, 0, 5, 1, 0, 5], [1023, 0, 1023], [it * 7919 % 3 for it in range(5000)]):
+        # (numbers of shards that differ by 256, or that fall if they are cut to 8 bits)
+        far = [[256, 1, 257, 0, 512, 255, 256, 1], [it * 389 % 1024 for it in range(3000)]]
+        near = [[it * 7919 % 3 for it in range(5000)], *([it * 7 % most for it in range(99)] for most in (16, 17))]
+        for shards in ([], [3], [0, 0, 0], [5, 0, 5, 1, 0, 5], [1023, 0, 1023], *near, *far):
             found = {it.shard: it.places.tolist() for it in crackd.routing.blocks_of(np.array(shards, np.int64))}
             wanted = {it: [at for at, shard in enumerate(shards) if shard == it] for it in sorted(set(shards))}
             self.assertEqual((found, list(found)), (wanted, list(wanted)))

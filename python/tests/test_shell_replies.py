@@ -5,6 +5,7 @@ import io
 import json
 import pathlib
 import signal
+import sys
 import tempfile
 import unittest
 from unittest import mock
@@ -682,9 +683,23 @@ class Programs(unittest.TestCase):
         )))
 
     def test_a_server_that_leaves(self):
-        with ways.standing_in(lambda connection: None) as port:
+        with ways.standing_in(lambda connection: None, [b"policy auto\n"]) as port:
             status, out, errors = self.run_shell(["--port", str(port), "--policy", "auto"], "count 0 1\n")
             self.assertEqual((status, out, errors), (1, "", "shell: the server left\n"))
+
+    def test_its_server_is_in_a_session_of_its_own(self):
+        """No control-C of the terminal reaches it: what was asked is still answered."""
+        with tempfile.TemporaryDirectory() as room:
+            program, wrote = pathlib.Path(room, "program"), pathlib.Path(room, "session")
+            program.write_text(
+                f"#!{sys.executable}\nimport os, sys\n"
+                f'open({str(wrote)!r}, "w").write(f"{{os.getpid()}} {{os.getsid(0)}} {{os.getpgid(0)}}")\n'
+                'print("listening", sys.argv[sys.argv.index("--port") + 1], flush=True)\n'
+            )
+            program.chmod(0o755)
+            served = child.Server(str(program), [])
+            self.addCleanup(served.end)
+            self.assertEqual([int(it) for it in wrote.read_text().split()], [served.process.pid] * 3)
 
     @ways.wants_program
     def test_a_server_of_its_own(self):

@@ -75,7 +75,7 @@ class Moments(unittest.TestCase):
     def test_no_other_thread_comes_between_two_partitions(self):
         for name in ("layout", "_rows", "__repr__", "checkpoint"):
             with self.subTest(name), crackd.Table(splits=[10, 20, 30]) as table:
-                row, (shard,), threads = table.insert(25, 7), table._shards, []
+                row, (shard,), threads, waits = table.insert(25, 7), table._shards, [], []
                 called = getattr(table, name)
 
                 def coming(real, *words):
@@ -85,13 +85,16 @@ class Moments(unittest.TestCase):
                         threads.append(threading.Thread(target=table.move, args=(row, 5)))
                         threads[0].start()
                         threads[0].join(0.1)
+                    waits.append(threads[0].is_alive())
                     return found
 
                 # (each partition's answer is looked at by `_check`, before the next one is asked)
                 with mock.patch.object(shard, "_check", functools.partial(coming, shard._check)):
                     found = called()
-                    self.assertEqual(threads[0].is_alive(), True)
                 threads[0].join()
+                # (a layout asks each partition twice; `repr` looks at the memory later, at another moment)
+                looks = 8 if name == "layout" else 4
+                self.assertEqual(waits[:looks], [True] * looks)
                 rows = found.rows if name == "layout" else found
                 self.assertIn("1 row" if name != "checkpoint" else "1", f"{rows} row")
                 self.assertEqual([it.rows for it in table.layout().parts], [1, 0, 0, 0])

@@ -48,16 +48,16 @@ def refusing(room, **environment):
 
 
 @contextlib.contextmanager
-def standing_in(play):
-    """The port of a stand-in for a server. It takes one connection, answers its first statements as a server does, and
-    then calls a function with it."""
+def standing_in(play, first=(b"pong\n", b"policy auto\n")):
+    """The port of a stand-in for a server. It takes one connection, answers its first statements, which are by default
+    those of a client of this package, and then calls a function with it."""
     with socket.socket() as listening:
         listening.bind(("127.0.0.1", 0))
         listening.listen()
 
         def answer():
             with listening.accept()[0] as connection:
-                for said in (b"pong\n", b"policy auto\n"):
+                for said in first:
                     connection.recv(4096)
                     connection.sendall(said)
                 play(connection)
