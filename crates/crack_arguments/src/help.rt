@@ -46,8 +46,7 @@ macro_rules! with_statements {
             "  layout P                    where the rows of partition P are\n",
             "  checkpoint P                folded N: N entries are removed, its rows stay\n",
             "  policy NAME                 policy NAME: complete, gradual, ripple or auto\n",
-            "  ping                        pong\n",
-            "  quit                        bye"
+            "  quit, ping                  bye, pong"
         )
     };
 }
