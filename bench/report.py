@@ -444,6 +444,10 @@ By `perf`, of the code compiled without its proof, a round in the end takes 19 %
 put 28 rows in, 18 of which were evicted before, and 38 % to take 9 out. 13 % are walks of the column's last row down past hundreds of bounds, where no pending row
 can fill a deleted one's place, and 20 % passes over the 20,000 pending insertions and 9,000 pending deletions.
 
+Over TCP beside two clients that load the server, half of the requests of a third take less than Redis's, but one in a thousand waits 10 to 30 ms, where Redis's wait
+0.2 ms (30 November 2026). They wait for merges that take many deleted rows out at once, under the partition's lock: by `perf`, of the code compiled without its proof, 86 %
+of the samples in pauses of over 8 ms are walks of the column's last row down past the bounds, one for each deleted row whose place no pending row fills.
+
 ## Loading, with the first count of everything
 
 ![loading](loading.svg)
