@@ -131,7 +131,7 @@ def lines_of_shards(found):
         for text, name, beside in (
             (f"`from_arrays` of {rows} rows; an argsort and a take", "load", milliseconds(it["numpy"])),
             (f"{sizes.RANGES} new counts and as many sums, in two calls", "many", ""),
-            (f"{calls} single calls of each kind, by one thread", "alone", ""),
+            (f"{calls} single calls by one thread", "alone", ""),
             (f"the same by {it['threads']} threads", "together", ""),
         ):
             yield f"| {text} | {milliseconds(several[name])} | {milliseconds(one[name])} | {beside} |\n"
