@@ -80,20 +80,24 @@ def is_missing():
     return False
 
 
-def measure_python(table, runs):
-    if is_missing():
-        return
-    words = [str(it) for it in (sizes.PART_ROWS, sizes.RANGES, runs)]
+def run_script(name, *words):
+    """What a script of bench/ that is run by an interpreter with numpy prints, read as JSON."""
     ran = subprocess.run(
-        [package.interpreter(), str(TOP / "bench" / "python_rows.py"), *words],
+        [package.interpreter(), str(TOP / "bench" / name), *(str(it) for it in words)],
         capture_output=True,
         text=True,
         check=False,
     )
     if ran.returncode:
         complaint = ran.stderr.strip().splitlines()[-1:] or ["it failed"]
-        sys.exit(f"the package isn't measured: {complaint[0]}")
-    found = json.loads(ran.stdout)
+        sys.exit(f"{name}: {complaint[0]}")
+    return json.loads(ran.stdout)
+
+
+def measure_python(table, runs):
+    if is_missing():
+        return
+    found = run_script("python_rows.py", sizes.PART_ROWS, sizes.RANGES, runs)
     seconds = found["seconds"]
     print(f"the package by {found['version']}")
     ours = seconds["crackd"]
@@ -105,21 +109,6 @@ def measure_python(table, runs):
         table.count(told(text), ours[name] * 1e9, most)
     if sizes.PART_ROWS == 500_000:
         write_page(BEGIN, lines_of(seconds), END)
-
-
-def run_shards(rows, runs):
-    """What bench/python_shards.py measures."""
-    words = [str(it) for it in (rows, sizes.RANGES, sizes.CALLS, runs)]
-    ran = subprocess.run(
-        [package.interpreter(), str(TOP / "bench" / "python_shards.py"), *words],
-        capture_output=True,
-        text=True,
-        check=False,
-    )
-    if ran.returncode:
-        complaint = ran.stderr.strip().splitlines()[-1:] or ["it failed"]
-        sys.exit(f"shards aren't measured: {complaint[0]}")
-    return json.loads(ran.stdout)
 
 
 def lines_of_shards(found):
@@ -140,7 +129,9 @@ def lines_of_shards(found):
 def measure_shards(table, runs):
     if is_missing():
         return
-    found = {rows: run_shards(rows, runs) for rows in sizes.SHARDED_ROWS}
+    found = {
+        rows: run_script("python_shards.py", rows, sizes.RANGES, sizes.CALLS, runs) for rows in sizes.SHARDED_ROWS
+    }
     for rows, it in found.items():
         several, one = it["several"], it["one"]
         table.line(f"from_arrays of {rows} rows, beside an argsort and a take", several["load"], it["numpy"], 1.0)
