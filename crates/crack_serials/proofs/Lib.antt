@@ -1,0 +1,5 @@
+pub mod Laws
+mod ListLemmas
+mod MapLemmas
+mod PlaceLemmas
+mod ShareLemmas

@@ -1,0 +1,37 @@
+-- What private clauses alone cite.
+-- The maps behind the contracts.
+use Rattle.std.specs.Prelude.{◌≡◌, ◌⊎◌, ℕ, ◌<◌, ◌≤◌, List, [], map, length, replicate, slice_index_or}
+use Rattle.std.specs.List.{All}
+use Rattle.indexmap.specs.IndexMap.{IndexMap}
+use Rattle.crack_arena.specs.Arena.{Handle}
+use Rattle.crack_serials.specs.Serials.{map_of, shares}
+use Rattle.crack_serials.specs.Views.{rooms_of}
+
+module _ {S : Type 0} where
+  -- the entries of each map
+  abbrev pub lists_of : List (IndexMap ℕ Handle S) → List (List (ℕ × Handle))
+  lists_of maps = map (λ (m : IndexMap ℕ Handle S). m.entries) maps
+
+-- each map has only serials of its own
+abbrev pub AreOwn : List (List (ℕ × Handle)) → Type 0
+AreOwn lists = (n : ℕ) → All (λ (e : ℕ × Handle). map_of e.0 ≡ n) (slice_index_or lists n [])
+
+-- there are no maps yet, or all 64, and each has only serials of its own
+pub record IsSpread {S : Type 0} (maps : List (IndexMap ℕ Handle S)) : Type 0 where
+  pub count : (length maps ≡ 0) ⊎ (length maps ≡ 64)
+  pub own : AreOwn (lists_of maps)
+
+module _ {S : Type 0} where
+  -- the second maps have the entries of the first, and no less room
+  pub record KeepsLists (maps after : List (IndexMap ℕ Handle S)) : Type 0 where
+    pub same : lists_of after ≡ lists_of maps
+    pub room : (n : ℕ) → slice_index_or (rooms_of maps) n 0 ≤ slice_index_or (rooms_of after) n 0
+
+  -- so many maps, all empty and with room for 32 entries
+  pub record AreMade (count : ℕ) (maps : List (IndexMap ℕ Handle S)) : Type 0 where
+    pub empty : lists_of maps ≡ replicate count []
+    pub room : (n : ℕ) → n < count → 32 ≤ slice_index_or (rooms_of maps) n 0
+
+-- the first maps have room for their shares of consecutive serials
+abbrev pub HaveShares : ℕ → ℕ → ℕ → List ℕ → Type 0
+HaveShares maps first count rooms = (n : ℕ) → n < maps → shares n first count ≤ slice_index_or rooms n 0

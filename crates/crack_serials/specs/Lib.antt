@@ -1,0 +1,4 @@
+pub mod Keeps
+pub mod Serials
+pub mod Shares
+pub mod Views

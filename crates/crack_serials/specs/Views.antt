@@ -1,0 +1,14 @@
+-- The maps as contracts see them.
+use Rattle.std.specs.Prelude.{ℕ, List, map}
+use Rattle.std.specs.List.{flat_map}
+use Rattle.indexmap.specs.IndexMap.{IndexMap, spare}
+use Rattle.crack_arena.specs.Arena.{Handle}
+
+module _ {S : Type 0} where
+  -- the entries of all maps
+  abbrev pub entries_of : List (IndexMap ℕ Handle S) → List (ℕ × Handle)
+  entries_of maps = flat_map (λ (m : IndexMap ℕ Handle S). m.entries) maps
+
+  -- the room of each map
+  abbrev pub rooms_of : List (IndexMap ℕ Handle S) → List ℕ
+  rooms_of maps = map (λ (m : IndexMap ℕ Handle S). spare m) maps
