@@ -1,210 +1,279 @@
--- The links of the free cells.
-use Rattle.std.proofs.Common.{◌≡◌, ◌≢◌, ℕ, zero, suc, ◌+◌, ◌-◌, ◌<◌, ◌≤◌, ◌^◌, Bool, true, false, List, [], ◌∷◌, ◌++◌, length, get_or, set, cond, ltb, eqb, Option, Some, None, is_some, count_by, refl, sym, ap, ◌∙◌, inl, inr, arith, length-set, add-one}
-use Rattle.std.specs.Prelude.{is_none}
-use Rattle.std.proofs.lemmas.List.{get_or_read, get_or-set_same, get_or-set_other, get_or_past, get_or_push, get_or_append_left, length_push, length-map, get_or-map, map-set}
+-- The steps between the free cells.
+use Rattle.std.proofs.Common.{◌≡◌, ◌≢◌, ℕ, zero, suc, ◌+◌, ◌-◌, ◌%◌, ◌<◌, ◌≤◌, Bool, true, false, List, [], ◌∷◌, ◌++◌, length, get_or, set, cond, ltb, eqb, Option, Some, None, is_some, count_by, refl, sym, ap, ◌∙◌, inl, inr, arith, length-set, add-one}
+use Rattle.std.specs.Prelude.{is_none, not}
+use Rattle.std.proofs.lemmas.List.{get_or_default, get_or-set_same, get_or-set_other, get_or_past, get_or_push, get_or_append_left, length_push, length-map, get_or-map, map-set, map-append}
 use Rattle.std.proofs.lemmas.List.Sums.{sum_by-cons, sum_by-set, sum_by_push}
-use Rattle.std.proofs.lemmas.Bool.{cases_eq, cases_lt, lt-ltb, le-ltb, ltb-true, eqb-true, true≢false}
-use Rattle.crack_arena.specs.Arena.{times, Handle, empty_cell, handle_for, put_in, set_at, freed_at, read, vacancy_at, IsWhole}
+use Rattle.std.proofs.lemmas.Bool.{cases_eq, cases_lt, lt-ltb, le-ltb, ltb-true, eqb-true, ne_eqb, true≢false}
+use Rattle.crack_arena.specs.declared.TheConstants.{MOST_CELLS}
+use Rattle.crack_arena.specs.Arena.{times, Handle, no_handle, empty_cell, cell_at, handle_for, put_in, set_at, freed_at, read, vacancy_at, IsWhole}
 use Rattle.crack_arena.proofs.Times.{times-nil, times-cons, times_one, times_other, times_head, times_apart}
 use Rattle.crack_arena.specs.declared.cells.Cell.{Cell as Stored}
-use Rattle.crack_arena.specs.declared.cells.Content.{Content}
-use Rattle.crack_arena.specs.declared.cells.Content.TheVariants.{Free, Full}
-use Rattle.crack_arena.specs.Links.{content_value, content_link, cell_of, cells_of, empty_stored, link_at, chain}
-use Rattle.crack_arena.specs.Keeps.{IsChain, is_free, is_vacant, vacancy, vacant_at, IsLinked}
+use Rattle.crack_arena.specs.Links.{is_full, next_after, chain, cell_of, cells_of, words_of}
+use Rattle.crack_arena.specs.Keeps.{is_vacant, vacancy, vacant_at, IsLinked}
+
+next_after-set_other : (words : List Handle) (k m : ℕ) (w : Handle) → m ≢ k → next_after (set words k w) m ≡ next_after words m
+next_after-set_other words k m w ne = ap (λ (x : Handle). (m + 1 + x.slot) % 16777216) (get_or-set_other words k m w no_handle ne)
+
+pub next_after-set_same : (words : List Handle) (k : ℕ) (w : Handle) → k < length words → next_after (set words k w) k ≡ (k + 1 + w.slot) % 16777216
+next_after-set_same words k w within = ap (λ (x : Handle). (k + 1 + x.slot) % 16777216) (get_or-set_same words k w no_handle within)
+
+-- a write off the chain leaves the chain
+pub chain-set : (words : List Handle) (k : ℕ) (w : Handle) (head n : ℕ) → times k (chain words head n) ≡ 0 → chain (set words k w) head n ≡ chain words head n
+chain-set words k w head zero off = refl
+chain-set words k w head (suc n) off =
+    let apart = times_apart k head (chain words (next_after words head) n) off in
+    rw (next_after-set_other words k head w apart.0) (ap (λ ks. head ∷ ks) (chain-set words k w (next_after words head) n apart.1))
+
+pub length-chain : (words : List Handle) (head n : ℕ) → length (chain words head n) ≡ n
+length-chain words head zero = refl
+length-chain words head (suc n) = ap suc (length-chain words (next_after words head) n)
+
+vacant_at_other : (words : List Handle) (k m : ℕ) (w : Handle) → m ≢ k → vacant_at (set words k w) m ≡ vacant_at words m
+vacant_at_other words k m w ne = rw (length-set words k w, get_or-set_other words k m w no_handle ne) refl
+
+vacant_at_same : (words : List Handle) (k : ℕ) (w : Handle) → k < length words → vacant_at (set words k w) k ≡ vacancy w
+vacant_at_same words k w inside = rw (length-set words k w, get_or-set_same words k w no_handle inside, lt-ltb k (length words) inside) refl
+
+pub record IsVacantAt (words : List Handle) (k : ℕ) : Type 0 where
+  pub within : k < length words
+  pub vacant : is_vacant (get_or words k no_handle) ≡ true
+
+vacant_from_one : (words : List Handle) (k : ℕ) → 0 < vacant_at words k → IsVacantAt words k
+vacant_from_one words k one = by_test (ltb k (length words)) refl (is_vacant (get_or words k no_handle)) refl one
+  where
+    by_test : (t : Bool) → ltb k (length words) ≡ t → (u : Bool) → is_vacant (get_or words k no_handle) ≡ u → 0 < cond t (cond u 1 0) 0 → IsVacantAt words k
+    by_test true within true vacant h = record { within = ltb-true k (length words) within; vacant = vacant }
+    by_test true within false vacant h = absurd (omega arith)
+    by_test false within u vacant h = absurd (omega arith)
+
+vacant_at-le : (words : List Handle) (k : ℕ) → vacant_at words k ≤ 1
+vacant_at-le words k = by_test (ltb k (length words)) (is_vacant (get_or words k no_handle))
+  where
+    by_test : (t u : Bool) → cond t (cond u 1 0) 0 ≤ 1
+    by_test true true = omega arith
+    by_test true false = omega arith
+    by_test false u = omega arith
+
+-- the head is a vacant cell, and the rest of the chain doesn't have it again
+pub record Head (words : List Handle) (k n : ℕ) : Type 0 where
+  pub cell : IsVacantAt words k
+  pub apart : times k (chain words (next_after words k) n) ≡ 0
+
+IsLinked-head : (words : List Handle) (k n freed : ℕ) → IsLinked words k (suc n) freed → Head words k n
+IsLinked-head words k n freed sound =
+    let ks = chain words (next_after words k) n in
+    record {
+      cell = vacant_from_one words k (omega (arith, sound.once k, times_head k ks));
+      apart = omega (arith, sound.once k, times_head k ks, vacant_at-le words k);
+    }
+
+pub head_is_vacant : (words : List Handle) (k free freed : ℕ) → 0 < free → IsLinked words k free freed → IsVacantAt words k
+head_is_vacant words k zero freed some sound = absurd (omega (arith, some))
+head_is_vacant words k (suc n) freed some sound = (IsLinked-head words k n freed sound).cell
+
+-- the first free cell is filled
+pub IsLinked-fill : (words : List Handle) (k free freed : ℕ) (w : Handle) → 0 < free → is_full w ≡ true → w.generation ≡ (get_or words k no_handle).generation → IsLinked words k free freed → IsLinked (set words k w) (next_after words k) (free - 1) freed
+IsLinked-fill words k zero freed w some full same sound = absurd (omega (arith, some))
+IsLinked-fill words k (suc n) freed w some full same sound =
+    let head = IsLinked-head words k n freed sound in
+    let ks = chain words (next_after words k) n in
+    let kept : chain (set words k w) (next_after words k) n ≡ ks = chain-set words k w (next_after words k) n head.apart in
+    let shorter : suc n - 1 ≡ n = omega arith in
+    let counts : count_by is_vacant (set words k w) + 1 ≡ count_by is_vacant words =
+    let counted = sum_by-set vacancy words k w no_handle head.cell.within in
+    let old : vacancy (get_or words k no_handle) ≡ 1 = rw (head.cell.vacant) refl in
+    let new : vacancy w ≡ 0 = rw (full) refl in
+    omega (arith, counted, old, new) in
+    rw shorter (record {
+      once = λ m. rw kept (elim (cases_eq m k) [
+        | inl e ↦
+            let zero_at : vacant_at (set words k w) k ≡ 0 = vacant_at_same words k w head.cell.within ∙ rw (full) refl in
+            rw e (head.apart ∙ sym zero_at)
+        | inr ne ↦ omega (arith, sound.once m, vacant_at_other words k m w ne, times-cons m k ks, times_other m k (λ e. ne (sym e)), times_one m k)
+      ]);
+      counted = omega (arith, sound.counted, counts);
+      total = omega (arith, sound.total, same, sum_by-set (λ (x : Handle). x.generation) words k w no_handle head.cell.within);
+      small = omega (arith, sound.small, length-set words k w);
+    })
+
+-- a full cell is not the head
+pub head_is_other : (words : List Handle) (k head free freed : ℕ) → k < length words → is_full (get_or words k no_handle) ≡ true → IsLinked words head free freed → 0 < free → (head < 16777216) × (head ≢ k)
+head_is_other words k head free freed within full sound some =
+    let first = head_is_vacant words head free freed some sound in (
+      omega (arith, first.within, sound.small),
+      λ e. let vacant : is_vacant (get_or words k no_handle) ≡ true = rw e at first.vacant in true≢false (sym vacant ∙ ap not full),
+    )
+
+-- the chain goes on from a freed cell as it went from the head
+pub chain_after : (words : List Handle) (w : Handle) (head k free : ℕ) → k < length words → times k (chain words head free) ≡ 0 → (0 < free → (k + 1 + w.slot) % 16777216 ≡ head) → chain (set words k w) (next_after (set words k w) k) free ≡ chain words head free
+chain_after words w head k zero within apart leads = refl
+chain_after words w head k (suc n) within apart leads =
+    let next : next_after (set words k w) k ≡ head = next_after-set_same words k w within ∙ leads (omega arith) in
+    rw next (chain-set words k w head (suc n) apart)
+
+-- a full cell is off the chain
+pub full_is_off : (words : List Handle) (head k free freed : ℕ) → k < length words → is_full (get_or words k no_handle) ≡ true → IsLinked words head free freed → times k (chain words head free) ≡ 0
+full_is_off words head k free freed within full sound =
+    let none : vacant_at words k ≡ 0 = rw (lt-ltb k (length words) within, full) refl in
+    sound.once k ∙ none
+
+-- a full cell is freed
+pub IsLinked-free : (words : List Handle) (head k free freed g next : ℕ) → k < length words → is_full (get_or words k no_handle) ≡ true → (get_or words k no_handle).generation ≡ g → next < 16777215 → (0 < free → (k + 1 + next) % 16777216 ≡ head) → IsLinked words head free freed → IsLinked (set words k (record { slot = next; generation = g + 1 })) k (free + 1) (freed + 1)
+IsLinked-free words head k free freed g next within full same few leads sound =
+    let w : Handle = record { slot = next; generation = g + 1 } in
+    let ks = chain words head free in
+    let none : vacant_at words k ≡ 0 = rw (lt-ltb k (length words) within, full) refl in
+    let apart : times k ks ≡ 0 = sound.once k ∙ none in
+    let vacant : vacancy w ≡ 1 = rw (ne_eqb next 16777215 (λ e. absurd (omega (arith, e, few)))) refl in
+    let kept : chain (set words k w) (next_after (set words k w) k) free ≡ ks = chain_after words w head k free within apart leads in
+    let longer : free + 1 ≡ suc free = add-one free in
+    rw longer (record {
+      once = λ m. rw kept (elim (cases_eq m k) [
+        | inl e ↦ rw e (times_head k ks ∙ rw (apart) (sym (vacant_at_same words k w within ∙ vacant)))
+        | inr ne ↦ omega (arith, sound.once m, vacant_at_other words k m w ne, times-cons m k ks, times_other m k (λ e. ne (sym e)), times_one m k)
+      ]);
+      counted =
+          let counted = sum_by-set vacancy words k w no_handle within in
+          let old : vacancy (get_or words k no_handle) ≡ 0 = rw (full) refl in
+          omega (arith, sound.counted, counted, old, vacant);
+      total = omega (arith, sound.total, same, sum_by-set (λ (x : Handle). x.generation) words k w no_handle within);
+      small = omega (arith, sound.small, length-set words k w);
+    })
+
+vacant_at_pushed : (words : List Handle) (w : Handle) (m : ℕ) → is_full w ≡ true → vacant_at (words ++ w ∷ []) m ≡ vacant_at words m
+vacant_at_pushed words w m full = elim (cases_lt m (length words)) [
+  | inl l ↦ rw (lt-ltb m (length words) l, lt-ltb m (length (words ++ w ∷ [])) (omega (arith, length_push words w)), get_or_append_left words (w ∷ []) no_handle m l) refl
+  | inr l ↦ elim (cases_eq m (length words)) [
+    | inl e ↦ rw (le-ltb m (length words) l, get_or_push words w no_handle m (sym e), full) (cond_same (ltb m (length (words ++ w ∷ []))))
+    | inr ne ↦ rw (le-ltb m (length words) l, le-ltb m (length (words ++ w ∷ [])) (omega (arith, length_push words w))) refl
+  ]
+]
+  where
+    cond_same : (b : Bool) → cond {A = ℕ} b 0 0 ≡ 0
+    cond_same true = refl
+    cond_same false = refl
+
+-- a new cell
+pub IsLinked-push : (words : List Handle) (head free freed : ℕ) (w : Handle) → free ≡ 0 → is_full w ≡ true → w.generation ≡ 0 → length words < MOST_CELLS → IsLinked words head free freed → IsLinked (words ++ w ∷ []) head free freed
+IsLinked-push words head zero freed w none full new short sound =
+    record {
+      once = λ m. omega (arith, sound.once m, vacant_at_pushed words w m full);
+      counted = omega (arith, sound.counted, sum_by_push vacancy words w, (let none : vacancy w ≡ 0 = rw (full) refl in none));
+      total = omega (arith, sound.total, new, sum_by_push (λ (x : Handle). x.generation) words w);
+      small = omega (arith, length_push words w, short);
+    }
+IsLinked-push words head (suc n) freed w none full new short sound = absurd (omega (arith, none))
+
+-- a full cell is given another value
+pub IsLinked-write : (words : List Handle) (head k free freed : ℕ) (w : Handle) → k < length words → is_full (get_or words k no_handle) ≡ true → is_full w ≡ true → w.generation ≡ (get_or words k no_handle).generation → IsLinked words head free freed → IsLinked (set words k w) head free freed
+IsLinked-write words head k free freed w within was full same sound =
+    let ks = chain words head free in
+    let apart : times k ks ≡ 0 = full_is_off words head k free freed within was sound in
+    let kept : chain (set words k w) head free ≡ ks = chain-set words k w head free apart in
+    record {
+      once = λ m. rw kept (elim (cases_eq m k) [
+        | inl e ↦
+            let zero_at : vacant_at (set words k w) k ≡ 0 = vacant_at_same words k w within ∙ rw (full) refl in
+            rw e (apart ∙ sym zero_at)
+        | inr ne ↦ sound.once m ∙ sym (vacant_at_other words k m w ne)
+      ]);
+      counted =
+          let counted = sum_by-set vacancy words k w no_handle within in
+          let old : vacancy (get_or words k no_handle) ≡ 0 = rw (was) refl in
+          let new : vacancy w ≡ 0 = rw (full) refl in
+          omega (arith, sound.counted, counted, old, new);
+      total = omega (arith, sound.total, same, sum_by-set (λ (x : Handle). x.generation) words k w no_handle within);
+      small = omega (arith, sound.small, length-set words k w);
+    }
+
+IsLinked-nil : IsLinked [] 0 0 0
+IsLinked-nil = record {
+  once = λ n. times-nil n ∙ rw (le-ltb n 0 (omega arith)) refl;
+  counted = refl;
+  total = refl;
+  small = omega arith;
+}
 
 module _ {T : Type 0} where
-  pub link_at-set_other : (stored : List (Stored T)) (k m : ℕ) (s : Stored T) → m ≢ k → link_at (set stored k s) m ≡ link_at stored m
-  link_at-set_other stored k m s ne = ap (λ (x : Stored T). content_link x.content) (get_or-set_other stored k m s empty_stored ne)
+  pub length-words : (stored : List (Stored T)) → length (words_of stored) ≡ length stored
+  length-words stored = length-map stored (λ (s : Stored T). s.word)
 
-  -- a write off the chain leaves the chain
-  pub chain-set : (stored : List (Stored T)) (k : ℕ) (s : Stored T) (link : Option ℕ) (n : ℕ) → times k (chain stored link n) ≡ 0 → chain (set stored k s) link n ≡ chain stored link n
-  chain-set stored k s link zero off = refl
-  chain-set stored k s None (suc n) off = refl
-  chain-set stored k s (Some m) (suc n) off =
-      let apart = times_apart k m (chain stored (link_at stored m) n) off in
-      rw (link_at-set_other stored k m s apart.0) (ap (λ ks. m ∷ ks) (chain-set stored k s (link_at stored m) n apart.1))
+  -- no cells
+  pub IsLinked-none : (stored : List (Stored T)) → stored ≡ [] → IsLinked (words_of stored) 0 0 0
+  IsLinked-none stored none = rw none IsLinked-nil
 
-  pub IsChain-set : (stored : List (Stored T)) (k : ℕ) (s : Stored T) (link : Option ℕ) (ks : List ℕ) → times k ks ≡ 0 → IsChain stored link ks → IsChain (set stored k s) link ks
-  IsChain-set stored k s link [] off linked = linked
-  IsChain-set stored k s link (m ∷ ks) off linked =
-      let apart = times_apart k m ks off in
-      (linked.0, rw (link_at-set_other stored k m s apart.0) (IsChain-set stored k s (link_at stored m) ks apart.1 linked.1))
+  pub words-set : (stored : List (Stored T)) (k : ℕ) (s : Stored T) → words_of (set stored k s) ≡ set (words_of stored) k s.word
+  words-set stored k s = map-set (λ (x : Stored T). x.word) stored k s
 
-  pub vacant_at_other : (stored : List (Stored T)) (k m : ℕ) (s : Stored T) → m ≢ k → vacant_at (set stored k s) m ≡ vacant_at stored m
-  vacant_at_other stored k m s ne = rw (length-set stored k s, get_or-set_other stored k m s empty_stored ne) refl
+  pub words-push : (stored : List (Stored T)) (s : Stored T) → words_of (stored ++ s ∷ []) ≡ words_of stored ++ s.word ∷ []
+  words-push stored s = map-append (λ (x : Stored T). x.word) stored (s ∷ [])
 
-  pub vacant_at_same : (stored : List (Stored T)) (k : ℕ) (s : Stored T) → k < length stored → vacant_at (set stored k s) k ≡ vacancy s
-  vacant_at_same stored k s inside = rw (length-set stored k s, get_or-set_same stored k s empty_stored inside, lt-ltb k (length stored) inside) refl
+  -- a cell that was read has the word at its number
+  pub word_read : (stored : List (Stored T)) (k : ℕ) (x : Stored T) → k < length stored → x ≡ get_or stored k x → get_or (words_of stored) k no_handle ≡ x.word
+  word_read stored k x within found = get_or-map (λ (s : Stored T). s.word) stored k x no_handle within ∙ ap (λ (s : Stored T). s.word) (sym found)
 
-  pub record IsVacantAt (stored : List (Stored T)) (k : ℕ) : Type 0 where
-    pub within : k < length stored
-    pub vacant : is_vacant (get_or stored k empty_stored) ≡ true
+  -- and is seen there
+  pub cell_read : (stored : List (Stored T)) (k : ℕ) (x : Stored T) → k < length stored → x ≡ get_or stored k x → cell_at (cells_of stored) k ≡ cell_of x
+  cell_read stored k x within found = get_or-map cell_of stored k x empty_cell within ∙ ap cell_of (sym found)
 
-  pub vacant_from_one : (stored : List (Stored T)) (k : ℕ) → 0 < vacant_at stored k → IsVacantAt stored k
-  vacant_from_one stored k one = by_test (ltb k (length stored)) refl (is_vacant (get_or stored k empty_stored)) refl one
+  pub cell_past : (stored : List (Stored T)) (k : ℕ) → length stored ≤ k → cell_at (cells_of stored) k ≡ empty_cell
+  cell_past stored k past = get_or_past (cells_of stored) k empty_cell (omega (arith, past, length-map stored cell_of))
+
+  pub room_to_push : (stored : List (Stored T)) (head free : ℕ) → free ≡ 0 → length (cells_of stored) < MOST_CELLS + length (chain (words_of stored) head free) → length stored < MOST_CELLS
+  room_to_push stored head free none room =
+      omega (arith, room, none, length-chain (words_of stored) head free, length-map stored cell_of)
+
+  pub head_within : (stored : List (Stored T)) (k free freed : ℕ) → 0 < free → IsLinked (words_of stored) k free freed → (k < length stored) × (k < 16777216)
+  head_within stored k free freed some sound =
+      let first = head_is_vacant (words_of stored) k free freed some sound in
+      (omega (arith, first.within, length-words stored), omega (arith, first.within, sound.small))
+
+  pub handle_for_head : (stored : List (Stored T)) (k free freed : ℕ) (x : Stored T) → 0 < free → IsLinked (words_of stored) k free freed → x ≡ get_or stored k x → handle_for (cells_of stored) (chain (words_of stored) k free) ≡ record { slot = k; generation = x.word.generation }
+  handle_for_head stored k zero freed x some sound found = absurd (omega (arith, some))
+  handle_for_head stored k (suc n) freed x some sound found =
+      let at = cell_read stored k x (head_within stored k (suc n) freed some sound).0 found in
+      rw at refl
+
+  pub vacant_head : (stored : List (Stored T)) (k free freed : ℕ) (x : Stored T) → 0 < free → IsLinked (words_of stored) k free freed → x ≡ get_or stored k x → (cell_at (cells_of stored) k).value ≡ None
+  vacant_head stored k free freed x some sound found =
+      let first = head_is_vacant (words_of stored) k free freed some sound in
+      let within = (head_within stored k free freed some sound).0 in
+      let vacant : is_vacant x.word ≡ true = rw (word_read stored k x within found) at first.vacant in
+      rw (cell_read stored k x within found) (by_test (is_full x.word) vacant)
     where
-      by_test : (t : Bool) → ltb k (length stored) ≡ t → (u : Bool) → is_vacant (get_or stored k empty_stored) ≡ u → 0 < cond t (cond u 1 0) 0 → IsVacantAt stored k
-      by_test true within true vacant h = record { within = ltb-true k (length stored) within; vacant = vacant }
-      by_test true within false vacant h = absurd (omega arith)
-      by_test false within u vacant h = absurd (omega arith)
+      by_test : (b : Bool) → not b ≡ true → cond b (Some x.value) None ≡ None
+      by_test true e = absurd (true≢false (sym e))
+      by_test false e = refl
 
-  pub vacant_at-le : (stored : List (Stored T)) (k : ℕ) → vacant_at stored k ≤ 1
-  vacant_at-le stored k = by_test (ltb k (length stored)) (is_vacant (get_or stored k empty_stored))
-    where
-      by_test : (t u : Bool) → cond t (cond u 1 0) 0 ≤ 1
-      by_test true true = omega arith
-      by_test true false = omega arith
-      by_test false u = omega arith
-
-  pub IsLinked-empty : (stored : List (Stored T)) (free freed : ℕ) → IsLinked stored None free freed → free ≡ 0
-  IsLinked-empty stored zero freed sound = refl
-  IsLinked-empty stored (suc n) freed sound = absurd (let e = sound.chained in cc)
-
-  -- the head is a vacant slot, and the rest of the list doesn't have it again
-  pub record Head (stored : List (Stored T)) (k n : ℕ) : Type 0 where
-    pub slot : IsVacantAt stored k
-    pub apart : times k (chain stored (link_at stored k) n) ≡ 0
-
-  pub IsLinked-head : (stored : List (Stored T)) (k n freed : ℕ) → IsLinked stored (Some k) (suc n) freed → Head stored k n
-  IsLinked-head stored k n freed sound =
-      let ks = chain stored (link_at stored k) n in
-      record {
-        slot = vacant_from_one stored k (omega (arith, sound.once k, times_head k ks));
-        apart = omega (arith, sound.once k, times_head k ks, vacant_at-le stored k);
-      }
-
-  pub head_is_vacant : (stored : List (Stored T)) (k free freed : ℕ) → IsLinked stored (Some k) free freed → IsVacantAt stored k
-  head_is_vacant stored k zero freed sound = absurd (let e = sound.linked in cc)
-  head_is_vacant stored k (suc n) freed sound = (IsLinked-head stored k n freed sound).slot
-
-  -- the first free slot is filled
-  pub IsLinked-fill : (stored : List (Stored T)) (k free freed : ℕ) (s : Stored T) → is_vacant s ≡ false → s.generation ≡ (get_or stored k empty_stored).generation → IsLinked stored (Some k) free freed → IsLinked (set stored k s) (link_at stored k) (free - 1) freed
-  IsLinked-fill stored k zero freed s full same sound = absurd (let e = sound.linked in cc)
-  IsLinked-fill stored k (suc n) freed s full same sound =
-      let head = IsLinked-head stored k n freed sound in
-      let ks = chain stored (link_at stored k) n in
-      let kept : chain (set stored k s) (link_at stored k) n ≡ ks = chain-set stored k s (link_at stored k) n head.apart in
-      let shorter : suc n - 1 ≡ n = omega arith in
-      let counts : count_by is_vacant (set stored k s) + 1 ≡ count_by is_vacant stored =
-      let counted = sum_by-set vacancy stored k s empty_stored head.slot.within in
-      let old : vacancy (get_or stored k empty_stored) ≡ 1 = rw (head.slot.vacant) refl in
-      let new : vacancy s ≡ 0 = rw (full) refl in
-      omega (arith, counted, old, new) in
-      rw shorter (record {
-        linked = rw kept (IsChain-set stored k s (link_at stored k) ks head.apart sound.linked.1);
-        once = λ m. rw kept (elim (cases_eq m k) [
-          | inl e ↦
-              let zero_at : vacant_at (set stored k s) k ≡ 0 = vacant_at_same stored k s head.slot.within ∙ rw (full) refl in
-              rw e (head.apart ∙ sym zero_at)
-          | inr ne ↦ omega (arith, sound.once m, vacant_at_other stored k m s ne, times-cons m k ks, times_other m k (λ e. ne (sym e)), times_one m k)
-        ]);
-        counted = omega (arith, sound.counted, counts);
-        chained = rw kept (omega (arith, sound.chained));
-        total = omega (arith, sound.total, sum_by-set (λ x. x.generation) stored k s empty_stored head.slot.within);
-        small = omega (arith, sound.small, length-set stored k s);
-      })
-
-  -- a full slot is freed
-  pub IsLinked-free : (stored : List (Stored T)) (head : Option ℕ) (k free freed g : ℕ) → k < length stored → is_vacant (get_or stored k empty_stored) ≡ false → (get_or stored k empty_stored).generation ≡ g → IsLinked stored head free freed → IsLinked (set stored k (record { generation = g + 1; content = Free head })) (Some k) (free + 1) (freed + 1)
-  IsLinked-free stored head k free freed g within full same sound =
-      let s : Stored T = record { generation = g + 1; content = Free head } in
-      let ks = chain stored head free in
-      let none : vacant_at stored k ≡ 0 = rw (lt-ltb k (length stored) within, full) refl in
-      let apart : times k ks ≡ 0 = sound.once k ∙ none in
-      let link : link_at (set stored k s) k ≡ head = ap (λ (x : Stored T). content_link x.content) (get_or-set_same stored k s empty_stored within) in
-      let kept : chain (set stored k s) (link_at (set stored k s) k) free ≡ ks = rw link (chain-set stored k s head free apart) in
-      let longer : free + 1 ≡ suc free = add-one free in
-      rw longer (record {
-        linked = rw kept (refl, rw link (IsChain-set stored k s head ks apart sound.linked));
-        once = λ m. rw kept (elim (cases_eq m k) [
-          | inl e ↦ rw e (times_head k ks ∙ rw (apart) (sym (vacant_at_same stored k s within)))
-          | inr ne ↦ omega (arith, sound.once m, vacant_at_other stored k m s ne, times-cons m k ks, times_other m k (λ e. ne (sym e)), times_one m k)
-        ]);
-        counted =
-            let counted = sum_by-set vacancy stored k s empty_stored within in
-            let old : vacancy (get_or stored k empty_stored) ≡ 0 = rw (full) refl in
-            omega (arith, sound.counted, counted, old);
-        chained = rw kept (omega (arith, sound.chained));
-        total = omega (arith, sound.total, sum_by-set (λ x. x.generation) stored k s empty_stored within);
-        small = omega (arith, sound.small, length-set stored k s);
-      })
-
-  vacant_at_pushed : (stored : List (Stored T)) (s : Stored T) (m : ℕ) → is_vacant s ≡ false → vacant_at (stored ++ s ∷ []) m ≡ vacant_at stored m
-  vacant_at_pushed stored s m full = elim (cases_lt m (length stored)) [
-    | inl l ↦ rw (lt-ltb m (length stored) l, lt-ltb m (length (stored ++ s ∷ [])) (omega (arith, length_push stored s)), get_or_append_left stored (s ∷ []) empty_stored m l) refl
-    | inr l ↦ elim (cases_eq m (length stored)) [
-      | inl e ↦ rw (le-ltb m (length stored) l, get_or_push stored s empty_stored m (sym e), full) (cond_same (ltb m (length (stored ++ s ∷ []))))
-      | inr ne ↦ rw (le-ltb m (length stored) l, le-ltb m (length (stored ++ s ∷ [])) (omega (arith, length_push stored s))) refl
-    ]
-  ]
-    where
-      cond_same : (b : Bool) → cond {A = ℕ} b 0 0 ≡ 0
-      cond_same true = refl
-      cond_same false = refl
-
-  -- a new slot
-  pub IsLinked-push : (stored : List (Stored T)) (free freed : ℕ) (s : Stored T) → is_vacant s ≡ false → s.generation ≡ 0 → length stored + 1 < 2 ^ 32 → IsLinked stored None free freed → IsLinked (stored ++ s ∷ []) None free freed
-  IsLinked-push stored zero freed s full new short sound =
-      record {
-        linked = refl;
-        once = λ m. omega (arith, sound.once m, vacant_at_pushed stored s m full);
-        counted = omega (arith, sound.counted, sum_by_push vacancy stored s, (let none : vacancy s ≡ 0 = rw (full) refl in none));
-        chained = refl;
-        total = omega (arith, sound.total, sum_by_push (λ x. x.generation) stored s);
-        small = omega (arith, length_push stored s);
-      }
-  IsLinked-push stored (suc n) freed s full new short sound = absurd (let e = IsLinked-empty stored (suc n) freed sound in cc)
-
-  pub none_free : (stored : List (Stored T)) (free freed : ℕ) → IsLinked stored None free freed → chain stored None free ≡ []
-  none_free stored zero freed sound = refl
-  none_free stored (suc n) freed sound = refl
-
-  pub room_to_push : (stored : List (Stored T)) (head : Option ℕ) (free freed : ℕ) → head ≡ None → IsLinked stored head free freed → length (cells_of stored) < 2 ^ 32 - 1 + length (chain stored head free) → length stored + 1 < 2 ^ 32
-  room_to_push stored head free freed none sound room =
-      let empty : length (chain stored head free) ≡ 0 = ap (λ (h : Option ℕ). length (chain stored h free)) none ∙ ap length (none_free stored free freed (rw none at sound)) in
-      omega (arith, empty, length-map stored cell_of)
-
-  pub read_content : (stored : List (Stored T)) (k : ℕ) (x : Stored T) → k < length stored → x ≡ get_or stored k x → get_or stored k empty_stored ≡ x
-  read_content stored k x within found = sym (get_or_read stored k x within found empty_stored)
-
-  pub full_is_not_head : (stored : List (Stored T)) (k free freed : ℕ) (x : Stored T) (v : T) → IsLinked stored (Some k) free freed → x ≡ get_or stored k x → x.content ≡ Full v → ⊥
-  full_is_not_head stored k free freed x v sound found full =
-      let head = head_is_vacant stored k free freed sound in
-      let vacant : is_free x.content ≡ true = rw (read_content stored k x head.within found) at head.vacant in
-      true≢false (sym vacant ∙ ap is_free full)
-
-  pub handle_for_head : (stored : List (Stored T)) (k free freed : ℕ) (x : Stored T) → IsLinked stored (Some k) free freed → x ≡ get_or stored k x → handle_for (cells_of stored) (chain stored (Some k) free) ≡ record { slot = k; generation = x.generation }
-  handle_for_head stored k zero freed x sound found = absurd (let e = sound.linked in cc)
-  handle_for_head stored k (suc n) freed x sound found =
-      let head = head_is_vacant stored k (suc n) freed sound in
-      rw (get_or-map cell_of stored k x empty_cell head.within, ← found) refl
-
-  pub put_filled : (stored : List (Stored T)) (k free freed spare : ℕ) (x : Stored T) (v : T) → IsLinked stored (Some k) free freed → x ≡ get_or stored k x → put_in v (record { cells = cells_of stored; free = chain stored (Some k) free; room = free + spare }) ≡ record { cells = cells_of (set stored k (record { generation = x.generation; content = Full v })); free = chain (set stored k (record { generation = x.generation; content = Full v })) (link_at stored k) (free - 1); room = free - 1 + spare }
-  put_filled stored k zero freed spare x v sound found = absurd (let e = sound.linked in cc)
-  put_filled stored k (suc n) freed spare x v sound found =
-      let head = IsLinked-head stored k n freed sound in
-      let s : Stored T = record { generation = x.generation; content = Full v } in
-      let kept : chain (set stored k s) (link_at stored k) n ≡ chain stored (link_at stored k) n = chain-set stored k s (link_at stored k) n head.apart in
+  pub put_filled : (stored : List (Stored T)) (k free freed spare : ℕ) (x s : Stored T) (v : T) → 0 < free → IsLinked (words_of stored) k free freed → x ≡ get_or stored k x → s ≡ record { word = record { slot = 16777215; generation = x.word.generation }; value = v } → put_in v (record { cells = cells_of stored; free = chain (words_of stored) k free; room = free + spare }) ≡ record { cells = cells_of (set stored k s); free = chain (words_of (set stored k s)) ((k + 1 + x.word.slot) % 16777216) (free - 1); room = free - 1 + spare }
+  put_filled stored k zero freed spare x s v some sound found is = absurd (omega (arith, some))
+  put_filled stored k (suc n) freed spare x s v some sound found is =
+      let words = words_of stored in
+      let head = IsLinked-head words k n freed sound in
+      let within = (head_within stored k (suc n) freed some sound).0 in
+      let at = cell_read stored k x within found in
+      let word = word_read stored k x within found in
+      let kept : chain (set words k s.word) (next_after words k) n ≡ chain words (next_after words k) n = chain-set words k s.word (next_after words k) n head.apart in
+      let next : (k + 1 + x.word.slot) % 16777216 ≡ next_after words k = ap (λ (w : Handle). (k + 1 + w.slot) % 16777216) (sym word) in
       let shorter : suc n - 1 ≡ n = omega arith in
       let less : suc n + spare - 1 ≡ n + spare = omega arith in
-      rw (get_or-map cell_of stored k x empty_cell head.slot.within, ← found, shorter, less, kept, map-set cell_of stored k s) refl
+      rw (at, shorter, less, next, words-set stored k s, kept, map-set cell_of stored k s, is) refl
 
-  -- a handle that reads a value names a full slot at its generation
+  -- a handle that reads a value names a full cell at its generation
   pub record IsFullAt (stored : List (Stored T)) (h : Handle) : Type 0 where
     pub within : h.slot < length stored
-    pub full : is_vacant (get_or stored h.slot empty_stored) ≡ false
-    pub generation : (get_or stored h.slot empty_stored).generation ≡ h.generation
+    pub inside : h.slot < length (words_of stored)
+    pub full : is_full (get_or (words_of stored) h.slot no_handle) ≡ true
+    pub generation : (get_or (words_of stored) h.slot no_handle).generation ≡ h.generation
 
   pub full_from_read : (stored : List (Stored T)) (h : Handle) → is_some (read (cells_of stored) h) ≡ true → IsFullAt stored h
   full_from_read stored h reads = elim (cases_lt h.slot (length stored)) [
     | inl l ↦
-        let cell : get_or (cells_of stored) h.slot empty_cell ≡ cell_of (get_or stored h.slot empty_stored) = get_or-map cell_of stored h.slot empty_stored empty_cell l in
-        let found : is_some (cond (eqb (get_or stored h.slot empty_stored).generation h.generation) (content_value (get_or stored h.slot empty_stored).content) None) ≡ true = rw cell at reads in
-        by_slot l (get_or stored h.slot empty_stored).generation (get_or stored h.slot empty_stored).content refl refl (eqb (get_or stored h.slot empty_stored).generation h.generation) refl found
+        let word : get_or (words_of stored) h.slot no_handle ≡ (stored_at stored h.slot l).word = get_or-map (λ (s : Stored T). s.word) stored h.slot (stored_at stored h.slot l) no_handle l ∙ ap (λ (s : Stored T). s.word) (stored_is stored h.slot l) in
+        let cell : cell_at (cells_of stored) h.slot ≡ cell_of (stored_at stored h.slot l) = get_or-map cell_of stored h.slot (stored_at stored h.slot l) empty_cell l ∙ ap cell_of (stored_is stored h.slot l) in
+        by_cell l (stored_at stored h.slot l) word (rw cell at reads)
     | inr l ↦
-        let past : get_or (cells_of stored) h.slot empty_cell ≡ empty_cell = get_or_past (cells_of stored) h.slot empty_cell (omega (arith, length-map stored cell_of)) in
-        let nil : Option T = None in
-        let found : is_some (cond (eqb 0 h.generation) nil nil) ≡ true = rw past at reads in
+        let found : is_some (cond (eqb 0 h.generation) (the_none) the_none) ≡ true = rw (cell_past stored h.slot l) at reads in
         absurd (nothing (eqb 0 h.generation) found)
   ]
     where
@@ -212,89 +281,68 @@ module _ {T : Type 0} where
       nothing true e = true≢false (sym e)
       nothing false e = true≢false (sym e)
 
-      by_slot : h.slot < length stored → (g : ℕ) (x : Content T) → (get_or stored h.slot empty_stored).generation ≡ g → (get_or stored h.slot empty_stored).content ≡ x → (b : Bool) → eqb g h.generation ≡ b → is_some (cond b (content_value x) None) ≡ true → IsFullAt stored h
-      by_slot l g (Full v) same is true equal found = record { within = l; full = ap is_free is; generation = same ∙ eqb-true g h.generation equal }
-      by_slot l g (Free n) same is true equal found = absurd (true≢false (sym found))
-      by_slot l g x same is false equal found = absurd (true≢false (sym found))
+      the_none : Option T
+      the_none = None
 
-  pub freed_view : (stored : List (Stored T)) (head : Option ℕ) (k free freed spare g : ℕ) → k < length stored → is_vacant (get_or stored k empty_stored) ≡ false → IsLinked stored head free freed → freed_at (record { slot = k; generation = g }) (record { cells = cells_of stored; free = chain stored head free; room = free + spare }) ≡ record { cells = cells_of (set stored k (record { generation = g + 1; content = Free head })); free = chain (set stored k (record { generation = g + 1; content = Free head })) (Some k) (free + 1); room = free + 1 + spare }
-  freed_view stored head k free freed spare g within full sound =
-      let s : Stored T = record { generation = g + 1; content = Free head } in
-      let ks = chain stored head free in
-      let none : vacant_at stored k ≡ 0 = rw (lt-ltb k (length stored) within, full) refl in
-      let apart : times k ks ≡ 0 = sound.once k ∙ none in
-      let link : link_at (set stored k s) k ≡ head = ap (λ (x : Stored T). content_link x.content) (get_or-set_same stored k s empty_stored within) in
-      let kept : chain (set stored k s) (link_at (set stored k s) k) free ≡ ks = rw link (chain-set stored k s head free apart) in
+      stored_at : (xs : List (Stored T)) (n : ℕ) → n < length xs → Stored T
+      stored_at [] n less = absurd (omega (arith, less))
+      stored_at (x ∷ xs) n less = get_or (x ∷ xs) n x
+
+      stored_is : (xs : List (Stored T)) (n : ℕ) (less : n < length xs) → get_or xs n (stored_at xs n less) ≡ stored_at xs n less
+      stored_is [] n less = absurd (omega (arith, less))
+      stored_is (x ∷ xs) n less = get_or_default (x ∷ xs) n (get_or (x ∷ xs) n x) x less
+
+      by_cell : h.slot < length stored → (x : Stored T) → get_or (words_of stored) h.slot no_handle ≡ x.word → is_some (cond (eqb x.word.generation h.generation) (cond (is_full x.word) (Some x.value) None) None) ≡ true → IsFullAt stored h
+      by_cell l x word found = by_tests (eqb x.word.generation h.generation) refl (is_full x.word) refl found
+        where
+          by_tests : (b : Bool) → eqb x.word.generation h.generation ≡ b → (f : Bool) → is_full x.word ≡ f → is_some (cond b (cond f (Some x.value) None) None) ≡ true → IsFullAt stored h
+          by_tests true equal true full found = record {
+            within = l;
+            inside = omega (arith, l, length-words stored);
+            full = ap is_full word ∙ full;
+            generation = ap (λ (w : Handle). w.generation) word ∙ eqb-true x.word.generation h.generation equal;
+          }
+          by_tests true equal false full found = absurd (true≢false (sym found))
+          by_tests false equal f full found = absurd (true≢false (sym found))
+
+  pub freed_view : (stored : List (Stored T)) (head k free freed spare g : ℕ) (s : Stored T) → k < length (words_of stored) → is_full (get_or (words_of stored) k no_handle) ≡ true → s.word.generation ≡ g + 1 → s.word.slot < 16777215 → (0 < free → (k + 1 + s.word.slot) % 16777216 ≡ head) → IsLinked (words_of stored) head free freed → freed_at (record { slot = k; generation = g }) (record { cells = cells_of stored; free = chain (words_of stored) head free; room = free + spare }) ≡ record { cells = cells_of (set stored k s); free = chain (words_of (set stored k s)) k (free + 1); room = free + 1 + spare }
+  freed_view stored head k free freed spare g s within full again few leads sound =
+      let words = words_of stored in
+      let apart : times k (chain words head free) ≡ 0 = full_is_off words head k free freed within full sound in
+      let kept : chain (words_of (set stored k s)) (next_after (words_of (set stored k s)) k) free ≡ chain words head free = rw (words-set stored k s) (chain_after words s.word head k free within apart leads) in
       let longer : free + 1 ≡ suc free = add-one free in
       let more : free + spare + 1 ≡ suc free + spare = omega arith in
-      rw (longer, kept, more, map-set cell_of stored k s) refl
+      let vacant : is_full s.word ≡ false = ne_eqb s.word.slot 16777215 (λ e. absurd (omega (arith, e, few))) in
+      rw (longer, kept, more, map-set cell_of stored k s, vacant, again) refl
 
-  -- a full cell is given another value
-  pub IsLinked-write : (stored : List (Stored T)) (head : Option ℕ) (k free freed : ℕ) (s : Stored T) → k < length stored → is_vacant (get_or stored k empty_stored) ≡ false → is_vacant s ≡ false → s.generation ≡ (get_or stored k empty_stored).generation → IsLinked stored head free freed → IsLinked (set stored k s) head free freed
-  IsLinked-write stored head k free freed s within was full same sound =
-      let ks = chain stored head free in
-      let none : vacant_at stored k ≡ 0 = rw (lt-ltb k (length stored) within, was) refl in
-      let apart : times k ks ≡ 0 = sound.once k ∙ none in
-      let kept : chain (set stored k s) head free ≡ ks = chain-set stored k s head free apart in
-      record {
-        linked = rw kept (IsChain-set stored k s head ks apart sound.linked);
-        once = λ m. rw kept (elim (cases_eq m k) [
-          | inl e ↦
-              let zero_at : vacant_at (set stored k s) k ≡ 0 = vacant_at_same stored k s within ∙ rw (full) refl in
-              rw e (apart ∙ sym zero_at)
-          | inr ne ↦ sound.once m ∙ sym (vacant_at_other stored k m s ne)
-        ]);
-        counted =
-            let counted = sum_by-set vacancy stored k s empty_stored within in
-            let old : vacancy (get_or stored k empty_stored) ≡ 0 = rw (was) refl in
-            let new : vacancy s ≡ 0 = rw (full) refl in
-            omega (arith, sound.counted, counted, old, new);
-        chained = rw kept (sound.chained);
-        total = omega (arith, sound.total, same, sum_by-set (λ x. x.generation) stored k s empty_stored within);
-        small = omega (arith, sound.small, length-set stored k s);
-      }
+  pub written_view : (stored : List (Stored T)) (head k free freed room g : ℕ) (s : Stored T) (v : T) → k < length (words_of stored) → is_full (get_or (words_of stored) k no_handle) ≡ true → s ≡ record { word = record { slot = 16777215; generation = g }; value = v } → IsLinked (words_of stored) head free freed → set_at v (record { slot = k; generation = g }) (record { cells = cells_of stored; free = chain (words_of stored) head free; room = room }) ≡ record { cells = cells_of (set stored k s); free = chain (words_of (set stored k s)) head free; room = room }
+  written_view stored head k free freed room g s v within full is sound =
+      let words = words_of stored in
+      let apart : times k (chain words head free) ≡ 0 = full_is_off words head k free freed within full sound in
+      rw (words-set stored k s, chain-set words k s.word head free apart, map-set cell_of stored k s, is) refl
 
-  pub written_view : (stored : List (Stored T)) (head : Option ℕ) (k free freed room g : ℕ) (v : T) → k < length stored → is_vacant (get_or stored k empty_stored) ≡ false → IsLinked stored head free freed → set_at v (record { slot = k; generation = g }) (record { cells = cells_of stored; free = chain stored head free; room = room }) ≡ record { cells = cells_of (set stored k (record { generation = g; content = Full v })); free = chain (set stored k (record { generation = g; content = Full v })) head free; room = room }
-  written_view stored head k free freed room g v within full sound =
-      let s : Stored T = record { generation = g; content = Full v } in
-      let none : vacant_at stored k ≡ 0 = rw (lt-ltb k (length stored) within, full) refl in
-      let apart : times k (chain stored head free) ≡ 0 = sound.once k ∙ none in
-      rw (chain-set stored k s head free apart, map-set cell_of stored k s) refl
+  is_none_value : (b : Bool) (v : T) → is_none (cond b (Some v) None) ≡ not b
+  is_none_value true v = refl
+  is_none_value false v = refl
 
-  is_none_content : (x : Content T) → is_none (content_value x) ≡ is_free x
-  is_none_content (Free _) = refl
-  is_none_content (Full _) = refl
-
-  vacancy_at_stored : (stored : List (Stored T)) (n : ℕ) → vacancy_at (cells_of stored) n ≡ vacant_at stored n
-  vacancy_at_stored stored n = elim (cases_lt n (length stored)) [
+  vacancy_at_stored : (stored : List (Stored T)) (n : ℕ) → vacancy_at (cells_of stored) n ≡ vacant_at (words_of stored) n
+  vacancy_at_stored [] n = refl
+  vacancy_at_stored (s ∷ rest) n = elim (cases_lt n (length (s ∷ rest))) [
     | inl l ↦
-        let cell : get_or (cells_of stored) n empty_cell ≡ cell_of (get_or stored n empty_stored) = get_or-map cell_of stored n empty_stored empty_cell l in
-        rw (cell, length-map stored cell_of, is_none_content (get_or stored n empty_stored).content) refl
-    | inr l ↦ rw (length-map stored cell_of, le-ltb n (length stored) l) refl
+        let x = get_or (s ∷ rest) n s in
+        let found : x ≡ get_or (s ∷ rest) n x = get_or_default (s ∷ rest) n s x l in
+        rw (cell_read (s ∷ rest) n x l found, word_read (s ∷ rest) n x l found, length-map (s ∷ rest) cell_of, length-words (s ∷ rest), is_none_value (is_full x.word) x.value) refl
+    | inr l ↦ rw (length-map (s ∷ rest) cell_of, length-words (s ∷ rest), le-ltb n (length (s ∷ rest)) l) refl
   ]
 
-  vacant_count : (stored : List (Stored T)) → count_by (λ c. is_none c.value) (cells_of stored) ≡ count_by is_vacant stored
+  vacant_count : (stored : List (Stored T)) → count_by (λ c. is_none c.value) (cells_of stored) ≡ count_by is_vacant (words_of stored)
   vacant_count [] = refl
   vacant_count (s ∷ rest) =
-      omega (arith, sum_by-cons (λ c. cond (is_none c.value) 1 0) (cell_of s) (cells_of rest), sum_by-cons vacancy s rest, vacant_count rest, ap (λ (b : Bool). cond {A = ℕ} b 1 0) (is_none_content s.content))
+      omega (arith, sum_by-cons (λ c. cond (is_none c.value) 1 0) (cell_of s) (cells_of rest), sum_by-cons vacancy s.word (words_of rest), vacant_count rest, ap (λ (b : Bool). cond {A = ℕ} b 1 0) (is_none_value (is_full s.word) s.value))
 
-  pub IsWhole-from : (stored : List (Stored T)) (head : Option ℕ) (free freed room : ℕ) → IsLinked stored head free freed → IsWhole (record { cells = cells_of stored; free = chain stored head free; room = room })
+  pub IsWhole-from : (stored : List (Stored T)) (head free freed room : ℕ) → IsLinked (words_of stored) head free freed → IsWhole (record { cells = cells_of stored; free = chain (words_of stored) head free; room = room })
   IsWhole-from stored head free freed room sound = record {
     free_once = λ n. sound.once n ∙ sym (vacancy_at_stored stored n);
-    free_counted = omega (arith, sound.chained, sound.counted, vacant_count stored);
-    cells_bounded = omega (arith, sound.small, length-map stored cell_of);
+    free_counted = omega (arith, length-chain (words_of stored) head free, sound.counted, vacant_count stored);
+    cells_bounded = omega (arith, sound.small, length-map stored cell_of, length-words stored);
   }
-
-  IsLinked-nil : IsLinked {T = T} [] None 0 0
-  IsLinked-nil = record {
-    linked = refl;
-    once = λ n. times-nil n ∙ rw (le-ltb n 0 (omega arith)) refl;
-    counted = refl;
-    chained = refl;
-    total = refl;
-    small = omega arith;
-  }
-
-  -- no cells
-  pub IsLinked-none : (stored : List (Stored T)) → stored ≡ [] → IsLinked stored None 0 0
-  IsLinked-none stored none = rw none IsLinked-nil

@@ -9,7 +9,7 @@ pub record Handle : Type 0 where
   pub slot : ℕ
   pub generation : ℕ
 
--- whether two handles name the same cell at the same generation
+-- whether two handles have the same cell number and generation
 abbrev pub same_handle : Handle → Handle → Bool
 same_handle h k = (h.slot == k.slot) && (h.generation == k.generation)
 
@@ -18,12 +18,12 @@ abbrev pub handle_code : Coded Handle
 handle_code =
     code_by (ℕ × ℕ) (coded× coded_ℕ coded_ℕ) (λ h. (h.slot, h.generation)) (λ p. record { slot = p.0; generation = p.1 }) (λ _. refl)
 
--- a cell: how often it was freed, and its value, if it has one
+-- a cell: how often it was freed, and its value, if any
 pub record Cell (T : Type 0) : Type 0 where
   pub generation : ℕ
   pub value : Option T
 
--- the cells by number, the numbers of the free cells, the next to be used first, and how many puts need no memory
+-- the cells by number, the free list in the order of use, and the number of puts that take no memory
 pub record Arena (T : Type 0) : Type 0 where
   pub cells : List (Cell T)
   pub free : List ℕ
@@ -44,7 +44,7 @@ arena_code {T} code =
     (λ p. record { cells = p.0; free = p.1.0; room = p.1.1 })
     (λ _. refl)
 
--- a cell without a value, never freed
+-- a cell without a value that was never freed
 abbrev pub empty_cell : {T : Type 0} → Cell T
 empty_cell = record { generation = 0; value = None }
 
@@ -52,24 +52,24 @@ empty_cell = record { generation = 0; value = None }
 abbrev pub cell_at : {T : Type 0} → List (Cell T) → ℕ → Cell T
 cell_at cells n = slice_index_or cells n empty_cell
 
--- what a handle reads
+-- what a handle reads: its cell's value, if the generations agree
 abbrev pub read : {T : Type 0} → List (Cell T) → Handle → Option T
 read cells h = cond ((cell_at cells h.slot).generation == h.generation) (cell_at cells h.slot).value None
 
--- the cell was freed since the handle was made
+-- the handle's cell was freed since the handle was made
 pub record IsSpent {T : Type 0} (cells : List (Cell T)) (h : Handle) : Type 0 where
   pub within : h.slot < length cells
   pub older : h.generation < (cell_at cells h.slot).generation
 
--- handles that are spent in the first cells are also spent in the second
+-- every handle that is spent in the old cells is also spent in the new ones
 abbrev pub KeepsSpent : {T : Type 0} → List (Cell T) → List (Cell T) → Type 0
 KeepsSpent old new = (h : Handle) → IsSpent old h → IsSpent new h
 
--- how many times the number is in the list
+-- the number of times that a number occurs in a list
 unfoldable pub times : ℕ → List ℕ → ℕ
 times n xs = sum_by (λ x. cond (x == n) 1 0) xs
 
--- the numbers of the cells that the handles name
+-- the cell numbers of the handles
 abbrev pub slots : List Handle → List ℕ
 slots handles = map (λ (h : Handle). h.slot) handles
 
@@ -77,7 +77,7 @@ slots handles = map (λ (h : Handle). h.slot) handles
 abbrev pub place_in : List Handle → ℕ → ℕ
 place_in handles slot = position_or_len (λ (h : Handle). h.slot == slot) handles
 
--- the default where there is no handle
+-- the default handle for places outside a list
 abbrev pub no_handle : Handle
 no_handle = record { slot = 0; generation = 0 }
 
@@ -91,7 +91,7 @@ pub record IsFirstAt (handles : List Handle) (handle : Handle) (place : ℕ) : T
   pub here : StandsAt handles place handle
   pub before : (k : ℕ) → k < place → ¬ StandsAt handles k handle
 
--- the handle is in no place
+-- the handle isn't in the list
 abbrev pub IsAbsent : List Handle → Handle → Type 0
 IsAbsent handles handle = (place : ℕ) → ¬ StandsAt handles place handle
 
@@ -99,21 +99,21 @@ IsAbsent handles handle = (place : ℕ) → ¬ StandsAt handles place handle
 abbrev pub freed : {T : Type 0} → Arena T → ℕ
 freed a = sum_by (λ c. c.generation) a.cells
 
--- 1 if the number is that of a cell without a value, else 0
+-- 1 if a cell has this number and has no value, otherwise 0
 abbrev pub vacancy_at : {T : Type 0} → List (Cell T) → ℕ → ℕ
 vacancy_at cells n = cond (nat_lt n (length cells)) (cond (is_none (cell_at cells n).value) 1 0) 0
 
--- the free numbers are those of the cells without a value, each once
+-- the free list has each cell without a value once, and no others
 pub record IsWhole {T : Type 0} (a : Arena T) : Type 0 where
   pub free_once : (n : ℕ) → times n a.free ≡ vacancy_at a.cells n
   pub free_counted : length a.free ≡ count_by (λ c. is_none c.value) a.cells
   pub cells_bounded : length a.cells ≤ MOST_CELLS
 
--- a put has a cell to use: a free one, or a new one
+-- a put has a cell to use: a free one, or a new one within `MOST_CELLS`
 abbrev pub CanPut : {T : Type 0} → Arena T → Type 0
 CanPut a = length a.cells < MOST_CELLS + length a.free
 
--- the handle that the next put gives
+-- the handle that the next put returns
 abbrev pub handle_for : {T : Type 0} → List (Cell T) → List ℕ → Handle
 handle_for cells [] = record { slot = length cells; generation = 0 }
 handle_for cells (n ∷ ns) = record { slot = n; generation = (cell_at cells n).generation }
@@ -127,7 +127,7 @@ cells_with v cells (n ∷ ns) = slice_set cells n (record { generation = (cell_a
 abbrev pub put_in : {T : Type 0} → T → Arena T → Arena T
 put_in v a = record { cells = cells_with v a.cells a.free; free = drop 1 a.free; room = a.room - 1 }
 
--- the arena after the handle's cell was given another value
+-- the arena after the value of the handle's cell was replaced
 abbrev pub set_at : {T : Type 0} → T → Handle → Arena T → Arena T
 set_at v h a = record a { cells = slice_set a.cells h.slot (record { generation = h.generation; value = Some v }) }
 
@@ -139,21 +139,21 @@ freed_at h a = record {
   room = a.room + 1;
 }
 
--- one call that may change an arena
+-- a call that may change an arena
 pub data Call (T : Type 0) : Type 0 where
   Put : T → Call T
   Set : Handle → T → Call T
   Free : Handle → Call T
   Reserve : ℕ → Call T
 
--- the arena after a call, except its room; a call that is refused, or whose handle reads nothing, leaves it unchanged
+-- the arena after a call, except for its room; a call whose handle reads nothing leaves it unchanged
 abbrev pub after_call : {T : Type 0} → Call T → Arena T → Arena T
 after_call (Put v) a = put_in v a
 after_call (Set h v) a = cond (is_some (read a.cells h)) (set_at v h a) a
 after_call (Free h) a = cond (is_some (read a.cells h)) (freed_at h a) a
 after_call (Reserve n) a = a
 
--- the arena after one call and then the next, without refused ones
+-- the arena after calls in order, without those that were refused
 abbrev pub after_calls : {T : Type 0} → List (Call T) → Arena T → Arena T
 after_calls [] a = a
 after_calls (c ∷ cs) a = after_calls cs (after_call c a)

@@ -2,7 +2,7 @@
 use Rattle.std.specs.Prelude.{List, [], ◌∷◌, ◌++◌}
 
 module _ {C : Type 0} where
-  -- the cells of the pages, one page after the other
+  -- the cells of the pages in order
   abbrev pub joined : List (List C) → List C
   joined [] = []
   joined (page ∷ pages) = page ++ joined pages

@@ -6,7 +6,7 @@ use Rattle.crack_row.specs.declared.Payload.{Payload}
 use Rattle.crack_row.specs.declared.Row.{Row}
 use Rattle.crack_arena.specs.Arena.{Cell, Handle, read}
 
--- the key of a row that was read; 0 if nothing was
+-- the key of the row that was read, or 0 if none was
 abbrev pub key_of_row : Option Row → ℕ
 key_of_row None = 0
 key_of_row (Some r) = r.key.0
@@ -19,7 +19,7 @@ key_at cells h = key_of_row (read cells h)
 abbrev pub no_payload : Payload
 no_payload = record { 0 = pos 0 }
 
--- the payload of a row that was read; 0 if nothing was
+-- the payload of the row that was read, or 0 if none was
 abbrev pub payload_of_row : Option Row → Payload
 payload_of_row None = no_payload
 payload_of_row (Some r) = r.payload
@@ -28,12 +28,12 @@ payload_of_row (Some r) = r.payload
 abbrev pub payload_at : List (Cell Row) → Handle → Payload
 payload_at cells h = payload_of_row (read cells h)
 
--- what a row that was read adds to a sum; nothing if none was
+-- the amount that a row that was read adds to a sum, 0 if none was
 abbrev pub amount_of_row : Option Row → ℤ
 amount_of_row None = pos 0
 amount_of_row (Some r) = amount r.payload
 
--- what the row that the handle reads adds to a sum
+-- the amount that the row that the handle reads adds to a sum
 abbrev pub amount_at : List (Cell Row) → Handle → ℤ
 amount_at cells h = amount_of_row (read cells h)
 
@@ -41,6 +41,6 @@ amount_at cells h = amount_of_row (read cells h)
 abbrev pub keys_at : List (Cell Row) → List Handle → List ℕ
 keys_at cells handles = map (key_at cells) handles
 
--- what stands for a key that isn't remembered; the greatest key is never remembered
+-- the number that stands for a key that isn't remembered
 abbrev pub unknown : ℕ
 unknown = GREATEST_KEY

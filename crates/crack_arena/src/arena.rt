@@ -1,19 +1,21 @@
-//! The arena: cells, and the links of the free ones.
-ghost use Rattle.std.specs.Prelude.{◌≡◌, ◌+◌, ◌<◌, ◌≤◌, List, [], length, take, drop, option_copied, MatchOption};
-ghost use Rattle.std.specs.Prelude.{MatchResult, IfOk, IfErr, OnOk, OnErr, OnSome, is_some, None, Some};
+//! The arena: cells and their free list.
+ghost use Rattle.std.specs.Prelude.{◌≡◌, ◌≢◌, ◌+◌, ◌%◌, ◌<◌, ◌≤◌, List, [], length, take, drop, option_copied};
+ghost use Rattle.std.specs.Prelude.{MatchOption, MatchResult, IfOk, IfErr, OnOk, OnErr, OnSome, is_some, None, Some};
 ghost use Rattle.crack_row.specs.declared.refusal.Refusal.TheVariants.{OutOfMemory};
 ghost use Rattle.crack_arena.specs.Arena.{read, freed, CanPut, handle_for, put_in, set_at, freed_at, cell_at, IsWhole};
 ghost use Rattle.crack_arena.specs.Arena.{IsSpent, KeepsSpent, Call, after_calls};
+ghost use Rattle.crack_arena.specs.declared.TheConstants.{MOST_FREED};
 
 use crate::cell_list::CellList;
 use crate::cell_run::CellRun;
-use crate::cells::{Cell, Content};
+use crate::cells::Cell;
 use crate::handles::Handle;
+use crate::words::{FULL, NUMBERS, Word};
 use crack_row::Refusal;
 use std::alloc::Global;
 use std::marker::Model;
 
-/// A value that wasn't stored, for lack of memory.
+/// A value that wasn't stored because no memory was found.
 #[derive(Drop, Debug)]
 pub struct PutRefused<T> {
     pub value: T,
@@ -27,15 +29,15 @@ impl<T: Drop> From<PutRefused<T>> for Refusal {
     }
 }
 
-/// Cells that keep values of one type, numbered from 0. There are at most `MOST_CELLS`.
+/// Cells that store values of one type, numbered from 0. There are at most `MOST_CELLS`.
 #[derive(Drop)]
 pub struct Arena<T> {
     cells: CellList<Cell<T>>,
-    // The number of the free cell that is used next.
-    head: Option<u32>,
-    // How many cells are free.
+    // The number of the free cell that is used next, if there is one.
+    head: u32,
+    // The number of free cells.
     free: usize,
-    // The sum of the generations.
+    // The sum of the cells' generations.
     freed: u64,
 }
 
@@ -47,21 +49,21 @@ impl<T> Model for Arena<T> {
 
     ghost coded = { arena_code T.code };
 
-    ghost use Rattle.crack_arena.specs.Links.{cells_of, chain};
+    ghost use Rattle.crack_arena.specs.Links.{cells_of, words_of, chain};
 
     ghost view = { λ a. record {
       cells = cells_of a.cells.items;
-      free = chain a.cells.items a.head a.free;
+      free = chain (words_of a.cells.items) a.head a.free;
       room = a.free + a.cells.room;
     } };
 
     ghost use Rattle.crack_arena.specs.Keeps.{IsLinked};
 
-    ghost invariant = { λ a. IsLinked a.cells.items a.head a.free a.freed };
+    ghost invariant = { λ a. IsLinked (words_of a.cells.items) a.head a.free a.freed };
 }
 
-impl<T> Arena<T> {
-    /// No cells. Takes no memory.
+impl<T: Copy> Arena<T> {
+    /// Makes an empty arena. Takes no memory.
     pub fn new(alloc: Global) -> Arena<T>
         ensures cells { result.cells ≡ [] }
         ensures free { result.free ≡ [] }
@@ -69,20 +71,20 @@ impl<T> Arena<T> {
     {
         Arena {
             cells: CellList::new(alloc),
-            head: None,
+            head: 0,
             free: 0,
             freed: 0,
         }
     }
 
-    /// How many cells there are, including free ones.
+    /// The number of cells, including free ones.
     pub fn cells(&self) -> usize
         ensures { result ≡ length self.now.cells }
     {
         self.cells.len()
     }
 
-    /// How many cells are free.
+    /// The number of free cells.
     pub fn free_cells(&self) -> usize
         ensures { result ≡ length self.now.free }
     {
@@ -96,14 +98,14 @@ impl<T> Arena<T> {
         self.freed
     }
 
-    /// States the invariants of every arena, and does nothing.
+    /// States the invariants of every arena. Does nothing at run time.
     pub fn facts(&self)
         ensures { IsWhole self.now }
     {
         let _ = &self.cells;
     }
 
-    /// States that no list of calls makes a spent handle valid again, and does nothing.
+    /// States that no calls make a spent handle valid again. Does nothing at run time.
     pub fn stays_spent(&self, handle: Handle<T>)
         requires { IsSpent self.now.cells handle }
         ensures { (calls : List (Call T)) → read (after_calls calls self.now).cells handle ≡ None }
@@ -111,26 +113,22 @@ impl<T> Arena<T> {
         let _ = &self.cells;
     }
 
-    /// The value that the handle reads. O(1), takes no memory.
+    /// The value that the handle reads, if any. O(1), takes no memory.
     pub fn get(&self, handle: Handle<T>) -> Option<&T>
         ensures { option_copied result ≡ read self.now.cells handle }
     {
         match self.cells.get(handle.slot() as usize) {
             Some(cell) => {
-                if cell.generation != handle.generation() {
+                if cell.word.generation() != handle.generation() {
                     return None;
                 }
-                match &cell.content {
-                    Content::Full(value) => Some(value),
-                    Content::Free(_) => None,
-                }
+                cell.value()
             }
             None => None,
         }
     }
 
-    /// The adjacent cells from this number on, up to 256 of them: those of a page. None from `cells()`
-    /// on. O(1).
+    /// The adjacent cells from this number to the end of its page, at most 256; none from `cells()` on. O(1).
     pub fn cells_from(&self, slot: u32) -> CellRun<'_, T>
         ensures cells { result ≡ take (length result) (drop slot self.now.cells) }
         ensures some { slot < length self.now.cells → 0 < length result }
@@ -138,7 +136,7 @@ impl<T> Arena<T> {
         CellRun::of(self.cells.side_by_side(slot as usize))
     }
 
-    /// Makes room for as many puts, which then need no memory.
+    /// Makes room for this many puts, which then take no memory. Refused with `OutOfMemory` if no memory is found.
     pub fn reserve(&mut self, additional: usize) -> Result<(), Refusal>
         ensures same { self.new ≡ record self.old { room = self.new.room } }
         ensures room { OnOk result (additional ≤ self.new.room) }
@@ -153,8 +151,8 @@ impl<T> Arena<T> {
         Ok(())
     }
 
-    /// Puts the value into the first free cell, or else into a new one. O(1), except for growth.
-    /// Takes no memory if there is room.
+    /// Puts the value into the first free cell, or else into a new one. O(1), except for growth. Takes no memory if
+    /// there is room. If no memory is found, the error returns the value.
     #[inline(always)]
     pub fn put(&mut self, value: T) -> Result<Handle<T>, PutRefused<T>>
         requires { CanPut self.old }
@@ -181,13 +179,13 @@ impl<T> Arena<T> {
         ensures full { OnErr result (self.old.room ≡ 0) }
         ensures unchanged { OnErr result (self.new ≡ self.old) }
     {
-        if self.head.is_none() {
+        if self.free == 0 {
             self.cells.reserve(1)?;
         }
         Ok(())
     }
 
-    /// Puts the value into the first free cell, or else into a new one, for which there is room. O(1), takes no memory.
+    /// Puts the value into the first free cell, or else into a new one. There must be room. O(1), takes no memory.
     #[inline(always)]
     pub fn put_reserved(&mut self, value: T) -> Handle<T>
         requires room { 0 < self.old.room }
@@ -197,30 +195,26 @@ impl<T> Arena<T> {
         ensures after { self.new ≡ put_in value self.old }
         ensures keeps_spent { KeepsSpent self.old.cells self.new.cells }
     {
-        let Some(slot) = self.head else {
+        if self.free == 0 {
             let slot = self.cells.len() as u32;
-            self.cells.push_reserved(Cell {
-                generation: 0,
-                content: Content::Full(value),
-            });
-            return Handle::new(slot, 0);
-        };
-        let generation = self.cells.at(slot as usize).generation;
-        let full = Cell {
-            generation,
-            content: Content::Full(value),
-        };
-        let Cell { content, .. } = self.cells.replace(slot as usize, full);
-        self.free -= 1;
-        match content {
-            Content::Free(next) => self.head = next,
-            Content::Full(_) => unreachable!(),
+            let word = Word::new(FULL, 0);
+            self.cells.push_reserved(Cell { word, value });
+            return Handle::of(word.with_number(slot));
         }
-        Handle::new(slot, generation)
+        let slot = self.head;
+        let word = self.cells.at(slot as usize).word;
+        let full = Cell {
+            word: word.with_number(FULL),
+            value,
+        };
+        let Cell { .. } = self.cells.replace(slot as usize, full);
+        self.free -= 1;
+        self.head = (slot + 1 + word.number()) % NUMBERS;
+        Handle::of(word.with_number(slot))
     }
 
-    /// Replaces the value that the handle reads, and returns the old one.
-    /// If the handle reads nothing, the new value is returned. O(1), takes no memory.
+    /// Replaces the value that the handle reads, and returns the old one. If the handle reads nothing, returns the
+    /// new value as an error. O(1), takes no memory.
     pub fn set(&mut self, handle: Handle<T>, value: T) -> Result<T, T>
         ensures value { MatchResult result (λ old. read self.old.cells handle ≡ Some old) (λ back. back ≡ value) }
         ensures spent { OnErr result (read self.old.cells handle ≡ None) }
@@ -228,25 +222,21 @@ impl<T> Arena<T> {
         ensures keeps_spent { KeepsSpent self.old.cells self.new.cells }
     {
         let slot = handle.slot() as usize;
-        let generation = handle.generation();
-        if !self.reads(slot, generation) {
+        if !self.reads(slot, handle.generation()) {
             return Err(value);
         }
         let full = Cell {
-            generation,
-            content: Content::Full(value),
+            word: handle.word.with_number(FULL),
+            value,
         };
-        let Cell { content, .. } = self.cells.replace(slot, full);
-        match content {
-            Content::Full(old) => Ok(old),
-            Content::Free(_) => unreachable!(),
-        }
+        let Cell { value: old, .. } = self.cells.replace(slot, full);
+        Ok(old)
     }
 
-    /// Takes the value out and makes the cell the first free one; the handle never reads anything again.
-    /// None if it reads nothing now. O(1), takes no memory.
+    /// Frees the handle's cell, which becomes the first free one, and returns its value. The handle never reads
+    /// anything again. Returns `None` if it reads nothing. O(1), takes no memory.
     pub fn free(&mut self, handle: Handle<T>) -> Option<T>
-        requires { freed self.old < 18446744073709551615 }
+        requires { freed self.old < MOST_FREED }
         ensures value { result ≡ read self.old.cells handle }
         ensures after { MatchOption result (self.new ≡ self.old) (λ _. self.new ≡ freed_at handle self.old) }
         ensures keeps_spent { KeepsSpent self.old.cells self.new.cells }
@@ -259,32 +249,39 @@ impl<T> Arena<T> {
         if !self.reads(slot, generation) {
             return None;
         }
+        let next = numbers_between(slot as u32, self.head, self.free);
+        let value = self.cells.at(slot).value;
         let vacant = Cell {
-            generation: generation + 1,
-            content: Content::Free(self.head),
+            word: Word::new(next, generation + 1),
+            value,
         };
-        let Cell { content, .. } = self.cells.replace(slot, vacant);
-        self.head = Some(slot as u32);
+        let Cell { .. } = self.cells.replace(slot, vacant);
+        self.head = slot as u32;
         self.free += 1;
         self.freed += 1;
-        match content {
-            Content::Full(value) => Some(value),
-            Content::Free(_) => unreachable!(),
-        }
+        Some(value)
     }
 
-    /// Whether the cell with this number has a value, and this generation.
+    /// Whether the cell with this number has a value and this generation.
     fn reads(&self, slot: usize, generation: u64) -> bool
         ensures { result ≡ is_some (read self.now.cells (record { slot = slot; generation = generation })) }
     {
         match self.cells.get(slot) {
-            Some(
-                Cell {
-                    generation: now,
-                    content: Content::Full(_),
-                },
-            ) => *now == generation,
-            _ => false,
+            Some(cell) => cell.word.generation() == generation && cell.word.number() == FULL,
+            None => false,
         }
     }
+}
+
+/// How many numbers lie between `from` and `head`, if 0 follows the greatest number; 0 if no cell is free.
+fn numbers_between(from: u32, head: u32, free: usize) -> u32
+    requires from { from < 16777216 }
+    requires head { 0 < free → (head < 16777216) × (head ≢ from) }
+    ensures few { result < 16777215 }
+    ensures next { 0 < free → (from + 1 + result) % 16777216 ≡ head }
+{
+    if free == 0 {
+        return 0;
+    }
+    (head + FULL - from) % NUMBERS
 }

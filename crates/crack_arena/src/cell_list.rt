@@ -1,5 +1,5 @@
-//! A list of cells in pages. A page is allocated whole, and its cells never move: growth takes more pages and room in
-//! the list of pages, and copies no cell.
+//! A list of cells in pages. A page is allocated whole, and its cells never move: growth allocates more pages, may
+//! extend the list of pages, and copies no cell.
 ghost use Rattle.crack_arena.specs.declared.TheConstants.{MOST_CELLS};
 ghost use Rattle.std.specs.Prelude.{◌≡◌, ◌+◌, ◌-◌, ◌*◌, ◌<◌, ◌≤◌, [], ◌∷◌, ◌++◌, length, is_ok, if◌then◌else◌};
 ghost use Rattle.std.specs.Prelude.{replicate, slice_index_or, slice_set, take, drop, vec_len, vec_capacity, OnOk};
@@ -13,7 +13,7 @@ use std::marker::Model;
 /// A full list of pages grows by this factor, so that growth copies little.
 const GROWTH: usize = 3;
 
-/// Cells by number, from 0, and for how many more there is room. Number n is cell n mod 256 of page n / 256.
+/// Cells numbered from 0, with room for more. Cell n is cell n mod 256 of page n / 256.
 #[derive(Drop)]
 pub(crate) struct CellList<C> {
     pages: Vec<Page<C>>,
@@ -37,7 +37,7 @@ impl<C> Model for CellList<C> {
 }
 
 impl<C> CellList<C> {
-    /// No cells. Takes no memory.
+    /// Makes an empty list. Takes no memory.
     pub(crate) fn new(alloc: Global) -> CellList<C>
         ensures items { result.items ≡ [] }
         ensures room { result.room ≡ 0 }
@@ -48,7 +48,7 @@ impl<C> CellList<C> {
         }
     }
 
-    /// How many cells there are.
+    /// The number of cells.
     #[inline(always)]
     pub(crate) fn len(&self) -> usize
         ensures { result ≡ length self.now.items }
@@ -68,7 +68,7 @@ impl<C> CellList<C> {
         }
     }
 
-    /// The adjacent cells from this number on: those of its page. None if there are none.
+    /// The adjacent cells from this number to the end of its page; none from `len()` on.
     pub(crate) fn side_by_side(&self, number: usize) -> &[C]
         ensures cells { result.now ≡ take (length result.now) (drop number self.now.items) }
         ensures some { number < length self.now.items → 0 < length result.now }
@@ -99,7 +99,7 @@ impl<C> CellList<C> {
         page.replace(number % CELLS, cell)
     }
 
-    /// Makes room for as many more cells. O(1), except for growth.
+    /// Makes room for this many more cells. O(1), except for growth.
     #[inline(always)]
     pub(crate) fn reserve(&mut self, additional: usize) -> Result<(), AllocError>
         ensures items { self.new.items ≡ self.old.items }
@@ -116,7 +116,7 @@ impl<C> CellList<C> {
         take_pages(&mut self.pages, needed - left)
     }
 
-    /// Appends a cell, for which there is room. O(1), takes no memory.
+    /// Appends a cell. There must be room. O(1), takes no memory.
     #[inline(always)]
     pub(crate) fn push_reserved(&mut self, cell: C)
         requires room { 0 < self.old.room }
@@ -130,7 +130,7 @@ impl<C> CellList<C> {
     }
 }
 
-/// How many pages have room for this many cells after those that are used.
+/// The number of pages that hold `additional` more cells after `used` cells of the first page.
 fn pages_for(used: usize, additional: usize) -> usize
     requires { used < 256 }
     ensures enough { used + additional ≤ 256 * result }
@@ -139,8 +139,7 @@ fn pages_for(used: usize, additional: usize) -> usize
     additional / CELLS + (additional % CELLS + used + (CELLS - 1)) / CELLS
 }
 
-/// Allocates as many more pages. If one of them, or room in the list of pages, is refused, those already allocated are
-/// freed.
+/// Allocates this many more pages. If an allocation is refused, frees the pages that this call allocated.
 #[cold]
 #[inline(never)]
 fn take_pages<C>(pages: &mut Vec<Page<C>>, more: usize) -> Result<(), AllocError>
@@ -153,7 +152,7 @@ fn take_pages<C>(pages: &mut Vec<Page<C>>, more: usize) -> Result<(), AllocError
     push_pages(pages, more)
 }
 
-/// The same if there is room in the list of pages.
+/// Allocates this many more pages, for which the list of pages has room. If one is refused, frees the others.
 fn push_pages<C>(pages: &mut Vec<Page<C>>, more: usize) -> Result<(), AllocError>
     requires { vec_len pages.old + more ≤ vec_capacity pages.old }
     ensures { pages.new.items ≡ (if is_ok result then pages.old.items ++ replicate more [] else pages.old.items) }
@@ -172,7 +171,7 @@ fn push_pages<C>(pages: &mut Vec<Page<C>>, more: usize) -> Result<(), AllocError
     Ok(())
 }
 
-/// Frees the pages after the first ones, this many. They have no cells.
+/// Frees all pages after the first `kept`. The freed pages have no cells.
 fn give_back<C>(pages: &mut Vec<Page<C>>, kept: usize)
     requires within { kept ≤ length pages.old.items }
     requires empty { drop kept pages.old.items ≡ replicate (length pages.old.items - kept) [] }

@@ -1,13 +1,12 @@
-//! Cells that are adjacent.
+//! Adjacent cells of an arena.
 ghost use Rattle.std.specs.Prelude.{◌≡◌, length, option_copied};
 ghost use Rattle.crack_arena.specs.Arena.{cell_at};
 ghost use Rattle.crack_arena.specs.Links.{cells_of};
 
-use crate::cells::{Cell, Content};
+use crate::cells::Cell;
 use std::marker::Model;
 
-/// Adjacent cells of an arena, to be read one after the other. Contracts see a
-/// list of cells.
+/// Adjacent cells of an arena, to be read in order. Contracts see a list of cells.
 #[derive(Drop)]
 pub struct CellRun<'a, T> {
     cells: &'a [Cell<T>],
@@ -27,30 +26,27 @@ impl<'a, T> Model for CellRun<'a, T> {
 }
 
 impl<'a, T> CellRun<'a, T> {
-    /// These cells.
+    /// A run of these cells.
     pub(crate) fn of(cells: &'a [Cell<T>]) -> CellRun<'a, T>
         ensures { result ≡ cells_of cells.now }
     {
         CellRun { cells }
     }
 
-    /// How many cells there are.
+    /// The number of cells.
     pub fn len(&self) -> usize
         ensures { result ≡ length self.now }
     {
         self.cells.len()
     }
 
-    /// The value of the cell at this place among these, from 0, if it has one: a free cell has none, and neither
-    /// has a place from `len()` on. O(1), takes no memory.
+    /// The value of the cell at this place in the run, counted from 0. `None` if the cell is free, or the place is
+    /// `len()` or more. O(1), takes no memory.
     pub fn value_at(&self, place: usize) -> Option<&'a T>
         ensures { option_copied result ≡ (cell_at self.now place).value }
     {
         match self.cells.get(place) {
-            Some(cell) => match &cell.content {
-                Content::Full(value) => Some(value),
-                Content::Free(_) => None,
-            },
+            Some(cell) => cell.value(),
             None => None,
         }
     }

@@ -1,15 +1,28 @@
-//! Cells, each with its content and how often it was freed.
+//! Cells: a word and a value each.
+ghost use Rattle.std.specs.Prelude.{◌≡◌, option_copied};
+ghost use Rattle.crack_arena.specs.Links.{cell_of};
 
-/// How often the cell was freed, and its content.
+use crate::words::{FULL, Word};
+
+/// A cell: a word and a value. A free cell still contains its last value.
 #[derive(Drop)]
 pub(crate) struct Cell<T> {
-    pub(crate) generation: u64,
-    pub(crate) content: Content<T>,
+    /// The cell's generation, and a number: `FULL` if the cell has a value, otherwise how many numbers lie between
+    /// this cell's and the next free cell's.
+    pub(crate) word: Word,
+    pub(crate) value: T,
 }
 
-#[derive(Drop)]
-pub(crate) enum Content<T> {
-    /// No value. The number of the free cell that is used after this one.
-    Free(Option<u32>),
-    Full(T),
+impl<T> Cell<T> {
+    /// The value, or `None` if the cell is free.
+    #[inline(always)]
+    pub(crate) fn value(&self) -> Option<&T>
+        ensures { option_copied result ≡ (cell_of self.now).value }
+    {
+        if self.word.number() == FULL {
+            Some(&self.value)
+        } else {
+            None
+        }
+    }
 }

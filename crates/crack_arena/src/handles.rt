@@ -1,17 +1,19 @@
-//! Handles, which name a cell at a generation.
-ghost use Rattle.std.specs.Prelude.{◌≡◌, ⊤};
+//! Handles, each of which names a cell at a generation.
+ghost use Rattle.std.specs.Prelude.{◌≡◌, ◌⊎◌, ◌<◌, ◌≤◌, ◌^◌, ⊤, MatchOption};
 ghost use Rattle.std.proofs.Common.{rules};
 ghost use Rattle.std.specs.Cmp.Rules.{comparing};
 ghost use Rattle.crack_arena.specs.Arena.{same_handle};
 
+use crate::parts::{Generation, Slot};
+use crate::words::Word;
 use std::alloc::AllocError;
 use std::fmt;
 use std::marker::{Model, PhantomData};
 
-/// Names one cell at one generation, but not the arena that made it.
+/// Names one cell at one generation, but not the arena that made the handle. Takes 8 bytes: 24 bits for the cell,
+/// 40 for the generation.
 pub struct Handle<T> {
-    slot: u32,
-    generation: u64,
+    pub(crate) word: Word,
     of: PhantomData<T>,
 }
 
@@ -22,9 +24,9 @@ impl<T> Model for Handle<T> {
 
     ghost coded = { handle_code };
 
-    ghost view = { λ h. record { slot = h.slot; generation = h.generation } };
+    ghost view = { λ h. h.word };
 
-    ghost inverse = { λ n. record { slot = n.slot; generation = n.generation; of = record {} } };
+    ghost inverse = { λ n. record { word = n; of = record {} } };
 }
 
 impl<T> Copy for Handle<T> {}
@@ -36,8 +38,7 @@ impl<T> Clone for Handle<T> {
 
     fn clone(&self) -> Result<Self, AllocError> {
         Ok(Handle {
-            slot: self.slot,
-            generation: self.generation,
+            word: self.word,
             of: PhantomData,
         })
     }
@@ -49,7 +50,7 @@ impl<T> PartialEq for Handle<T> {
     ghost laws = { Prim.search (comparing, rules) };
 
     fn eq(&self, other: &Self) -> bool {
-        self.slot == other.slot && self.generation == other.generation
+        self.word == other.word
     }
 }
 
@@ -60,35 +61,71 @@ impl<T> Eq for Handle<T> {
 impl<T> fmt::Debug for Handle<T> {
     fn fmt<W: fmt::Write>(&self, f: &mut fmt::Formatter<W>) -> fmt::Result {
         f.debug_struct("Handle")
-            .field("slot", &self.slot)
-            .field("generation", &self.generation)
+            .field("slot", &self.slot())
+            .field("generation", &self.generation())
             .finish()
     }
 }
 
 impl<T> Handle<T> {
-    /// The handle with these numbers, for code that stores them separately. An arena need not have made it.
-    pub fn new(slot: u32, generation: u64) -> Handle<T>
+    /// The handle with these two numbers, for code that stores them separately. No arena need have made it.
+    #[inline(always)]
+    pub fn new(slot: Slot, generation: Generation) -> Handle<T>
         ensures { result ≡ record { slot = slot; generation = generation } }
     {
+        Handle::of(Word::new(slot.number(), generation.number()))
+    }
+
+    /// The handle with these numbers, if 24 bits hold the slot and 40 the generation.
+    pub fn from_numbers(slot: u32, generation: u64) -> Option<Handle<T>>
+        ensures { MatchOption result ((2 ^ 24 ≤ slot) ⊎ (2 ^ 40 ≤ generation))
+            (λ handle. handle ≡ record { slot = slot; generation = generation }) }
+    {
+        match (Slot::from_number(slot), Generation::from_number(generation)) {
+            (Some(slot), Some(generation)) => Some(Handle::new(slot, generation)),
+            _ => None,
+        }
+    }
+
+    #[inline(always)]
+    pub(crate) fn of(word: Word) -> Handle<T>
+        ensures { result ≡ word }
+    {
         Handle {
-            slot,
-            generation,
+            word,
             of: PhantomData,
         }
     }
 
     /// The cell's number, from 0.
+    #[inline(always)]
     pub fn slot(&self) -> u32
         ensures { result ≡ self.now.slot }
     {
-        self.slot
+        self.word.number()
     }
 
     /// How often the cell had been freed when the handle was made.
+    #[inline(always)]
     pub fn generation(&self) -> u64
         ensures { result ≡ self.now.generation }
     {
-        self.generation
+        self.word.generation()
+    }
+
+    /// The cell's number as a `Slot`.
+    #[inline(always)]
+    pub fn slot_part(&self) -> Slot
+        ensures { result ≡ self.now.slot }
+    {
+        Slot::of(self.word)
+    }
+
+    /// The generation as a `Generation`.
+    #[inline(always)]
+    pub fn generation_part(&self) -> Generation
+        ensures { result ≡ self.now.generation }
+    {
+        Generation::of(self.word)
     }
 }

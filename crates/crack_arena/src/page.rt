@@ -5,10 +5,11 @@ use std::alloc::{AllocError, Global};
 use std::marker::Model;
 use std::mem;
 
-/// How many cells a page has room for.
+/// The number of cells that a page has room for.
 pub(crate) const CELLS: usize = 256;
 
-/// Cells by place, from 0, in one block of memory with room for `CELLS`. It is allocated whole, and cells never move.
+/// Cells numbered from 0, in one block of memory for `CELLS` cells. The block is allocated whole, so cells never
+/// move.
 #[derive(Drop)]
 pub(crate) struct Page<C> {
     cells: Vec<C>,
@@ -28,7 +29,7 @@ impl<C> Model for Page<C> {
 }
 
 impl<C> Page<C> {
-    /// A page without cells. Allocates its block of memory.
+    /// Allocates a page without cells.
     pub(crate) fn take(alloc: Global) -> Result<Page<C>, AllocError>
         ensures { IfOk result (λ page. page ≡ []) }
     {

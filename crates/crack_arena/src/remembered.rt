@@ -1,4 +1,4 @@
-//! What is remembered about a row beside its handle.
+//! The key and payload of a row, remembered beside its handle.
 ghost use Rattle.std.specs.Prelude.{◌≡◌, ◌≢◌, ◌<◌, ◌↔◌, [], ◌∷◌, IsTrue};
 ghost use Rattle.crack_arena.specs.Arena.{times};
 ghost use Rattle.crack_arena.specs.Rows.{key_at, unknown};
@@ -11,7 +11,7 @@ use std::marker::Model;
 /// The number in place of a key that isn't remembered.
 pub const UNKNOWN_KEY: KeyNumber = GREATEST_KEY;
 
-/// The key and the payload of a row, or that the row isn't known.
+/// The remembered key and payload of a row, or a mark that they aren't known.
 #[derive(Clone, Copy)]
 pub struct Remembered {
     key: KeyNumber,
@@ -29,7 +29,7 @@ impl Model for Remembered {
 }
 
 impl Remembered {
-    /// What is to be remembered about the row. One with the greatest key isn't known by it. O(1).
+    /// Remembers the row. A row with the greatest key counts as unknown. O(1).
     pub fn of(row: Row) -> Remembered
         ensures { result ≡ record { key = row.key.0; payload = row.payload } }
     {
@@ -39,7 +39,7 @@ impl Remembered {
         }
     }
 
-    /// For a row that isn't known. O(1).
+    /// The value for an unknown row. O(1).
     pub fn nothing() -> Remembered
         ensures { result ≡ nothing }
     {
@@ -49,7 +49,7 @@ impl Remembered {
         }
     }
 
-    /// The key of the handle's row; it is read from the arena only if the row isn't known. O(1).
+    /// The key of the handle's row, read from the arena only if the row is unknown. O(1).
     pub fn key_of(&self, handle: Handle<Row>, arena: &Arena<Row>) -> Key
         requires { Agrees arena.now.cells handle self.now }
         ensures { result.0 ≡ key_at arena.now.cells handle }
@@ -61,7 +61,7 @@ impl Remembered {
         }
     }
 
-    /// Whether the row is known, and its key is below the bound. O(1).
+    /// Whether the row is known and its key is below the bound. O(1).
     #[inline]
     pub fn is_known_below(&self, bound: Bound) -> bool
         ensures { IsTrue result ↔ ((self.now.key ≢ unknown) × (self.now.key < bound.0)) }
@@ -69,8 +69,7 @@ impl Remembered {
         self.key != UNKNOWN_KEY && bound.is_above(Key::from_number(self.key))
     }
 
-    /// What is to be remembered about the row that the handle reads: the key 0 and the payload 0 if it reads none.
-    /// O(1).
+    /// Remembers the row that the handle reads, or the key 0 and the payload 0 if the handle reads none. O(1).
     #[inline]
     pub fn read(arena: &Arena<Row>, handle: Handle<Row>) -> Remembered
         ensures { result ≡ memory_at arena.now.cells handle }
@@ -81,7 +80,7 @@ impl Remembered {
         }
     }
 
-    /// What is to be remembered about the handle's row; it is read from the arena only if the row isn't known. O(1).
+    /// The key and payload of the handle's row, read from the arena only if the row is unknown. O(1).
     pub fn or_read(self, arena: &Arena<Row>, handle: Handle<Row>) -> Remembered
         requires { Agrees arena.now.cells handle self }
         ensures { result ≡ memory_at arena.now.cells handle }
@@ -92,7 +91,7 @@ impl Remembered {
         self
     }
 
-    /// For a row with this key and this payload. O(1).
+    /// Remembers this key and this payload. O(1).
     #[inline]
     pub fn new(key: KeyNumber, payload: Payload) -> Remembered
         ensures { result ≡ record { key = key; payload = payload } }
@@ -100,7 +99,7 @@ impl Remembered {
         Remembered { key, payload }
     }
 
-    /// The number of the row's key; the greatest one if the row isn't known. O(1).
+    /// The row's key as a number, or `UNKNOWN_KEY` if the row is unknown. O(1).
     #[inline]
     pub fn key(&self) -> KeyNumber
         ensures { result ≡ self.now.key }
@@ -108,7 +107,7 @@ impl Remembered {
         self.key
     }
 
-    /// The row's payload; 0 if the row isn't known. O(1).
+    /// The row's payload, or 0 if the row is unknown. O(1).
     #[inline]
     pub fn payload(&self) -> Payload
         ensures { result ≡ self.now.payload }
@@ -116,7 +115,7 @@ impl Remembered {
         self.payload
     }
 
-    /// 1 if the row isn't known, else 0. O(1).
+    /// 1 if the row is unknown, otherwise 0. O(1).
     #[inline]
     pub fn unread(&self) -> usize
         ensures { result ≡ times unknown (self.now.key ∷ []) }

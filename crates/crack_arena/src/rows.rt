@@ -1,12 +1,12 @@
-//! What is read of rows in an arena.
+//! Keys and payloads of rows in an arena.
 ghost use Rattle.std.specs.Prelude.{◌≡◌, pos, neg_ℤ, ◌≤ℤ◌};
 ghost use Rattle.crack_row.specs.Rows.{farthest_amount};
-ghost use Rattle.crack_arena.specs.Rows.{amount_at, key_at, payload_at};
+ghost use Rattle.crack_arena.specs.Rows.{amount_at, key_at};
 
 use crate::{Arena, Handle};
-use crack_row::{Key, Payload, Row};
+use crack_row::{Key, Row};
 
-/// The key of the row that the handle reads, 0 if it reads none. O(1).
+/// The key of the row that the handle reads, or 0 if it reads none. O(1).
 pub fn key_of(arena: &Arena<Row>, handle: Handle<Row>) -> Key
     ensures { result.0 ≡ key_at arena.now.cells handle }
 {
@@ -16,17 +16,7 @@ pub fn key_of(arena: &Arena<Row>, handle: Handle<Row>) -> Key
     }
 }
 
-/// The payload of the row that the handle reads, 0 if it reads none. O(1).
-pub fn payload_of(arena: &Arena<Row>, handle: Handle<Row>) -> Payload
-    ensures { result ≡ payload_at arena.now.cells handle }
-{
-    match arena.get(handle) {
-        Some(row) => row.payload,
-        None => Payload::from_number(0),
-    }
-}
-
-/// What the payload of the row that the handle reads adds to a sum, nothing if it reads none. O(1).
+/// The amount that the row that the handle reads adds to a sum, or 0 if it reads none. O(1).
 pub fn amount_of(arena: &Arena<Row>, handle: Handle<Row>) -> i128
     ensures value { result ≡ amount_at arena.now.cells handle }
     ensures least { neg_ℤ (pos farthest_amount) ≤ℤ result }

@@ -1,17 +1,17 @@
-//! The text of a help after the options: an example, the statements or the form of a record, and the refusals. No line
-//! has more than 80 columns.
+//! The text of a help after the options: an example, the statements or the form of a record, and the refusals. No
+//! line has more than 80 columns.
 
 use crack_row::{GREATEST_KEY, GREATEST_PAYLOAD, LEAST_PAYLOAD};
 
-/// The texts of `csv` and of the splits give the greatest key.
+/// The texts of `csv` and of the splits have the greatest key.
 const _: () = prove!(GREATEST_KEY == 18446744073709551615);
 
-/// The text of `csv` gives the least payload and the greatest.
+/// The text of `csv` has the least and the greatest payload.
 const _: () = prove!(
     LEAST_PAYLOAD == -9223372036854775808 && GREATEST_PAYLOAD == 9223372036854775807
 );
 
-/// The refusals by their numbers, after the text of a help before them.
+/// Appends the numbers and meanings of the refusals to a text.
 macro_rules! with_refusals {
     ($($before:expr),+) => {
         concat!(
@@ -30,7 +30,7 @@ macro_rules! with_refusals {
     };
 }
 
-/// The statements and the refusals, after an example.
+/// An example, the statements and the refusals.
 macro_rules! with_statements {
     ($($example:expr),+) => {
         with_refusals!(
@@ -46,33 +46,33 @@ macro_rules! with_statements {
             "  layout P                    where the rows of partition P are\n",
             "  checkpoint P                folded N: N entries are removed, its rows stay\n",
             "  policy NAME                 policy NAME: complete, gradual, ripple or auto\n",
-            "  quit, ping                  bye, pong"
+            "  quit, ping, stats [P]       bye, pong, the numbers of all or of partition P"
         )
     };
 }
 
-/// After the help of the program.
+/// The text after the program's options.
 pub const OF_PROGRAM: &str = with_statements!(
     "  printf 'insert 30 3\\ninsert 10 1\\ncount 0 20\\n' | crackd script"
 );
 
-/// After the help of `script`.
+/// The text after the options of `script`.
 pub const OF_SCRIPT: &str = with_statements!(
     "  printf 'insert 30 3\\ninsert 150 1\\nsum 0 200\\n' | crackd script 100"
 );
 
-/// After the help of `batch`.
+/// The text after the options of `batch`.
 pub const OF_BATCH: &str = with_statements!(
     "  printf '0 insert 30 3\\n1 count 0 50\\n' | crackd batch --workers 2",
     "\n  (the number in front of a statement is its worker's)"
 );
 
-/// After the help of `serve`.
+/// The text after the options of `serve`.
 pub const OF_SERVE: &str = with_statements!(
     "  crackd serve --port 4000 --sessions 1 & python3 examples/client.py 4000"
 );
 
-/// After the help of `csv`.
+/// The text after the options of `csv`.
 pub const OF_CSV: &str = with_refusals!(
     "Example:\n",
     "  printf 'key,payload\\n30,3\\n10,1\\n' | crackd csv\n\n",

@@ -1,4 +1,4 @@
-//! The command line of `crackd`: turns words into a request.
+//! The command line of `crackd`: parses words into a request.
 #![tactic(auto)]
 
 mod help;
@@ -12,62 +12,64 @@ use thiserror::Error;
 /// The version of the program, as `--version` prints it.
 pub const VERSION: &str = "0.1.0";
 
-/// The option that explains errors, wherever it is in a command line.
+/// The option that explains errors, at any place of a command line.
 const WORDS: &str = "--words";
 
 /// The request of a command line.
 #[derive(Drop)]
 pub enum Request {
-    /// The help or the version that was asked for, to be printed.
+    /// Print the help or the version.
     Help(String),
-    /// Serve standard input to standard output, over a table of its own.
+    /// Answer the statements of standard input over a new table.
     Script(Opening),
-    /// Have workers serve the lines of standard input.
+    /// Let workers serve the lines of standard input.
     Batch(Staffed),
-    /// Have workers serve sessions over TCP.
+    /// Let workers serve connections over TCP.
     Serve(Service),
     /// Load CSV from standard input, and export it to standard output.
     Csv(Opening),
 }
 
-/// How a table is opened. Its numbers are tested at the opening, which refuses them by their number.
+/// The options with which a table is opened. The opening refuses numbers out of range.
 #[derive(Drop)]
 pub struct Opening {
-    /// Where the keys are split: any numbers of 64 bits, in the order of the command line.
+    /// The splits: any numbers of 64 bits, in the order of the command line.
     pub splits: Vec<Bound>,
-    /// What bounds a partition: the greatest of each kind unless the command line says otherwise; upkeep is on request.
+    /// The limits of a partition: by default `DEFAULT_CELLS` cells, the greatest of the other limits, and upkeep on
+    /// request.
     pub limits: Limits,
-    /// How pending rows are merged: `Policy::Ripple` unless the command line says otherwise.
+    /// How pending rows are merged: by default `Policy::Ripple`.
     pub policy: Policy,
 }
 
-/// How a table with workers is opened. Their number is also tested at the opening.
+/// The options of a table with workers. The opening refuses a number of workers out of range.
 #[derive(Drop)]
 pub struct Staffed {
     pub opening: Opening,
     pub workers: u64,
+    /// Whether the workers keep receipts of their replies, which are compared with the histories at the end.
+    pub is_audited: bool,
 }
 
-/// How a server is started.
+/// The options of a server.
 #[derive(Drop)]
 pub struct Service {
     pub opening: Opening,
-    /// How many workers it has; without it, as many as there are processors. Their number is also tested at the
-    /// opening.
+    /// The number of workers, or `None` for as many as there are processors. The opening refuses a number out of range.
     pub workers: Option<u64>,
-    /// The port of 127.0.0.1 that it listens on, which isn't 0.
+    /// The port of 127.0.0.1 to listen on, which isn't 0.
     pub port: u16,
-    /// How many connections it serves; without it, it serves until its input ends.
+    /// How many connections are served, or `None` to serve until the input ends.
     pub sessions: Option<u64>,
-    /// How long a connection may wait for its client, in seconds, at least 1; without it, forever.
+    /// How many seconds a connection may wait for its client, at least 1, or `None` for any time.
     pub idle: Option<u32>,
-    /// How many clients may be connected at once, from 1 to `MOST_CLIENTS`.
+    /// How many clients may be connected at once, 1 to `MOST_CLIENTS`.
     pub clients: u64,
-    /// How long it waits for connections that are busy once its input has ended, in seconds.
+    /// How many seconds the server waits for busy connections once its input has ended.
     pub drain: u32,
     /// Whether only refusals are written to standard error.
     pub is_quiet: bool,
-    /// Whether its workers keep receipts of their replies, which are compared with the histories at the end.
+    /// Whether the workers keep receipts of their replies, which are compared with the histories at the end.
     pub is_audited: bool,
 }
 
@@ -77,14 +79,14 @@ static POLICIES: [&str; 4] = ["complete", "gradual", "ripple", "auto"];
 /// Why a command line isn't a request. Its text is written to standard error.
 #[derive(Drop, Debug, Error)]
 pub enum ArgumentsError {
-    /// An unknown word or option, an option that is missing or given twice, a value that isn't a number of 64 bits, or
-    /// an unknown policy.
+    /// A word or an option is unknown, an option is missing or given twice, a value isn't a number of 64 bits or is
+    /// out of range, or a policy is unknown.
     #[error("bad arguments")]
     Bad,
-    /// The same, with the parser's own text.
+    /// As `Bad`, with the parser's own text.
     #[error("bad arguments\n{0}")]
     Explained(String),
-    /// No memory was found to read it.
+    /// No memory was found to parse the command line.
     #[error("{0}")]
     Refused(Refusal),
 }
@@ -97,27 +99,27 @@ impl From<AllocError> for ArgumentsError {
 
 /// The value of an option.
 enum Value {
-    /// None: the option is given or not.
+    /// The option has none.
     Flag,
-    /// A number, for which this word stands.
+    /// A number, which the help calls by this word.
     Number(&'static str),
-    /// The same, of an option that must be given.
+    /// A number of an option that is required.
     Required(&'static str),
 }
 
 /// An option: its name, its value and its help.
 struct Choice(&'static str, Value, &'static str);
 
-/// How many cells a partition has, unless `--cells` says otherwise.
+/// The number of cells of a partition without `--cells`.
 const DEFAULT_CELLS: u64 = 1048576;
 
-/// How many clients of a server may be connected at once, unless `--clients` says otherwise.
+/// The number of clients that may be connected at once without `--clients`.
 const DEFAULT_CLIENTS: u64 = 10000;
 
-/// How many clients `--clients` may allow at most.
+/// The greatest number for `--clients`.
 const MOST_CLIENTS: u64 = 1000000;
 
-/// How many seconds a server waits at its end for connections that are busy, unless `--drain` says otherwise.
+/// How many seconds a server waits at its end for busy connections without `--drain`.
 const DEFAULT_DRAIN: u64 = 10;
 
 const WORKERS: Choice = Choice(
@@ -149,7 +151,13 @@ static OPENING_CHOICES: [Choice; 4] = [
     ),
 ];
 
-static BATCH_CHOICES: [Choice; 1] = [WORKERS];
+const AUDIT: Choice = Choice(
+    "audit",
+    Value::Flag,
+    "Keeps a receipt of each reply, compared at the end",
+);
+
+static BATCH_CHOICES: [Choice; 2] = [WORKERS, AUDIT];
 
 static SERVER_CHOICES: [Choice; 9] = [
     Choice(
@@ -192,11 +200,7 @@ static SERVER_CHOICES: [Choice; 9] = [
         Value::Flag,
         "Writes only a refusal to standard error",
     ),
-    Choice(
-        "audit",
-        Value::Flag,
-        "Keeps a receipt of each reply, compared at the end",
-    ),
+    AUDIT,
 ];
 
 static WORDS_CHOICE: Choice = Choice(
@@ -219,10 +223,10 @@ fn number_option<'a>(option: Arg<'a>, word: &'a str) -> Arg<'a> {
     option.value_name(word).value_parser(value_parser!(u64))
 }
 
-/// A command that is being built, or that no memory was found for it.
+/// A command that is built, or the error that no memory was found for it.
 type Built<'a> = Result<Command<'a>, AllocError>;
 
-/// A command with one more option.
+/// Adds an option to a command.
 fn with_option<'a>(built: Built<'a>, option: Arg<'a>) -> Built<'a> {
     match built {
         Ok(command) => command.arg(option),
@@ -233,7 +237,7 @@ fn with_option<'a>(built: Built<'a>, option: Arg<'a>) -> Built<'a> {
     }
 }
 
-/// A command with these options, too.
+/// Adds options to a command.
 fn with_options<'a>(alloc: Global, built: Built<'a>, choices: &[Choice]) -> Built<'a> {
     let mut built = built;
     'choices: for choice in choices {
@@ -242,7 +246,7 @@ fn with_options<'a>(alloc: Global, built: Built<'a>, choices: &[Choice]) -> Buil
     built
 }
 
-/// A command with one more subcommand.
+/// Adds a subcommand to a command.
 fn with_subcommand<'a>(built: Built<'a>, subcommand: Built<'a>) -> Built<'a> {
     match built {
         Ok(command) => joined(command, subcommand),
@@ -281,7 +285,7 @@ fn split_values<'a>(alloc: Global) -> Arg<'a> {
         .help("First keys of partitions: rising, 1 to 2^64 - 1; 63 at most")
 }
 
-/// A subcommand with the options and the splits that all openings have.
+/// A subcommand with the options and splits of an opening.
 fn opening_command<'a>(alloc: Global, name: &'a str, about: &'a str, behind: &'a str) -> Built<'a> {
     let bare = Command::new(alloc, name).about(about).after_help(behind);
     let limited = with_options(alloc, Ok(bare), OPENING_CHOICES.as_slice());
@@ -327,7 +331,7 @@ fn csv_command<'a>(alloc: Global) -> Built<'a> {
     )
 }
 
-/// The program without its subcommands.
+/// The program's command without its subcommands.
 fn program<'a>(alloc: Global) -> Built<'a> {
     Command::new(alloc, "crackd")
         .about("An in-memory table that sorts itself as it is queried")
@@ -337,7 +341,7 @@ fn program<'a>(alloc: Global) -> Built<'a> {
         .arg(option_of(alloc, &WORDS_CHOICE).global(true))
 }
 
-/// The common form of command lines.
+/// The program's command with its subcommands.
 fn command_line<'a>(alloc: Global) -> Built<'a> {
     let with_script = with_subcommand(program(alloc), script_command(alloc));
     let with_batch = with_subcommand(with_script, batch_command(alloc));
@@ -370,7 +374,7 @@ fn splits_of(alloc: Global, matches: &ArgMatches<'_>) -> Result<Vec<Bound>, Argu
     Ok(splits)
 }
 
-/// The limits: those that are given, `DEFAULT_CELLS`, and the greatest of the others.
+/// The limits on the command line. The defaults are `DEFAULT_CELLS` and the greatest of the other limits.
 fn limits_of(matches: &ArgMatches<'_>) -> Limits {
     let greatest = Limits::of_history(GREATEST_LIMIT);
     Limits {
@@ -381,7 +385,7 @@ fn limits_of(matches: &ArgMatches<'_>) -> Limits {
     }
 }
 
-/// What a partition does at its limits.
+/// Whether upkeep is automatic or on request.
 fn upkeep_of(matches: &ArgMatches<'_>) -> Upkeep {
     if matches.get_flag("auto-checkpoint") {
         Upkeep::Automatic
@@ -414,11 +418,12 @@ fn port_of(matches: &ArgMatches<'_>) -> Result<u16, ArgumentsError> {
 fn staffed_of(alloc: Global, matches: &ArgMatches<'_>) -> Result<Staffed, ArgumentsError> {
     Ok(Staffed {
         workers: number_of(matches, "workers")?,
+        is_audited: matches.get_flag("audit"),
         opening: opening_of(alloc, matches)?,
     })
 }
 
-/// How many sessions a server has, or that it serves until its input ends: one of the two is given.
+/// The number of sessions, or `None` to serve until the input ends. Exactly one of the two options must be given.
 fn sessions_of(matches: &ArgMatches<'_>) -> Result<Option<u64>, ArgumentsError> {
     let sessions = matches.get_one::<u64>("sessions");
     if sessions.is_some() == matches.get_flag("until-eof") {
@@ -427,7 +432,7 @@ fn sessions_of(matches: &ArgMatches<'_>) -> Result<Option<u64>, ArgumentsError> 
     Ok(sessions)
 }
 
-/// How many clients may be connected at once.
+/// The number of clients that may be connected at once, if it is 1 to `MOST_CLIENTS`.
 fn clients_of(matches: &ArgMatches<'_>) -> Result<u64, ArgumentsError> {
     match matches.get_one::<u64>("clients").unwrap_or(DEFAULT_CLIENTS) {
         clients if clients > 0 && clients <= MOST_CLIENTS => Ok(clients),
@@ -435,13 +440,13 @@ fn clients_of(matches: &ArgMatches<'_>) -> Result<u64, ArgumentsError> {
     }
 }
 
-/// How long a server waits for connections that are busy, in seconds: 0 to 2^32 - 1.
+/// How many seconds a server waits for busy connections, 0 to 2^32 - 1.
 fn drain_of(matches: &ArgMatches<'_>) -> Result<u32, ArgumentsError> {
     let seconds = matches.get_one::<u64>("drain").unwrap_or(DEFAULT_DRAIN);
     u32::try_from(seconds).map_err(|_| ArgumentsError::Bad)
 }
 
-/// How long a connection may wait for its client, in seconds: 1 to 2^32 - 1.
+/// How many seconds a connection may wait for its client, 1 to 2^32 - 1, or `None` for any time.
 fn idle_of(matches: &ArgMatches<'_>) -> Result<Option<u32>, ArgumentsError> {
     let Some(seconds) = matches.get_one::<u64>("idle") else {
         return Ok(None);
@@ -495,13 +500,13 @@ fn request_of(alloc: Global, matches: &ArgMatches<'_>) -> Result<Request, Argume
     }
 }
 
-/// Whether a command line asks for explained errors.
+/// Whether a command line has the option that explains errors.
 pub fn asks_for_words(words: &[String]) -> bool {
     words.iter().any(|word| word.as_str() == WORDS)
 }
 
-/// The parser's text if it returns no matches: the help or the version that was asked for, or why there is no
-/// request.
+/// The outcome of a command line without matches: the text of the help or the version, if it was requested, or the
+/// error.
 fn unmatched(
     alloc: Global,
     error: &clap::Error,
@@ -517,7 +522,7 @@ fn unmatched(
     }
 }
 
-/// A mistake with the parser's own text, without the line feeds at its end.
+/// An error with the parser's own text, without the line feeds at its end.
 fn explained(alloc: Global, error: &clap::Error) -> Result<ArgumentsError, AllocError> {
     let text = error.to_string(alloc)?;
     let line = String::from_str(alloc, text.trim_end())?;
@@ -525,7 +530,7 @@ fn explained(alloc: Global, error: &clap::Error) -> Result<ArgumentsError, Alloc
     Ok(ArgumentsError::Explained(line))
 }
 
-/// Reads the words of a command line, the program's name first.
+/// Parses the words of a command line, the first of which is the program's name.
 pub fn read(alloc: Global, words: &[String]) -> Result<Request, ArgumentsError> {
     match command_line(alloc)?.try_get_matches_from(words) {
         Ok(matches) => {

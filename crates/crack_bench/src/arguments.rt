@@ -1,4 +1,4 @@
-//! The words of a command line.
+//! The arguments of the command line.
 
 use crack_row::Policy;
 use std::alloc::Global;
@@ -16,7 +16,7 @@ pub fn policy_of(name: &str) -> Option<Policy> {
     }
 }
 
-/// The numbers that the words are, each of which fits its type.
+/// Parses numbers, each of which must fit its type.
 pub fn numbers_of<N: FromStr<Err = ParseIntError> + Drop>(
     alloc: Global,
     words: &[&str],

@@ -1,13 +1,16 @@
-//! Prints histories of workers on threads of their own, who ask a table of three partitions seeded random commands and
-//! are gathered: `crack_bench histories SEED WORKERS STATEMENTS POLICY LIMIT CELLS LIFE`. STATEMENTS are those of each
-//! worker, LIMIT is that of each history, CELLS and LIFE are the other limits of each partition.
+//! Prints the histories of a table of three partitions. Its workers, each on its own thread, ask seeded random
+//! commands, and are then gathered:
+//! `crack_bench histories SEED WORKERS STATEMENTS POLICY LIMIT CELLS LIFE`.
 //!
-//! It writes for each worker, after `worker W`, its commands and their replies, and after `receipts W` its receipts;
-//! then for each partition, after `partition P`, the entries of its history, with `partition P folded N inserted I
-//! deleted D rows R` and R lines `P.S K V` before them if it was checkpointed; and the totals. A command is written as
-//! a session's statement, with the partition's number before it, in a receipt the position and the worker besides, and
-//! in an entry the worker alone; the lines of the reply follow. A gathering that is refused ends the run with its
-//! refusal, in place of the histories.
+//! STATEMENTS is the number of each worker's statements, LIMIT that of each history's entries; CELLS and LIFE are
+//! the other limits of each partition.
+//!
+//! The run writes for each worker, after `worker W`, its commands and checkpoints with their outcomes, and after
+//! `receipts W` its receipts; then for each partition, after `partition P`, the entries of its history since it was
+//! opened, or after `partition P folded N` if its last checkpoint was after N of them; and the totals. A command is
+//! written as a session's statement, after the partition's number; in a receipt after the partition's number, the
+//! position and the worker; in an entry after the worker. The lines of the reply follow. If the gathering is
+//! refused, the run ends with the refusal, in place of the histories.
 
 mod draws;
 mod gate;
@@ -29,7 +32,7 @@ fn run_planned<R: Host>(rt: &R, plan: Plan) -> anyhow::Result<()> {
     Ok(())
 }
 
-/// Prints the histories that a policy and the other words ask for.
+/// Prints the histories for a policy and the other arguments.
 fn run_numbered<R: Host>(rt: &R, policy: Policy, words: &[&str]) -> anyhow::Result<()> {
     let numbers = numbers_of(rt.alloc(), words)?;
     let plan = match numbers.as_slice() {
@@ -54,7 +57,7 @@ fn run_numbered<R: Host>(rt: &R, policy: Policy, words: &[&str]) -> anyhow::Resu
     }
 }
 
-/// Prints the histories that the words ask for.
+/// Prints the histories that the arguments ask for.
 pub fn run<R: Host>(rt: &R, words: &[&str]) -> anyhow::Result<()> {
     let [seed, workers, statements, policy, limit, cells, life] = words else {
         return explained(None);

@@ -1,13 +1,13 @@
 //! Measures the table, layer by layer, and prints histories of its workers:
 //!
 //! - `crack_bench arena|column ..`: one layer on one thread;
-//! - `crack_bench counts|sums|each|rising|narrow|cold|pass|updates|ageing|merge|pulls|fold ..`: a partition;
+//! - `crack_bench counts|sums|each|rising|narrow|cold|pass|updates|ageing|climb|merge|pulls|fold ..`: a partition;
 //! - `crack_bench workers ..`: workers on threads;
-//! - `crack_bench histories ..`: what workers on threads asked and were answered;
+//! - `crack_bench histories ..`: what workers on threads asked, and the answers;
 //! - `crack_bench all`: small runs of these.
 //!
-//! The module of each says which words follow. The results of a measurement go to standard output: they depend only on
-//! the words. Times go to standard error, in nanoseconds, a line `NAME NUMBER` each.
+//! Each module's comment says which arguments follow. The results of a measurement depend only on the arguments, and
+//! go to standard output. Times go to standard error, in nanoseconds, one line `NAME NUMBER` each.
 #![tactic(auto)]
 
 mod arguments;
@@ -20,9 +20,8 @@ mod workers;
 use arguments::policy_of;
 use report::{Host, explained};
 use std::env;
-use workers::Kind;
 
-/// The words of small runs, whose results are always the same.
+/// The arguments of small runs whose results are always the same.
 const ALL: &[&[&str]] = &[
     &["arena", "2000", "100"],
     &["column", "100"],
@@ -38,11 +37,11 @@ const ALL: &[&[&str]] = &[
     &["workers", "gathered", "2", "50"],
     &["workers", "folded", "2", "50"],
     &["workers", "ask", "50", "20"],
-    &["workers", "witnessed", "own", "2", "50", "20"],
-    &["workers", "witnessed", "shared", "2", "50", "20"],
-    &["workers", "witnessed", "gathered", "2", "50"],
-    &["workers", "witnessed", "folded", "2", "50"],
-    &["workers", "witnessed", "ask", "50", "20"],
+    &["workers", "unaudited", "own", "2", "50", "20"],
+    &["workers", "unaudited", "shared", "2", "50", "20"],
+    &["workers", "unaudited", "gathered", "2", "50"],
+    &["workers", "unaudited", "folded", "2", "50"],
+    &["workers", "unaudited", "ask", "50", "20"],
     &["workers", "bare", "50", "20"],
     &[
         "histories",
@@ -56,11 +55,11 @@ const ALL: &[&[&str]] = &[
     ],
 ];
 
-/// Runs what the words ask for.
+/// Runs what the arguments ask for.
 fn run<R: Host>(rt: &R, words: &[&str]) -> anyhow::Result<()> {
     match words {
-        ["workers", "witnessed", name, rest @ ..] => workers::run(rt, Kind::Witnessed, name, rest),
-        ["workers", name, rest @ ..] => workers::run(rt, Kind::Booked, name, rest),
+        ["workers", "unaudited", name, rest @ ..] => workers::run(rt, false, name, rest),
+        ["workers", name, rest @ ..] => workers::run(rt, true, name, rest),
         ["histories", rest @ ..] => histories::run(rt, rest),
         [name @ ("arena" | "column"), rest @ ..] => single::run(rt, name, None, rest),
         [name, policy, rest @ ..] => single::run(rt, name, policy_of(policy), rest),

@@ -8,12 +8,12 @@ use std::sync::Wait;
 use std::thread::Threads;
 use std::time::Instant;
 
-/// The handles with which results and times are written.
+/// The handles that write results and times.
 pub trait Output: Alloc<A = Global> + Print + Eprint + Clock {}
 
 impl<R: Alloc<A = Global> + Print + Eprint + Clock> Output for R {}
 
-/// The same, and to start threads and wait for them.
+/// The handles of `Output`, and those that start threads and wait for them.
 pub trait Host: Output + Threads + Wait + Sync {}
 
 impl<R: Output + Threads + Wait + Sync> Host for R {}
@@ -40,14 +40,14 @@ impl From<io::Error> for Failure {
     }
 }
 
-/// Writes how long a part took. Returns when the next one begins.
+/// Writes how long a part took. Returns the time at which the next part begins.
 pub fn report<R: Output>(rt: &R, name: &str, since: Instant) -> io::Result<Instant> {
     let nanoseconds = since.elapsed(rt)?.as_nanos();
     eprintln!(rt; "{name} {nanoseconds}")?;
     Instant::now(rt)
 }
 
-/// How a measurement ended, as the program ends; none if the words name no measurement.
+/// Turns a measurement's outcome into the program's. `None` means that the arguments name no measurement.
 pub fn explained(outcome: Option<Outcome>) -> anyhow::Result<()> {
     match outcome {
         Some(Ok(())) => Ok(()),

@@ -1,18 +1,19 @@
-//! Workers at their tables, with what they ask, which work on threads of their own.
+//! Workers at a table, each with its questions, on threads of their own.
 
 use crack_row::{Command, Policy, Refusal, Reply};
-use crack_table::{Gate, Table, Worker};
+use crack_table::{Gate, Table};
+use crack_witness::{Naming, Worker};
 use std::alloc::Global;
 use std::sync::Wait;
 use std::thread::Threads;
 use std::{mem, thread};
 
-/// A table or partitions, which answer commands.
+/// What answers commands: a table or partitions.
 pub trait Asks {
     fn ask(&mut self, part: u32, command: Command) -> Result<Reply, Refusal>;
 }
 
-/// The number that a reply has; 0 if it has none.
+/// The serial, count or sum of a reply, or 0 if it has none; `u64::MAX` for a sum that isn't a `u64`.
 pub fn number_of(reply: &Reply) -> u64 {
     match reply {
         Reply::Placed(serial) => serial.0,
@@ -24,81 +25,41 @@ pub fn number_of(reply: &Reply) -> u64 {
 
 /// A worker at its table.
 pub trait Works: Asks {
-    /// Makes a checkpoint of a partition. Returns how many entries its history had.
+    /// Makes a checkpoint of a partition. Returns how many commands the partition accepted since the last one.
     fn checkpoint(&mut self, part: u32) -> Result<u64, Refusal>;
 }
 
-/// What a worker asks.
+/// The questions of a worker.
 pub trait Questions {
     /// Has the worker ask the next `count` questions.
     fn ask_next<A: Works>(&mut self, worker: &mut A, count: u64);
 }
 
-/// A table that workers of one kind ask.
-pub trait AskedBy<W> {
-    /// Has a worker ask a partition.
-    fn answer<R: Wait, G: Gate>(
-        &self,
-        rt: &R,
-        worker: &mut W,
-        gate: &G,
-        part: u32,
-        command: Command,
-        policy: Policy,
-    ) -> Result<Reply, Refusal>;
-
-    /// Has a worker make a checkpoint of a partition.
-    fn checkpoint_by<R: Wait>(&self, rt: &R, worker: &mut W, part: u32) -> Result<u64, Refusal>;
-}
-
-impl AskedBy<Worker> for Table {
-    fn answer<R: Wait, G: Gate>(
-        &self,
-        rt: &R,
-        worker: &mut Worker,
-        gate: &G,
-        part: u32,
-        command: Command,
-        policy: Policy,
-    ) -> Result<Reply, Refusal> {
-        worker.ask(rt, self, gate, part, command, policy)
-    }
-
-    fn checkpoint_by<R: Wait>(
-        &self,
-        rt: &R,
-        worker: &mut Worker,
-        part: u32,
-    ) -> Result<u64, Refusal> {
-        worker.checkpoint(rt, self, part)
-    }
-}
-
 /// A worker at a table, with the gate and the policy of its commands.
 #[derive(Drop)]
-pub struct Seated<'a, R: Wait, G: Gate, T, W> {
+pub struct Seated<'a, R: Wait, G: Gate, J: Naming> {
     pub rt: &'a R,
     pub gate: &'a G,
-    pub table: &'a T,
+    pub table: &'a Table<J>,
     pub policy: Policy,
-    pub worker: W,
+    pub worker: Worker<J>,
 }
 
-impl<'a, R: Wait, G: Gate, T: AskedBy<W>, W> Asks for Seated<'a, R, G, T, W> {
+impl<'a, R: Wait, G: Gate, J: Naming> Asks for Seated<'a, R, G, J> {
     fn ask(&mut self, part: u32, command: Command) -> Result<Reply, Refusal> {
         let worker = &mut self.worker;
         self.table
-            .answer(self.rt, worker, self.gate, part, command, self.policy)
+            .ask(self.rt, self.gate, worker, part, command, self.policy)
     }
 }
 
-impl<'a, R: Wait, G: Gate, T: AskedBy<W>, W> Works for Seated<'a, R, G, T, W> {
+impl<'a, R: Wait, G: Gate, J: Naming> Works for Seated<'a, R, G, J> {
     fn checkpoint(&mut self, part: u32) -> Result<u64, Refusal> {
-        self.table.checkpoint_by(self.rt, &mut self.worker, part)
+        self.table.checkpoint(self.rt, part)
     }
 }
 
-/// A worker, and what it asks.
+/// A worker and its questions.
 #[derive(Drop)]
 pub struct Hand<A, Q> {
     pub worker: A,
@@ -106,15 +67,16 @@ pub struct Hand<A, Q> {
 }
 
 impl<A: Works, Q: Questions> Hand<A, Q> {
-    /// The same worker, once it has asked its next `count` questions; meanwhile it was where only its own thread
-    /// writes.
+    /// Has the worker ask its next `count` questions. It is taken by value, so that meanwhile only its own thread
+    /// writes near it.
     fn worked(mut self, count: u64) -> Hand<A, Q> {
         self.questions.ask_next(&mut self.worker, count);
         self
     }
 }
 
-/// Has each worker ask its next `count` questions, on threads of their own. Without memory no worker is left.
+/// Has each worker ask its next `count` questions on a thread of its own. If no memory is found, `hands` is left
+/// empty.
 pub fn work_on_threads<
     R: Threads + Wait + Sync,
     A: Works + Send + Drop,
@@ -125,10 +87,10 @@ pub fn work_on_threads<
     Ok(())
 }
 
-/// Adds the workers to `left`, without their seats and questions.
-pub fn leave<R: Wait, G: Gate, T, W: Drop, Q: Drop>(
-    hands: Vec<Hand<Seated<R, G, T, W>, Q>>,
-    left: &mut Vec<W>,
+/// Moves the workers to `left`, without their questions.
+pub fn leave<R: Wait, G: Gate, J: Naming, Q: Drop>(
+    hands: Vec<Hand<Seated<R, G, J>, Q>>,
+    left: &mut Vec<Worker<J>>,
 ) -> Result<(), Refusal> {
     'hands: for hand in hands {
         left.push(hand.worker.worker)?;

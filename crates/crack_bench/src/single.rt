@@ -1,4 +1,4 @@
-//! Measurements on one thread, of the arena, the cracker column and a partition that merges by a policy:
+//! Measurements on one thread, of the arena, of the cracker column, and of a partition that merges by a policy:
 //! `crack_bench arena STEPS ROWS`, `crack_bench column ROWS`,
 //! `crack_bench counts|sums|each|rising|narrow|cold|pass POLICY ROWS RANGES`,
 //! `crack_bench updates|ageing|climb POLICY ROWS BATCHES SIZE`,
@@ -19,8 +19,7 @@ use crate::single::partition::Sizes;
 use crate::single::steps::kind_of;
 use crack_row::Policy;
 
-/// Carries out the measurement of a partition with this name; none if it has another number of numbers besides the
-/// rows.
+/// Carries out the measurement of a partition with this name and this many numbers, if there is one.
 fn measured_partition<R: Output>(
     rt: &R,
     name: &str,
@@ -40,7 +39,7 @@ fn measured_partition<R: Output>(
     Some(steps::measure(rt, kind, policy, sizes))
 }
 
-/// Carries out the measurement with this name, policy and numbers; none if there is no such measurement.
+/// Carries out the measurement with this name, policy and numbers, if there is one.
 fn measured<R: Output>(
     rt: &R,
     name: &str,
@@ -55,7 +54,7 @@ fn measured<R: Output>(
     }
 }
 
-/// Carries out the measurement with this name, this policy and the numbers that the words are.
+/// Carries out the measurement with this name and policy; the arguments are its numbers.
 pub fn run<R: Output>(
     rt: &R,
     name: &str,

@@ -1,27 +1,21 @@
-//! Measures workers on threads, the cost of a worker's call besides its partition, and the gathering:
-//! `crack_bench workers own|shared WORKERS ROWS STEPS`, `crack_bench workers ask|bare ROWS STEPS`, or
-//! `crack_bench workers gathered|folded|loaded WORKERS ROWS`. ROWS are those of each partition, of which there are two
-//! for each worker; a step has four statements. The workers keep receipts; with `witnessed` after `workers`, but for
-//! `bare`, they are those of a table that witnesses its replies.
+//! Measures workers on threads, the cost of a worker's call beyond its partition's, and the gathering:
+//! `crack_bench workers own|shared WORKERS ROWS STEPS`, `crack_bench workers ask|bare ROWS STEPS`,
+//! or `crack_bench workers gathered|folded|loaded WORKERS ROWS`.
+//!
+//! ROWS is the number of rows of each partition; each worker has two partitions. A step has four statements. The
+//! table has an audit, so its workers keep receipts, unless `unaudited` follows `workers`, which `bare` doesn't
+//! take.
 
 mod bare;
-mod booked;
 mod measuring;
 mod mix;
-mod witnessed;
+mod opening;
 
 use crate::arguments::numbers_of;
 use crate::report::{Host, Outcome, explained};
 use crate::workers::measuring::{End, Run, Sharing, Work};
 
-/// The kinds of tables.
-#[derive(Clone, Copy)]
-pub enum Kind {
-    Booked,
-    Witnessed,
-}
-
-/// The run that a name and the numbers after it ask for.
+/// The run with this name and these numbers.
 fn run_of(name: &str, numbers: &[u32]) -> Option<Run> {
     let (workers, rows, sharing, work) = match (name, numbers) {
         ("ask", [rows, steps]) => (1, *rows, Sharing::Own, Work::Alone { steps: *steps }),
@@ -59,19 +53,18 @@ fn run_of(name: &str, numbers: &[u32]) -> Option<Run> {
     })
 }
 
-/// Carries out the measurement with this name and these numbers; none if there is no such measurement.
-fn measured<R: Host>(rt: &R, kind: Kind, name: &str, numbers: &[u32]) -> Option<Outcome> {
-    match (kind, name, numbers) {
-        (Kind::Booked, "bare", [rows, steps]) => Some(bare::run(rt, *rows, *steps)),
-        (Kind::Booked, _, _) => Some(booked::run(rt, run_of(name, numbers)?)),
-        (Kind::Witnessed, _, _) => Some(witnessed::run(rt, run_of(name, numbers)?)),
+/// Carries out the measurement with this name and these numbers, if there is one.
+fn measured<R: Host>(rt: &R, is_audited: bool, name: &str, numbers: &[u32]) -> Option<Outcome> {
+    match (is_audited, name, numbers) {
+        (true, "bare", [rows, steps]) => Some(bare::run(rt, *rows, *steps)),
+        _ => Some(opening::run(rt, is_audited, run_of(name, numbers)?)),
     }
 }
 
-/// Carries out the measurement with this name and the numbers that the words are, over a table of this kind.
-pub fn run<R: Host>(rt: &R, kind: Kind, name: &str, words: &[&str]) -> anyhow::Result<()> {
+/// Carries out the measurement with this name, over a table with an audit or without; the arguments are its numbers.
+pub fn run<R: Host>(rt: &R, is_audited: bool, name: &str, words: &[&str]) -> anyhow::Result<()> {
     let numbers = numbers_of(rt.alloc(), words)?;
-    let outcome = measured(rt, kind, name, numbers.as_slice());
+    let outcome = measured(rt, is_audited, name, numbers.as_slice());
     drop(numbers);
     explained(outcome)
 }

@@ -1,5 +1,5 @@
 -- What a column's handles are and what it remembers, place by place, after a row was put at a place or a stretch was cracked.
-use Rattle.std.proofs.Common.{◌≡◌, ◌≢◌, ℕ, suc, ◌+◌, ◌-◌, ◌<◌, ◌≤◌, ◌^◌, List, [], ◌∷◌, ◌++◌, length, map, get_or, set, take, drop, slice_get, Some, refl, sym, ap, ◌∙◌, inl, inr, arith, length-append, length-set}
+use Rattle.std.proofs.Common.{◌≡◌, ◌≢◌, ℕ, suc, ◌+◌, ◌-◌, ◌%◌, ◌<◌, ◌≤◌, ◌^◌, List, [], ◌∷◌, ◌++◌, length, map, get_or, set, take, drop, slice_get, Some, refl, sym, ap, ◌∙◌, inl, inr, arith, length-append, length-set}
 use Rattle.std.specs.Prelude.{remove}
 use Rattle.std.specs.List.{All, between}
 use Rattle.std.specs.List.Sorted.{IsPermutation}
@@ -104,6 +104,10 @@ aside-longer gs ts len = drop-map (aside_of gs) 1 (drop len ts) ∙ ap (λ (xs :
 pub aside-shorter : (gs : List ℕ) (ts : List Tag) (len : ℕ) → len < length ts → aside_in gs ts len ≡ aside_of gs (get_or ts len no_tag) ∷ aside_in gs ts (len + 1)
 aside-shorter gs ts len inside = ap (λ (xs : List Tag). map (aside_of gs) xs) (drop_more ts len no_tag inside)
 
+-- a slot of 24 bits is all of its lowest 24 bits
+lowest : (n : ℕ) → n < 16777216 → n % 16777216 ≡ n
+lowest n fits = omega (arith, fits)
+
 -- a row was put at a place
 module _ (gs : List ℕ) (ts : List Tag) (place : ℕ) (h : Handle) (m : Memory) (gs' : List ℕ) (ts' : List Tag) (out : Handle) (known : Memory) (len : ℕ) (are : AreDrawn gs ts len) (inside : place < length ts) (kept : Kept gs ts place h m gs' ts' out known) where
   pub length-Kept : length ts' ≡ length ts
@@ -131,12 +135,12 @@ module _ (gs : List ℕ) (ts : List Tag) (place : ℕ) (h : Handle) (m : Memory)
   handle_now : tag_handle gs' (get_or ts' place no_tag) ≡ h
   handle_now =
       let generation : get_or gs' (get_or ts place no_tag).ticket 0 ≡ h.generation = rw kept.generations_are (get_or-set_same gs (get_or ts place no_tag).ticket h.generation 0 (are.drawn place no_tag inside)) in
-      rw tag_now (ap (λ g. let k : Handle = record { slot = h.slot; generation = g } in k) generation)
+      rw (tag_now, lowest h.slot kept.fits) (ap (λ g. let k : Handle = record { slot = h.slot; generation = g } in k) generation)
 
   other_handle : (k : ℕ) → k ≢ place → k < length ts → tag_handle gs' (get_or ts' k no_tag) ≡ tag_handle gs (get_or ts k no_tag)
   other_handle k ne within =
       let generation : get_or gs' (get_or ts k no_tag).ticket 0 ≡ get_or gs (get_or ts k no_tag).ticket 0 = rw kept.generations_are (get_or-set_other gs (get_or ts place no_tag).ticket (get_or ts k no_tag).ticket h.generation 0 (apart ts place k inside within ne (are.once (get_or ts place no_tag).ticket))) in
-      rw (other_tag k ne) (ap (λ g. let n : Handle = record { slot = (get_or ts k no_tag).slot; generation = g } in n) generation)
+      rw (other_tag k ne) (ap (λ g. let n : Handle = record { slot = (get_or ts k no_tag).slot % 16777216; generation = g } in n) generation)
 
   -- as many tags as before, or one more where the place was after the end
   pub AreDrawn-Kept : (len' : ℕ) → len' ≤ length ts → AreDrawn gs' ts' len'
@@ -246,15 +250,15 @@ module _ (gs : List ℕ) (ts : List Tag) (h : Handle) (m : Memory) (are : AreDra
       ext_get_or no_handle (handles_in (gs ++ h.generation ∷ []) (ts ++ (tag_for (length gs) h m) ∷ []) (length ts)) (handles_in gs ts (length ts)) (omega arith) (λ k l.
       let t : Tag = get_or ts k no_tag in
       let old : get_or (gs ++ h.generation ∷ []) t.ticket 0 ≡ get_or gs t.ticket 0 = get_or_append_left gs (h.generation ∷ []) 0 t.ticket (are.drawn k no_tag (omega arith)) in
-      rw (handle_in (gs ++ h.generation ∷ []) (ts ++ (tag_for (length gs) h m) ∷ []) (length ts) k no_handle within (omega arith), handle_in gs ts (length ts) k no_handle are.within (omega arith), get_or_append_left ts ((tag_for (length gs) h m) ∷ []) no_tag k (omega arith)) (ap (λ g. let n : Handle = record { slot = t.slot; generation = g } in n) old))
+      rw (handle_in (gs ++ h.generation ∷ []) (ts ++ (tag_for (length gs) h m) ∷ []) (length ts) k no_handle within (omega arith), handle_in gs ts (length ts) k no_handle are.within (omega arith), get_or_append_left ts ((tag_for (length gs) h m) ∷ []) no_tag k (omega arith)) (ap (λ g. let n : Handle = record { slot = t.slot % 16777216; generation = g } in n) old))
 
-  pub aside-draw : aside_in (gs ++ h.generation ∷ []) (ts ++ (tag_for (length gs) h m) ∷ []) (length ts) ≡ (record { handle = h; memory = m }) ∷ drop 1 (aside_in gs ts (length ts))
-  aside-draw =
+  pub aside-draw : h.slot < 16777216 → aside_in (gs ++ h.generation ∷ []) (ts ++ (tag_for (length gs) h m) ∷ []) (length ts) ≡ (record { handle = h; memory = m }) ∷ drop 1 (aside_in gs ts (length ts))
+  aside-draw fits =
       let newest : get_or (gs ++ h.generation ∷ []) (length gs) 0 ≡ h.generation = get_or_push gs h.generation 0 (length gs) refl in
       let last : drop (length ts) (ts ++ (tag_for (length gs) h m) ∷ []) ≡ (tag_for (length gs) h m) ∷ [] = drop-append_seam ts ((tag_for (length gs) h m) ∷ []) in
       let none : drop (length ts) ts ≡ [] = drop-length ts in
       let by_generation : ℕ → List Aside = λ g. (record { handle = record { slot = h.slot; generation = g }; memory = m }) ∷ [] in
-      rw (last, none) (ap by_generation newest)
+      rw (last, none, lowest h.slot fits) (ap by_generation newest)
 
 -- the handle at a place and the one aside change places, with their tickets
 module _ (gs : List ℕ) (ts ts' : List Tag) (len place : ℕ) (are : AreDrawn gs ts len) (first : place < len) (some : len < length ts) (swapped : ts' ≡ set (set ts place (get_or ts len no_tag)) len (get_or ts place no_tag)) where

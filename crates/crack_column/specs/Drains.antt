@@ -1,4 +1,5 @@
--- A piece after pulls: each doomed row of a lower piece rotates it backwards, and each doomed row of its own is removed.
+-- A piece after pulls of doomed rows: each doomed row of a lower piece rotates the piece backwards, and each doomed
+-- row of its own is removed.
 use Rattle.std.specs.Prelude.{◌≡◌, ℕ, ◌+◌, ◌-◌, Bool, true, cond, nat_lt, Option, Some, None, List, [], ◌∷◌, ◌++◌, length, take, drop, slice_index_or, slice_set}
 use Rattle.std.specs.List.{between, position_or_len}
 use Rattle.crack_arena.specs.Arena.{Handle, no_handle, same_handle}
@@ -7,7 +8,7 @@ use Rattle.crack_column.specs.declared.draining.Doomed.{Doomed}
 use Rattle.crack_column.specs.Column.{Column}
 use Rattle.crack_column.specs.Sifts.{one_if_some}
 
--- the last goes before the first
+-- the last element moves to the front
 abbrev pub turned_back : {X : Type 0} → List X → List X
 turned_back rows = drop (length rows - 1) rows ++ take (length rows - 1) rows
 
@@ -15,40 +16,41 @@ turned_back rows = drop (length rows - 1) rows ++ take (length rows - 1) rows
 abbrev pub place_of : Handle → List Handle → ℕ
 place_of handle rows = position_or_len (λ h. same_handle h handle) rows
 
--- this row is removed, and the last takes its place
+-- the handle is removed, and the last one takes its place
 abbrev pub without : Handle → List Handle → List Handle
 without handle rows = take (length rows - 1) (slice_set rows (place_of handle rows) (slice_index_or rows (length rows - 1) no_handle))
 
--- 1 if the last takes the place of another
+-- 1 if the handle is there before the last one, otherwise 0
 abbrev pub one_unless_last : Handle → List Handle → ℕ
 one_unless_last handle rows = cond (nat_lt (place_of handle rows + 1) (length rows)) 1 0
 
--- `key` and handle of each doomed row
+-- `key` and `handle` of each doomed row
 module _ {D : Type 0} (key : D → ℕ) (handle : D → Handle) where
-  -- a piece that begins at this bound after the pull of a doomed row; `own` says which doomed rows that aren't of a lower piece are of this one
+  -- a piece with the low bound `low` after one pull: a doomed row below `low` rotates the piece backwards, and one
+  -- for which `own` is true is removed
   abbrev pub drained_once : ℕ → (D → Bool) → D → List Handle → List Handle
   drained_once low own d rows = cond (nat_lt (key d) low) (turned_back rows) (cond (own d) (without (handle d) rows) rows)
 
-  -- the piece after the pulls of doomed rows, one after the other
+  -- the piece after the pulls of doomed rows, in order
   abbrev pub drained : ℕ → (D → Bool) → List D → List Handle → List Handle
   drained low own [] rows = rows
   drained low own (d ∷ ds) rows = drained low own ds (drained_once low own d rows)
 
-  -- how many rows of it are pulled
+  -- how many rows of the piece one pull moves
   abbrev pub drawn_once : ℕ → (D → Bool) → D → List Handle → ℕ
   drawn_once low own d rows = cond (nat_lt (key d) low) (one_if_some rows) (cond (own d) (one_unless_last (handle d) rows) 0)
 
-  -- how many rows the pulls of doomed rows pull, one after the other
+  -- how often the pulls of doomed rows move a row of the piece
   abbrev pub drawn : ℕ → (D → Bool) → List D → List Handle → ℕ
   drawn low own [] rows = 0
   drawn low own (d ∷ ds) rows = drawn_once low own d rows + drawn low own ds (drained_once low own d rows)
 
--- a key is below a bound, if there is one
+-- whether a key is below a bound, if there is one
 abbrev pub is_under : Option InnerBound → ℕ → Bool
 is_under None key = true
 is_under (Some bound) key = nat_lt key bound.0
 
--- how many of the doomed rows are below a bound
+-- the number of doomed rows below a bound
 abbrev pub count_below : ℕ → List Doomed → ℕ
 count_below bound [] = 0
 count_below bound (d ∷ ds) = cond (nat_lt d.key bound) 1 0 + count_below bound ds
@@ -61,12 +63,12 @@ doomed_key d = d.key
 abbrev pub doomed_handle : Doomed → Handle
 doomed_handle d = d.handle
 
--- a piece whose keys lie between these bounds, after the pulls of doomed rows
+-- a piece with these bounds, after the pulls of doomed rows
 abbrev pub left_by : ℕ → Option InnerBound → List Doomed → List Handle → List Handle
 left_by low high ds rows = drained doomed_key doomed_handle low (λ d. is_under high d.key) ds rows
 
--- doomed rows were pulled out of the piece from `from` up to `to`: the rest of it is from `start` up to `end`, this many of its rows were pulled, and
--- the rows before `start` and from `to` on are as they were
+-- doomed rows were pulled out of the piece from `from` up to `to`: the rest of it is from `start` up to `end`, its
+-- rows moved `pulled` times, and the places before `start` and from `to` on are unchanged
 pub record Drains (low : ℕ) (high : Option InnerBound) (ds : List Doomed) (start from to : ℕ) (old new : Column) (end pulled : ℕ) : Type 0 where
   pub front : take start new.handles ≡ take start old.handles
   pub piece : between start end new.handles ≡ left_by low high ds (between from to old.handles)

@@ -1,5 +1,5 @@
 -- What private clauses alone cite.
-use Rattle.std.specs.Prelude.{◌≡◌, ℕ, ◌+◌, ◌-◌, ◌≤◌, List, ◌++◌, length, map, take, drop, All, cond, nat_lt, Option, slice_index, slice_index_or, slice_set}
+use Rattle.std.specs.Prelude.{◌≡◌, ℕ, ◌+◌, ◌-◌, ◌%◌, ◌<◌, ◌≤◌, List, ◌++◌, length, map, take, drop, All, cond, nat_lt, Option, slice_index, slice_index_or, slice_set}
 use Rattle.std.specs.List.{between}
 use Rattle.std.specs.List.Sorted.{IsPermutation}
 use Rattle.crack_arena.specs.Arena.{Cell, Handle}
@@ -16,7 +16,7 @@ use Rattle.crack_column.specs.Drains.{drained_once, drawn_once, is_under, doomed
 use Rattle.crack_column.specs.declared.draining.Doomed.{Doomed}
 use Rattle.crack_row.specs.declared.InnerBound.{InnerBound}
 
--- what the tag remembers about its handle's row is right
+-- what the tag remembers agrees with its handle's row
 abbrev pub Knows : List (Cell Row) → List ℕ → Tag → Type 0
 Knows cells generations t = Agrees cells (tag_handle generations t) (memory_of t)
 
@@ -24,7 +24,7 @@ Knows cells generations t = Agrees cells (tag_handle generations t) (memory_of t
 abbrev pub Read : List (Cell Row) → List ℕ → Tag → Type 0
 Read cells generations t = memory_of t ≡ memory_at cells (tag_handle generations t)
 
--- the tag of a ticket, for a handle about whose row this is remembered
+-- the tag of a ticket, a handle, and what is remembered about the handle's row
 abbrev pub tag_for : ℕ → Handle → Memory → Tag
 tag_for ticket h m = record { key = m.key; ticket = ticket; payload = m.payload; slot = h.slot }
 
@@ -35,26 +35,27 @@ forgotten t = record t { key = unknown; payload = no_payload }
 abbrev pub no_tag : Tag
 no_tag = record { key = 0; ticket = 0; payload = no_payload; slot = 0 }
 
--- a tag is put at the place `low`, and the one that was there fills the gap
+-- the tag at `low` moves into the gap, and the new tag takes its place
 abbrev pub shifted : List Tag → ℕ → ℕ → Tag → List Tag
 shifted ts gap low t = slice_set (slice_set ts gap (slice_index_or ts low no_tag)) low t
 
--- the tag at `upper` fills the gap, the one at `place` takes the place of that one, and the new tag takes `place`
+-- the tag at `upper` moves into the gap, the tag at `place` moves to `upper`, and the new tag takes `place`
 abbrev pub turned : List Tag → ℕ → ℕ → ℕ → Tag → List Tag
 turned ts gap upper place t =
     let filled = slice_set ts gap (slice_index_or ts upper no_tag) in
     slice_set (slice_set filled upper (slice_index_or filled place no_tag)) place t
 
--- the handle is stored at the place, under the ticket there, with what is remembered about its row; the one that was stored there is returned, with
--- what was remembered
+-- the handle is stored at the place under the ticket there, with what is remembered about its row; the old handle
+-- is returned with what was remembered
 pub record Kept (generations : List ℕ) (tags : List Tag) (place : ℕ) (handle : Handle) (memory : Memory) (generations' : List ℕ) (tags' : List Tag) (out : Handle) (known : Memory) : Type 0 where
   pub generations_are : generations' ≡ slice_set generations (slice_index_or tags place no_tag).ticket handle.generation
   pub tags_are : tags' ≡ slice_set tags place (tag_for (slice_index_or tags place no_tag).ticket handle memory)
   pub out_is : out ≡ tag_handle generations (slice_index_or tags place no_tag)
   pub known_is : known ≡ memory_of (slice_index_or tags place no_tag)
+  pub fits : handle.slot < 16777216
 
--- from `from` up to `to` the same tickets and slots are in some order, divided by the bound at the place, their rows read, this many of
--- which weren't known; all else is as it was
+-- the tags from `from` up to `to` are reordered so that the bound divides them at `place`, and their rows are read,
+-- `learned` of which were unknown; all other tags are unchanged
 pub record Turns (cells : List (Cell Row)) (generations : List ℕ) (bound from to : ℕ) (tags tags' : List Tag) (place learned : ℕ) : Type 0 where
   pub stretch : List Tag
   pub are : tags' ≡ take from tags ++ stretch ++ drop to tags
@@ -69,17 +70,19 @@ pub record Turns (cells : List (Cell Row)) (generations : List ℕ) (bound from 
 abbrev pub label_of : Tag → Label
 label_of t = record { key = t.key; ticket = t.ticket; slot = t.slot }
 
--- the handle of the label's slot, and of the generation under its ticket
+-- the handle of the label's slot and of the generation under its ticket
 abbrev pub label_handle : List ℕ → Label → Handle
-label_handle generations l = record { slot = l.slot; generation = slice_index generations l.ticket }
+label_handle generations l = record { slot = l.slot % 16777216; generation = slice_index generations l.ticket }
 
--- the tags from `from` up to `to` were sifted through those from `start` up to `from`: this many are below the bound, and this many moved
+-- the tags from `from` up to `to` were sifted through those from `start` up to `from`: `below` of them are below
+-- the bound, and other tags moved `moved` times
 pub record SiftsTags (bound start from to : ℕ) (tags tags' : List Tag) (below moved : ℕ) : Type 0 where
   pub are : tags' ≡ take start tags ++ (below_bound remembered_key bound (between from to tags) ++ queued remembered_key bound (between from to tags) (between start from tags)) ++ drop to tags
   pub below_is : below ≡ length (below_bound remembered_key bound (between from to tags))
   pub moved_is : moved ≡ made_way remembered_key bound (between from to tags) (between start from tags)
 
--- the piece from `start` up to `end` after the pull of one doomed row, which pulled this many of its rows
+-- the piece from `start` up to `end` became the piece from `start'` up to `end'` by the pull of one doomed row,
+-- which moved `pulled` of its rows
 pub record DrainsOnce (low : ℕ) (high : Option InnerBound) (d : Doomed) (start end : ℕ) (handles handles' : List Handle) (start' end' pulled : ℕ) : Type 0 where
   pub piece : between start' end' handles' ≡ drained_once doomed_key doomed_handle low (λ e. is_under high e.key) d (between start end handles)
   pub turned : start' + cond (nat_lt d.key low) 1 0 ≡ start

@@ -1,5 +1,5 @@
 -- What private clauses alone cite.
--- The invariant of a column about its tickets.
+-- The invariants of a column's tickets.
 use Rattle.std.specs.Prelude.{◌≡◌, ℕ, ◌+◌, ◌<◌, ◌≤◌, ◌^◌, List, length, map, take, All, [], ◌∷◌}
 use Rattle.crack_arena.specs.Arena.{times}
 use Rattle.crack_arena.specs.Rows.{unknown}
@@ -13,11 +13,11 @@ ticket_of t = t.ticket
 abbrev pub remembered_key : Tag → ℕ
 remembered_key t = t.key
 
--- how many of the tags don't know their rows
+-- the number of tags whose rows are unknown
 abbrev pub unread_in : List Tag → ℕ
 unread_in tags = times unknown (map remembered_key tags)
 
--- each ticket belongs to one tag; the tags after the column's end keep theirs for later rows
+-- each ticket belongs to exactly one tag; the tags after the column's end keep their tickets for later rows
 pub record AreDrawn (generations : List ℕ) (tags : List Tag) (len : ℕ) : Type 0 where
   pub beside : length tags ≡ length generations
   pub within : len ≤ length tags
@@ -25,12 +25,12 @@ pub record AreDrawn (generations : List ℕ) (tags : List Tag) (len : ℕ) : Typ
   pub drawn : All (λ t. t.ticket < length generations) tags
   pub once : (ticket : ℕ) → times ticket (map ticket_of tags) ≤ 1
 
--- and this many tags of the column don't know their rows
+-- each ticket belongs to exactly one tag, and `unread` tags of the column have unknown rows
 pub record IsKept (generations : List ℕ) (tags : List Tag) (len unread : ℕ) : Type 0 where
   pub are : AreDrawn generations tags len
   pub counted : unread_in (take len tags) ≡ unread
 
--- then each ticket belongs to one tag, and this many tags of the column and the hand don't know their rows
+-- each ticket belongs to exactly one tag, and `unread` tags of the column and the hand have unknown rows
 pub record IsHeld (generations : List ℕ) (tags : List Tag) (len unread : ℕ) (hand : Tag) : Type 0 where
   pub are : AreDrawn generations (tags_with tags len hand) len
   pub some : len < length tags

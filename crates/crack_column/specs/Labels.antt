@@ -1,19 +1,19 @@
--- How tags are stored: all but their payloads in one list, the payloads in another.
+-- How tags are stored: labels in one list, payloads in another.
 use Rattle.std.specs.Prelude.{ℕ, List, [], ◌∷◌}
 use Rattle.crack_row.specs.declared.Payload.{Payload}
 use Rattle.crack_column.specs.declared.tag.Label.{Label}
 use Rattle.crack_column.specs.declared.tag.Tag.{Tag}
 
--- the tag that has this label and this payload
+-- the tag of this label and this payload
 abbrev pub tag_of : Label → Payload → Tag
 tag_of l payload = record { key = l.key; ticket = l.ticket; payload = payload; slot = l.slot }
 
--- the tags of labels and payloads side by side
+-- the tags of labels and payloads, paired place by place
 abbrev pub tags_of : List Label → List Payload → List Tag
 tags_of (l ∷ labels) (payload ∷ payloads) = tag_of l payload ∷ tags_of labels payloads
 tags_of _ _ = []
 
--- tags, and how many of them fit in without more memory
+-- the tags, and how many of them fit in the memory that was taken
 pub record TagVector : Type 0 where
   pub items : List Tag
   pub capacity : ℕ

@@ -1,4 +1,4 @@
--- A piece after rows that come after it were sifted through it one after the other.
+-- A piece after the rows after it were sifted through it, in order.
 use Rattle.std.specs.Prelude.{◌≡◌, ℕ, ◌+◌, cond, nat_lt, filter, List, [], ◌∷◌, ◌++◌, length, map, take, drop}
 use Rattle.std.specs.List.{between}
 use Rattle.crack_arena.specs.Arena.{Cell}
@@ -7,38 +7,39 @@ use Rattle.crack_row.specs.declared.Row.{Row}
 use Rattle.crack_arena.specs.Memories.{memory_at}
 use Rattle.crack_column.specs.Column.{Column}
 
--- the first goes after the last
+-- the first element moves to the end
 abbrev pub turned_once : {X : Type 0} → List X → List X
 turned_once [] = []
 turned_once (y ∷ ys) = ys ++ y ∷ []
 
--- 1 if there is a row that moves
+-- 1 if there is an element to move, otherwise 0
 abbrev pub one_if_some : {X : Type 0} → List X → ℕ
 one_if_some [] = 0
 one_if_some (y ∷ ys) = 1
 
 module _ {X : Type 0} (key : X → ℕ) where
-  -- those whose key is below a bound
+  -- the elements whose key is below a bound
   abbrev pub below_bound : ℕ → List X → List X
   below_bound bound xs = filter (λ x. nat_lt (key x) bound) xs
 
-  -- a piece that begins at this bound after incoming rows: each below the bound takes the place of the first, which moves after the last; each other
-  -- moves after the last
+  -- a piece with this low bound after incoming rows: an incoming row below the bound takes the place of the first
+  -- row, which moves to the end; any other incoming row is appended
   abbrev pub queued : ℕ → List X → List X → List X
   queued bound [] rows = rows
   queued bound (x ∷ xs) rows = queued bound xs (cond (nat_lt (key x) bound) (turned_once rows) (rows ++ x ∷ []))
 
-  -- how many rows of the piece move
+  -- how often incoming rows move a row of the piece
   abbrev pub made_way : ℕ → List X → List X → ℕ
   made_way bound [] rows = 0
   made_way bound (x ∷ xs) rows = cond (nat_lt (key x) bound) (one_if_some rows + made_way bound xs (turned_once rows)) (made_way bound xs (rows ++ x ∷ []))
 
--- what is remembered from `from` up to `to` is what the handles there read
+-- the column remembers what the handles from `from` up to `to` read
 abbrev pub AreRead : List (Cell Row) → ℕ → ℕ → Column → Type 0
 AreRead cells from to c = between from to c.remembered ≡ map (memory_at cells) (between from to c.handles)
 
--- the rows from `from` up to `to` were sifted through those from `start` up to `from`: this many are below the bound, which are first, and are
--- remembered; after them is the piece, of which this many rows moved; all else is as it was
+-- the rows from `from` up to `to` were sifted through those from `start` up to `from`: the `below` rows below the
+-- bound come first and are remembered, then comes the piece, whose rows moved `moved` times; all other rows are
+-- unchanged
 pub record Sifts (cells : List (Cell Row)) (bound start from to : ℕ) (old new : Column) (below moved : ℕ) : Type 0 where
   pub handles_are : new.handles ≡ take start old.handles ++ (below_bound (key_at cells) bound (between from to old.handles) ++ queued (key_at cells) bound (between from to old.handles) (between start from old.handles)) ++ drop to old.handles
   pub below_is : below ≡ length (below_bound (key_at cells) bound (between from to old.handles))

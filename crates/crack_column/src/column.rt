@@ -1,4 +1,4 @@
-//! The cracker column, and how a crack divides a stretch of it.
+//! The cracker column, and the cracks that divide a part of it.
 ghost use Rattle.std.specs.Prelude.{◌≡◌, ◌+◌, ◌-◌, ◌<◌, ◌≤◌, ◌^◌, ◌↔◌, List, [], ◌∷◌, ◌++◌, Some, length, vec_len};
 ghost use Rattle.std.specs.Prelude.{slice_get, slice_index_or, slice_set, vec_capacity, IsTrue, OnOk, OnErr, IfErr};
 ghost use Rattle.std.specs.Prelude.{All, MatchOption, take, drop, pos, neg_ℤ, ◌≤ℤ◌, ◌*◌};
@@ -14,26 +14,26 @@ ghost use Rattle.crack_column.specs.Sifts.{AreRead, Sifts};
 ghost use Rattle.crack_column.specs.Tickets.{handles_in, room_in, aside_in};
 ghost use Rattle.crack_column.specs.Inside.{Knows, Turns, Kept, tag_for};
 
-use crate::tag::Tag;
+use crate::tag::{SLOTS, Tag};
 use crate::tags::Tags;
-use crack_arena::{Arena, Handle, Remembered};
+use crack_arena::{Arena, Generation, Handle, Remembered, Slot};
 use crack_row::{InnerBound, Key, Refusal, Row};
 use std::alloc::Global;
 use std::marker::Model;
 use std::mem;
 
-/// Handles in cracked order. A crack exchanges tags, one at each place: a tag has its row's key and payload, the
-/// handle's slot, and the ticket under which the handle's generation is kept, which no crack moves. The payloads are
-/// stored separately, so that a sum of known rows reads only them. A ticket has 32 bits, so there are at most
+/// Handles in cracked order. Each place has a tag: the row's key and payload if the row is known, the handle's
+/// slot, and the ticket under which the handle's generation is stored, so a crack exchanges only tags. Payloads are
+/// in a list of their own, so a sum of known rows reads nothing else. A ticket has 32 bits, so there are at most
 /// `MOST_PLACES` places. A row is read from the arena at most once, unless it has the greatest key.
 #[derive(Drop)]
 pub struct CrackerColumn {
     /// By ticket.
-    pub(crate) generations: Vec<u64>,
-    /// In cracked order; those after `len` keep their tickets for later rows.
+    pub(crate) generations: Vec<Generation>,
+    /// In cracked order. Those from `len` on keep their tickets for later rows.
     pub(crate) tags: Tags,
     pub(crate) len: usize,
-    /// How many tags don't know their rows.
+    /// The number of tags before `len` whose rows are unknown.
     pub(crate) unread: usize,
 }
 
@@ -56,7 +56,7 @@ impl Model for CrackerColumn {
 }
 
 impl CrackerColumn {
-    /// A column without handles. Takes no memory.
+    /// Makes a column without handles. Takes no memory.
     pub fn new(alloc: Global) -> CrackerColumn
         ensures handles { result.handles ≡ [] }
         ensures remembered { result.remembered ≡ [] }
@@ -72,7 +72,7 @@ impl CrackerColumn {
         }
     }
 
-    /// Takes the column, and leaves one without handles in its place. O(1), and takes no memory.
+    /// Takes the column, and leaves a column without handles in its place. O(1), takes no memory.
     pub fn take(&mut self) -> CrackerColumn
         ensures { result ≡ self.old }
     {
@@ -103,15 +103,15 @@ impl CrackerColumn {
         self.tags.label(place).handle(&self.generations)
     }
 
-    /// The slot of the handle at the place. O(1), and reads only that place.
+    /// The slot of the handle at the place. O(1). Reads nothing but that place.
     pub fn slot_at(&self, place: usize) -> u32
         requires { place < length self.now.handles }
         ensures { result ≡ (slice_index_or self.now.handles place no_handle).slot }
     {
-        self.tags.label(place).slot
+        self.tags.label(place).slot % SLOTS
     }
 
-    /// The first place of the handle; none if it isn't there. O(n).
+    /// The first place of the handle, if it is in the column. O(n).
     pub fn place_of(&self, handle: Handle<Row>) -> Option<usize>
         ensures { MatchOption result (IsAbsent self.now.handles handle) (IsFirstAt self.now.handles handle) }
     {
@@ -119,7 +119,7 @@ impl CrackerColumn {
             .find_between(0, self.len, &self.generations, handle)
     }
 
-    /// The first place of the handle in `from..to`; none if it isn't there. O(to - from).
+    /// The first place of the handle in `from..to`, if it is there. O(to - from).
     pub fn place_between(&self, from: usize, to: usize, handle: Handle<Row>) -> Option<usize>
         requires order { from ≤ to }
         requires within { to ≤ length self.now.handles }
@@ -133,8 +133,8 @@ impl CrackerColumn {
         }
     }
 
-    /// The sum of the payloads of the rows at the places `from..to`. O(to - from), takes no memory.
-    /// The arena is read only for rows that aren't known.
+    /// The sum of the payloads of the rows at the places `from..to`. O(to - from), takes no memory. The arena is
+    /// read only for unknown rows.
     pub fn sum_between(&self, from: usize, to: usize, arena: &Arena<Row>) -> i128
         requires order { from ≤ to }
         requires within { to ≤ length self.now.handles }
@@ -148,8 +148,8 @@ impl CrackerColumn {
             .sum_between(from, to, self.unread, &self.generations, arena)
     }
 
-    /// Makes room for this many more handles. A handle of each cell of an arena fits.
-    /// Refused with 8 if it finds no memory; what it found is freed.
+    /// Makes room for this many more handles. The handles of all cells of an arena fit. Refused with `OutOfMemory`
+    /// if no memory is found; what was found is freed.
     pub fn reserve(&mut self, additional: usize) -> Result<(), Refusal>
         requires { length self.old.handles + additional ≤ 2 ^ 32 }
         ensures same { self.new ≡ record self.old { room = self.new.room } }
@@ -169,7 +169,7 @@ impl CrackerColumn {
         Ok(())
     }
 
-    /// Puts the handle at the end, into room that was reserved. Its row isn't known. O(1).
+    /// Appends the handle, whose row is unknown. There must be room. O(1).
     pub fn append(&mut self, handle: Handle<Row>)
         requires { 0 < self.old.room }
         ensures after { self.new ≡ record {
@@ -183,7 +183,7 @@ impl CrackerColumn {
         self.append_remembered(handle, Remembered::nothing());
     }
 
-    /// Puts the handle at the end, into room that was reserved, with what is to be remembered about its row. O(1).
+    /// Appends the handle, with what is remembered about its row. There must be room. O(1).
     pub fn append_remembered(&mut self, handle: Handle<Row>, remembered: Remembered)
         requires { 0 < self.old.room }
         ensures after { self.new ≡ record {
@@ -198,7 +198,7 @@ impl CrackerColumn {
         self.append_aside();
     }
 
-    /// Puts the handle at the place, and returns the one that was there. Its row isn't known. O(1).
+    /// Replaces the handle at the place by this one, whose row is unknown, and returns the old one. O(1).
     pub fn swap_in(&mut self, place: usize, handle: Handle<Row>) -> Handle<Row>
         requires { place < length self.old.handles }
         ensures result { slice_get self.old.handles place ≡ Some result }
@@ -212,8 +212,8 @@ impl CrackerColumn {
             .0
     }
 
-    /// Puts the handle at the place, with what is to be remembered about its row, and returns the one that was there,
-    /// with what was remembered. O(1).
+    /// Replaces the handle at the place, and what is remembered about its row. Returns the old handle and what was
+    /// remembered about its row. O(1).
     pub fn swap_in_remembered(
         &mut self,
         place: usize,
@@ -241,7 +241,7 @@ impl CrackerColumn {
         (out, known)
     }
 
-    /// Takes the last handle out. O(1).
+    /// Removes the last handle, and returns it. O(1).
     pub fn pop(&mut self) -> Option<Handle<Row>>
         ensures handles { MatchOption result
             ((self.old.handles ≡ []) × (self.new ≡ self.old))
@@ -257,7 +257,7 @@ impl CrackerColumn {
         }
     }
 
-    /// Takes the last handle out, with what was remembered about its row. O(1).
+    /// Removes the last handle, and returns it with what was remembered about its row. O(1).
     pub fn pop_remembered(&mut self) -> Option<(Handle<Row>, Remembered)>
         ensures handles { MatchOption result
             ((self.old.handles ≡ []) × (self.new ≡ self.old))
@@ -277,8 +277,8 @@ impl CrackerColumn {
         Some((self.aside(), self.aside_memory()))
     }
 
-    /// Sets the handle aside, after the last place, into room that was reserved, with what is to be remembered about
-    /// its row. It is at no place of the column; one that was aside before is dropped. O(1).
+    /// Sets the handle aside, with what is remembered about its row: stores it after the last place, outside the
+    /// column. There must be room. Drops a handle that was aside before. O(1).
     pub fn set_aside(&mut self, handle: Handle<Row>, remembered: Remembered)
         requires { 0 < self.old.room }
         ensures { self.new ≡ with_aside (record { handle = handle; memory = remembered }) self.old }
@@ -292,7 +292,7 @@ impl CrackerColumn {
         );
     }
 
-    /// Takes the last handle out and sets it aside. O(1), and reads no row.
+    /// Removes the last handle from the column, and sets it aside. O(1). Reads no row.
     pub fn pop_aside(&mut self)
         requires { 0 < length self.old.handles }
         ensures { self.new ≡ popped_aside self.old }
@@ -301,7 +301,7 @@ impl CrackerColumn {
         self.unread -= self.tags.get(self.len).unread();
     }
 
-    /// Puts the handle that is aside after the last. O(1), and reads no row.
+    /// Appends the handle that is aside. O(1). Reads no row.
     pub fn append_aside(&mut self)
         requires { 0 < length self.old.aside }
         ensures after { self.new ≡ appended_aside self.old }
@@ -312,8 +312,8 @@ impl CrackerColumn {
         self.len += 1;
     }
 
-    /// Puts the handle that is aside at the place, and sets the one that was there aside. O(1): two tags change
-    /// places, with their tickets, and no generation is read.
+    /// Exchanges the handle that is aside with the one at the place. O(1). Exchanges two tags with their tickets,
+    /// and reads no generation.
     pub fn exchange(&mut self, place: usize)
         requires within { place < length self.old.handles }
         requires aside { 0 < length self.old.aside }
@@ -337,12 +337,12 @@ impl CrackerColumn {
         self.tags.label(self.len).handle(&self.generations)
     }
 
-    /// The slot of the handle that is aside. O(1), and reads no generation.
+    /// The slot of the handle that is aside. O(1). Reads no generation.
     pub fn aside_slot(&self) -> u32
         requires { 0 < length self.now.aside }
         ensures { result ≡ (first_aside self.now).handle.slot }
     {
-        self.tags.label(self.len).slot
+        self.tags.label(self.len).slot % SLOTS
     }
 
     /// What is remembered about the row of the handle that is aside. O(1).
@@ -353,7 +353,7 @@ impl CrackerColumn {
         self.tags.get(self.len).remembered()
     }
 
-    /// The key of the row at the place. O(1); its cell is read only if the row isn't known.
+    /// The key of the row at the place. O(1). The arena is read only if the row is unknown.
     #[inline]
     pub fn key_at(&self, place: usize, arena: &Arena<Row>) -> Key
         requires within { place < length self.now.handles }
@@ -363,7 +363,7 @@ impl CrackerColumn {
         self.tags.get(place).key(&self.generations, arena)
     }
 
-    /// The key of the row that is aside. O(1); its cell is read only if the row isn't known.
+    /// The key of the row that is aside. O(1). The arena is read only if the row is unknown.
     pub fn aside_key(&self, arena: &Arena<Row>) -> Key
         requires some { 0 < length self.now.aside }
         requires known { Agrees arena.now.cells (first_aside self.now).handle (first_aside self.now).memory }
@@ -372,9 +372,9 @@ impl CrackerColumn {
         self.tags.get(self.len).key(&self.generations, arena)
     }
 
-    /// Cracks in two: reorders what is at the places `from..to`, rows below the bound first,
-    /// and returns the place of the first row at or above it. In place, without memory.
-    /// O(to - from); reads each row there that isn't known through the arena, and remembers it.
+    /// Cracks in two: reorders the rows at the places `from..to` so that those below the bound come first, and
+    /// returns the place of the first other row. In place, without memory. O(to - from). Reads each unknown row
+    /// there from the arena, and remembers it.
     pub fn crack_two(
         &mut self,
         from: usize,
@@ -399,10 +399,9 @@ impl CrackerColumn {
         place
     }
 
-    /// Cracks in three: reorders what is at the places `from..to`, rows below the low bound
-    /// first, then those below the high one, and returns the places of the first row at or above either. In place,
-    /// without memory, in one pass. O(to - from); reads each row there that isn't known through the arena, and
-    /// remembers it.
+    /// Cracks in three: reorders the rows at the places `from..to` so that those below the low bound come first,
+    /// then those below the high one, and returns the places where the second and the third part begin. In place,
+    /// without memory, in one pass. O(to - from). Reads each unknown row there from the arena, and remembers it.
     pub fn crack_three(
         &mut self,
         from: usize,
@@ -432,10 +431,11 @@ impl CrackerColumn {
         places
     }
 
-    /// Sifts the rows at the places `from..to`, one after the other, through the piece before them, which begins at the
-    /// place `start`: one below the bound is exchanged with the first of the piece, and the others stay after its last.
-    /// Then those below the bound are first. Returns how many they are, and how many rows of the piece moved. The rows
-    /// that are sifted are known. In place, without memory. O(to - from); reads no other row, and not the arena.
+    /// Sifts the rows at the places `from..to`, in order, through the piece before them, which begins at `start`: a
+    /// row below the bound is exchanged with the first row of the piece, any other row stays as its last. In the
+    /// end the rows below the bound come first. Returns how many there are, and how often rows of the piece moved.
+    /// The sifted rows must be known. In place, without memory. O(to - from). Reads no other row, and not the
+    /// arena.
     pub fn sift(
         &mut self,
         start: usize,
@@ -458,9 +458,9 @@ impl CrackerColumn {
     }
 }
 
-/// Keeps the handle at the place, under the ticket there, and returns the one that was kept there.
+/// Stores the handle at the place under the ticket there, and returns the handle that was stored there.
 fn keep(
-    generations: &mut Vec<u64>,
+    generations: &mut Vec<Generation>,
     tags: &mut Tags,
     place: usize,
     handle: Handle<Row>,
@@ -475,13 +475,19 @@ fn keep(
 {
     let here = tags.get(place);
     tags.set(place, Tag::new(here.ticket, handle, remembered));
-    let generation = mem::replace(&mut generations[here.ticket as usize], handle.generation());
-    (Handle::new(here.slot, generation), here.remembered())
+    let generation = mem::replace(
+        &mut generations[here.ticket as usize],
+        handle.generation_part(),
+    );
+    (
+        Handle::new(Slot::lowest(here.slot), generation),
+        here.remembered(),
+    )
 }
 
-/// Keeps the handle after the last place: under the ticket that is there, or under a new one.
+/// Stores the handle after the last place, under the ticket there, or under a new one if there is none.
 fn keep_behind(
-    generations: &mut Vec<u64>,
+    generations: &mut Vec<Generation>,
     tags: &mut Tags,
     len: usize,
     handle: Handle<Row>,
@@ -505,18 +511,24 @@ fn keep_behind(
     }
 }
 
-/// Keeps the handle under a new ticket, with a tag after all others.
-fn draw(generations: &mut Vec<u64>, tags: &mut Tags, handle: Handle<Row>, remembered: Remembered)
+/// Stores the handle under a new ticket, with a tag after all others.
+fn draw(
+    generations: &mut Vec<Generation>,
+    tags: &mut Tags,
+    handle: Handle<Row>,
+    remembered: Remembered,
+)
     requires beside { length tags.old.items ≡ vec_len generations.old }
     requires few { length tags.old.items < 2 ^ 32 }
     requires generation_room { vec_len generations.old < vec_capacity generations.old }
     requires tag_room { length tags.old.items < tags.old.capacity }
     ensures generations { generations.new.items ≡ generations.old.items ++ handle.generation ∷ [] }
     ensures tags { tags.new.items ≡ tags.old.items ++ tag_for (length generations.old.items) handle remembered ∷ [] }
+    ensures fits { handle.slot < 16777216 }
     ensures capacities { (vec_capacity generations.new ≡ vec_capacity generations.old) ×
         (tags.new.capacity ≡ tags.old.capacity) }
 {
     let ticket = generations.len() as u32;
-    generations.push_reserved(handle.generation());
+    generations.push_reserved(handle.generation_part());
     tags.push_reserved(Tag::new(ticket, handle, remembered));
 }

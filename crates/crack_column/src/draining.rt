@@ -1,4 +1,4 @@
-//! Pulls of doomed rows out of a piece, one after the other, as far as they reach it.
+//! Pulls of doomed rows out of the column, done piece by piece.
 ghost use Rattle.std.specs.Prelude.{◌≡◌, ◌-◌, ◌<◌, ◌≤◌, length, take, drop};
 ghost use Rattle.crack_arena.specs.Arena.{no_handle};
 ghost use Rattle.crack_arena.specs.Memories.{nothing};
@@ -10,7 +10,7 @@ use crate::CrackerColumn;
 use crack_arena::Handle;
 use crack_row::{InnerBound, KeyNumber, Row};
 
-/// A doomed row that is to be pulled out of a column.
+/// A doomed row (one with a pending deletion) that is to be pulled out of a column.
 #[derive(Clone, Copy, PartialEq, Eq, Debug)]
 pub struct Doomed {
     pub key: KeyNumber,
@@ -18,12 +18,12 @@ pub struct Doomed {
 }
 
 impl CrackerColumn {
-    /// Pulls doomed rows out of the piece at the places `from..to`, one after the other, as far as their pulls reach
-    /// it. A doomed row below its bound `low` moves its last row before its first, into the gap of this many places
-    /// that the pieces below have left; a doomed row of its own is replaced by its last row. Afterwards the piece
-    /// begins where the gap began, and the rows pulled out of it follow its end. Returns where it ends, and how many of
-    /// its rows were pulled. In place, without memory. O(doomed rows), and O(to - from) for each of its own; reads
-    /// neither rows nor the arena.
+    /// Does to the piece at the places `from..to` what the pulls of doomed rows, in order, do to it. A doomed row
+    /// below `low`, the piece's low bound, moves its last row before its first, into a gap of `gap` places that
+    /// lower pieces left; a doomed row of the piece is replaced by the last row. Afterwards the piece begins where
+    /// the gap began, and the rows pulled out of it follow its end. Returns the end, and how often a row of the
+    /// piece moved. In place, without memory. O(doomed rows), and O(to - from) for each doomed row of the piece.
+    /// Reads neither rows nor the arena.
     pub fn drain(
         &mut self,
         gap: usize,
@@ -56,8 +56,8 @@ impl CrackerColumn {
         (end, pulled)
     }
 
-    /// One of these pulls, for a piece at the places `start..end`, with a gap from `first` up to it. Returns where the
-    /// piece begins and ends afterwards, and how many of its rows were pulled.
+    /// Does what `drain` does for one doomed row, to a piece at the places `start..end` after a gap from `first`
+    /// on. Returns where the piece then begins and ends, and how many of its rows moved.
     fn drain_once(
         &mut self,
         first: usize,
@@ -102,7 +102,7 @@ impl CrackerColumn {
         }
     }
 
-    /// The rows at two places change places. O(1), and no generation is read.
+    /// Exchanges the rows at two places. O(1). Reads no generation.
     #[inline]
     pub fn swap(&mut self, one: usize, other: usize)
         requires one { one < length self.old.handles }
@@ -120,7 +120,7 @@ impl CrackerColumn {
     }
 }
 
-/// Whether a key is below a bound, if there is one.
+/// Whether a key is below the bound; true if there is no bound.
 fn is_below(key: KeyNumber, bound: Option<InnerBound>) -> bool
     ensures { result ≡ is_under bound key }
 {

@@ -1,23 +1,23 @@
-//! A column with its row aside in hand.
+//! A column that holds its row aside in a field.
 ghost use Rattle.std.specs.Prelude.{◌≡◌, ◌<◌, length};
 ghost use Rattle.crack_column.specs.Column.{first_aside, exchanged_aside};
 
 use crate::CrackerColumn;
-use crate::tag::Tag;
+use crate::tag::{SLOTS, Tag};
 use crate::tags::Tags;
-use crack_arena::Remembered;
+use crack_arena::{Generation, Remembered};
 use std::marker::Model;
 
-/// A column whose row aside is in hand, for a walk on which it is exchanged at place after place: an exchange reads and
-/// writes only the place. Contracts see the column.
+/// A column that holds the tag of its row aside in a field, the hand, for a walk that exchanges it at place after
+/// place: an exchange reads and writes only the place. Contracts see the column.
 #[derive(Drop)]
 pub struct HeldColumn {
-    generations: Vec<u64>,
+    generations: Vec<Generation>,
     tags: Tags,
     len: usize,
-    /// How many tags don't know their rows, including the one in hand.
+    /// The number of tags whose rows are unknown, including the tag in hand.
     unread: usize,
-    /// The tag of the row in hand; the one after the last place isn't read.
+    /// The tag of the row in hand. The tag stored after the last place isn't read.
     hand: Tag,
 }
 
@@ -41,8 +41,8 @@ impl Model for HeldColumn {
 }
 
 impl CrackerColumn {
-    /// Takes the column with its row aside in hand, and leaves one without handles in its place. O(1), and takes no
-    /// memory.
+    /// Takes the column, with its row aside in hand, and leaves a column without handles in its place. O(1), takes
+    /// no memory.
     pub fn hold(&mut self) -> HeldColumn
         requires { 0 < length self.old.aside }
         ensures { result ≡ self.old }
@@ -65,7 +65,7 @@ impl CrackerColumn {
 }
 
 impl HeldColumn {
-    /// The column, with the row in hand aside. O(1).
+    /// Returns the column, with the row in hand set aside. O(1).
     pub fn release(self) -> CrackerColumn
         ensures { result ≡ self }
     {
@@ -85,7 +85,7 @@ impl HeldColumn {
         }
     }
 
-    /// The number of handles, without the one in hand. O(1).
+    /// The number of handles, not counting the one in hand. O(1).
     #[inline(always)]
     pub fn len(&self) -> usize
         ensures { result ≡ length self.now.handles }
@@ -93,12 +93,12 @@ impl HeldColumn {
         self.len
     }
 
-    /// The slot of the handle in hand. O(1), and reads no generation.
+    /// The slot of the handle in hand. O(1). Reads no generation.
     #[inline(always)]
     pub fn slot(&self) -> u32
         ensures { result ≡ (first_aside self.now).handle.slot }
     {
-        self.hand.slot
+        self.hand.slot % SLOTS
     }
 
     /// What is remembered about the row in hand. O(1).
@@ -109,8 +109,8 @@ impl HeldColumn {
         self.hand.remembered()
     }
 
-    /// Puts the handle in hand at the place, and takes the one that was there into the hand, as
-    /// `CrackerColumn::exchange` does. O(1).
+    /// Exchanges the handle in hand with the one at the place, as `CrackerColumn::exchange` does with the handle
+    /// aside. O(1).
     #[inline(always)]
     pub fn exchange(&mut self, place: usize)
         requires { place < length self.old.handles }

@@ -11,5 +11,5 @@ pub use column::CrackerColumn;
 pub use draining::Doomed;
 pub use held::HeldColumn;
 
-/// The greatest number of places of a column.
+/// The greatest number of places in a column.
 pub const MOST_PLACES: u64 = 4294967296;

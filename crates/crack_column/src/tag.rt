@@ -1,5 +1,5 @@
-//! The tags of a cracker column, one at each place: cracks and sums read them, and cracks exchange them. A tag is
-//! stored as its label and its payload, in two lists, so that a sum of known rows reads only payloads.
+//! The tags of a cracker column, one at each place. Cracks read and exchange tags, and sums read them. A tag is
+//! stored as a label and a payload, in two lists, so that a sum of known rows reads only payloads.
 ghost use Rattle.std.specs.Prelude.{◌≡◌, ◌+◌, ◌<◌, ◌≤◌, ◌^◌, All, [], ◌∷◌, MatchOption, length, map, take, drop, ◌++◌};
 ghost use Rattle.std.specs.Prelude.{cond, pos, neg_ℤ, ◌≤ℤ◌, ◌*◌};
 ghost use Rattle.std.specs.List.Sorted.{IsPermutation};
@@ -14,11 +14,14 @@ ghost use Rattle.crack_column.specs.Labels.{tag_of, tags_of};
 ghost use Rattle.crack_column.specs.Sifts.{below_bound, queued, made_way};
 ghost use Rattle.crack_column.specs.Inside.{tag_for, label_of, label_handle, forgotten, shifted, turned, Knows, Read};
 
-use crack_arena::{Arena, Handle, Remembered, UNKNOWN_KEY, amount_of, key_of};
+use crack_arena::{Arena, Generation, Handle, Remembered, Slot, UNKNOWN_KEY, amount_of, key_of};
 use crack_row::{InnerBound, Key, KeyNumber, Payload, Row};
 
-/// What is at a place: what is remembered about a row, its handle's slot, and the ticket under which its generation is
-/// kept.
+/// The number of slots. A slot has 24 bits; higher bits are ignored.
+pub(crate) const SLOTS: u32 = 16777216;
+
+/// The tag at a place: what is remembered about the row, the slot of its handle, and the ticket under which the
+/// handle's generation is stored.
 #[derive(Clone, Copy)]
 pub(crate) struct Tag {
     pub(crate) key: KeyNumber,
@@ -36,7 +39,7 @@ pub(crate) struct Label {
 }
 
 impl Label {
-    /// The tag with this payload.
+    /// The tag of this label and this payload.
     #[inline(always)]
     pub(crate) fn with_payload(self, payload: Payload) -> Tag
         ensures { result ≡ tag_of self payload }
@@ -49,24 +52,25 @@ impl Label {
         }
     }
 
-    pub(crate) fn handle(&self, generations: &[u64]) -> Handle<Row>
+    pub(crate) fn handle(&self, generations: &[Generation]) -> Handle<Row>
         requires { self.now.ticket < length generations.now }
         ensures { result ≡ label_handle generations.now self.now }
     {
-        Handle::new(self.slot, generations[self.ticket as usize])
+        Handle::new(Slot::lowest(self.slot), generations[self.ticket as usize])
     }
 }
 
 impl Tag {
-    /// The tag of a ticket, for a handle about whose row this is remembered.
+    /// Makes the tag of a ticket, a handle, and what is remembered about the handle's row.
     pub(crate) fn new(ticket: u32, handle: Handle<Row>, remembered: Remembered) -> Tag
-        ensures { result ≡ tag_for ticket handle remembered }
+        ensures tag { result ≡ tag_for ticket handle remembered }
+        ensures fits { handle.slot < 16777216 }
     {
         Tag {
             key: remembered.key(),
             ticket,
             payload: remembered.payload(),
-            slot: handle.slot(),
+            slot: handle.slot_part().number(),
         }
     }
 
@@ -88,15 +92,15 @@ impl Tag {
         }
     }
 
-    /// 1 if the row isn't known, else 0.
+    /// 1 if the row is unknown, otherwise 0.
     pub(crate) fn unread(&self) -> usize
         ensures { result ≡ times unknown (self.now.key ∷ []) }
     {
         self.remembered().unread()
     }
 
-    /// The key of the row. It is read from the arena if the row isn't known.
-    pub(crate) fn key(&self, generations: &[u64], arena: &Arena<Row>) -> Key
+    /// The key of the row, read from the arena only if the row is unknown.
+    pub(crate) fn key(&self, generations: &[Generation], arena: &Arena<Row>) -> Key
         requires drawn { self.now.ticket < length generations.now }
         requires known { Knows arena.now.cells generations.now self.now }
         ensures { result.0 ≡ key_at arena.now.cells (tag_handle generations.now self.now) }
@@ -107,8 +111,8 @@ impl Tag {
         Key::from_number(self.key)
     }
 
-    /// What the row adds to a sum. It is read from the arena if the row isn't known.
-    fn amount(&self, generations: &[u64], arena: &Arena<Row>) -> i128
+    /// The amount that the row adds to a sum. The arena is read only if the row is unknown.
+    fn amount(&self, generations: &[Generation], arena: &Arena<Row>) -> i128
         requires drawn { self.now.ticket < length generations.now }
         requires known { Knows arena.now.cells generations.now self.now }
         ensures value { result ≡ amount_at arena.now.cells (tag_handle generations.now self.now) }
@@ -122,13 +126,13 @@ impl Tag {
     }
 }
 
-/// Reads the rows of the tags, if any of at most this many is unread, and puts those below the bound first.
-/// Returns how many these are, and how many rows are known now that weren't.
+/// Reads the unknown rows of the tags, at most `unread`, and moves the tags below the bound to the front. Returns
+/// how many there are, and how many unknown rows became known.
 pub(crate) fn crack(
     labels: &mut [Label],
     payloads: &mut [Payload],
     unread: usize,
-    generations: &[u64],
+    generations: &[Generation],
     bound: InnerBound,
     arena: &Arena<Row>,
 ) -> (usize, usize)
@@ -150,13 +154,14 @@ pub(crate) fn crack(
     (divide(labels, payloads, bound.number()), learned)
 }
 
-/// Reads the rows of the tags, if any of at most this many is unread, and puts those below the low bound first, then
-/// those below the high one. Returns how many are below either, and how many rows are known now that weren't.
+/// Reads the unknown rows of the tags, at most `unread`, and moves the tags below the low bound to the front,
+/// followed by those below the high one. Returns how many are below each bound, and how many unknown rows became
+/// known.
 pub(crate) fn crack_three(
     labels: &mut [Label],
     payloads: &mut [Payload],
     unread: usize,
-    generations: &[u64],
+    generations: &[Generation],
     low: InnerBound,
     high: InnerBound,
     arena: &Arena<Row>,
@@ -184,11 +189,11 @@ pub(crate) fn crack_three(
     (middle, upper, learned)
 }
 
-/// Reads each row that isn't known. Returns how many are known now.
+/// Reads each unknown row. Returns how many became known.
 fn learn(
     labels: &mut [Label],
     payloads: &mut [Payload],
-    generations: &[u64],
+    generations: &[Generation],
     arena: &Arena<Row>,
 ) -> usize
     requires beside { length payloads.old ≡ length labels.old }
@@ -213,10 +218,10 @@ fn learn(
     learned
 }
 
-/// Puts the keys below the bound first, and returns their number. The first tag is held, and the gap that it leaves
-/// moves: each step fills it from the place where the keys at or above the bound begin, and puts the next tag there, so
-/// that no branch depends on a key. Exchanging the two tags instead costs a fourth more. The key is read first and then
-/// its label: reading the whole label before its key costs three times as much.
+/// Moves the keys below the bound to the front, and returns their number. The first tag is kept aside, and leaves a
+/// gap. Each step moves the first tag at or above the bound into the gap, and the next tag to its place, so that no
+/// branch depends on a key. Exchanging the two tags instead costs a fourth more. The key is read before its label:
+/// reading the whole label first costs three times as much.
 fn divide(labels: &mut [Label], payloads: &mut [Payload], bound: KeyNumber) -> usize
     requires beside { length payloads.old ≡ length labels.old }
     ensures kept { IsPermutation (tags_of labels.old payloads.old) (tags_of labels.new payloads.new) }
@@ -237,9 +242,9 @@ fn divide(labels: &mut [Label], payloads: &mut [Payload], bound: KeyNumber) -> u
     low + (first.key < bound) as usize
 }
 
-/// Sifts the tags from the place `from` on through those before it: each below the bound is exchanged with the first
-/// that isn't, as long as one is left. Returns how many are below the bound, which are then first, and how many moved.
-/// O(tags from there on).
+/// Sifts the tags from the place `from` on, in order, through the tags before them: each below the bound is
+/// exchanged with the first tag that isn't, if one precedes it. Returns how many are below the bound, which then
+/// come first, and how many exchanges there were. O(tags from `from` on).
 pub(crate) fn sift(
     labels: &mut [Label],
     payloads: &mut [Payload],
@@ -268,8 +273,8 @@ pub(crate) fn sift(
     (low, moved)
 }
 
-/// Fills the gap from the place `low`, and puts the tag with this label and this payload there.
-/// The labels come first: a payload written between them costs a trip of the label through memory.
+/// Moves the tag at `low` into the gap, and puts the tag of this label and payload at `low`. The labels come first:
+/// a payload written between them costs a trip of the label through memory.
 #[inline(always)]
 fn shift(
     labels: &mut [Label],
@@ -291,10 +296,10 @@ fn shift(
     payloads[low] = payload;
 }
 
-/// Puts the keys below the low bound first, then those below the high one, and returns how many are below either. The
-/// gap moves as in `divide`: each step fills it from the place where the keys at or above the high bound begin, that
-/// place from the one where those at or above the low bound begin, and puts the next tag where it belongs; no branch
-/// depends on a key.
+/// Moves the keys below the low bound to the front, followed by those below the high one. Returns how many are
+/// below each bound. The gap moves as in `divide`: each step moves the first tag at or above the high bound into
+/// the gap; if the next tag is below the low bound, the first tag at or above the low bound takes that place; and
+/// the next tag takes the place left free. No branch depends on a key.
 fn divide_three(
     labels: &mut [Label],
     payloads: &mut [Payload],
@@ -329,7 +334,8 @@ fn divide_three(
     (middle + is_low as usize, upper + is_below as usize)
 }
 
-/// Fills the gap from the place `upper`, that one from `place`, and puts the tag with this label and payload there.
+/// Moves the tag at `upper` into the gap and the tag at `place` to `upper`, and puts the tag of this label and this
+/// payload at `place`.
 #[inline(always)]
 fn turn(
     labels: &mut [Label],
@@ -355,20 +361,20 @@ fn turn(
     payloads[place] = payload;
 }
 
-/// Where a key goes: to the front of the middle keys if it is below the high bound, else to the front of the upper
-/// ones.
+/// Where a step of `divide_three` puts a tag: at the front of the middle keys if its key is below the low bound,
+/// otherwise of the upper keys.
 fn place_of(is_low: bool, middle: usize, upper: usize) -> usize
     ensures { result ≡ cond is_low middle upper }
 {
     if is_low { middle } else { upper }
 }
 
-/// The sum of the payloads of the tags' rows, of which at most this many aren't known.
+/// The sum of the payloads of the tags' rows, of which at most `unread` are unknown.
 pub(crate) fn sum(
     labels: &[Label],
     payloads: &[Payload],
     unread: usize,
-    generations: &[u64],
+    generations: &[Generation],
     arena: &Arena<Row>,
 ) -> i128
     requires beside { length payloads.now ≡ length labels.now }
@@ -389,7 +395,7 @@ pub(crate) fn sum(
     }
 }
 
-/// The sum of the payloads. It needs no branch and no cell.
+/// The sum of the payloads. Takes no branch, and reads no cell.
 fn sum_remembered(payloads: &[Payload]) -> i128
     requires few { length payloads.now ≤ MOST_PLACES }
     ensures value { result ≡ total_by amount payloads.now }
@@ -403,8 +409,13 @@ fn sum_remembered(payloads: &[Payload]) -> i128
     sum
 }
 
-/// The sum of the payloads of the tags' rows.
-fn sum_read(labels: &[Label], payloads: &[Payload], generations: &[u64], arena: &Arena<Row>) -> i128
+/// The sum of the payloads of the tags' rows; unknown rows are read from the arena.
+fn sum_read(
+    labels: &[Label],
+    payloads: &[Payload],
+    generations: &[Generation],
+    arena: &Arena<Row>,
+) -> i128
     requires beside { length payloads.now ≡ length labels.now }
     requires few { length labels.now ≤ MOST_PLACES }
     requires drawn { All (λ t. t.ticket < length generations.now) (tags_of labels.now payloads.now) }
@@ -423,8 +434,12 @@ fn sum_read(labels: &[Label], payloads: &[Payload], generations: &[u64], arena: 
     sum
 }
 
-/// The first of the labels whose handle this is. Reads the generation only if the slot is the same.
-pub(crate) fn find(labels: &[Label], generations: &[u64], handle: Handle<Row>) -> Option<usize>
+/// The place of the first label with this handle. Reads a generation only if the slot is the same.
+pub(crate) fn find(
+    labels: &[Label],
+    generations: &[Generation],
+    handle: Handle<Row>,
+) -> Option<usize>
     requires drawn { All (λ l. l.ticket < length generations.now) labels.now }
     ensures { MatchOption result
         (IsAbsent (map (label_handle generations.now) labels.now) handle)
@@ -432,7 +447,7 @@ pub(crate) fn find(labels: &[Label], generations: &[u64], handle: Handle<Row>) -
 {
     let slot = handle.slot();
     'tags: for i in 0..labels.len() {
-        if labels[i].slot == slot && labels[i].handle(generations) == handle {
+        if labels[i].slot % SLOTS == slot && labels[i].handle(generations) == handle {
             return Some(i);
         }
     }

@@ -11,12 +11,12 @@ ghost use Rattle.crack_column.specs.Tickets.{tag_handle};
 ghost use Rattle.crack_column.specs.Inside.{no_tag, label_of, Knows, Turns, SiftsTags};
 
 use crate::tag::{self, Label, Tag};
-use crack_arena::{Arena, Handle};
+use crack_arena::{Arena, Generation, Handle};
 use crack_row::{InnerBound, KeyNumber, Payload, Refusal, Row};
 use std::alloc::Global;
 use std::marker::Model;
 
-/// Tags in two vectors, so that a sum reads only payloads. Contracts see the tags.
+/// Tags, stored in two vectors so that a sum reads only payloads. Contracts see a list of tags.
 #[derive(Drop)]
 pub(crate) struct Tags {
     labels: Vec<Label>,
@@ -38,7 +38,7 @@ impl Model for Tags {
 }
 
 impl Tags {
-    /// None yet. Takes no memory.
+    /// Makes an empty list. Takes no memory.
     pub(crate) fn new(alloc: Global) -> Tags
         ensures items { result.items ≡ [] }
         ensures capacity { result.capacity ≡ 0 }
@@ -75,7 +75,7 @@ impl Tags {
         self.labels[place]
     }
 
-    /// Puts the tag at the place.
+    /// Replaces the tag at the place.
     #[inline(always)]
     pub(crate) fn set(&mut self, place: usize, tag: Tag)
         requires { place < length self.old.items }
@@ -85,7 +85,7 @@ impl Tags {
         self.payloads[place] = tag.payload;
     }
 
-    /// Makes room for this many more. If that is refused, memory that was found is freed.
+    /// Makes room for this many more tags. If that is refused, memory that this call had found is freed.
     pub(crate) fn reserve(&mut self, additional: usize) -> Result<(), Refusal>
         ensures items { self.new.items ≡ self.old.items }
         ensures ok { OnOk result (length self.new.items + additional ≤ self.new.capacity) }
@@ -102,7 +102,7 @@ impl Tags {
         Ok(())
     }
 
-    /// Puts the tag after all others, into room that was reserved.
+    /// Appends the tag. There must be room.
     pub(crate) fn push_reserved(&mut self, tag: Tag)
         requires { length self.old.items < self.old.capacity }
         ensures { self.new ≡ record self.old { items = self.old.items ++ tag ∷ [] } }
@@ -111,14 +111,14 @@ impl Tags {
         self.payloads.push_reserved(tag.payload);
     }
 
-    /// Cracks the tags at the places `from..to`, of which at most this many rows are unread.
-    /// Returns the place between, and how many rows are known now that weren't.
+    /// Cracks the tags at the places `from..to`, of which at most `unread` have unknown rows. Returns the place
+    /// that divides them, and how many unknown rows became known.
     pub(crate) fn crack_between(
         &mut self,
         from: usize,
         to: usize,
         unread: usize,
-        generations: &[u64],
+        generations: &[Generation],
         bound: InnerBound,
         arena: &Arena<Row>,
     ) -> (usize, usize)
@@ -142,14 +142,14 @@ impl Tags {
         (from + place, learned)
     }
 
-    /// Cracks the tags at the places `from..to` in three, of which at most this many rows are unread.
-    /// Returns the two places between, and how many rows are known now that weren't.
+    /// Cracks the tags at the places `from..to` in three. At most `unread` of them have unknown rows. Returns the
+    /// two places that divide them, and how many unknown rows became known.
     pub(crate) fn crack_between_three(
         &mut self,
         from: usize,
         to: usize,
         unread: usize,
-        generations: &[u64],
+        generations: &[Generation],
         low: InnerBound,
         high: InnerBound,
         arena: &Arena<Row>,
@@ -179,8 +179,8 @@ impl Tags {
         ((from + middle, from + upper), learned)
     }
 
-    /// Sifts the tags at the places `from..to` through those before them from the place `start` on.
-    /// Returns how many are below the bound, and how many moved.
+    /// Sifts the tags at the places `from..to` through the tags at the places `start..from`. Returns how many of
+    /// the sifted tags are below the bound, and how often another tag moved.
     pub(crate) fn sift_between(
         &mut self,
         start: usize,
@@ -202,14 +202,13 @@ impl Tags {
         )
     }
 
-    /// The sum of the payloads of the rows at the places `from..to`, of which at most this many are
-    /// unread.
+    /// The sum of the payloads of the rows at the places `from..to`, of which at most `unread` are unknown.
     pub(crate) fn sum_between(
         &self,
         from: usize,
         to: usize,
         unread: usize,
-        generations: &[u64],
+        generations: &[Generation],
         arena: &Arena<Row>,
     ) -> i128
         requires order { from ≤ to }
@@ -233,12 +232,12 @@ impl Tags {
         )
     }
 
-    /// The first place in `from..to` where the handle is, counted from `from`.
+    /// The first place of the handle in `from..to`, counted from `from`.
     pub(crate) fn find_between(
         &self,
         from: usize,
         to: usize,
-        generations: &[u64],
+        generations: &[Generation],
         handle: Handle<Row>,
     ) -> Option<usize>
         requires order { from ≤ to }

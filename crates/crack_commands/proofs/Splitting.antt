@@ -6,7 +6,7 @@ use Rattle.std.proofs.Math.Seq.{drop-nil}
 use Rattle.std.proofs.lemmas.List.Sums.{position_or_len_is}
 use Rattle.std.specs.Prelude.{slice_index_or}
 use Rattle.std.specs.List.{slice_split, position_or_len}
-use Rattle.crack_commands.specs.Grammar.{words, named, statement_of}
+use Rattle.crack_commands.specs.Grammar.{words, statement_named, statement_of}
 use Rattle.crack_commands.specs.Inside.{is_word, has_space, IsFirstWord}
 
 -- a space more at the front
@@ -111,12 +111,12 @@ others_are bytes [] rest first = rw ((first.none refl).0, (first.none refl).1) r
 others_are bytes (b ∷ bs) rest first = rw (first.some refl) refl
 
 -- the meaning of words
-pub said : (line name : List ℕ) (rest : List (List ℕ)) → words line ≡ name ∷ rest → statement_of line ≡ named name rest
+pub said : (line name : List ℕ) (rest : List (List ℕ)) → words line ≡ name ∷ rest → statement_of line ≡ statement_named name rest
 unfolding statement_of
 said line name rest are = rw are refl
 
 -- a line is read by its first word, if it has one
-pub said_first : (line name rest : List ℕ) → IsFirstWord line name rest → statement_of line ≡ named name (words rest)
+pub said_first : (line name rest : List ℕ) → IsFirstWord line name rest → statement_of line ≡ statement_named name (words rest)
 unfolding statement_of
 said_first line [] rest first = rw (first.none refl).0 refl
 said_first line (b ∷ bs) rest first = rw (first.some refl) refl

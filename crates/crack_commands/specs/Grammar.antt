@@ -1,4 +1,4 @@
--- The statements.
+-- The grammar of statements.
 use Rattle.std.specs.Prelude.{ℕ, ◌+◌, ◌-◌, ◌*◌, ℤ, pos, neg_ℤ, int_le, Bool, List, [], ◌∷◌, length, drop, fold, filter, Option, None, Some, Result, Ok, Err, ◌==◌, ◌&&◌, ◌||◌, not, nat_lt, nat_le, if◌then◌else◌, codes, slice_index, slice_index_or}
 use Rattle.std.specs.Str.{bytes_eq}
 use Rattle.std.specs.List.{list_all, slice_split, before_first, after_first}
@@ -14,18 +14,18 @@ use Rattle.crack_row.specs.declared.refusal.Refusal.{Refusal}
 use Rattle.crack_row.specs.declared.refusal.Refusal.TheVariants.{BadStatement, BadRange}
 use Rattle.crack_commands.specs.declared.words.TheConstants.{MOST_DIGITS, GREATEST_PART, GREATEST_SERIAL}
 use Rattle.crack_commands.specs.declared.statement.Statement.{Statement}
-use Rattle.crack_commands.specs.declared.statement.Statement.TheVariants.{Insert, Delete, Update, Count, Sum, Select, Layout, Checkpoint, Policy, Ping, End}
+use Rattle.crack_commands.specs.declared.statement.Statement.TheVariants.{Insert, Delete, Update, Count, Sum, Select, Layout, Checkpoint, Watch, WatchPart, Policy, Ping, End}
 use Rattle.crack_commands.specs.declared.statement.Ending.TheVariants.{Quit, Http}
 
 -- the meaning of a line: a statement, or why it isn't one
 abbrev pub Reading : Type 0
 Reading = Result Statement Refusal
 
--- the words: what is between spaces and isn't empty
+-- the words of a line: the nonempty parts between spaces
 abbrev pub words : List ℕ → List (List ℕ)
 words line = filter (λ word. not (bytes_eq word [])) (slice_split (λ b. b == 32) line)
 
--- whether the byte is a decimal digit
+-- whether a byte is a decimal digit
 abbrev pub is_digit : ℕ → Bool
 is_digit b = nat_le 48 b && nat_lt b 58
 
@@ -37,22 +37,22 @@ number_of word = if not (bytes_eq word []) && nat_le (length word) MOST_DIGITS &
 abbrev pub whole_number_of : List ℕ → Option ℤ
 whole_number_of word = if slice_index word 0 == 45 then option_map (λ n. neg_ℤ (pos n)) (number_of (drop 1 word)) else option_map pos (number_of word)
 
--- what these words are, if they are exactly two, one of a first kind and one of a second
+-- exactly two words, parsed as two kinds of value
 abbrev pub two_of : {X Y : Type 0} → (List ℕ → Option X) → (List ℕ → Option Y) → List (List ℕ) → Option (X × Y)
 two_of one other (first ∷ second ∷ []) = option_zip (one first) (other second)
 two_of one other _ = None
 
--- a NUMBER that is at most the greatest
+-- a NUMBER that is at most `greatest`
 abbrev pub number_up_to : ℕ → List ℕ → Option ℕ
 number_up_to greatest word = option_and_then (λ n. if nat_le n greatest then Some n else None) (number_of word)
 
--- a key: a NUMBER that is at most the greatest
-abbrev pub key_of : List ℕ → Option Key
-key_of word = option_map (λ n. record { 0 = n }) (number_up_to GREATEST_KEY word)
+-- a key: a NUMBER that is at most GREATEST_KEY
+abbrev pub key_read : List ℕ → Option Key
+key_read word = option_map (λ n. record { 0 = n }) (number_up_to GREATEST_KEY word)
 
--- a payload: an integer that is neither below the least nor above the greatest
-abbrev pub payload_of : List ℕ → Option Payload
-payload_of word = option_and_then (λ z. if int_le LEAST_PAYLOAD z && int_le z GREATEST_PAYLOAD then Some (record { 0 = z }) else None) (whole_number_of word)
+-- a payload: an integer from LEAST_PAYLOAD to GREATEST_PAYLOAD
+abbrev pub payload_read : List ℕ → Option Payload
+payload_read word = option_and_then (λ z. if int_le LEAST_PAYLOAD z && int_le z GREATEST_PAYLOAD then Some (record { 0 = z }) else None) (whole_number_of word)
 
 -- a row number: a NUMBER, a full stop and a NUMBER, each at most the greatest of its kind
 abbrev pub row_number_of : List ℕ → Option RowNo
@@ -71,15 +71,15 @@ abbrev pub policy_named : List ℕ → Option Merging
 policy_named name =
     if bytes_eq name (codes "complete") then Some Complete else if bytes_eq name (codes "gradual") then Some Gradual else if bytes_eq name (codes "ripple") then Some Ripple else if bytes_eq name (codes "auto") then Some Auto else None
 
--- a statement that is made from its parts, if they exist
+-- a statement made of its parsed arguments, if they were parsed
 abbrev pub made : {A : Type 0} → (A → Statement) → Option A → Reading
 made statement arguments = ok_or (option_map statement arguments) BadStatement
 
--- a statement over the range between two numbers, refused if these aren't the ends of a range
+-- a statement over the range between two numbers, refused with `BadRange` if they are out of order or too great
 abbrev pub over : (Range → Statement) → Option (ℕ × ℕ) → Reading
 over statement ends = option_map_or (λ e. if nat_le e.0 e.1 && nat_le e.1 GREATEST_BOUND then Ok (statement (record { low = e.0; high = e.1 })) else Err BadRange) ends (Err BadStatement)
 
--- whether it is a method of HTTP
+-- whether a word is an HTTP method
 abbrev pub is_method : List ℕ → Bool
 is_method word =
     bytes_eq word (codes "GET") || bytes_eq word (codes "POST") || bytes_eq word (codes "HEAD") || bytes_eq word (codes "PUT") || bytes_eq word (codes "DELETE")
@@ -89,40 +89,41 @@ is_method word =
 abbrev pub is_name_byte : ℕ → Bool
 is_name_byte b = is_digit b || nat_le 65 b && nat_lt b 91 || nat_le 97 b && nat_lt b 123 || b == 45
 
--- whether it begins with a header of HTTP: there is a colon, and one or more letters, digits and hyphens are before the first one
+-- whether a word begins with the name of an HTTP header: one or more letters, digits and hyphens before a colon
 abbrev pub has_header : List ℕ → Bool
 has_header word =
     let name = before_first (λ b. b == 58) word in
     not (bytes_eq name []) && nat_lt (length name) (length word) && list_all is_name_byte name
 
--- whether a line with this first word is one of an HTTP request: the word is a method, or begins with a header
+-- whether a line with this first word belongs to an HTTP request: the word is a method, or begins with a header
 abbrev pub is_http : List ℕ → Bool
 is_http word = is_method word || has_header word
 
--- the reading of a line whose first word is no name of a statement: a line of an HTTP request ends the session
+-- the meaning of a line whose first word isn't the name of a statement: a line of an HTTP request ends the session
 abbrev pub unnamed : List ℕ → Reading
 unnamed word = if is_http word then Ok (End Http) else Err BadStatement
 
 -- the statement with this name and these arguments
-abbrev pub named : List ℕ → List (List ℕ) → Reading
-named name arguments =
-    if bytes_eq name (codes "insert") then made (λ n. Insert n.0 n.1) (two_of key_of payload_of arguments)
+abbrev pub statement_named : List ℕ → List (List ℕ) → Reading
+statement_named name arguments =
+    if bytes_eq name (codes "insert") then made (λ n. Insert n.0 n.1) (two_of key_read payload_read arguments)
     else if bytes_eq name (codes "delete") then made Delete (row_number_of (only_word arguments))
-    else if bytes_eq name (codes "update") then made (λ u. Update u.0 u.1.0 u.1.1) (option_zip (row_number_of (slice_index_or arguments 0 [])) (two_of key_of payload_of (drop 1 arguments)))
+    else if bytes_eq name (codes "update") then made (λ u. Update u.0 u.1.0 u.1.1) (option_zip (row_number_of (slice_index_or arguments 0 [])) (two_of key_read payload_read (drop 1 arguments)))
     else if bytes_eq name (codes "count") then over Count (two_of number_of number_of arguments)
     else if bytes_eq name (codes "sum") then over Sum (two_of number_of number_of arguments)
     else if bytes_eq name (codes "select") then over Select (two_of number_of number_of arguments)
     else if bytes_eq name (codes "layout") then made Layout (number_up_to GREATEST_PART (only_word arguments))
     else if bytes_eq name (codes "checkpoint") then made Checkpoint (number_up_to GREATEST_PART (only_word arguments))
+    else if bytes_eq name (codes "stats") then if length arguments == 0 then Ok Watch else made WatchPart (number_up_to GREATEST_PART (only_word arguments))
     else if bytes_eq name (codes "policy") then made Policy (policy_named (only_word arguments))
     else if bytes_eq name (codes "ping") then if length arguments == 0 then Ok Ping else Err BadStatement
     else if bytes_eq name (codes "quit") then if length arguments == 0 then Ok (End Quit) else Err BadStatement
     else unnamed name
 
--- the meaning of a line: its first word is a name, and the others are the arguments
+-- the meaning of a line: its first word is the name of a statement, and the others are its arguments
 unfoldable pub statement_of : List ℕ → Reading
-statement_of line = named (slice_index_or (words line) 0 []) (drop 1 (words line))
+statement_of line = statement_named (slice_index_or (words line) 0 []) (drop 1 (words line))
 
--- the meaning of a line that is too long to be a statement, by the bytes at its front: it may be one of an HTTP request
+-- the meaning of a line that is too long to be a statement, by its first bytes: it may belong to an HTTP request
 unfoldable pub long_of : List ℕ → Reading
 long_of front = unnamed (slice_index_or (words front) 0 [])

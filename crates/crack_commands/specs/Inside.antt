@@ -16,46 +16,47 @@ use Rattle.crack_row.specs.declared.RowNo.{RowNo}
 use Rattle.crack_row.specs.declared.refusal.Refusal.{Refusal}
 use Rattle.crack_row.specs.declared.refusal.Refusal.TheVariants.{BadStatement, BadRange}
 use Rattle.crack_commands.specs.declared.words.TheConstants.{GREATEST_PART}
-use Rattle.crack_commands.specs.declared.statement.Statement.TheVariants.{Insert, Delete, Update, Layout as AsksLayout, Checkpoint, Policy, Ping, End}
+use Rattle.crack_commands.specs.declared.statement.Statement.TheVariants.{Insert, Delete, Update, Layout as AsksLayout, Checkpoint, Watch, WatchPart, Policy, Ping, End}
 use Rattle.crack_commands.specs.declared.statement.Ending.TheVariants.{Quit}
-use Rattle.crack_commands.specs.Grammar.{Reading, words, is_digit, number_of, whole_number_of, number_up_to, row_number_of, key_of, payload_of, two_of, only_word, policy_named, made}
+use Rattle.crack_commands.specs.Grammar.{Reading, words, is_digit, number_of, whole_number_of, number_up_to, row_number_of, key_read, payload_read, two_of, only_word, policy_named, made}
 use Rattle.crack_commands.specs.Texts.{line_text, row_text, field_text}
 
--- whether there is a space
+-- whether the bytes have a space
 abbrev pub has_space : List ℕ → Bool
 has_space [] = false
 has_space (b ∷ bs) = b == 32 || has_space bs
 
--- whether it is a word: it has a byte
+-- whether a word has a byte
 abbrev pub is_word : List ℕ → Bool
 is_word word = not (bytes_eq word [])
 
--- whether a minus sign is at the front
+-- whether a word begins with a minus sign
 abbrev pub has_sign : List ℕ → Bool
 has_sign word = slice_index word 0 == 45
 
--- the first of the words, and what follows it: an empty word if there is none
+-- The first word, and the bytes after it. The word is empty if there is none.
 pub record IsFirstWord (bytes word rest : List ℕ) : Type 0 where
   pub some : is_word word ≡ true → words bytes ≡ word ∷ words rest
   pub none : is_word word ≡ false → (words bytes ≡ []) × (words rest ≡ [])
 
--- the number that the first word is, if it is one, and what follows the word
+-- the first word parsed as a number, if it is one, and the bytes after the word
 abbrev pub IsFirstNumber : List ℕ → Option ℕ → List ℕ → Type 0
 IsFirstNumber bytes number rest = (word : List ℕ) × IsFirstWord bytes word rest × (number ≡ number_of word)
 
--- the integer that the first word is, if it is one, and what follows the word
+-- the first word parsed as an integer, if it is one, and the bytes after the word
 abbrev pub IsFirstWholeNumber : List ℕ → Option ℤ → List ℕ → Type 0
 IsFirstWholeNumber bytes number rest = (word : List ℕ) × IsFirstWord bytes word rest × (number ≡ whole_number_of word)
 
--- the key and the payload that two numbers are, if they are such
+-- the key and the payload with these numbers, if both are in range
 abbrev pub row_from : ℕ → ℤ → Option (Key × Payload)
 row_from key payload = option_zip (option_map (λ n. record { 0 = n }) (if nat_le key GREATEST_KEY then Some key else None)) (if int_le LEAST_PAYLOAD payload && int_le payload GREATEST_PAYLOAD then Some (record { 0 = payload }) else None)
 
--- the number that digits spell, after others
+-- the value of digits that follow those of `n`
 abbrev pub value_on : ℕ → List ℕ → ℕ
 value_on n word = fold (λ n b. n * 10 + (b - 48)) n word
 
--- Bytes begin with digits, few of them, which end at a space or with the bytes: the number that they spell, and what follows them.
+-- The bytes begin with 1 to 20 digits, which a space or the end of the bytes follows: their value, and the bytes
+-- after them.
 pub record BeginsWithDigits (bytes : List ℕ) (number : ℕ) (rest : List ℕ) : Type 0 where
   pub count : ℕ
   pub few : (0 < count) × (count ≤ 20) × (count ≤ length bytes)
@@ -64,14 +65,15 @@ pub record BeginsWithDigits (bytes : List ℕ) (number : ℕ) (rest : List ℕ) 
   pub ends : count < length bytes → slice_index bytes count ≡ 32
   pub behind : rest ≡ drop count bytes
 
--- Bytes begin with an integer of this many bytes, few of them, after which this byte is.
+-- The bytes begin with an integer of at most 21 bytes, and the byte `stop` follows it.
 pub record BeginsWithWhole (bytes : List ℕ) (stop : ℕ) (number : ℤ) (count : ℕ) : Type 0 where
   pub few : (0 < count) × (count ≤ 21) × (count < length bytes)
   pub stops : slice_index bytes count ≡ stop
   pub printed : list_all (nat_lt 32) (take count bytes) ≡ true
   pub says : whole_number_of (take count bytes) ≡ Some number
 
--- Bytes begin with an integer, few bytes, and then a line ends, after this many bytes: with its carriage return, if it has one.
+-- The bytes begin with an integer of at most 21 bytes, after which a line ends. The line has `len` bytes, including
+-- a carriage return at its end.
 pub record EndsLine (bytes : List ℕ) (number : ℤ) (len : ℕ) : Type 0 where
   pub count : ℕ
   pub few : (0 < count) × (count ≤ 21) × (len < length bytes)
@@ -80,7 +82,7 @@ pub record EndsLine (bytes : List ℕ) (number : ℤ) (len : ℕ) : Type 0 where
   pub printed : list_all (nat_lt 32) (take count bytes) ≡ true
   pub says : whole_number_of (take count bytes) ≡ Some number
 
--- rows of a partition: how many there are, and then each of them
+-- the number of rows, and then a line for each row
 abbrev pub rows_text : ℕ → List Row → List ℕ
 rows_text part rows = line_text (codes "rows ") (decimal (length rows)) ++ flat_map (row_text part) rows
 
@@ -88,19 +90,19 @@ rows_text part rows = line_text (codes "rows ") (decimal (length rows)) ++ flat_
 abbrev pub has_bit : ℕ → ℕ → Bool
 has_bit bits number = bit_at bits number == 1
 
--- the number of a bit, if it is set
+-- the number of a bit after a space, if the bit is set
 abbrev pub bit_text : ℕ → ℕ → List ℕ
 bit_text bits number = if has_bit bits number then field_text number else []
 
--- the line of a refusal's number and of the numbers it carries
+-- the line of a refusal: its code, and the text of what it carries
 abbrev pub refused_text : ℕ → List ℕ → List ℕ
 refused_text code carried = codes "refused " ++ decimal code ++ carried ++ codes "\n"
 
--- `insert K V`
+-- `K V` after `insert`
 abbrev pub insert_of : List (List ℕ) → Reading
-insert_of arguments = made (λ n. Insert n.0 n.1) (two_of key_of payload_of arguments)
+insert_of arguments = made (λ n. Insert n.0 n.1) (two_of key_read payload_read arguments)
 
--- `delete P.S`
+-- `P.S` after `delete`
 abbrev pub delete_of : List (List ℕ) → Reading
 delete_of arguments = made Delete (row_number_of (only_word arguments))
 
@@ -108,31 +110,35 @@ delete_of arguments = made Delete (row_number_of (only_word arguments))
 abbrev pub update_from : Option RowNo → Option (Key × Payload) → Reading
 update_from row pair = made (λ u. Update u.0 u.1.0 u.1.1) (option_zip row pair)
 
--- `update P.S K V`
+-- `P.S K V` after `update`
 abbrev pub update_of : List (List ℕ) → Reading
-update_of arguments = made (λ u. Update u.0 u.1.0 u.1.1) (option_zip (row_number_of (slice_index_or arguments 0 [])) (two_of key_of payload_of (drop 1 arguments)))
+update_of arguments = made (λ u. Update u.0 u.1.0 u.1.1) (option_zip (row_number_of (slice_index_or arguments 0 [])) (two_of key_read payload_read (drop 1 arguments)))
 
--- the range between these ends; only these may be refused as a bad range
+-- the range between these ends; only two numbers can be refused with `BadRange`
 abbrev pub range_from : Option (ℕ × ℕ) → Result Range Refusal
 range_from (Some (low, high)) = if nat_le low high && nat_le high GREATEST_BOUND then Ok (record { low = low; high = high }) else Err BadRange
 range_from None = Err BadStatement
 
--- `layout P`
+-- `P` after `layout`
 abbrev pub layout_of : List (List ℕ) → Reading
 layout_of arguments = made AsksLayout (number_up_to GREATEST_PART (only_word arguments))
 
--- `checkpoint P`
+-- `P` after `checkpoint`
 abbrev pub checkpoint_of : List (List ℕ) → Reading
 checkpoint_of arguments = made Checkpoint (number_up_to GREATEST_PART (only_word arguments))
 
--- `policy NAME`
+-- nothing or `P` after `stats`
+abbrev pub watch_of : List (List ℕ) → Reading
+watch_of arguments = if length arguments == 0 then Ok Watch else made WatchPart (number_up_to GREATEST_PART (only_word arguments))
+
+-- `NAME` after `policy`
 abbrev pub policy_of : List (List ℕ) → Reading
 policy_of arguments = made Policy (policy_named (only_word arguments))
 
--- `ping`
+-- nothing after `ping`
 abbrev pub ping_of : List (List ℕ) → Reading
 ping_of arguments = if length arguments == 0 then Ok Ping else Err BadStatement
 
--- `quit`
+-- nothing after `quit`
 abbrev pub quit_of : List (List ℕ) → Reading
 quit_of arguments = if length arguments == 0 then Ok (End Quit) else Err BadStatement

@@ -1,4 +1,4 @@
--- An insert at the front of bytes.
+-- An insert at the beginning of bytes.
 use Rattle.std.specs.Prelude.{◌≡◌, ℕ, ◌<◌, ◌≤◌, ◌⊎◌, true, false, List, [], ◌∷◌, ◌++◌, length, take, slice_index, Ok, ◌==◌, nat_le}
 use Rattle.std.specs.List.{list_all}
 use Rattle.crack_row.specs.declared.Key.{Key}
@@ -6,8 +6,8 @@ use Rattle.crack_row.specs.declared.Payload.{Payload}
 use Rattle.crack_commands.specs.Grammar.{statement_of}
 use Rattle.crack_commands.specs.declared.statement.Statement.TheVariants.{Insert}
 
--- The bytes begin with a line of this length, up to a line feed: an insert of this row. Its text, without the carriage return that may end the line,
--- isn't blank, has no control character, such as line feeds and carriage returns, and is short.
+-- The bytes begin with a line of length `len`, without its line feed, which is an insert of this row. The text of
+-- the line, without a carriage return at its end, isn't blank, has no control character, and is short.
 pub record BeginsWithInsert (bytes : List ℕ) (len : ℕ) (key : Key) (payload : Payload) : Type 0 where
   pub within : len < length bytes
   pub feed : slice_index bytes len ≡ 10

@@ -1,4 +1,4 @@
--- The texts of replies, layouts and refusals, in lines.
+-- The texts of replies, layouts and refusals.
 use Rattle.std.specs.Prelude.{◌≡◌, ℕ, ◌<◌, ◌==◌, true, List, [], ◌++◌, length, take, filter, Option, Result, OnOk, IfErr, codes, decimal}
 use Rattle.std.specs.List.{flat_map, range_with_len}
 use Rattle.std.specs.Int.{bit_at}
@@ -18,15 +18,15 @@ use Rattle.crack_row.specs.declared.refusal.Refusal.TheVariants.{WriteFault, His
 use Rattle.crack_row.specs.Devices.{device, has_failed}
 use Rattle.crack_row.specs.Refusals.{code_of}
 
--- the line of one value: its name, and the value
+-- a line of a name and its value
 abbrev pub line_text : List ℕ → List ℕ → List ℕ
 line_text name value = name ++ value ++ codes "\n"
 
--- a row of a partition
+-- the line of one row of a partition
 abbrev pub row_text : ℕ → Row → List ℕ
 row_text part row = decimal part ++ codes "." ++ decimal row.serial.0 ++ codes " " ++ decimal row.key.0 ++ codes " " ++ signed_decimal row.payload.0 ++ codes "\n"
 
--- the reply of a partition
+-- the text of a partition's reply
 abbrev pub reply_text : ℕ → Reply → List ℕ
 reply_text part (Placed serial) = codes "row " ++ decimal part ++ codes "." ++ decimal serial.0 ++ codes "\n"
 reply_text part (Gone row) = codes "gone " ++ decimal row.key.0 ++ codes " " ++ signed_decimal row.payload.0 ++ codes "\n"
@@ -36,11 +36,11 @@ reply_text part (Counted count) = line_text (codes "count ") (decimal count)
 reply_text part (Summed sum) = line_text (codes "sum ") (signed_decimal sum)
 reply_text part (Rows rows) = line_text (codes "rows ") (decimal (length rows)) ++ flat_map (row_text part) rows
 
--- a piece of a column
+-- the line of a piece
 abbrev pub piece_text : PieceSize → List ℕ
 piece_text piece = codes "piece " ++ decimal piece.low.0 ++ codes " " ++ decimal piece.high.0 ++ codes " " ++ decimal piece.size ++ codes "\n"
 
--- the layout of a partition: its numbers, and a line for each piece
+-- the text of a partition's layout: a line of sizes, and a line for each piece
 abbrev pub layout_text : ℕ → Layout → List ℕ
 layout_text part layout = (
     (codes "layout " ++ decimal part ++ codes " rows " ++ decimal layout.rows)
@@ -49,15 +49,15 @@ layout_text part layout = (
     ++ (codes " free " ++ decimal layout.free ++ codes " pieces " ++ decimal (length layout.pieces)) ++ codes "\n"
     ) ++ flat_map piece_text layout.pieces
 
--- a row that was placed
+-- the line of a row that was inserted
 abbrev pub placed_text : ℕ → Serial → List ℕ
 placed_text part serial = codes "row " ++ decimal part ++ codes "." ++ decimal serial.0 ++ codes "\n"
 
--- a row that was removed
+-- the line of a row that was deleted
 abbrev pub gone_text : Row → List ℕ
 gone_text row = codes "gone " ++ decimal row.key.0 ++ codes " " ++ signed_decimal row.payload.0 ++ codes "\n"
 
--- two names, each with its number after it
+-- two names, each followed by its number
 abbrev pub two_fields : List ℕ → ℕ → List ℕ → ℕ → List ℕ
 two_fields first m second n = first ++ decimal m ++ second ++ decimal n
 
@@ -81,11 +81,12 @@ policy_text Auto = codes "policy auto\n"
 abbrev pub field_text : ℕ → List ℕ
 field_text number = codes " " ++ decimal number
 
--- the numbers below a count whose bits are set, in rising order
+-- the numbers below a count whose bits are set, in rising order, each after a space
 unfoldable pub bits_text : ℕ → ℕ → List ℕ
 bits_text bits count = flat_map field_text (filter (λ number. bit_at bits number == 1) (range_with_len 0 count))
 
--- the numbers that a refusal carries: the length of a full history, the missing workers, a partition and a position, or a record's number
+-- the numbers of a refusal: the length of a full history, the missing workers, a partition and a position, or a
+-- record's number
 abbrev pub carried_text : Refusal → List ℕ
 carried_text (HistoryFull entries) = field_text entries
 carried_text (WorkersMissing missing) = bits_text missing 64
@@ -93,15 +94,15 @@ carried_text (StrangeReceipt part position) = field_text part ++ field_text posi
 carried_text (BadRecord number) = field_text number
 carried_text _ = []
 
--- the line of a refusal: its number, and what it carries
+-- the line of a refusal: its number, and the numbers that it carries
 abbrev pub refusal_text : Refusal → List ℕ
 refusal_text refusal = codes "refused " ++ decimal (code_of refusal) ++ carried_text refusal ++ codes "\n"
 
--- a prefix of the text is written that is shorter than it
+-- a prefix of the text is written, but not all of it
 abbrev pub AppendsFront : Option (List ℕ) → Option (List ℕ) → List ℕ → Type 0
 AppendsFront old new text = (n : ℕ) × (n < length text) × Appends old new (take n text)
 
--- All of a text is written, or, if the writer failed, a prefix of it that is shorter.
+-- All of a text is written; or, if the writer fails, only a prefix of it.
 pub record Writes {W : Type 0} (contents : W → Option (List ℕ)) (text : List ℕ) (result : Result (Unit {0}) Refusal) (old new : Watched W) : Type 0 where
   pub ok : OnOk result (Appends (contents (device old)) (contents (device new)) text)
   pub unfailed : OnOk result (has_failed new ≡ has_failed old)

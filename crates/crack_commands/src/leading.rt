@@ -1,4 +1,4 @@
-//! An insert at the front of bytes, read before the end of the line is found.
+//! Parsing an insert at the beginning of bytes before the end of its line is found.
 ghost use Rattle.std.specs.Prelude.{◌≡◌, ◌<◌, ◌≤◌, true, length, take, slice_index, IfSome};
 ghost use Rattle.std.specs.List.{list_all};
 ghost use Rattle.crack_commands.specs.Grammar.{is_digit};
@@ -8,7 +8,7 @@ ghost use Rattle.crack_commands.specs.LeadingInsert.{BeginsWithInsert};
 use crate::words::{MOST_DIGITS, has_sign, leading_number, row_from, signed, unsigned};
 use crack_row::{Key, Payload};
 
-/// The name of the statement with the space after it.
+/// The statement's name and the space after it.
 const NAME: &[u8] = b"insert ";
 
 /// An insert that bytes begin with: its row, and the length of its line.
@@ -16,12 +16,12 @@ const NAME: &[u8] = b"insert ";
 pub struct LeadingInsert {
     pub key: Key,
     pub payload: Payload,
-    /// The bytes of its line, with the carriage return that may end it, and without the line feed after it.
+    /// The length of the line in bytes, including a carriage return at its end, but not the line feed.
     pub len: usize,
 }
 
-/// The insert that bytes begin with, up to the end of a line, if it is written without needless spaces, and its numbers
-/// are short, as most inserts are. The end of the line isn't searched for first. None doesn't mean that there is no
+/// Parses an insert that bytes begin with, through the end of its line, if it has no needless spaces and its numbers
+/// are short, as in most inserts. The end of the line isn't searched for first. `None` doesn't mean that there is no
 /// insert. O(bytes of the line), no memory.
 #[inline(always)]
 pub fn leading_insert(bytes: &[u8]) -> Option<LeadingInsert>
@@ -38,7 +38,8 @@ pub fn leading_insert(bytes: &[u8]) -> Option<LeadingInsert>
     })
 }
 
-/// The integer that bytes begin with, if the line ends after it, and how many bytes are left of the line.
+/// Parses an integer at the beginning, if the line ends after it, and returns it with the number of bytes before the
+/// line feed.
 #[inline(always)]
 fn last_number(bytes: &[u8]) -> Option<(i128, usize)>
     ensures { IfSome result (λ n. EndsLine bytes.now n.0 n.1) }
@@ -49,7 +50,7 @@ fn last_number(bytes: &[u8]) -> Option<(i128, usize)>
     }
 }
 
-/// The same if a carriage return ends the line.
+/// Implements `last_number` for a line that ends with a carriage return.
 #[cold]
 #[inline(never)]
 fn number_before_return(bytes: &[u8]) -> Option<(i128, usize)>
@@ -63,7 +64,7 @@ fn number_before_return(bytes: &[u8]) -> Option<(i128, usize)>
     }
 }
 
-/// The integer that bytes begin with, and how many bytes it takes, if this byte is after it.
+/// Parses an integer at the beginning, if the byte `stop` follows it, and returns it with its length in bytes.
 #[inline(always)]
 fn whole_number_before(bytes: &[u8], stop: u8) -> Option<(i128, usize)>
     ensures { IfSome result (λ n. BeginsWithWhole bytes.now stop n.0 n.1) }
@@ -74,7 +75,7 @@ fn whole_number_before(bytes: &[u8], stop: u8) -> Option<(i128, usize)>
     Some((number, bytes.len() - digits.len() + count))
 }
 
-/// The number that bytes begin with, and how many digits it has, if this byte is after them.
+/// Parses a number at the beginning, if the byte `stop` follows it, and returns it with the number of its digits.
 #[inline(always)]
 fn number_before(bytes: &[u8], stop: u8) -> Option<(u64, usize)>
     ensures within { IfSome result (λ n. (0 < n.1) × (n.1 ≤ MOST_DIGITS) × (n.1 < length bytes.now)) }

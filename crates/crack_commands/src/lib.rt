@@ -1,10 +1,11 @@
-//! The statement language and its texts: from a line to a statement, and from a reply or a layout to lines.
+//! The statement language and its texts: parses a line into a statement, and writes replies and layouts as lines.
 #![tactic(auto)]
 
 mod leading;
 mod output;
 pub mod statement;
 pub mod text;
+pub mod watching;
 mod words;
 
 pub use leading::{LeadingInsert, leading_insert};
@@ -12,8 +13,8 @@ pub use output::send;
 pub use statement::{Ending, Statement, parse_long, parse_statement};
 pub use text::{
     LONGEST_TEXT, TEXT_BYTES, policy_line, push, push_count, push_folded, push_gone, push_head,
-    push_layout_head, push_piece, push_placed, push_refusal, push_row, push_sum, write_count,
-    write_each_row, write_folded, write_head, write_layout, write_refusal, write_reply, write_row,
-    write_sum, write_text,
+    push_layout_head, push_piece, push_placed, push_refusal, push_row, push_sum, write_each_row,
+    write_folded, write_head, write_layout, write_refusal, write_reply, write_row,
 };
+pub use watching::{Traffic, push_numbers};
 pub use words::{read_key, read_number_up_to, read_payload};

@@ -1,10 +1,10 @@
-//! Writing bytes.
+//! Writing all of some bytes.
 ghost use Rattle.crack_commands.specs.Texts.{Writes};
 
 use crack_row::{Refusal, Watched};
 use std::io::Write;
 
-/// Writes all of the bytes. If the writer fails, a prefix of them may be written, but not all.
+/// Writes all of the bytes. Refused with `WriteFault` if the writer fails, after a proper prefix of the bytes.
 pub fn send<W: Write>(writer: &mut Watched<W>, bytes: &[u8]) -> Result<(), Refusal>
     ensures { Writes W.contents bytes.now result writer.old writer.new }
 {

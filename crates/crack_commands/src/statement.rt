@@ -1,10 +1,11 @@
 //! The statement language.
 ghost use Rattle.std.specs.Prelude.{◌≡◌, Some};
 ghost use Rattle.std.specs.List.{list_all};
-ghost use Rattle.crack_commands.specs.Grammar.{statement_of, words, named, number_of, two_of, over, policy_named};
+ghost use Rattle.crack_commands.specs.Grammar.{statement_of, words, statement_named, number_of, two_of};
+ghost use Rattle.crack_commands.specs.Grammar.{over, policy_named};
 ghost use Rattle.crack_commands.specs.Grammar.{long_of, unnamed, is_http, is_method, has_header, is_name_byte};
 ghost use Rattle.crack_commands.specs.Inside.{insert_of, delete_of, update_of, update_from, range_from, layout_of};
-ghost use Rattle.crack_commands.specs.Inside.{checkpoint_of, policy_of, ping_of, quit_of};
+ghost use Rattle.crack_commands.specs.Inside.{checkpoint_of, watch_of, policy_of, ping_of, quit_of};
 ghost use Rattle.crack_commands.specs.declared.statement.Statement.TheVariants.{Count, Sum, Select};
 
 use crate::words::{
@@ -12,7 +13,7 @@ use crate::words::{
 };
 use crack_row::{Key, KeyRange, Payload, Policy, Refusal, RowNo};
 
-/// The statement of a line.
+/// A parsed statement.
 #[derive(Clone, Copy, Debug)]
 pub enum Statement {
     /// Insert a row.
@@ -22,7 +23,7 @@ pub enum Statement {
     },
     /// Delete a row.
     Delete(RowNo),
-    /// Give a row another key and payload.
+    /// Update a row to another key and payload.
     Update {
         row: RowNo,
         key: Key,
@@ -38,25 +39,29 @@ pub enum Statement {
     Layout(u32),
     /// Make a checkpoint of a partition.
     Checkpoint(u32),
+    /// Report the statistics of the table.
+    Watch,
+    /// Report the statistics of a partition.
+    WatchPart(u32),
     /// Change how pending rows are merged from now on.
     Policy(Policy),
-    /// Tell that the session is alive.
+    /// Report that the session is alive.
     Ping,
     /// End the session.
     End(Ending),
 }
 
-/// Why a session ends with a line.
+/// How a line ends a session.
 #[derive(Clone, Copy, Debug)]
 pub enum Ending {
     /// The line is the statement `quit`.
     Quit,
-    /// The line is one of an HTTP request, which a web page that is open on the same machine can send.
+    /// The line belongs to an HTTP request, which a web page that is open on the same machine can send.
     Http,
 }
 
-/// The meaning of a line: a statement, or why it isn't one. Refused with 2 if the ends of a range
-/// are out of order or too great, else with 1; so is a line without a word. O(its bytes), no memory.
+/// Parses a line as a statement. Refused with `BadRange` if the ends of a range are out of order or too great, else
+/// with `BadStatement`, also if the line has no word. O(bytes of the line), no memory.
 #[inline(always)]
 pub fn parse_statement(line: &[u8]) -> Result<Statement, Refusal>
     ensures { result ≡ statement_of line.now }
@@ -65,8 +70,8 @@ pub fn parse_statement(line: &[u8]) -> Result<Statement, Refusal>
     parse_named(name, rest)
 }
 
-/// The meaning of a line that is too long to be a statement, by the bytes at its front. Refused with 1, unless it is
-/// one of an HTTP request. O(these bytes), no memory.
+/// Parses a line that is too long to be a statement by its first bytes. Refused with `BadStatement`, unless the line
+/// belongs to an HTTP request. O(these bytes), no memory.
 #[tactic(auto, unfolding(crate::specs::Grammar::long_of))]
 #[cold]
 #[inline(never)]
@@ -77,10 +82,10 @@ pub fn parse_long(front: &[u8]) -> Result<Statement, Refusal>
     parse_unnamed(word)
 }
 
-/// The statement with a name, and with what follows it.
+/// Parses a statement with this name and the bytes after it.
 #[inline(never)]
 fn parse_named(name: &[u8], rest: &[u8]) -> Result<Statement, Refusal>
-    ensures { result ≡ named name.now (words rest.now) }
+    ensures { result ≡ statement_named name.now (words rest.now) }
 {
     if name == b"delete".as_slice() {
         parse_delete(rest)
@@ -96,6 +101,8 @@ fn parse_named(name: &[u8], rest: &[u8]) -> Result<Statement, Refusal>
         parse_layout(rest)
     } else if name == b"checkpoint".as_slice() {
         parse_checkpoint(rest)
+    } else if name == b"stats".as_slice() {
+        parse_stats(rest)
     } else if name == b"policy".as_slice() {
         parse_policy(rest)
     } else if name == b"ping".as_slice() {
@@ -109,7 +116,7 @@ fn parse_named(name: &[u8], rest: &[u8]) -> Result<Statement, Refusal>
     }
 }
 
-/// The reading of a line whose first word is no name of a statement.
+/// Parses a line whose first word isn't the name of a statement.
 #[cold]
 #[inline(never)]
 fn parse_unnamed(word: &[u8]) -> Result<Statement, Refusal>
@@ -122,14 +129,14 @@ fn parse_unnamed(word: &[u8]) -> Result<Statement, Refusal>
     }
 }
 
-/// Whether a line with this first word is one of an HTTP request.
+/// Whether a line with this first word belongs to an HTTP request.
 fn is_http(word: &[u8]) -> bool
     ensures { result ≡ is_http word.now }
 {
     is_method(word) || has_header(word)
 }
 
-/// Whether a word begins with a header of HTTP.
+/// Whether a word begins with the name of an HTTP header.
 fn has_header(word: &[u8]) -> bool
     ensures { result ≡ has_header word.now }
 {
@@ -137,21 +144,21 @@ fn has_header(word: &[u8]) -> bool
     0 < colon && colon < word.len() && is_name(&word[..colon])
 }
 
-/// Whether there are only letters, digits and hyphens.
+/// Whether the bytes are only letters, digits and hyphens.
 fn is_name(bytes: &[u8]) -> bool
     ensures { result ≡ list_all is_name_byte bytes.now }
 {
     bytes.iter().all(|b| is_name_byte(*b))
 }
 
-/// Whether it is a letter, a digit or a hyphen.
+/// Whether a byte is a letter, a digit or a hyphen.
 fn is_name_byte(b: u8) -> bool
     ensures { result ≡ is_name_byte b }
 {
     matches!(b, b'0'..=b'9' | b'A'..=b'Z' | b'a'..=b'z' | b'-')
 }
 
-/// Whether a word is a method of HTTP.
+/// Whether a word is an HTTP method.
 fn is_method(word: &[u8]) -> bool
     ensures { result ≡ is_method word.now }
 {
@@ -166,7 +173,7 @@ fn is_method(word: &[u8]) -> bool
         || word == b"PATCH".as_slice()
 }
 
-/// An insert with the words after its name.
+/// Parses the words after `insert`.
 #[inline(always)]
 fn parse_insert(rest: &[u8]) -> Result<Statement, Refusal>
     ensures { result ≡ insert_of (words rest.now) }
@@ -177,7 +184,7 @@ fn parse_insert(rest: &[u8]) -> Result<Statement, Refusal>
     }
 }
 
-/// A delete with the one word after its name.
+/// Parses the one word after `delete`.
 fn parse_delete(rest: &[u8]) -> Result<Statement, Refusal>
     ensures { result ≡ delete_of (words rest.now) }
 {
@@ -187,7 +194,7 @@ fn parse_delete(rest: &[u8]) -> Result<Statement, Refusal>
     }
 }
 
-/// An update with the words after its name.
+/// Parses the words after `update`.
 fn parse_update(rest: &[u8]) -> Result<Statement, Refusal>
     ensures { result ≡ update_of (words rest.now) }
 {
@@ -198,7 +205,7 @@ fn parse_update(rest: &[u8]) -> Result<Statement, Refusal>
     }
 }
 
-/// An update of a row to a key and a payload, if there are any.
+/// Makes an update of a row to a key and a payload, if they were parsed.
 fn update_from(row: RowNo, pair: Option<(Key, Payload)>) -> Result<Statement, Refusal>
     ensures { result ≡ update_from (Some row) pair }
 {
@@ -208,7 +215,7 @@ fn update_from(row: RowNo, pair: Option<(Key, Payload)>) -> Result<Statement, Re
     }
 }
 
-/// A count with the words after its name.
+/// Parses the words after `count`.
 #[tactic(auto, using(crate::proofs::Statements::over_ok, crate::proofs::Statements::over_err))]
 fn parse_count(rest: &[u8]) -> Result<Statement, Refusal>
     ensures { result ≡ over Count (two_of number_of number_of (words rest.now)) }
@@ -219,7 +226,7 @@ fn parse_count(rest: &[u8]) -> Result<Statement, Refusal>
     }
 }
 
-/// A sum with the words after its name.
+/// Parses the words after `sum`.
 #[tactic(auto, using(crate::proofs::Statements::over_ok, crate::proofs::Statements::over_err))]
 fn parse_sum(rest: &[u8]) -> Result<Statement, Refusal>
     ensures { result ≡ over Sum (two_of number_of number_of (words rest.now)) }
@@ -230,7 +237,7 @@ fn parse_sum(rest: &[u8]) -> Result<Statement, Refusal>
     }
 }
 
-/// A select with the words after its name.
+/// Parses the words after `select`.
 #[tactic(auto, using(crate::proofs::Statements::over_ok, crate::proofs::Statements::over_err))]
 fn parse_select(rest: &[u8]) -> Result<Statement, Refusal>
     ensures { result ≡ over Select (two_of number_of number_of (words rest.now)) }
@@ -241,7 +248,7 @@ fn parse_select(rest: &[u8]) -> Result<Statement, Refusal>
     }
 }
 
-/// The range between two numbers.
+/// Parses two numbers as a range.
 fn parse_range(rest: &[u8]) -> Result<KeyRange, Refusal>
     ensures { result ≡ range_from (two_of number_of number_of (words rest.now)) }
 {
@@ -251,7 +258,7 @@ fn parse_range(rest: &[u8]) -> Result<KeyRange, Refusal>
     }
 }
 
-/// A layout with the one word after its name.
+/// Parses the one word after `layout`.
 fn parse_layout(rest: &[u8]) -> Result<Statement, Refusal>
     ensures { result ≡ layout_of (words rest.now) }
 {
@@ -261,7 +268,7 @@ fn parse_layout(rest: &[u8]) -> Result<Statement, Refusal>
     }
 }
 
-/// A checkpoint with the one word after its name.
+/// Parses the one word after `checkpoint`.
 fn parse_checkpoint(rest: &[u8]) -> Result<Statement, Refusal>
     ensures { result ≡ checkpoint_of (words rest.now) }
 {
@@ -271,7 +278,21 @@ fn parse_checkpoint(rest: &[u8]) -> Result<Statement, Refusal>
     }
 }
 
-/// A policy with the one word after its name.
+/// Parses what follows `stats`: the number of a partition, or no word for the whole table.
+fn parse_stats(rest: &[u8]) -> Result<Statement, Refusal>
+    ensures { result ≡ watch_of (words rest.now) }
+{
+    let (word, _) = next_word(rest);
+    if word.is_empty() {
+        return Ok(Statement::Watch);
+    }
+    match read_part(only_word(rest)) {
+        Some(part) => Ok(Statement::WatchPart(part)),
+        None => Err(Refusal::BadStatement),
+    }
+}
+
+/// Parses the one word after `policy`.
 fn parse_policy(rest: &[u8]) -> Result<Statement, Refusal>
     ensures { result ≡ policy_of (words rest.now) }
 {
@@ -281,7 +302,7 @@ fn parse_policy(rest: &[u8]) -> Result<Statement, Refusal>
     }
 }
 
-/// The policy with a name.
+/// The policy with this name.
 fn policy_named(name: &[u8]) -> Option<Policy>
     ensures { result ≡ policy_named name.now }
 {
@@ -298,7 +319,7 @@ fn policy_named(name: &[u8]) -> Option<Policy>
     }
 }
 
-/// A ping, if no word is after its name.
+/// Parses what follows `ping`: no word.
 fn parse_ping(rest: &[u8]) -> Result<Statement, Refusal>
     ensures { result ≡ ping_of (words rest.now) }
 {
@@ -310,7 +331,7 @@ fn parse_ping(rest: &[u8]) -> Result<Statement, Refusal>
     }
 }
 
-/// A quit, if no word is after its name.
+/// Parses what follows `quit`: no word.
 fn parse_quit(rest: &[u8]) -> Result<Statement, Refusal>
     ensures { result ≡ quit_of (words rest.now) }
 {

@@ -15,21 +15,22 @@ use crack_row::{
 };
 use std::io::Write;
 
-/// Room for a line of text, or a part of one. The longest is a piece's: a word, two bounds of up to 40 digits, a size
-/// of 20, and four more bytes.
+/// The space for a line of text, or a part of one. The longest is the line of a piece: a word, two bounds of up to
+/// 40 digits, a size of 20, and four more bytes.
 pub const TEXT_BYTES: usize = 112;
 
-/// Room for any line, even if a refusal names all workers or a layout has the greatest numbers.
+/// The space for any text without rows and pieces, even if a refusal names all workers or a layout has the greatest
+/// numbers.
 pub const LONGEST_TEXT: usize = 2048;
 
 /// A line of text under construction.
 type Text = ArrayVec<u8, TEXT_BYTES>;
 
-/// Room for the line of a placed row, the most frequent one: a word, a partition's number of 10 digits, a serial of 20,
-/// and three more bytes. It is cleared for each line.
+/// The space for the line of an inserted row, the most frequent one: a word, a partition number of 10 digits, a
+/// serial of 20, and three more bytes. It is cleared for each line.
 const PLACED_BYTES: usize = 48;
 
-/// Writes a partition's reply: a line, and for rows a line for each of them, a row at a time.
+/// Writes a partition's reply: one line, and if it lists rows, a line for each row after that.
 #[inline(always)]
 pub fn write_reply<W: Write>(
     part: u32,
@@ -41,7 +42,7 @@ pub fn write_reply<W: Write>(
     match reply {
         Reply::Placed(serial) => write_placed(part, *serial, writer),
         Reply::Gone(row) => {
-            // a copy, so that a placed row's reply isn't stored in memory
+            // a copy, so that an inserted row's reply isn't stored in memory
             let gone = *row;
             write_gone(&gone, writer)
         }
@@ -53,7 +54,7 @@ pub fn write_reply<W: Write>(
     }
 }
 
-/// Writes the line of a row that was placed.
+/// Writes the line of a row that was inserted.
 #[inline(always)]
 fn write_placed<W: Write>(part: u32, serial: Serial, writer: &mut Watched<W>) -> Result<(), Refusal>
     ensures { Writes W.contents (placed_text part serial) result writer.old writer.new }
@@ -63,7 +64,7 @@ fn write_placed<W: Write>(part: u32, serial: Serial, writer: &mut Watched<W>) ->
     send(writer, text.as_slice())
 }
 
-/// Adds the line of a row that was placed.
+/// Adds the line of a row that was inserted.
 #[inline(always)]
 pub fn push_placed<const ROOM: usize>(text: &mut ArrayVec<u8, ROOM>, part: u32, serial: Serial)
     requires { length text.old.items + PLACED_BYTES ≤ ROOM }
@@ -74,8 +75,8 @@ pub fn push_placed<const ROOM: usize>(text: &mut ArrayVec<u8, ROOM>, part: u32, 
     push(text, b"\n");
 }
 
-/// Adds the beginning of a placed row's line, through the full stop after the partition's number: in one step if that
-/// has one digit.
+/// Adds the beginning of an inserted row's line, through the full stop after the partition number: in one step if
+/// that has one digit.
 #[inline(always)]
 #[tactic(auto, using(std::proofs::lemmas::Fmt::decimal_digit))]
 fn push_part<const ROOM: usize>(text: &mut ArrayVec<u8, ROOM>, part: u32)
@@ -92,7 +93,7 @@ fn push_part<const ROOM: usize>(text: &mut ArrayVec<u8, ROOM>, part: u32)
     }
 }
 
-/// Writes the line of a row that was removed.
+/// Writes the line of a row that was deleted.
 fn write_gone<W: Write>(row: &Row, writer: &mut Watched<W>) -> Result<(), Refusal>
     ensures { Writes W.contents (gone_text row.now) result writer.old writer.new }
 {
@@ -101,7 +102,7 @@ fn write_gone<W: Write>(row: &Row, writer: &mut Watched<W>) -> Result<(), Refusa
     send(writer, text.as_slice())
 }
 
-/// Adds the line of a row that was removed.
+/// Adds the line of a row that was deleted.
 pub fn push_gone<const ROOM: usize>(text: &mut ArrayVec<u8, ROOM>, row: &Row)
     requires { length text.old.items + TEXT_BYTES ≤ ROOM }
     ensures { text.new.items ≡ text.old.items ++ gone_text row.now }
@@ -114,7 +115,7 @@ pub fn push_gone<const ROOM: usize>(text: &mut ArrayVec<u8, ROOM>, row: &Row)
 }
 
 /// Writes the line of a count.
-pub fn write_count<W: Write>(count: u64, writer: &mut Watched<W>) -> Result<(), Refusal>
+fn write_count<W: Write>(count: u64, writer: &mut Watched<W>) -> Result<(), Refusal>
     ensures { Writes W.contents (line_text (codes "count ") (decimal count)) result writer.old writer.new }
 {
     let mut text = Text::new();
@@ -133,7 +134,7 @@ pub fn push_count<const ROOM: usize>(text: &mut ArrayVec<u8, ROOM>, count: u64)
 }
 
 /// Writes the line of a sum.
-pub fn write_sum<W: Write>(sum: i128, writer: &mut Watched<W>) -> Result<(), Refusal>
+fn write_sum<W: Write>(sum: i128, writer: &mut Watched<W>) -> Result<(), Refusal>
     ensures { Writes W.contents (line_text (codes "sum ") (signed_decimal sum)) result writer.old writer.new }
 {
     let mut text = Text::new();
@@ -151,7 +152,7 @@ pub fn push_sum<const ROOM: usize>(text: &mut ArrayVec<u8, ROOM>, sum: i128)
     push(text, b"\n");
 }
 
-/// Writes the line of a checkpoint, with the number of entries.
+/// Writes the line of a checkpoint, with its number of commands.
 pub fn write_folded<W: Write>(folded: u64, writer: &mut Watched<W>) -> Result<(), Refusal>
     ensures { Writes W.contents (line_text (codes "folded ") (decimal folded)) result writer.old writer.new }
 {
@@ -160,7 +161,7 @@ pub fn write_folded<W: Write>(folded: u64, writer: &mut Watched<W>) -> Result<()
     send(writer, text.as_slice())
 }
 
-/// Adds the line of a checkpoint, with the number of entries.
+/// Adds the line of a checkpoint, with its number of commands.
 pub fn push_folded<const ROOM: usize>(text: &mut ArrayVec<u8, ROOM>, folded: u64)
     requires { length text.old.items + TEXT_BYTES ≤ ROOM }
     ensures { text.new.items ≡ text.old.items ++ line_text (codes "folded ") (decimal folded) }
@@ -170,7 +171,7 @@ pub fn push_folded<const ROOM: usize>(text: &mut ArrayVec<u8, ROOM>, folded: u64
     push(text, b"\n");
 }
 
-/// Writes the lines of rows: how many there are, and then each.
+/// Writes the number of rows, and then a line for each row.
 fn write_rows<W: Write>(part: u32, rows: &[Row], writer: &mut Watched<W>) -> Result<(), Refusal>
     ensures { Writes W.contents (rows_text part rows.now) result writer.old writer.new }
 {
@@ -178,7 +179,7 @@ fn write_rows<W: Write>(part: u32, rows: &[Row], writer: &mut Watched<W>) -> Res
     write_each_row(part, rows, writer)
 }
 
-/// Writes a line for each of the rows.
+/// Writes a line for each row.
 pub fn write_each_row<W: Write>(
     part: u32,
     rows: &[Row],
@@ -192,7 +193,7 @@ pub fn write_each_row<W: Write>(
     Ok(())
 }
 
-/// Writes the line above rows, with their number.
+/// Writes the line before listed rows, with their number.
 pub fn write_head<W: Write>(total: u64, writer: &mut Watched<W>) -> Result<(), Refusal>
     ensures { Writes W.contents (line_text (codes "rows ") (decimal total)) result writer.old writer.new }
 {
@@ -201,7 +202,7 @@ pub fn write_head<W: Write>(total: u64, writer: &mut Watched<W>) -> Result<(), R
     send(writer, text.as_slice())
 }
 
-/// Adds the line above rows, with their number.
+/// Adds the line before listed rows, with their number.
 pub fn push_head<const ROOM: usize>(text: &mut ArrayVec<u8, ROOM>, total: u64)
     requires { length text.old.items + TEXT_BYTES ≤ ROOM }
     ensures { text.new.items ≡ text.old.items ++ line_text (codes "rows ") (decimal total) }
@@ -211,7 +212,7 @@ pub fn push_head<const ROOM: usize>(text: &mut ArrayVec<u8, ROOM>, total: u64)
     push(text, b"\n");
 }
 
-/// Writes the line of a partition's row.
+/// Writes the line of one row of a partition.
 pub fn write_row<W: Write>(part: u32, row: &Row, writer: &mut Watched<W>) -> Result<(), Refusal>
     ensures { Writes W.contents (row_text part row.now) result writer.old writer.new }
 {
@@ -220,7 +221,7 @@ pub fn write_row<W: Write>(part: u32, row: &Row, writer: &mut Watched<W>) -> Res
     send(writer, text.as_slice())
 }
 
-/// Adds the line of a partition's row.
+/// Adds the line of one row of a partition.
 pub fn push_row<const ROOM: usize>(text: &mut ArrayVec<u8, ROOM>, part: u32, row: &Row)
     requires { length text.old.items + TEXT_BYTES ≤ ROOM }
     ensures { text.new.items ≡ text.old.items ++ row_text part row.now }
@@ -235,7 +236,7 @@ pub fn push_row<const ROOM: usize>(text: &mut ArrayVec<u8, ROOM>, part: u32, row
     push(text, b"\n");
 }
 
-/// Writes the lines of a partition's layout, a piece at a time.
+/// Writes the lines of a partition's layout, one piece at a time.
 pub fn write_layout<W: Write>(
     part: u32,
     layout: &Layout,
@@ -260,7 +261,7 @@ fn write_layout_head<W: Write>(
     send(writer, text.as_slice())
 }
 
-/// Adds two names of at most 10 bytes, each with its number after it.
+/// Adds two names of at most 10 bytes, each followed by its number.
 fn push_two_fields<const ROOM: usize>(
     text: &mut ArrayVec<u8, ROOM>,
     first: &[u8],
@@ -361,7 +362,7 @@ pub fn push_refusal<const ROOM: usize>(text: &mut ArrayVec<u8, ROOM>, refusal: &
     }
 }
 
-/// Adds the line of a refusal that carries these numbers, at most two.
+/// Adds the line of a refusal with at most two numbers.
 fn push_refused<const ROOM: usize>(text: &mut ArrayVec<u8, ROOM>, code: u32, numbers: &[u64])
     requires few { length numbers.now ≤ 2 }
     requires room { length text.old.items + LONGEST_TEXT ≤ ROOM }
@@ -373,7 +374,7 @@ fn push_refused<const ROOM: usize>(text: &mut ArrayVec<u8, ROOM>, code: u32, num
     push(text, b"\n");
 }
 
-/// Adds the line of a refusal that carries the numbers of missing workers.
+/// Adds the line of a refusal with the numbers of missing workers.
 fn push_missing<const ROOM: usize>(text: &mut ArrayVec<u8, ROOM>, code: u32, missing: u64)
     requires { length text.old.items + LONGEST_TEXT ≤ ROOM }
     ensures { text.new.items ≡ text.old.items ++ refused_text code (bits_text missing 64) }
@@ -384,7 +385,7 @@ fn push_missing<const ROOM: usize>(text: &mut ArrayVec<u8, ROOM>, code: u32, mis
     push(text, b"\n");
 }
 
-/// Adds the numbers of the bits that are set.
+/// Adds the numbers of the bits that are set, each after a space.
 fn push_bits<const ROOM: usize>(text: &mut ArrayVec<u8, ROOM>, bits: u64)
     requires { length text.old.items + 1344 ≤ ROOM }
     ensures value { text.new.items ≡ text.old.items ++ bits_text bits 64 }
@@ -395,7 +396,7 @@ fn push_bits<const ROOM: usize>(text: &mut ArrayVec<u8, ROOM>, bits: u64)
     }
 }
 
-/// Adds the number of a bit, if it is set.
+/// Adds the number of a bit after a space, if the bit is set.
 fn push_bit<const ROOM: usize>(text: &mut ArrayVec<u8, ROOM>, bits: u64, number: u32)
     requires known { number < 64 }
     requires room { length text.old.items + 21 ≤ ROOM }
@@ -416,15 +417,7 @@ fn has_bit(bits: u64, number: u32) -> bool
     (bits >> number) & 1 == 1
 }
 
-/// Writes bytes and a line feed.
-pub fn write_text<W: Write>(bytes: &[u8], writer: &mut Watched<W>) -> Result<(), Refusal>
-    ensures { Writes W.contents (bytes.now ++ codes "\n") result writer.old writer.new }
-{
-    send(writer, bytes)?;
-    send(writer, b"\n")
-}
-
-/// The answer to a change of policy, without its line feed.
+/// The answer to the statement `policy`, without its line feed.
 pub fn policy_line(policy: Policy) -> &'static [u8]
     ensures { result.now ++ codes "\n" ≡ policy_text policy }
 {
@@ -479,7 +472,7 @@ fn push_payload<const ROOM: usize>(text: &mut ArrayVec<u8, ROOM>, payload: Paylo
     push(text, digits.format(payload.number()).as_bytes());
 }
 
-/// Adds the end of a range in decimal: usually one that fits 64 bits.
+/// Adds a bound of a range in decimal. Usually it fits 64 bits.
 fn push_bound<const ROOM: usize>(text: &mut ArrayVec<u8, ROOM>, bound: Bound)
     requires { length text.old.items + 40 ≤ ROOM }
     ensures digits { text.new.items ≡ text.old.items ++ decimal bound.0 }
@@ -491,7 +484,7 @@ fn push_bound<const ROOM: usize>(text: &mut ArrayVec<u8, ROOM>, bound: Bound)
     }
 }
 
-/// Adds an integer in decimal, with a minus sign before it if it is below 0: at most 40 bytes.
+/// Adds an integer in decimal, with a minus sign if it is negative: at most 40 bytes.
 #[inline(always)]
 fn push_whole<const ROOM: usize>(text: &mut ArrayVec<u8, ROOM>, number: i128)
     requires { length text.old.items + 40 ≤ ROOM }
@@ -510,7 +503,7 @@ fn push_whole<const ROOM: usize>(text: &mut ArrayVec<u8, ROOM>, number: i128)
 /// Adds a number in decimal: at most 20 digits.
 #[inline(always)]
 #[tactic(auto, using(std::proofs::lemmas::Fmt::decimal_digit))]
-fn push_number<const ROOM: usize>(text: &mut ArrayVec<u8, ROOM>, number: u64)
+pub(crate) fn push_number<const ROOM: usize>(text: &mut ArrayVec<u8, ROOM>, number: u64)
     requires { length text.old.items + 20 ≤ ROOM }
     ensures digits { text.new.items ≡ text.old.items ++ decimal number }
     ensures few { length text.new.items ≤ length text.old.items + 20 }
@@ -533,7 +526,7 @@ fn push_wide_number<const ROOM: usize>(text: &mut ArrayVec<u8, ROOM>, number: u1
     push(text, digits.format(number).as_bytes());
 }
 
-/// Adds bytes, for which there is room.
+/// Adds bytes, for which there must be room.
 pub fn push<const ROOM: usize>(text: &mut ArrayVec<u8, ROOM>, bytes: &[u8])
     requires { length text.old.items + length bytes.now ≤ ROOM }
     ensures { text.new.items ≡ text.old.items ++ bytes.now }

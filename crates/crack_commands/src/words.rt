@@ -1,9 +1,9 @@
-//! Words and numbers among bytes.
+//! Parsing words and numbers.
 ghost use Rattle.std.specs.Prelude.{pos, neg_ℤ, int_le, ◌&&◌, ◌≡◌, ◌+◌, ◌-◌, ◌*◌, ◌^◌, ◌<◌, ◌≤◌, ◌≢◌, ◌↔◌, true, false};
 ghost use Rattle.std.specs.Prelude.{length, IsTrue, Some, take, drop, ◌==◌, if◌then◌else◌, IfSome, slice_index};
 ghost use Rattle.std.specs.List.{list_all, position_or_len};
 ghost use Rattle.crack_commands.specs.Grammar.{words, number_of, whole_number_of, number_up_to, two_of};
-ghost use Rattle.crack_commands.specs.Grammar.{key_of, payload_of, only_word, row_number_of, is_digit};
+ghost use Rattle.crack_commands.specs.Grammar.{key_read, payload_read, only_word, row_number_of, is_digit};
 ghost use Rattle.crack_commands.specs.Inside.{value_on, has_space, has_sign, row_from, IsFirstWord, IsFirstNumber};
 ghost use Rattle.crack_commands.specs.Inside.{IsFirstWholeNumber, BeginsWithDigits};
 
@@ -15,22 +15,22 @@ use crack_row::{
 /// The greatest number of digits of a number in a statement, including leading zeros.
 pub const MOST_DIGITS: usize = 20;
 
-/// This many digits fit 64 bits, whatever they are.
+/// Any number of this many digits fits 64 bits.
 pub(crate) const SHORT_DIGITS: usize = 19;
 
-/// The number of digits that are read at once, if there are as many.
+/// How many digits are parsed at once, if there are as many.
 const BLOCK_DIGITS: usize = 8;
 
-/// The greatest number by which a statement names a partition.
+/// The greatest partition number in a statement.
 pub const GREATEST_PART: u32 = 4294967295;
 
-/// The greatest number by which a statement names a row of a partition.
+/// The greatest serial in a statement.
 pub const GREATEST_SERIAL: u64 = 18446744073709551615;
 
-/// The key and the payload that two words are, if there are exactly two such words.
+/// Parses exactly two words as a key and a payload.
 #[inline(always)]
 pub fn key_and_payload(bytes: &[u8]) -> Option<(Key, Payload)>
-    ensures { result ≡ two_of key_of payload_of (words bytes.now) }
+    ensures { result ≡ two_of key_read payload_read (words bytes.now) }
 {
     if let Some((key, payload)) = two_short_words(bytes) {
         if let Some(row) = row_from(key as u128, payload) {
@@ -40,10 +40,11 @@ pub fn key_and_payload(bytes: &[u8]) -> Option<(Key, Payload)>
     any_key_and_payload(bytes)
 }
 
-/// A number and an integer, if these are exactly two words, 64 bits are enough for each, and no space is after them.
+/// Parses exactly two words as a number and an integer, if 64 bits are enough for the digits of each and no space
+/// follows them.
 #[inline(always)]
 fn two_short_words(bytes: &[u8]) -> Option<(u64, i128)>
-    ensures { IfSome result (λ pair. two_of key_of payload_of (words bytes.now) ≡ row_from pair.0 pair.1) }
+    ensures { IfSome result (λ pair. two_of key_read payload_read (words bytes.now) ≡ row_from pair.0 pair.1) }
 {
     let (key, rest) = short_number(bytes)?;
     let (payload, rest) = short_whole_number(rest)?;
@@ -54,11 +55,11 @@ fn two_short_words(bytes: &[u8]) -> Option<(u64, i128)>
     }
 }
 
-/// The same for all numbers, with any spaces.
+/// Implements `key_and_payload` for all numbers and any spaces.
 #[cold]
 #[inline(never)]
 fn any_key_and_payload(bytes: &[u8]) -> Option<(Key, Payload)>
-    ensures { result ≡ two_of key_of payload_of (words bytes.now) }
+    ensures { result ≡ two_of key_read payload_read (words bytes.now) }
 {
     let (key, rest) = next_word(bytes);
     let (payload, rest) = next_word(rest);
@@ -70,7 +71,7 @@ fn any_key_and_payload(bytes: &[u8]) -> Option<(Key, Payload)>
     }
 }
 
-/// The key and the payload of two numbers, if they are a key and a payload. Both are tested together.
+/// The key and the payload with these numbers, if both are in range. Both are tested together.
 #[inline(always)]
 pub(crate) fn row_from(key: u128, payload: i128) -> Option<(Key, Payload)>
     ensures { result ≡ row_from key payload }
@@ -85,9 +86,9 @@ pub(crate) fn row_from(key: u128, payload: i128) -> Option<(Key, Payload)>
     }
 }
 
-/// The key that a word is, if it is one.
+/// Parses a word as a key.
 pub fn read_key(word: &[u8]) -> Option<Key>
-    ensures { result ≡ key_of word.now }
+    ensures { result ≡ key_read word.now }
 {
     match read_number(word) {
         Some(number) if is_key(number) => Some(Key::from_number(number as KeyNumber)),
@@ -95,9 +96,9 @@ pub fn read_key(word: &[u8]) -> Option<Key>
     }
 }
 
-/// The payload that a word is, if it is one.
+/// Parses a word as a payload.
 pub fn read_payload(word: &[u8]) -> Option<Payload>
-    ensures { result ≡ payload_of word.now }
+    ensures { result ≡ payload_read word.now }
 {
     match read_whole_number(word) {
         Some(number) if is_payload(number) => Some(Payload::from_number(number as PayloadNumber)),
@@ -105,21 +106,21 @@ pub fn read_payload(word: &[u8]) -> Option<Payload>
     }
 }
 
-/// Whether a number is a key.
+/// Whether a number is in the range of keys.
 fn is_key(number: u128) -> bool
     ensures { IsTrue result ↔ (number ≤ GREATEST_KEY) }
 {
     number <= GREATEST_KEY as u128
 }
 
-/// Whether an integer is a payload.
+/// Whether an integer is in the range of payloads.
 fn is_payload(number: i128) -> bool
     ensures { result ≡ (int_le LEAST_PAYLOAD number && int_le number GREATEST_PAYLOAD) }
 {
     LEAST_PAYLOAD as i128 <= number && number <= GREATEST_PAYLOAD as i128
 }
 
-/// The two numbers, if there are exactly two words and both are numbers.
+/// Parses exactly two words as numbers.
 #[inline(always)]
 pub fn two_numbers(bytes: &[u8]) -> Option<(u128, u128)>
     ensures { result ≡ two_of number_of number_of (words bytes.now) }
@@ -130,7 +131,7 @@ pub fn two_numbers(bytes: &[u8]) -> Option<(u128, u128)>
     }
 }
 
-/// The two numbers, if there are exactly two words, both are numbers of 64 bits, and no space is after them.
+/// Parses exactly two words as numbers of 64 bits, if no space follows them.
 #[inline(always)]
 fn two_short_numbers(bytes: &[u8]) -> Option<(u64, u64)>
     ensures { IfSome result (λ pair. two_of number_of number_of (words bytes.now) ≡ Some (pair.0, pair.1)) }
@@ -144,7 +145,7 @@ fn two_short_numbers(bytes: &[u8]) -> Option<(u64, u64)>
     }
 }
 
-/// The same for all numbers, with any spaces.
+/// Implements `two_numbers` for all numbers and any spaces.
 #[cold]
 #[inline(never)]
 fn any_two_numbers(bytes: &[u8]) -> Option<(u128, u128)>
@@ -159,7 +160,7 @@ fn any_two_numbers(bytes: &[u8]) -> Option<(u128, u128)>
     }
 }
 
-/// The number that the first word is, if it is one, and what follows the word.
+/// Parses the first word as a number, if it is one, and returns it with the bytes after the word.
 fn next_number(bytes: &[u8]) -> (Option<u128>, &[u8])
     ensures { IsFirstNumber bytes.now result.0 result.1.now }
 {
@@ -167,7 +168,7 @@ fn next_number(bytes: &[u8]) -> (Option<u128>, &[u8])
     (read_number(word), rest)
 }
 
-/// The row number that a word is, if it is one.
+/// Parses a word as a row number.
 pub fn read_row_number(word: &[u8]) -> Option<RowNo>
     ensures { result ≡ row_number_of word.now }
 {
@@ -186,14 +187,14 @@ pub fn read_row_number(word: &[u8]) -> Option<RowNo>
     }
 }
 
-/// The number of a partition that a word is, if it is one.
+/// Parses a word as a partition number.
 pub fn read_part(word: &[u8]) -> Option<u32>
     ensures { result ≡ number_up_to GREATEST_PART word.now }
 {
     read_number_up_to(GREATEST_PART, word)
 }
 
-/// The number that a word is, if it is one and at most the greatest.
+/// Parses a word as a number that is at most `greatest`.
 pub fn read_number_up_to(greatest: u32, word: &[u8]) -> Option<u32>
     ensures { result ≡ number_up_to greatest word.now }
 {
@@ -203,7 +204,7 @@ pub fn read_number_up_to(greatest: u32, word: &[u8]) -> Option<u32>
     }
 }
 
-/// The serial that a word is, if it is one.
+/// Parses a word as a serial.
 fn read_serial(word: &[u8]) -> Option<u64>
     ensures { result ≡ number_up_to GREATEST_SERIAL word.now }
 {
@@ -213,7 +214,7 @@ fn read_serial(word: &[u8]) -> Option<u64>
     }
 }
 
-/// The first place of a byte, or the length.
+/// The index of the first such byte, or the length if there is none.
 pub(crate) fn place_of(byte: u8, word: &[u8]) -> usize
     ensures { result ≡ position_or_len (λ b. b == byte) word.now }
 {
@@ -225,7 +226,7 @@ pub(crate) fn place_of(byte: u8, word: &[u8]) -> usize
     word.len()
 }
 
-/// The number that the first word is, if it is one of 64 bits, and what follows the word.
+/// Parses the first word as a number of 64 bits, and returns it with the bytes after the word.
 #[inline(always)]
 fn short_number(bytes: &[u8]) -> Option<(u64, &[u8])>
     ensures { IfSome result (λ pair. IsFirstNumber bytes.now (Some pair.0) pair.1.now) }
@@ -233,7 +234,8 @@ fn short_number(bytes: &[u8]) -> Option<(u64, &[u8])>
     short_digits(without_spaces(bytes))
 }
 
-/// The integer that the first word is, if 64 bits are enough for its digits, and what follows the word.
+/// Parses the first word as an integer, if 64 bits are enough for its digits, and returns it with the bytes after
+/// the word.
 #[inline(always)]
 fn short_whole_number(bytes: &[u8]) -> Option<(i128, &[u8])>
     ensures { IfSome result (λ pair. IsFirstWholeNumber bytes.now (Some pair.0) pair.1.now) }
@@ -243,7 +245,8 @@ fn short_whole_number(bytes: &[u8]) -> Option<(i128, &[u8])>
     Some((signed(has_sign(word), value as u128), rest))
 }
 
-/// The number of 64 bits that bytes begin with, if a space or nothing is after it, and what follows it.
+/// Parses a number of 64 bits at the beginning, if a space or nothing follows it, and returns it with the bytes
+/// after it.
 #[inline(always)]
 fn short_digits(bytes: &[u8]) -> Option<(u64, &[u8])>
     ensures { IfSome result (λ pair. BeginsWithDigits bytes.now pair.0 pair.1.now) }
@@ -256,7 +259,7 @@ fn short_digits(bytes: &[u8]) -> Option<(u64, &[u8])>
     }
 }
 
-/// Whether a minus sign is at the front.
+/// Whether bytes begin with a minus sign.
 #[inline(always)]
 pub(crate) fn has_sign(bytes: &[u8]) -> bool
     ensures { result ≡ has_sign bytes.now }
@@ -264,7 +267,7 @@ pub(crate) fn has_sign(bytes: &[u8]) -> bool
     !bytes.is_empty() && bytes[0] == b'-'
 }
 
-/// What follows a minus sign at the front, if there is one.
+/// The bytes without a minus sign at the beginning.
 #[inline(always)]
 pub(crate) fn unsigned(bytes: &[u8]) -> &[u8]
     ensures { result.now ≡ (if has_sign bytes.now then drop 1 bytes.now else bytes.now) }
@@ -272,7 +275,7 @@ pub(crate) fn unsigned(bytes: &[u8]) -> &[u8]
     if has_sign(bytes) { &bytes[1..] } else { bytes }
 }
 
-/// The number, or its negative.
+/// The number, negated if `is_negative`.
 #[inline(always)]
 pub(crate) fn signed(is_negative: bool, number: u128) -> i128
     requires { number < 2 ^ 127 }
@@ -285,7 +288,7 @@ pub(crate) fn signed(is_negative: bool, number: u128) -> i128
     }
 }
 
-/// Whether a word ends there: at a space, or where the bytes end.
+/// Whether a word ends at this index: a space is there, or the bytes end.
 fn ends_at(bytes: &[u8], end: usize) -> bool
     requires { end ≤ length bytes.now }
     ensures { IsTrue result ↔ (end < length bytes.now → slice_index bytes.now end ≡ 32) }
@@ -293,8 +296,8 @@ fn ends_at(bytes: &[u8], end: usize) -> bool
     end == bytes.len() || bytes[end] == b' '
 }
 
-/// The digits at the front, at most `MOST_DIGITS`, and no more than fit 64 bits: their value, and how many they
-/// are.
+/// Parses the digits at the beginning, at most `MOST_DIGITS` and no more than fit 64 bits, and returns their value
+/// and count.
 #[inline(always)]
 pub(crate) fn leading_number(bytes: &[u8]) -> (u64, usize)
     ensures within { (result.1 ≤ length bytes.now) × (result.1 ≤ MOST_DIGITS) }
@@ -311,7 +314,7 @@ pub(crate) fn leading_number(bytes: &[u8]) -> (u64, usize)
     }
 }
 
-/// The number with one more digit after it, if the byte is one, and the number fits.
+/// Appends a digit to a number, if the byte is a digit and the result fits.
 fn with_digit(value: u64, byte: u8) -> Option<u64>
     ensures { IfSome result (λ n. (is_digit byte ≡ true) × (n ≡ value * 10 + (byte - 48))) }
 {
@@ -321,7 +324,7 @@ fn with_digit(value: u64, byte: u8) -> Option<u64>
     value.checked_mul(10)?.checked_add((byte - b'0') as u64)
 }
 
-/// The digits at the front: their value, and how many there are.
+/// Parses the digits at the beginning, and returns their value and count.
 #[tactic(auto, using(crate::proofs::Numbers::digits_more, crate::proofs::Numbers::value_more, crate::proofs::Numbers::digit_bounds))]
 #[inline(always)]
 pub(crate) fn leading_digits(bytes: &[u8]) -> (u64, usize)
@@ -341,7 +344,7 @@ pub(crate) fn leading_digits(bytes: &[u8]) -> (u64, usize)
     (value, bytes.len())
 }
 
-/// The value of a block of digits at the front, and how many these are: none if there are fewer.
+/// Parses a block of digits at the beginning, and returns its value and length: 0 and 0 if there are fewer digits.
 #[inline(always)]
 fn leading_block(bytes: &[u8]) -> (u64, usize)
     ensures within { result.1 ≤ length bytes.now }
@@ -360,7 +363,7 @@ fn leading_block(bytes: &[u8]) -> (u64, usize)
     }
 }
 
-/// Whether there are only digits. All bytes are tested together.
+/// Whether the bytes are only digits. All bytes are tested together.
 fn are_digits(block: &[u8]) -> bool
     ensures { result ≡ list_all is_digit block.now }
 {
@@ -371,7 +374,7 @@ fn are_digits(block: &[u8]) -> bool
     all
 }
 
-/// The number that a block of digits spells.
+/// The value of a block of digits.
 fn block_value(block: &[u8]) -> u64
     requires digits { list_all is_digit block.now ≡ true }
     requires few { length block.now ≤ BLOCK_DIGITS }
@@ -385,7 +388,7 @@ fn block_value(block: &[u8]) -> u64
     value
 }
 
-/// A number of 1 to `MOST_DIGITS` digits, with or without a minus sign directly before it.
+/// Parses a number of 1 to `MOST_DIGITS` digits, with or without a minus sign directly before it.
 fn read_whole_number(word: &[u8]) -> Option<i128>
     ensures { result ≡ whole_number_of word.now }
 {
@@ -393,7 +396,7 @@ fn read_whole_number(word: &[u8]) -> Option<i128>
     Some(signed(has_sign(word), number))
 }
 
-/// A number of 1 to `MOST_DIGITS` digits.
+/// Parses a number of 1 to `MOST_DIGITS` digits.
 fn read_number(word: &[u8]) -> Option<u128>
     ensures value { result ≡ number_of word.now }
     ensures small { IfSome result (λ n. n < 2 ^ 127) }
@@ -405,21 +408,21 @@ fn read_number(word: &[u8]) -> Option<u128>
     }
 }
 
-/// Whether there are only digits.
+/// Whether the bytes are only digits.
 fn all_digits(word: &[u8]) -> bool
     ensures { result ≡ list_all is_digit word.now }
 {
     word.iter().all(|b| is_digit(*b))
 }
 
-/// Whether it is a decimal digit.
+/// Whether a byte is a decimal digit.
 fn is_digit(b: u8) -> bool
     ensures { result ≡ is_digit b }
 {
     b'0' <= b && b < b'9' + 1
 }
 
-/// The number that digits spell.
+/// The value of digits.
 fn value_of(word: &[u8]) -> u128
     requires digits { list_all is_digit word.now ≡ true }
     requires few { length word.now ≤ MOST_DIGITS }
@@ -433,7 +436,7 @@ fn value_of(word: &[u8]) -> u128
     value
 }
 
-/// The first word, and what follows it. It is empty if there is none.
+/// The first word, and the bytes after it. The word is empty if there is none.
 pub fn next_word(bytes: &[u8]) -> (&[u8], &[u8])
     ensures { IsFirstWord bytes.now result.0.now result.1.now }
 {
@@ -442,7 +445,7 @@ pub fn next_word(bytes: &[u8]) -> (&[u8], &[u8])
     word.split_at(end)
 }
 
-/// The word, if there is exactly one; else no bytes.
+/// The word, if there is exactly one, else an empty slice.
 pub fn only_word(bytes: &[u8]) -> &[u8]
     ensures { result.now ≡ only_word (words bytes.now) }
 {
@@ -451,7 +454,7 @@ pub fn only_word(bytes: &[u8]) -> &[u8]
     if more.is_empty() { word } else { b"" }
 }
 
-/// The bytes after the spaces at the front.
+/// The bytes without the spaces at the beginning.
 #[tactic(auto, using(crate::proofs::Splitting::words_space, crate::proofs::Splitting::words_all))]
 fn without_spaces(bytes: &[u8]) -> &[u8]
     ensures words { words result.now ≡ words bytes.now }
@@ -465,7 +468,7 @@ fn without_spaces(bytes: &[u8]) -> &[u8]
     b""
 }
 
-/// The place of the first space, or the length.
+/// The index of the first space, or the length if there is none.
 #[tactic(auto, using(crate::proofs::Splitting::no_space_more))]
 fn word_end(bytes: &[u8]) -> usize
     ensures within { result ≤ length bytes.now }

@@ -24,7 +24,7 @@ use Rattle.crack_part.specs.Refusals.{is_key_in}
 use Rattle.crack_part.specs.Upkeep.{is_automatic, is_full}
 use Rattle.crack_core.specs.Steps.{bounds_of, unless, MayLackCell, IsOutcome, tables_of}
 use Rattle.crack_core.proofs.TurnLaws.{turns-along}
-use Rattle.crack_core.specs.Asking.{step_at, Lasts, Asks, AsksCore, AsksEach, AsksInTurn, Reads, counted, summed, rows_told}
+use Rattle.crack_core.specs.Asking.{step_at, Lasts, Asks, AsksCore, AsksEach, AsksInTurn, ReadsParts, counted, summed, rows_told}
 use Rattle.crack_core.specs.declared.turns.PartReply.{PartReply}
 
 -- a refusal
@@ -165,7 +165,7 @@ are-asked items policy question range old parts (Err e) new is ok (inr none) = r
 }
 
 -- a range that one partition holds is read by asking this one
-pub reads-one : {X : Type 0} (limits : Limits) (splits : List Bound) (policy : Policy) (question : Range → Command) (comes_to : List PartReply → X → Type 0) (range : Range) (part : ℕ) (reply : Reply) (x : X) (old new : List Part) → parts_of splits range ≡ (part, range) ∷ [] → Asks limits splits (step_at policy part (question range)) (Ok reply) old new → comes_to (record { part = part; reply = reply } ∷ []) x → Reads limits splits policy question comes_to range (Ok x) old new
+pub reads-one : {X : Type 0} (limits : Limits) (splits : List Bound) (policy : Policy) (question : Range → Command) (comes_to : List PartReply → X → Type 0) (range : Range) (part : ℕ) (reply : Reply) (x : X) (old new : List Part) → parts_of splits range ≡ (part, range) ∷ [] → Asks limits splits (step_at policy part (question range)) (Ok reply) old new → comes_to (record { part = part; reply = reply } ∷ []) x → ReadsParts limits splits policy question comes_to range (Ok x) old new
 reads-one limits splits policy question comes_to range part reply x old new only asks comes =
     let said : List PartReply = record { part = part; reply = reply } ∷ [] in
     record {
@@ -173,7 +173,7 @@ reads-one limits splits policy question comes_to range part reply x old new only
       err = tt;
     }
 
-pub reads-one-refused : {X : Type 0} (limits : Limits) (splits : List Bound) (policy : Policy) (question : Range → Command) (comes_to : List PartReply → X → Type 0) (range : Range) (part : ℕ) (e : Refusal) (old new : List Part) → parts_of splits range ≡ (part, range) ∷ [] → Asks limits splits (step_at policy part (question range)) (Err e) old new → Reads limits splits policy question comes_to range (Err e) old new
+pub reads-one-refused : {X : Type 0} (limits : Limits) (splits : List Bound) (policy : Policy) (question : Range → Command) (comes_to : List PartReply → X → Type 0) (range : Range) (part : ℕ) (e : Refusal) (old new : List Part) → parts_of splits range ≡ (part, range) ∷ [] → Asks limits splits (step_at policy part (question range)) (Err e) old new → ReadsParts limits splits policy question comes_to range (Err e) old new
 reads-one-refused limits splits policy question comes_to range part e old new only asks = record {
   ok = tt;
   err = inl (subst (λ (ps : List (ℕ × Range)). AsksInTurn limits splits policy question old ps (Err e) new) (sym only) (inr (e, asks, refl)));

@@ -11,8 +11,8 @@ use Rattle.crack_row.specs.declared.limit.Limits.{Limits}
 use Rattle.crack_row.specs.declared.command.Policy.{Policy}
 use Rattle.crack_row.specs.declared.refusal.Refusal.{Refusal}
 use Rattle.crack_part.specs.Parts.{Part}
-use Rattle.crack_core.specs.Asking.{Inserts, Deletes, Updates, Counts, Sums}
-use Rattle.crack_core.specs.Bulk.{NumberedCall, Answered, none, one_more, Went, whole, stopped, flag, key_at, payload_at, row_number, InsertsAt, DeletesAt, UpdatesAt, CountsAt, SumsAt, OverKeys, of_halves}
+use Rattle.crack_core.specs.Asking.{Inserts, Deletes, Updates, CountsRange, Sums}
+use Rattle.crack_core.specs.Bulk.{NumberedCall, Answered, none, one_more, Went, whole, stopped, flag, key_in, payload_in, row_number, InsertsAt, DeletesAt, UpdatesAt, CountsAt, SumsAt, OverKeys, of_halves}
 
 -- the row's number at a place of two lists
 abbrev row_at : List ℕ → List ℕ → ℕ → RowNo
@@ -50,9 +50,9 @@ went-whole call old count i new least most so_far = whole new (subst (λ (n : �
 keyed : (limits : Limits) (splits : List Bound) (keys : List ℕ) (payloads : List ℤ) (i : ℕ) (key : Key) (payload : Payload) (result : Result RowNo Refusal) (between new : List Part)
     → key.0 ≡ slice_index_or keys i 0 → payload.0 ≡ slice_index_or payloads i (pos 0)
     → Inserts limits splits key payload result between new
-    → Inserts limits splits (key_at keys i) (payload_at payloads i) result between new
+    → Inserts limits splits (key_in keys i) (payload_in payloads i) result between new
 keyed limits splits keys payloads i key payload result between new key_is payload_is inserts =
-    subst (λ (n : ℕ). Inserts limits splits (record { 0 = n }) (payload_at payloads i) result between new) key_is
+    subst (λ (n : ℕ). Inserts limits splits (record { 0 = n }) (payload_in payloads i) result between new) key_is
     (subst (λ (n : ℤ). Inserts limits splits key (record { 0 = n }) result between new) payload_is inserts)
 
 pub inserts-more : (limits : Limits) (splits : List Bound) (keys : List ℕ) (payloads : List ℤ) (parts serials : List ℕ) (i : ℕ) (key : Key) (payload : Payload) (row : RowNo) (old between new : List Part)
@@ -96,10 +96,10 @@ deletes-stop limits splits parts serials gone i row e old between new below row_
 updated-by : (limits : Limits) (splits : List Bound) (parts serials keys : List ℕ) (payloads : List ℤ) (i : ℕ) (row : RowNo) (key : Key) (payload : Payload) (result : Result Bool Refusal) (between new : List Part)
     → row ≡ row_at parts serials i → key.0 ≡ slice_index_or keys i 0 → payload.0 ≡ slice_index_or payloads i (pos 0)
     → Updates limits splits row key payload result between new
-    → Updates limits splits (row_at parts serials i) (key_at keys i) (payload_at payloads i) result between new
+    → Updates limits splits (row_at parts serials i) (key_in keys i) (payload_in payloads i) result between new
 updated-by limits splits parts serials keys payloads i row key payload result between new row_is key_is payload_is updates =
-    subst (λ (r : RowNo). Updates limits splits r (key_at keys i) (payload_at payloads i) result between new) row_is
-    (subst (λ (n : ℕ). Updates limits splits row (record { 0 = n }) (payload_at payloads i) result between new) key_is
+    subst (λ (r : RowNo). Updates limits splits r (key_in keys i) (payload_in payloads i) result between new) row_is
+    (subst (λ (n : ℕ). Updates limits splits row (record { 0 = n }) (payload_in payloads i) result between new) key_is
     (subst (λ (n : ℤ). Updates limits splits row key (record { 0 = n }) result between new) payload_is updates))
 
 pub updates-more : (limits : Limits) (splits : List Bound) (parts serials keys : List ℕ) (payloads : List ℤ) (found : List ℕ) (i : ℕ) (row : RowNo) (key : Key) (payload : Payload) (is : Bool) (flagged : ℕ) (old between new : List Part)
@@ -125,7 +125,7 @@ updates-stop limits splits parts serials keys payloads found i row key payload e
 pub counts-more : (limits : Limits) (splits : List Bound) (policy : Policy) (firsts lasts counts : List ℕ) (i count : ℕ) (old between new : List Part)
     → i < length counts
     → Answered (CountsAt limits splits policy firsts lasts counts) old i between
-    → OverKeys (Counts limits splits policy) (slice_index_or firsts i 0) (slice_index_or lasts i 0) (Ok count) between new
+    → OverKeys (CountsRange limits splits policy) (slice_index_or firsts i 0) (slice_index_or lasts i 0) (Ok count) between new
     → Answered (CountsAt limits splits policy firsts lasts (set counts i count)) old (i + 1) new
 counts-more limits splits policy firsts lasts counts i count old between new within so_far counted =
     answered-more (CountsAt limits splits policy firsts lasts counts) (CountsAt limits splits policy firsts lasts (set counts i count)) old i between new

@@ -10,7 +10,7 @@ use Rattle.crack_row.specs.declared.command.Reply.{Reply}
 use Rattle.crack_row.specs.declared.command.Reply.TheVariants.{Placed, Gone, Changed, NoRow, Counted, Summed, Rows}
 use Rattle.crack_plain.specs.Plain.{IsSmall}
 use Rattle.crack_core.proofs.StepLaws.{get-last, get-front}
-use Rattle.crack_core.specs.Listing.{listed, all_listed, AreInLists}
+use Rattle.crack_core.specs.Listing.{rows_listed, all_listed, AreInLists}
 use Rattle.crack_core.specs.Inside.{of_part}
 use Rattle.crack_core.specs.declared.turns.PartReply.{PartReply}
 
@@ -74,9 +74,9 @@ pub of_part-more : (part : ℕ) (rows : List Row) (i : ℕ) (d : Row) → i < le
 of_part-more part rows i d below = ap (of_part part) (take_more rows i d below) ∙ map-append (λ (row : Row). (part, row)) (take i rows) (get_or rows i d ∷ [])
 
 -- a partition's reply more
-pub all_listed-more : (replies : List PartReply) (i : ℕ) (r : PartReply) → i < length replies → r ≡ get_or replies i r → all_listed (take (i + 1) replies) ≡ all_listed (take i replies) ++ of_part r.part (listed r.reply)
+pub all_listed-more : (replies : List PartReply) (i : ℕ) (r : PartReply) → i < length replies → r ≡ get_or replies i r → all_listed (take (i + 1) replies) ≡ all_listed (take i replies) ++ of_part r.part (rows_listed r.reply)
 all_listed-more replies i r below is =
-    let rows : PartReply → List (ℕ × Row) = λ p. of_part p.part (listed p.reply) in
+    let rows : PartReply → List (ℕ × Row) = λ p. of_part p.part (rows_listed p.reply) in
     ap all_listed (take_more replies i r below) ∙ flat_map-append rows (take i replies) (get_or replies i r ∷ []) ∙ ap (λ (more : List (ℕ × Row)). all_listed (take i replies) ++ more) (append-nil (rows (get_or replies i r)) ∙ ap rows (sym is))
 
 -- how many rows are written once this many of a partition are
@@ -100,7 +100,7 @@ all_listed-long part so_far rows =
     length-append so_far (of_part part rows) ∙ ap (λ (n : ℕ). length so_far + n) (length-map rows with_part)
 
 -- a small reply lists few rows
-pub rows-small : (reply : Reply) → IsSmall reply → length (listed reply) < 2 ^ 32
+pub rows-small : (reply : Reply) → IsSmall reply → length (rows_listed reply) < 2 ^ 32
 rows-small (Rows rows) small = small
 rows-small (Placed serial) small = omega arith
 rows-small (Gone row) small = omega arith

@@ -1,4 +1,4 @@
--- The answers to one command, and to questions about a range over all partitions.
+-- The answers to one command, and to queries about a range over all partitions.
 use Rattle.std.specs.Prelude.{◌≡◌, ◌≢◌, ◌⊎◌, ℕ, ◌≤◌, ℤ, pos, Bool, true, List, [], ◌∷◌, length, Option, Result, Ok, Err, IfOk, IfErr, IsSomeAnd, slice_get, sum_by, if◌then◌else◌}
 use Rattle.std.specs.Option.{option_map_or}
 use Rattle.crack_row.specs.Ranges.{Range}
@@ -23,69 +23,71 @@ use Rattle.crack_part.specs.Upkeep.{is_automatic}
 use Rattle.crack_core.specs.Cores.{CoreState}
 use Rattle.crack_core.specs.Routes.{route, parts_of}
 use Rattle.crack_core.specs.Steps.{bounds_of, mapped, IsOutcomeAt, tables_of, tables_after}
-use Rattle.crack_core.specs.Jobs.{Makes}
+use Rattle.crack_core.specs.Jobs.{DoesStep}
 use Rattle.crack_core.specs.declared.step.Step.{Step}
 use Rattle.crack_core.specs.declared.asking.Query.{Query}
 use Rattle.crack_core.specs.declared.asking.Query.TheVariants.{CountRows, SumPayloads, SelectRows}
 use Rattle.crack_core.specs.declared.turns.PartReply.{PartReply}
 
--- a command at a partition, by this policy
+-- a step: a command to a partition, by a policy
 abbrev pub step_at : Policy → ℕ → Command → Step
 step_at policy part command = record { part = part; command = command; policy = policy }
 
--- no full history refuses, and a cell is missing only if the partition has as many rows as they may have cells
+-- the history isn't full, and a cell is missing only if the partition has as many rows as it may have cells
 abbrev pub Lasts : Limits → Option PlainView → Result Reply Refusal → Type 0
 Lasts limits table outcome = ((entries : ℕ) → outcome ≢ Err (HistoryFull entries)) × (outcome ≡ Err NoCell → IsSomeAnd table (λ (t : PlainView). limits.cells ≤ length t.state.rows))
 
--- one partition is asked: the outcome is what its plain rows require, these change as it says, it counts one more command if it was answered, and
--- its store is read by the step's policy; if upkeep is automatic, only as many rows as cells, or the end of its life, stop it
+-- one partition is asked: the outcome is what its plain rows require, the rows change as the outcome says, an
+-- answer counts as one more command, and the store changes by the step's policy; if upkeep is automatic, the
+-- history is never full, and a cell is missing only if there are as many rows as cells allowed
 pub record Asks (limits : Limits) (splits : List Bound) (step : Step) (outcome : Result Reply Refusal) (old new : List Part) : Type 0 where
   pub comes_out : IsOutcomeAt (bounds_of limits) splits (tables_of old) step.part step.command outcome
   pub leaves : tables_of new ≡ tables_after (bounds_of limits) (tables_of old) step.part step.command outcome
-  pub makes : Makes splits limits step outcome old new
+  pub makes : DoesStep splits limits step outcome old new
   pub lasts : is_automatic limits.upkeep ≡ true → Lasts limits (slice_get (tables_of old) step.part) outcome
 
--- a row is placed in the partition of its key, and this is its number
+-- a row is inserted into the partition of its key, and the result is its row number
 pub record Inserts (limits : Limits) (splits : List Bound) (key : Key) (payload : Payload) (result : Result RowNo Refusal) (old new : List Part) : Type 0 where
   pub asks : Asks limits splits (step_at Gradual (route splits key.0) (Insert key payload)) (mapped (λ (row : RowNo). Placed row.serial) result) old new
   pub part : IfOk result (λ row. row.part ≡ route splits key.0)
 
--- a row is removed, and this is the row
+-- a row is deleted, and the result is that row, if it existed
 abbrev pub Deletes : Limits → List Bound → RowNo → Result (Option Row) Refusal → List Part → List Part → Type 0
 Deletes limits splits row result old new = Asks limits splits (step_at Gradual row.part (Delete row.serial)) (mapped (λ (row : Option Row). option_map_or Gone row NoRow) result) old new
 
--- a row gets another key and payload, and this is whether it exists
+-- the key and the payload of a row are replaced, and the result is whether the row exists
 abbrev pub Updates : Limits → List Bound → RowNo → Key → Payload → Result Bool Refusal → List Part → List Part → Type 0
 Updates limits splits row key payload result old new = Asks limits splits (step_at Gradual row.part (Update row.serial key payload)) (mapped (λ (found : Bool). if found then Changed else NoRow) result) old new
 
--- the command that puts a question to a partition about its part of a range
+-- the command that asks a partition a query about its part of a range
 abbrev pub asking : Query → Range → Command
 asking CountRows range = Count range
 asking SumPayloads range = Sum range
 asking SelectRows range = Select range
 
--- a core is asked at one partition, and keeps its splits and limits
+-- a partition of a core is asked, and the core keeps its splits and limits
 abbrev pub AsksCore : CoreState → ℕ → Command → Policy → Result Reply Refusal → CoreState → Type 0
 AsksCore old part command policy outcome new = Asks old.limits old.splits (step_at policy part command) outcome old.parts new.parts × (new.splits ≡ old.splits) × (new.limits ≡ old.limits)
 
--- partitions are asked in turn, each for its part of a range, from this state: the first replies, and then the others are asked; or it refuses, and
--- no other is asked; their replies, or the refusal, and the state afterwards
+-- partitions are asked in order, each for its part of a range: if one replies, the others are asked after it, and
+-- if it refuses, no other is asked; the result is all replies, or the refusal
 abbrev pub InTurn : {S : Type 0} → (ℕ × Range → Result Reply Refusal → S → S → Type 0) → S → List (ℕ × Range) → Result (List PartReply) Refusal → S → Type 0
 InTurn Asks old [] result new = (result ≡ Ok []) × (new ≡ old)
 InTurn {S} Asks old (part ∷ parts) result new =
     ((reply : Reply) × (between : S) × Asks part (Ok reply) old between × (rest : Result (List PartReply) Refusal) × InTurn Asks between parts rest new × (result ≡ mapped (λ replies. record { part = part.0; reply = reply } ∷ replies) rest))
     ⊎ ((e : Refusal) × Asks part (Err e) old new × (result ≡ Err e))
 
--- the partitions that hold parts of a range are asked in turn, all by one policy, where asking one has this effect
+-- partitions are asked one question in order, all by one policy, where asking one has the effect `asks`
 abbrev pub AsksEach : {S : Type 0} → (S → ℕ → Command → Policy → Result Reply Refusal → S → Type 0) → Policy → (Range → Command) → S → List (ℕ × Range) → Result (List PartReply) Refusal → S → Type 0
 AsksEach {S} asks policy question old parts said new = InTurn (λ (part : ℕ × Range) (outcome : Result Reply Refusal) (between after : S). asks between part.0 (question part.1) policy outcome after) old parts said new
 
--- the same of partitions with these splits and limits
+-- the same for the partitions of these splits and limits
 abbrev pub AsksInTurn : Limits → List Bound → Policy → (Range → Command) → List Part → List (ℕ × Range) → Result (List PartReply) Refusal → List Part → Type 0
 AsksInTurn limits splits policy question old parts said new = InTurn (λ (part : ℕ × Range) (outcome : Result Reply Refusal) (between after : List Part). Asks limits splits (step_at policy part.0 (question part.1)) outcome between after) old parts said new
 
--- a range is read: the replies of its parts are combined, or it is refused as they are, or for lack of memory before one is asked
-pub record Reads {X : Type 0} (limits : Limits) (splits : List Bound) (policy : Policy) (question : Range → Command) (comes_to : List PartReply → X → Type 0) (range : Range) (result : Result X Refusal) (old new : List Part) : Type 0 where
+-- a range is read: the result combines the replies of its parts, or is the first refusal, or is lack of memory
+-- before any partition is asked
+pub record ReadsParts {X : Type 0} (limits : Limits) (splits : List Bound) (policy : Policy) (question : Range → Command) (comes_to : List PartReply → X → Type 0) (range : Range) (result : Result X Refusal) (old new : List Part) : Type 0 where
   pub ok : IfOk result (λ x. (said : List PartReply) × AsksInTurn limits splits policy question old (parts_of splits range) (Ok said) new × comes_to said x)
   pub err : IfErr result (λ e. AsksInTurn limits splits policy question old (parts_of splits range) (Err e) new ⊎ ((e ≡ OutOfMemory) × (new ≡ old)))
 
@@ -95,7 +97,7 @@ counted (Counted count) = count
 counted (Rows rows) = length rows
 counted _ = 0
 
--- the sum that a reply gives
+-- the sum in a reply
 abbrev pub summed : Reply → ℤ
 summed (Summed sum) = sum
 summed _ = pos 0
@@ -104,14 +106,14 @@ summed _ = pos 0
 abbrev pub rows_told : List PartReply → ℕ
 rows_told replies = sum_by (λ (r : PartReply). counted r.reply) replies
 
--- the sums of several partitions, added
+-- the sum of the sums in several partitions' replies
 abbrev pub sum_told : List PartReply → ℤ
 sum_told replies = total_by (λ (r : PartReply). summed r.reply) replies
 
--- a range is counted: so are its parts, and the counts are added
-abbrev pub Counts : Limits → List Bound → Policy → Range → Result ℕ Refusal → List Part → List Part → Type 0
-Counts limits splits policy range result old new = Reads limits splits policy (λ part. Count part) (λ said count. count ≡ rows_told said) range result old new
+-- the rows of a range are counted: the counts of its parts are added
+abbrev pub CountsRange : Limits → List Bound → Policy → Range → Result ℕ Refusal → List Part → List Part → Type 0
+CountsRange limits splits policy range result old new = ReadsParts limits splits policy (λ part. Count part) (λ said count. count ≡ rows_told said) range result old new
 
--- the payloads of a range are added up: those of its parts, and then these sums
+-- the payloads of a range are summed: the sums of its parts are added
 abbrev pub Sums : Limits → List Bound → Policy → Range → Result ℤ Refusal → List Part → List Part → Type 0
-Sums limits splits policy range result old new = Reads limits splits policy (λ part. Sum part) (λ said sum. sum ≡ sum_told said) range result old new
+Sums limits splits policy range result old new = ReadsParts limits splits policy (λ part. Sum part) (λ said sum. sum ≡ sum_told said) range result old new

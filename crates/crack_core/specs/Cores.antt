@@ -7,13 +7,13 @@ use Rattle.crack_part.specs.Parts.{Part}
 use Rattle.crack_core.specs.Routes.{AreSplits}
 use Rattle.crack_core.specs.Opening.{AreParts}
 
--- its splits, the limits of each of its partitions, and the partitions
+-- the splits, the limits of each partition, and the partitions
 pub record CoreState : Type 0 where
   pub splits : List Bound
   pub limits : Limits
   pub parts : List Part
 
--- the splits and the limits are good, and the partitions are theirs
+-- the splits and the limits are good, and the partitions fit them
 pub record IsCore (core : CoreState) : Type 0 where
   pub splits : AreSplits core.splits
   pub limited : AreLimits core.limits

@@ -1,4 +1,4 @@
--- The expected answers to steps and checkpoints, one after the other, and what these leave.
+-- The expected answers to steps and checkpoints, one after the other, and what they leave.
 use Rattle.std.specs.Prelude.{◌≡◌, ◌≢◌, ℕ, ◌==◌, List, [], ◌∷◌, length, take, fold, Option, Some, Result, Ok, OnOk, OnErr, IfErr, slice_get, if◌then◌else◌}
 use Rattle.std.specs.List.{zip}
 use Rattle.std.specs.Option.{option_map}
@@ -18,28 +18,29 @@ use Rattle.crack_core.specs.declared.step.Job.TheVariants.{Perform, Fold}
 use Rattle.crack_core.specs.declared.step.Done.{Done}
 use Rattle.crack_core.specs.declared.step.Done.TheVariants.{Replied, Folded}
 
--- the plain table of one partition with these limits, after a job: a step of its own that was answered is one more command, after the checkpoint
--- that is due, and a checkpoint of its own is made
+-- the plain table of one partition after a job: an answered step of this partition adds its command, after the
+-- checkpoint that is due, and a checkpoint of this partition is made; other jobs change nothing
 abbrev pub after_job : Limits → ℕ → Job → Result Done Refusal → PlainView → PlainView
 after_job limits part (Perform step) (Ok (Replied reply)) table = if step.part == part then table_after (upkept_by (bounds_of limits) table) step.command else table
 after_job limits part (Fold number) (Ok (Folded count)) table = if number == part then checkpointed table else table
 after_job limits part job result table = table
 
--- the same after these jobs, one after the other
+-- the plain table of one partition after several jobs, in order
 abbrev pub after_jobs : Limits → ℕ → List Job → List (Result Done Refusal) → PlainView → PlainView
 after_jobs limits part jobs results table = fold (λ table done. after_job limits part done.0 done.1 table) table (zip jobs results)
 
--- each partition with these limits has its former plain table, after its own jobs
+-- each partition has the plain table that its own jobs make of its former one
 abbrev pub KeepsJobs : Limits → List PlainView → List Job → List (Result Done Refusal) → List PlainView → Type 0
 KeepsJobs limits old jobs results new = (part : ℕ) → slice_get new part ≡ option_map (after_jobs limits part jobs results) (slice_get old part)
 
--- a relation of the partition with this number, if there is one, and the one that takes its place
+-- a relation holds between the partition with this number before and after, if there is one
 abbrev pub AtPart : ℕ → (Part → Part → Type 0) → List Part → List Part → Type 0
 AtPart part Holds old new = (p q : Part) → slice_get old part ≡ Some p → slice_get new part ≡ Some q → Holds p q
 
--- what a step does to the partitions of these splits: each remains one, the step's own partition accepts its command and its store is read by the
--- step's policy, the others are unchanged, and so are all after any refusal but 8
-pub record Makes (splits : List Bound) (limits : Limits) (step : Step) (result : Result Reply Refusal) (old new : List Part) : Type 0 where
+-- what a step does to the partitions of these splits: each remains sound; the step's partition accepts the command,
+-- and its store changes by the step's policy; the others are unchanged, and so are all after any refusal but
+-- `OutOfMemory`
+pub record DoesStep (splits : List Bound) (limits : Limits) (step : Step) (result : Result Reply Refusal) (old new : List Part) : Type 0 where
   pub parts : AreParts splits limits new
   pub kept : tables_of new ≡ tables_after (bounds_of limits) (tables_of old) step.part step.command result
   pub others : (k : ℕ) → k ≢ step.part → slice_get new k ≡ slice_get old k
@@ -47,24 +48,25 @@ pub record Makes (splits : List Bound) (limits : Limits) (step : Step) (result :
   pub spared : OnErr result (AtPart step.part (λ p q. Spares step.policy p step.command q.store) old new)
   pub same : IfErr result (λ e. e ≢ OutOfMemory → new ≡ old)
 
--- the outcome of a job where partitions have these tables: a step is answered as its partition must, and a checkpoint returns how many
--- commands its partition accepted since the last one
+-- the outcome of a job on partitions with these tables: a step is answered as its partition must, and a checkpoint
+-- returns how many commands its partition had accepted since the previous one
 abbrev pub IsJobOutcome : Bounds → List Bound → (ℕ → Option PlainView) → Job → Result Done Refusal → Type 0
 IsJobOutcome bounds splits table (Perform step) result = (outcome : Result Reply Refusal) × (result ≡ mapped Replied outcome) × IsOutcome bounds (keys_of_part splits step.part) (table step.part) step.command outcome
 IsJobOutcome bounds splits table (Fold part) result = result ≡ mapped Folded (expected_fold (table part))
 
--- the expected replies over jobs: each is answered as its partition must answer, from its plain table before the first job and its own
--- jobs done before; neither policies nor other partitions' jobs matter
+-- the expected outcomes of jobs: each is what its partition must answer, from its plain table before the first job
+-- and its own earlier jobs; neither policies nor other partitions' jobs matter
 pub record AreExpectedOutcomes (limits : Limits) (splits : List Bound) (tables : List PlainView) (jobs : List Job) (results : List (Result Done Refusal)) : Type 0 where
   pub each : length results ≡ length jobs
   pub outcomes : (k : ℕ) (job : Job) (result : Result Done Refusal) → slice_get jobs k ≡ Some job → slice_get results k ≡ Some result →
       IsJobOutcome (bounds_of limits) splits (λ part. option_map (after_jobs limits part (take k jobs) (take k results)) (slice_get tables part)) job result
 
--- a checkpoint of the partition with this number is made, and the others are as they were
+-- a checkpoint of the partition with this number is made, and the others are unchanged
 abbrev pub IsFoldedAt : ℕ → List Part → List Part → Type 0
 IsFoldedAt number old new = (k : ℕ) → slice_get new k ≡ option_map (λ part. if number == k then folded_part part else part) (slice_get old k)
 
--- what a checkpoint does to the partitions of these splits: each remains one, the named one makes a checkpoint, and a refusal changes nothing
+-- what a checkpoint does to the partitions of these splits: each remains sound, the named one makes a checkpoint,
+-- and a refusal changes nothing
 pub record Folds (splits : List Bound) (limits : Limits) (number : ℕ) (result : Result ℕ Refusal) (old new : List Part) : Type 0 where
   pub parts : AreParts splits limits new
   pub folds : OnOk result (IsFoldedAt number old new)
@@ -72,10 +74,10 @@ pub record Folds (splits : List Bound) (limits : Limits) (number : ℕ) (result 
 
 -- what a job does to the partitions of these splits
 abbrev pub Does : List Bound → Limits → Job → Result Done Refusal → List Part → List Part → Type 0
-Does splits limits (Perform step) result old new = (outcome : Result Reply Refusal) × (result ≡ mapped Replied outcome) × Makes splits limits step outcome old new
+Does splits limits (Perform step) result old new = (outcome : Result Reply Refusal) × (result ≡ mapped Replied outcome) × DoesStep splits limits step outcome old new
 Does splits limits (Fold part) result old new = (outcome : Result ℕ Refusal) × (result ≡ mapped Folded outcome) × Folds splits limits part outcome old new
 
--- the jobs are done one after the other, each on the partitions that those before it left
+-- jobs are done in order, each on the partitions that the previous one left
 abbrev pub DoesAll : List Bound → Limits → List Job → List (Result Done Refusal) → List Part → List Part → Type 0
 DoesAll splits limits [] [] old new = new ≡ old
 DoesAll splits limits (job ∷ jobs) (result ∷ results) old new = (between : List Part) × Does splits limits job result old between × DoesAll splits limits jobs results between new

@@ -11,26 +11,27 @@ use Rattle.crack_row.specs.declared.command.Reply.{Reply}
 use Rattle.crack_row.specs.declared.command.Reply.TheVariants.{Rows}
 use Rattle.crack_row.specs.declared.refusal.Refusal.{Refusal}
 use Rattle.crack_part.specs.Parts.{Part}
-use Rattle.crack_core.specs.Asking.{Reads}
-use Rattle.crack_core.specs.Bulk.{key_at, payload_at}
+use Rattle.crack_core.specs.Asking.{ReadsParts}
+use Rattle.crack_core.specs.Bulk.{key_in, payload_in}
 use Rattle.crack_core.specs.declared.turns.PartReply.{PartReply}
 use Rattle.crack_row.specs.declared.command.Command.TheVariants.{Select}
 
 -- the rows that a reply lists
-abbrev pub listed : Reply → List Row
-listed (Rows rows) = rows
-listed _ = []
+abbrev pub rows_listed : Reply → List Row
+rows_listed (Rows rows) = rows
+rows_listed _ = []
 
--- what partitions reply, as one list of rows, each with its partition's number
+-- the rows of all replies as one list, each with its partition's number
 abbrev pub all_listed : List PartReply → List (ℕ × Row)
-all_listed replies = flat_map (λ (r : PartReply). map (λ row. (r.part, row)) (listed r.reply)) replies
+all_listed replies = flat_map (λ (r : PartReply). map (λ row. (r.part, row)) (rows_listed r.reply)) replies
 
--- rows are in four lists in their order, as far as there is room
+-- rows are in four lists, in order, as far as there is room
 abbrev pub AreInLists : List (ℕ × Row) → List ℕ → List ℕ → List ℕ → List ℤ → Type 0
 AreInLists rows parts serials keys payloads = (k : ℕ) (row : ℕ × Row) → slice_get rows k ≡ Some row → k < length parts →
-    (slice_index_or parts k 0, row_with (record { 0 = slice_index_or serials k 0 }) (key_at keys k) (payload_at payloads k)) ≡ row
+    (slice_index_or parts k 0, row_with (record { 0 = slice_index_or serials k 0 }) (key_in keys k) (payload_in payloads k)) ≡ row
 
--- the rows of a range are listed: there are this many, and as many of them as there is room for are in the lists
+-- the rows of a range are listed: the result is how many there are, and the lists hold as many as they have room
+-- for
 abbrev pub Selects : Limits → List Bound → Policy → List ℕ → List ℕ → List ℕ → List ℤ → Range → Result ℕ Refusal → List Part → List Part → Type 0
 Selects limits splits policy parts serials keys payloads range result old new =
-    Reads limits splits policy (λ part. Select part) (λ said found. (found ≡ length (all_listed said)) × AreInLists (all_listed said) parts serials keys payloads) range result old new
+    ReadsParts limits splits policy (λ part. Select part) (λ said found. (found ≡ length (all_listed said)) × AreInLists (all_listed said) parts serials keys payloads) range result old new

@@ -1,4 +1,4 @@
--- Why partitions aren't opened, and the partitions that are.
+-- Why partitions aren't opened, and what opened partitions are.
 use Rattle.std.specs.Prelude.{◌≡◌, ℕ, ◌+◌, ◌<◌, ◌⊎◌, List, length, All, Option, None, Some, nat_le, slice_index_or, if◌then◌else◌}
 use Rattle.std.specs.Option.{option_or}
 use Rattle.crack_row.specs.Limits.{are_limits}
@@ -10,7 +10,7 @@ use Rattle.crack_part.specs.Parts.{Part, IsSound}
 use Rattle.crack_core.specs.declared.TheConstants.{MOST_SPLITS}
 use Rattle.crack_core.specs.Routes.{is_rising, keys_of_part}
 
--- the fault of splits, if there is one: first whether they rise as they should, then whether they are too many
+-- the fault of splits, if there is one: that they don't rise as they should, or else that there are too many
 abbrev pub splits_fault : List Bound → Option Refusal
 splits_fault splits = if is_rising 0 splits then (if nat_le (length splits) MOST_SPLITS then None else Some TooManyPartitions) else Some BadSplits
 
@@ -22,11 +22,11 @@ limits_fault limits = if are_limits limits then None else Some BadLimit
 abbrev pub opening_fault : List Bound → Limits → Option Refusal
 opening_fault splits limits = option_or (splits_fault splits) (limits_fault limits)
 
--- why an opening with this first fault is refused: for the fault, or, if there is none, for lack of memory
+-- why an opening is refused: for its first fault or, if it has none, for lack of memory
 abbrev pub MayFault : Option Refusal → Refusal → Type 0
 MayFault fault e = (fault ≡ Some e) ⊎ ((fault ≡ None) × (e ≡ OutOfMemory))
 
--- the partitions of these splits: each has the keys between its splits, the limits of all, and is sound
+-- the partitions of these splits: each is sound, and has the keys between its splits and these limits
 pub record AreParts (splits : List Bound) (limits : Limits) (parts : List Part) : Type 0 where
   pub count : length parts ≡ length splits + 1
   pub keys : (k : ℕ) (d : Part) → k < length parts → (slice_index_or parts k d).keys ≡ keys_of_part splits k

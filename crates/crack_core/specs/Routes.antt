@@ -6,21 +6,22 @@ use Rattle.crack_row.specs.declared.TheConstants.{GREATEST_BOUND}
 use Rattle.crack_row.specs.declared.Bound.{Bound}
 use Rattle.crack_core.specs.declared.TheConstants.{MOST_SPLITS}
 
--- whether splits rise strictly, the first above a number, and are bounds with keys on either side
+-- whether bounds rise strictly from above `low`, and are below the greatest bound
 abbrev pub is_rising : ℕ → List Bound → Bool
 is_rising low [] = true
 is_rising low (split ∷ splits) = nat_lt low split.0 && (nat_lt split.0 GREATEST_BOUND && is_rising split.0 splits)
 
--- splits that divide all keys into partitions: they rise strictly, each is 1 to the greatest key, and there are few enough
+-- splits that divide all keys into partitions: they rise strictly, each is 1 to the greatest key, and there are at
+-- most `MOST_SPLITS`
 pub record AreSplits (splits : List Bound) : Type 0 where
   pub rising : is_rising 0 splits ≡ true
   pub few : length splits ≤ MOST_SPLITS
 
--- the keys of a partition: from the split before it, or 0, to the split after it, or the greatest bound
+-- the keys of a partition: from the split before it, or 0, up to the split after it, or the greatest bound
 abbrev pub keys_of_part : List Bound → ℕ → Range
 keys_of_part splits part = record { low = slice_index_or (0 ∷ map (λ (b : Bound). b.0) splits) part 0; high = slice_index_or (map (λ (b : Bound). b.0) splits) part GREATEST_BOUND }
 
--- the partition in which a number falls: as many splits are at or below it
+-- the partition of a number: its index is how many splits are at or below the number
 abbrev pub route : List Bound → ℕ → ℕ
 route splits number = count_by (λ (split : Bound). nat_le split.0 number) splits
 
@@ -28,11 +29,11 @@ route splits number = count_by (λ (split : Bound). nat_le split.0 number) split
 abbrev pub part_at : List Bound → Range → ℕ → ℕ × Range
 part_at splits range part = (part, clipped range (keys_of_part splits part))
 
--- whether a key is in the part of a range
+-- whether a partition's part of a range has keys
 abbrev pub has_keys : ℕ × Range → Bool
 has_keys part = nat_lt part.1.low part.1.high
 
--- the partitions that have keys of a range, in rising order, each with its part of the range; an empty range goes unchanged to the
--- partition in which its low end falls
+-- the partitions that have keys of a range, in rising order, each with its part of the range; an empty range goes
+-- unchanged to the partition of its low end
 abbrev pub parts_of : List Bound → Range → List (ℕ × Range)
 parts_of splits range = if nat_lt range.low range.high then filter has_keys (map (part_at splits range) (range_with_len 0 (length splits + 1))) else (route splits range.low, range) ∷ []

@@ -1,4 +1,4 @@
-//! Commands at one partition, and ranges over all partitions.
+//! Commands to one partition, and queries over a range of all partitions.
 ghost use Rattle.std.specs.Prelude.{◌≡◌, ◌⊎◌, ◌≤◌, ◌≤ℤ◌, ◌^◌, neg_ℤ, pos, All, length, Ok, Err, IfOk, IfErr};
 ghost use Rattle.std.specs.Prelude.{if◌then◌else◌};
 ghost use Rattle.std.specs.Option.{option_map_or};
@@ -7,26 +7,26 @@ ghost use Rattle.crack_row.specs.declared.Payload.{Payload};
 ghost use Rattle.crack_row.specs.declared.Serial.{Serial};
 ghost use Rattle.crack_row.specs.declared.command.Command.TheVariants.{Insert, Delete, Update};
 ghost use Rattle.crack_plain.specs.Plain.{PlainState, IsSmall, reply_to};
-ghost use Rattle.crack_core.specs.Asking.{Inserts, Deletes, Updates, Counts, Sums, asking, AsksInTurn};
+ghost use Rattle.crack_core.specs.Asking.{Inserts, Deletes, Updates, CountsRange, Sums, asking, AsksInTurn};
 ghost use Rattle.crack_core.specs.Routes.{parts_of};
 
 use crate::turns::{AskPart, PartReply, ask_parts, rows_told, sum_told};
 use crate::{Core, Step, only_part};
 use crack_row::{Command, Key, KeyRange, Payload, Policy, Refusal, Reply, Row, RowNo, Serial};
 
-/// A question about a range.
+/// A query about the rows of a range.
 #[derive(Clone, Copy, Debug)]
 pub enum Query {
-    /// The number of its rows.
+    /// How many rows there are.
     CountRows,
-    /// The sum of their payloads.
+    /// The sum of the rows' payloads.
     SumPayloads,
     /// The rows themselves.
     SelectRows,
 }
 
 impl Query {
-    /// The command that asks one partition for it.
+    /// The command that asks one partition this query about a range.
     pub fn over(self, range: KeyRange) -> Command
         ensures { result ≡ asking self range }
     {
@@ -39,7 +39,8 @@ impl Query {
 }
 
 impl Core {
-    /// Places a row in the partition of its key. Refused as `step` is, with 6, 10, 9 and 8.
+    /// Inserts a row into the partition of its key, and returns its row number. Refused as `step` is, with
+    /// `HistoryFull`, `LifeOver`, `NoCell` and `OutOfMemory`.
     pub fn insert(&mut self, key: Key, payload: Payload) -> Result<RowNo, Refusal>
         ensures inserts { Inserts self.old.limits self.old.splits key payload result self.old.parts
             self.new.parts }
@@ -56,8 +57,8 @@ impl Core {
         }
     }
 
-    /// Removes a row, and returns it as it was; `None` if it doesn't exist. Refused as `step` is, with 5,
-    /// 6, 10 and 8.
+    /// Deletes a row, and returns it as it was, or `None` if it didn't exist. Refused as `step` is, with
+    /// `NoSuchPartition`, `HistoryFull`, `LifeOver` and `OutOfMemory`.
     pub fn delete(&mut self, row: RowNo) -> Result<Option<Row>, Refusal>
         ensures deletes { Deletes self.old.limits self.old.splits row result self.old.parts self.new.parts }
         ensures opened { (self.new.splits ≡ self.old.splits) × (self.new.limits ≡ self.old.limits) }
@@ -69,8 +70,8 @@ impl Core {
         }
     }
 
-    /// Replaces the key and the payload of a row, which keeps its number; returns whether it exists. Refused as
-    /// `step` is.
+    /// Replaces the key and the payload of a row, which keeps its row number. Returns whether the row exists.
+    /// Refused as `step` is.
     pub fn update(&mut self, row: RowNo, key: Key, payload: Payload) -> Result<bool, Refusal>
         ensures updates { Updates self.old.limits self.old.splits row key payload result self.old.parts
             self.new.parts }
@@ -87,11 +88,11 @@ impl Core {
         }
     }
 
-    /// Counts the rows of a range, over all partitions: each that holds a part of it is asked. Refused with 6, 10 and
-    /// 8 as `step` is; the partitions before the refusing one have then answered. If it meets several, it takes memory
-    /// for one reply of each.
+    /// Counts the rows of a range: asks each partition that has a part of it, in order. Refused with `HistoryFull`,
+    /// `LifeOver` and `OutOfMemory` as `step` is; the partitions before the refusing one have then answered. If
+    /// there are several, takes memory for a reply of each.
     pub fn count(&mut self, range: KeyRange, policy: Policy) -> Result<u64, Refusal>
-        ensures counts { Counts self.old.limits self.old.splits policy range result self.old.parts self.new.parts }
+        ensures counts { CountsRange self.old.limits self.old.splits policy range result self.old.parts self.new.parts }
         ensures opened { (self.new.splits ≡ self.old.splits) × (self.new.limits ≡ self.old.limits) }
     {
         if let Some(part) = only_part(self.splits(), range) {
@@ -106,7 +107,7 @@ impl Core {
         }
     }
 
-    /// Adds up the payloads of the rows of a range, over all partitions, as `count` does. Refused as `count` is.
+    /// Sums the payloads of the rows of a range, over all partitions, as `count` does. Refused as `count` is.
     pub fn sum(&mut self, range: KeyRange, policy: Policy) -> Result<i128, Refusal>
         ensures sums { Sums self.old.limits self.old.splits policy range result self.old.parts self.new.parts }
         ensures small { IfOk result (λ sum. (neg_ℤ (pos (2 ^ 102)) ≤ℤ sum) × (sum ≤ℤ pos (2 ^ 102))) }
@@ -124,7 +125,7 @@ impl Core {
         }
     }
 
-    /// Asks each partition that holds a part of a range.
+    /// Asks each partition that has a part of the range, in order.
     pub(crate) fn ask_range(
         &mut self,
         query: Query,
@@ -164,7 +165,7 @@ impl AskPart for Core {
     }
 }
 
-/// The serial that a reply to an insertion gives.
+/// The serial in the reply to an insert.
 fn serial_in(reply: &Reply) -> Serial
     ensures { (s : PlainState) (key : Key) (payload : Payload) → reply.now ≡ reply_to s (Insert key payload) →
         reply.now ≡ Reply.Placed result }
@@ -175,7 +176,7 @@ fn serial_in(reply: &Reply) -> Serial
     }
 }
 
-/// The row that a reply to a deletion gives.
+/// The deleted row in the reply to a delete, if the row existed.
 fn gone_in(reply: &Reply) -> Option<Row>
     ensures { (s : PlainState) (serial : Serial) → reply.now ≡ reply_to s (Delete serial) →
         reply.now ≡ option_map_or Reply.Gone result Reply.NoRow }
@@ -186,7 +187,7 @@ fn gone_in(reply: &Reply) -> Option<Row>
     }
 }
 
-/// Whether a reply to an update says that the row exists.
+/// Whether the reply to an update says that the row exists.
 fn is_changed(reply: &Reply) -> bool
     ensures { (s : PlainState) (serial : Serial) (key : Key) (payload : Payload) →
         reply.now ≡ reply_to s (Update serial key payload) →

@@ -1,6 +1,6 @@
-//! Many calls in one, over lists that the caller gives.
+//! Many calls in one, with lists of the caller.
 ghost use Rattle.std.specs.Prelude.{◌≡◌, ◌<◌, ◌≤◌, ◌≤ℤ◌, ◌^◌, neg_ℤ, pos, length, IfOk};
-ghost use Rattle.crack_core.specs.Asking.{Counts, Sums};
+ghost use Rattle.crack_core.specs.Asking.{CountsRange, Sums};
 ghost use Rattle.crack_core.specs.Bulk.{Went, InsertsAt, DeletesAt, UpdatesAt, CountsAt, SumsAt, OverKeys};
 ghost use Rattle.crack_core.specs.Bulk.{of_halves, flag};
 
@@ -9,17 +9,17 @@ use crack_row::{
     BoundNumber, Key, KeyNumber, KeyRange, Payload, PayloadNumber, Policy, Refusal, RowNo, Serial,
 };
 
-/// The result of a list of calls.
+/// How far a list of calls has come.
 #[derive(Clone, Copy, Debug)]
 pub struct Progress {
-    /// How many were answered, from the first on.
+    /// How many calls were answered, from the first on.
     pub done: u64,
-    /// Why the next one was refused, if there is one.
+    /// Why the call after them was refused, if one was.
     pub refusal: Option<Refusal>,
 }
 
 impl Progress {
-    /// All of these calls were answered.
+    /// All of `count` calls were answered.
     fn whole(count: usize) -> Progress
         ensures { result ≡ record { done = count; refusal = None } }
     {
@@ -29,7 +29,7 @@ impl Progress {
         }
     }
 
-    /// This many were answered, and the next one was refused.
+    /// `done` calls were answered, and the next one was refused.
     fn stopped(done: usize, refusal: Refusal) -> Progress
         ensures { result ≡ record { done = done; refusal = Some refusal } }
     {
@@ -43,21 +43,21 @@ impl Progress {
 /// 2^64.
 const HIGH_UNIT: u128 = 18446744073709551616;
 
-/// A multiple of 2^64 that no sum exceeds in size: 2^102, and its quotient by 2^64.
+/// 2^102, which no sum exceeds in size, and its quotient by 2^64.
 const FARTHEST: i128 = 5070602400912917605986812821504;
 
 const FARTHEST_HIGH: i64 = 274877906944;
 
 impl Core {
-    /// Counts the rows whose keys are `first` to `last`, both included, as `count` does. Refused as `count` is, and
-    /// with 2 if `first` is above `last` by more than 1.
+    /// Counts the rows whose keys are `first` to `last`, both included, as `count` does. Refused with `BadRange` if
+    /// `first` is above `last` by more than 1, else as `count` is.
     pub fn count_keys(
         &mut self,
         first: KeyNumber,
         last: KeyNumber,
         policy: Policy,
     ) -> Result<u64, Refusal>
-        ensures counts { OverKeys (Counts self.old.limits self.old.splits policy) first last result
+        ensures counts { OverKeys (CountsRange self.old.limits self.old.splits policy) first last result
             self.old.parts self.new.parts }
         ensures opened { (self.new.splits ≡ self.old.splits) × (self.new.limits ≡ self.old.limits) }
     {
@@ -67,7 +67,7 @@ impl Core {
         }
     }
 
-    /// Adds up the payloads of the rows whose keys are `first` to `last`, both included, as `sum` does. Refused as
+    /// Sums the payloads of the rows whose keys are `first` to `last`, both included, as `sum` does. Refused as
     /// `count_keys` is.
     pub fn sum_keys(
         &mut self,
@@ -86,8 +86,8 @@ impl Core {
         }
     }
 
-    /// Places a row for each key and payload, in order, as `insert` does, and writes its number: partition and serial.
-    /// Continues up to the first that is refused. Takes what `insert` takes.
+    /// Inserts a row for each key and payload, in order, as `insert` does, and writes its row number: partition and
+    /// serial. Stops at the first refusal. Each costs what `insert` does.
     pub fn insert_many(
         &mut self,
         keys: &[KeyNumber],
@@ -116,8 +116,8 @@ impl Core {
         Progress::whole(keys.len())
     }
 
-    /// Removes rows, in order, as `delete` does, and writes 1 for each that existed and 0 for each that didn't.
-    /// Continues up to the first that is refused. Takes what `delete` takes.
+    /// Deletes rows, in order, as `delete` does, and writes 1 for each that existed and 0 for each that didn't.
+    /// Stops at the first refusal. Each costs what `delete` does.
     pub fn delete_many(&mut self, parts: &[u32], serials: &[u64], gone: &mut [u8]) -> Progress
         requires serials { length serials.now ≡ length parts.now }
         requires gone { length gone.old ≡ length parts.now }
@@ -135,8 +135,8 @@ impl Core {
         Progress::whole(parts.len())
     }
 
-    /// Replaces keys and payloads of rows, in order, as `update` does, and writes 1 for each row that exists and 0
-    /// for each that doesn't. Continues up to the first that is refused. Takes what `update` takes.
+    /// Replaces the keys and the payloads of rows, in order, as `update` does, and writes 1 for each row that
+    /// exists and 0 for each that doesn't. Stops at the first refusal. Each costs what `update` does.
     pub fn update_many(
         &mut self,
         parts: &[u32],
@@ -165,8 +165,8 @@ impl Core {
         Progress::whole(parts.len())
     }
 
-    /// Counts the rows of each range, from its first key to its last, in order, as `count_keys` does. Continues up to
-    /// the first that is refused. Takes what `count` takes.
+    /// Counts the rows of each range, from its first key to its last, in order, as `count_keys` does. Stops at the
+    /// first refusal. Each costs what `count` does.
     pub fn count_many(
         &mut self,
         firsts: &[KeyNumber],
@@ -189,9 +189,8 @@ impl Core {
         Progress::whole(firsts.len())
     }
 
-    /// Adds up the payloads of each range, from its first key to its last, in order, as `sum_keys` does, and writes
-    /// the low 64 bits of each sum and those above them. Continues up to the first that is refused. Takes what `sum`
-    /// takes.
+    /// Sums the payloads of each range, from its first key to its last, in order, as `sum_keys` does, and writes
+    /// the low 64 bits of each sum and the bits above them. Stops at the first refusal. Each costs what `sum` does.
     pub fn sum_many(
         &mut self,
         firsts: &[KeyNumber],
@@ -221,7 +220,7 @@ impl Core {
     }
 }
 
-/// The low 64 bits of a sum, and those above them.
+/// The low 64 bits of a sum, and the bits above them.
 pub fn halves(sum: i128) -> (u64, i64)
     requires low { neg_ℤ (pos (2 ^ 102)) ≤ℤ sum }
     requires high { sum ≤ℤ pos (2 ^ 102) }
@@ -234,7 +233,7 @@ pub fn halves(sum: i128) -> (u64, i64)
     (low, high - FARTHEST_HIGH)
 }
 
-/// The number of a row.
+/// The row number of a partition and a serial.
 fn row_of(part: u32, serial: u64) -> RowNo
     ensures { result ≡ record { part = part; serial = record { 0 = serial } } }
 {
@@ -244,7 +243,7 @@ fn row_of(part: u32, serial: u64) -> RowNo
     }
 }
 
-/// A flag as a number.
+/// 1 if `is`, else 0.
 fn flag(is: bool) -> u8
     ensures { result ≡ flag is }
 {

@@ -9,6 +9,7 @@ ghost use Rattle.crack_part.specs.Parts.{Part, table_of, Serves, Spares};
 ghost use Rattle.crack_core.specs.Routes.{AreSplits, keys_of_part, route, parts_of};
 ghost use Rattle.crack_core.specs.Opening.{opening_fault, MayFault, AreParts};
 ghost use Rattle.crack_core.specs.Steps.{bounds_of, IsOutcomeAt, IsLayoutOutcome, expected_fold, tables_of};
+ghost use Rattle.crack_core.specs.Steps.{IsStatisticsOutcome, expected_statistics};
 ghost use Rattle.crack_core.specs.Steps.{mapped, fresh_table, tables_after, changed_at, accepted_by};
 ghost use Rattle.crack_store.specs.Inside.{no_cells, IsLayoutOf};
 ghost use Rattle.crack_core.specs.Cores.{IsCore};
@@ -19,6 +20,7 @@ use crate::opening::{limits_fault, open_partitions, splits_fault};
 use crate::routes;
 use crate::step::{Done, Job, Step};
 use crack_part::Partition;
+use crack_plain::Statistics;
 use crack_row::{Bound, Key, KeyRange, Layout, Limits, Refusal, Reply};
 use smallvec::SmallVec;
 use std::alloc::Global;
@@ -48,8 +50,8 @@ impl Model for Core {
 }
 
 impl Core {
-    /// Partitions without rows, one more than splits, each of which accepts at most `limit` commands after each
-    /// checkpoint, with the greatest of the other limits. Refused as `open_with` is.
+    /// Opens partitions without rows, one more than splits. Each accepts at most `limit` commands between two
+    /// checkpoints, and has the greatest of the other limits. Refused as `open_with` is.
     pub fn open(alloc: Global, splits: &[Bound], limit: u64) -> Result<Core, Refusal>
         ensures opened { IfOk result (λ core. (core.splits ≡ splits.now) × (core.limits ≡ of_history limit)) }
         ensures fresh { IfOk result (λ core. All (λ (part : Part). table_of part ≡ fresh_table) core.parts) }
@@ -62,9 +64,10 @@ impl Core {
         Core::open_with(alloc, splits, Limits::of_history(limit))
     }
 
-    /// Partitions without rows, one more than splits, each with these limits. Refused, in this order: with 11 if
-    /// the splits don't rise strictly or one isn't 1 to `GREATEST_KEY`, with 12 if there are more than
-    /// `MOST_SPLITS`, with 14 if a limit isn't 1 to the greatest of its kind, and with 8 if no memory is found.
+    /// Opens partitions without rows, one more than splits, each with these limits. Refused, in this order: with
+    /// `BadSplits` if the splits don't rise strictly or one isn't 1 to `GREATEST_KEY`, with `TooManyPartitions` if
+    /// there are more than `MOST_SPLITS`, with `BadLimit` if a limit isn't 1 to the greatest of its kind, and with
+    /// `OutOfMemory` if no memory is found.
     pub fn open_with(alloc: Global, splits: &[Bound], limits: Limits) -> Result<Core, Refusal>
         ensures opened { IfOk result (λ core. (core.splits ≡ splits.now) × (core.limits ≡ limits)) }
         ensures fresh { IfOk result (λ core. All (λ (part : Part). table_of part ≡ fresh_table) core.parts) }
@@ -89,14 +92,14 @@ impl Core {
         })
     }
 
-    /// States the invariants of every core, and does nothing.
+    /// States the invariant of every core, and does nothing.
     pub fn facts(&self)
         ensures { IsCore self.now }
     {
         let _ = &self.partitions;
     }
 
-    /// Where one partition ends and the next begins. Takes no memory.
+    /// The splits: the bounds at which one partition ends and the next begins. Takes no memory.
     pub fn splits(&self) -> &[Bound]
         ensures value { result.now ≡ self.now.splits }
         ensures good { AreSplits self.now.splits }
@@ -113,8 +116,8 @@ impl Core {
         routes::route(&self.splits, key)
     }
 
-    /// The partitions that a range meets, as `parts_of` gives them for its splits. Up to 8 take no memory; refused
-    /// with 8 if more find none.
+    /// The partitions that have keys of a range, as the function `parts_of` gives them. Up to 8 take no memory;
+    /// refused with `OutOfMemory` if more find none.
     pub fn parts_of(&self, range: KeyRange) -> Result<SmallVec<(u32, KeyRange), 8>, Refusal>
         ensures ok { IfOk result (λ parts. parts.items ≡ parts_of self.now.splits range) }
         ensures few { IfOk result (λ parts. length parts.items ≤ length self.now.splits + 1) }
@@ -124,8 +127,8 @@ impl Core {
         routes::parts_of(*self.splits.allocator(), &self.splits, range)
     }
 
-    /// The layout of one partition. It cracks and merges nothing, and isn't kept. Refused with 5 if there is
-    /// no such partition, and with 8 if it finds no memory. O(pieces).
+    /// The layout of one partition. Cracks and merges nothing, and isn't counted as a command. Refused with
+    /// `NoSuchPartition` if there is none, and with `OutOfMemory` if no memory is found. O(pieces).
     pub fn layout(&self, part: u32) -> Result<Layout, Refusal>
         ensures outcome { IsLayoutOutcome (keys_of_part self.now.splits part)
             (slice_get (tables_of self.now.parts) part) result }
@@ -138,19 +141,31 @@ impl Core {
         }
     }
 
-    /// Asks one partition, by one call of `Partition::apply`. Refused, in this order: with 5 if there is no such
-    /// partition, with 4 if the command has a key that isn't the partition's, with 6 if it has accepted as many
-    /// commands as its limit since its last checkpoint and upkeep is on request, with 10 if it has accepted as many
-    /// as it may in total, with 9 if no cell is free for a row, upkeep frees none and it has as many as it may have,
-    /// and with 8 if no memory is found. Then nothing has changed, except after 8, which leaves what
-    /// `Partition::apply` says.
+    /// The numbers of one partition, for monitoring. Cracks and merges nothing, and isn't counted as a command.
+    /// Refused with `NoSuchPartition` if there is none. O(1).
+    pub fn statistics(&self, part: u32) -> Result<Statistics, Refusal>
+        ensures outcome { IsStatisticsOutcome (slice_get (tables_of self.now.parts) part) result }
+        ensures expected { result ≡ expected_statistics (slice_get self.now.parts part) }
+    {
+        match self.partitions.get(part as usize) {
+            Some(partition) => Ok(partition.statistics()),
+            None => Err(Refusal::NoSuchPartition),
+        }
+    }
+
+    /// Performs a step: asks one partition, by one call of `Partition::apply`. Refused, in this order: with
+    /// `NoSuchPartition` if there is none, with `KeyOutside` if the command has a key that isn't the partition's,
+    /// with `HistoryFull` if the partition has accepted as many commands as its limit since its last checkpoint and
+    /// upkeep is on request, with `LifeOver` if it has accepted as many as its life, with `NoCell` if a cell is
+    /// missing and upkeep frees none, and with `OutOfMemory` if no memory is found. Only `OutOfMemory` may leave a
+    /// change, which `Partition::apply` describes.
     #[inline(always)]
     pub fn step(&mut self, step: Step) -> Result<Reply, Refusal>
-        // It is the reply of the partition's plain rows, or the refusal that they require; in place of a reply it may
-        // be 8, or 9.
+        // The outcome is the reply that the partition's plain rows give, or the refusal that they require. In place
+        // of a reply it may be `OutOfMemory` or `NoCell`.
         ensures outcome { IsOutcomeAt (bounds_of self.old.limits) self.old.splits
             (tables_of self.old.parts) step.part step.command result }
-        // The plain rows change as the reply says, and a refusal leaves them.
+        // The plain rows change as the reply says. A refusal leaves them unchanged.
         ensures after { tables_of self.new.parts ≡
             tables_after (bounds_of self.old.limits) (tables_of self.old.parts) step.part step.command result }
         ensures accepted { accepted_by self.new.parts ≡
@@ -168,8 +183,8 @@ impl Core {
         ask_at(&mut self.partitions, step)
     }
 
-    /// Makes these steps one after the other, and returns the outcome of each. A refused step leaves what
-    /// `step` says, and the next one is made. Refused with 8, before the first step, if the list of the outcomes
+    /// Performs these steps in order, and returns the outcome of each. A refused step leaves what `step` says, and
+    /// the next one is performed. Refused with `OutOfMemory`, before the first step, if the list of the outcomes
     /// finds no memory.
     pub fn run_steps(&mut self, steps: &[Step]) -> Result<Vec<Result<Reply, Refusal>>, Refusal>
         ensures replies { IfOk result (λ results.
@@ -178,7 +193,7 @@ impl Core {
         ensures kept { IfOk result (λ results.
             KeepsJobs self.old.limits (tables_of self.old.parts) (map Job.Perform steps.now)
             (map (mapped Done.Replied) results.items) (tables_of self.new.parts)) }
-        // Each store is served by the policy of its own steps, in their order, and by nothing else.
+        // Each store changes only by its own steps, in their order, each by its policy.
         ensures stores { IfOk result (λ results.
             DoesAll self.old.splits self.old.limits (map Job.Perform steps.now)
             (map (mapped Done.Replied) results.items) self.old.parts self.new.parts) }
@@ -191,9 +206,9 @@ impl Core {
         Ok(results)
     }
 
-    /// Makes a checkpoint of one partition, and returns how many commands it had accepted since its last one, which
-    /// are counted from 0 again. It cracks and merges nothing, allocates nothing, and no later reply depends on it.
-    /// Refused with 5 if there is no such partition; then nothing has changed.
+    /// Makes a checkpoint of one partition, and returns how many commands it had accepted since its previous one;
+    /// that count restarts at 0. Cracks and merges nothing, takes no memory, and changes no later reply. Refused
+    /// with `NoSuchPartition` if there is none; then nothing has changed.
     pub fn checkpoint(&mut self, part: u32) -> Result<u64, Refusal>
         ensures outcome { result ≡ expected_fold (slice_get (tables_of self.old.parts) part) }
         ensures after { tables_of self.new.parts ≡ changed_at checkpointed (tables_of self.old.parts) part result }
@@ -205,16 +220,16 @@ impl Core {
         fold_at(&mut self.partitions, part)
     }
 
-    /// Does these jobs one after the other, and returns the outcome of each. A refused job leaves what
-    /// `step` and `checkpoint` say, and the next one is done. Refused with 8, before the first job, if the list of
-    /// the outcomes finds no memory.
+    /// Does these jobs in order, and returns the outcome of each. A refused job leaves what `step` and `checkpoint`
+    /// say, and the next one is done. Refused with `OutOfMemory`, before the first job, if the list of the outcomes
+    /// finds no memory.
     pub fn run_jobs(&mut self, jobs: &[Job]) -> Result<Vec<Result<Done, Refusal>>, Refusal>
         ensures replies { IfOk result (λ results.
             AreExpectedOutcomes self.old.limits self.old.splits (tables_of self.old.parts) jobs.now results.items) }
         ensures kept { IfOk result (λ results.
             KeepsJobs self.old.limits (tables_of self.old.parts) jobs.now results.items (tables_of self.new.parts)) }
-        // Each store is read by the policies of its own steps, in their order, and by nothing else; a checkpoint leaves
-        // it as it is.
+        // Each store changes only by its own steps, in their order, each by its policy. A checkpoint leaves it
+        // unchanged.
         ensures stores { IfOk result (λ results.
             DoesAll self.old.splits self.old.limits jobs.now results.items self.old.parts self.new.parts) }
         ensures opened { (self.new.splits ≡ self.old.splits) × (self.new.limits ≡ self.old.limits) }
@@ -226,7 +241,7 @@ impl Core {
         Ok(results)
     }
 
-    /// How many commands its partitions have answered since they were opened. O(partitions).
+    /// The number of commands that the partitions have accepted since they were opened. O(partitions).
     pub fn accepted(&self) -> u64
         ensures { result ≡ accepted_by self.now.parts }
     {
@@ -272,7 +287,7 @@ fn ask_at(partitions: &mut [Partition], step: Step) -> Result<Reply, Refusal>
     answered
 }
 
-/// Makes steps one after the other, and adds the outcome of each if there is room.
+/// Performs steps in order, and adds the outcome of each to a list that has room.
 fn run_all(partitions: &mut [Partition], steps: &[Step], results: &mut Vec<Result<Reply, Refusal>>)
     requires empty { results.old.items ≡ [] }
     requires room { length steps.now ≤ vec_capacity results.old }
@@ -294,7 +309,7 @@ fn run_all(partitions: &mut [Partition], steps: &[Step], results: &mut Vec<Resul
     }
 }
 
-/// Makes a checkpoint of one partition, if there is one with this number.
+/// Makes a checkpoint of one partition. Refused with `NoSuchPartition` if there is none.
 fn fold_at(partitions: &mut [Partition], part: u32) -> Result<u64, Refusal>
     ensures outcome { result ≡ expected_fold (slice_get (tables_of partitions.old) part) }
     ensures after { tables_of partitions.new ≡ changed_at checkpointed (tables_of partitions.old) part result }
@@ -334,7 +349,7 @@ fn do_job(partitions: &mut [Partition], job: Job) -> Result<Done, Refusal>
     }
 }
 
-/// The outcome of a job with this outcome of its step.
+/// The outcome of a step, as the outcome of its job.
 fn performed(answered: Result<Reply, Refusal>) -> Result<Done, Refusal>
     ensures { result ≡ mapped Done.Replied answered }
 {
@@ -344,7 +359,7 @@ fn performed(answered: Result<Reply, Refusal>) -> Result<Done, Refusal>
     }
 }
 
-/// The outcome of a job with this outcome of its checkpoint.
+/// The outcome of a checkpoint, as the outcome of its job.
 fn folding(folded: Result<u64, Refusal>) -> Result<Done, Refusal>
     ensures { result ≡ mapped Done.Folded folded }
 {
@@ -354,7 +369,7 @@ fn folding(folded: Result<u64, Refusal>) -> Result<Done, Refusal>
     }
 }
 
-/// Does jobs one after the other, and adds the outcome of each if there is room.
+/// Does jobs in order, and adds the outcome of each to a list that has room.
 fn do_all(partitions: &mut [Partition], jobs: &[Job], results: &mut Vec<Result<Done, Refusal>>)
     requires empty { results.old.items ≡ [] }
     requires room { length jobs.now ≤ vec_capacity results.old }

@@ -20,5 +20,5 @@ pub use step::{Done, Job, Step};
 pub use turns::{AskPart, PartReply, ask_parts, rows_told, sum_told};
 pub use upkeep::upkeep_is_checkpoints;
 
-/// The greatest number of splits, one less than that of partitions.
+/// The greatest number of splits: one less than the greatest number of partitions.
 pub const MOST_SPLITS: usize = 63;

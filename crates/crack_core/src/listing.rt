@@ -10,9 +10,10 @@ use crate::{Core, PartReply, Query};
 use crack_row::{BoundNumber, KeyNumber, KeyRange, PayloadNumber, Policy, Refusal, Row};
 
 impl Core {
-    /// Lists the rows whose keys are `first` to `last`, both included, by partition and then by rising serial, as far
-    /// as the lists have room: of each its partition, serial, key and payload. Returns how many there are. Refused as
-    /// `count_keys` is; the lists are then as they were. Takes memory for the replies of the partitions that it meets.
+    /// Lists the rows whose keys are `first` to `last`, both included, by partition and then by rising serial.
+    /// Writes the partition, serial, key and payload of as many rows as the lists have room for, and returns how
+    /// many rows there are. Refused as `count_keys` is; the lists are then unchanged. Takes memory for a reply of
+    /// each partition that the range meets.
     pub fn select_keys(
         &mut self,
         first: KeyNumber,
@@ -38,7 +39,7 @@ impl Core {
         }
     }
 
-    /// Lists the rows of a range.
+    /// Lists the rows of a range, as `select_keys` does.
     fn select_range(
         &mut self,
         range: KeyRange,
@@ -64,7 +65,7 @@ impl Core {
     }
 }
 
-/// Writes the rows of the partitions' replies, one after the other. Returns how many there are.
+/// Writes the rows of all replies, in order. Returns how many there are.
 fn list_all(
     replies: &[PartReply],
     parts: &mut [u32],
@@ -90,7 +91,7 @@ fn list_all(
     found as u64
 }
 
-/// Writes the rows of a partition from a place on, as far as there is room.
+/// Writes the rows of one partition into the lists from index `from` on, as far as there is room.
 fn list_rows(
     part: u32,
     rows: &[Row],

@@ -13,8 +13,8 @@ use crack_part::Partition;
 use crack_row::{Bound, KeyRange, Limits, Refusal};
 use std::alloc::Global;
 
-/// The fault of splits, if there is one: 11 if they don't rise strictly or one isn't 1 to `GREATEST_KEY`, else 12
-/// if there are more than `MOST_SPLITS`. Takes no memory. O(splits).
+/// The fault of splits, if there is one: `BadSplits` if they don't rise strictly or one isn't 1 to `GREATEST_KEY`,
+/// else `TooManyPartitions` if there are more than `MOST_SPLITS`. Takes no memory. O(splits).
 pub fn splits_fault(splits: &[Bound]) -> Option<Refusal>
     ensures value { result ≡ splits_fault splits.now }
     ensures good { result ≡ None → AreSplits splits.now }
@@ -28,7 +28,7 @@ pub fn splits_fault(splits: &[Bound]) -> Option<Refusal>
     None
 }
 
-/// The fault of limits, if there is one: 14 if one of them isn't 1 to the greatest of its kind.
+/// The fault of limits, if there is one: `BadLimit` if one of them isn't 1 to the greatest of its kind.
 pub fn limits_fault(limits: Limits) -> Option<Refusal>
     ensures value { result ≡ limits_fault limits }
     ensures good { result ≡ None → AreLimits limits }
@@ -39,8 +39,8 @@ pub fn limits_fault(limits: Limits) -> Option<Refusal>
     Some(Refusal::BadLimit)
 }
 
-/// The partitions of these splits, without rows, each with the same limits. Refused with 8 if they find no memory.
-/// O(splits).
+/// Opens the partitions between these splits, without rows, each with these limits. Refused with `OutOfMemory` if
+/// no memory is found. O(splits).
 pub fn open_partitions(
     alloc: Global,
     splits: &[Bound],
@@ -63,7 +63,7 @@ pub fn open_partitions(
     Ok(parts)
 }
 
-/// Whether splits rise strictly, each above 0 and below the greatest bound.
+/// Whether splits rise strictly, each above 0 and below `GREATEST_BOUND`.
 fn is_rising(splits: &[Bound]) -> bool
     ensures { result ≡ is_rising 0 splits.now }
 {

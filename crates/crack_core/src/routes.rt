@@ -1,4 +1,4 @@
-//! Which partitions a key or a range meets, if splits divide the keys into partitions.
+//! The partitions that have a key or a part of a range, for given splits.
 ghost use Rattle.std.specs.Prelude.{◌≡◌, ◌+◌, ◌-◌, ◌<◌, ◌≤◌, [], ◌∷◌, length, IsOk, IfOk, IfErr, IfSome, IfNone};
 ghost use Rattle.crack_row.specs.Ranges.{IsIn};
 ghost use Rattle.crack_row.specs.declared.TheConstants.{GREATEST_BOUND};
@@ -9,7 +9,7 @@ use crack_row::{Bound, Key, KeyRange, Refusal};
 use smallvec::SmallVec;
 use std::alloc::Global;
 
-/// The partition in which a key falls: partition 0 has the keys below the first split, and each later one those from
+/// The partition of a key: partition 0 has the keys below the first split, and each later partition has those from
 /// its split on. O(log splits).
 pub fn route(splits: &[Bound], key: Key) -> u32
     requires { AreSplits splits.now }
@@ -20,9 +20,9 @@ pub fn route(splits: &[Bound], key: Key) -> u32
     splits_up_to(splits, key.bound()) as u32
 }
 
-/// The partitions that a range meets, in rising order, each with its part of the range; an empty range goes unchanged
-/// to the partition in which its low end falls, or to the last one if that is the greatest bound. O(log splits +
-/// partitions met). Up to 8 partitions take no memory; refused with 8 if more find none.
+/// The partitions that have keys of a range, in rising order, each with its part of the range. An empty range goes
+/// unchanged to the partition of its low end, or to the last one if that end is the greatest bound. O(log
+/// splits + partitions met). Up to 8 partitions take no memory; refused with `OutOfMemory` if more find none.
 pub fn parts_of(
     alloc: Global,
     splits: &[Bound],
@@ -46,8 +46,8 @@ pub fn parts_of(
     Ok(parts)
 }
 
-/// The only partition with keys of a range, or in which an empty range falls; `None` if several have keys. Takes no
-/// memory. O(log splits).
+/// The only partition that has keys of a range, or the partition of an empty range's low end; `None` if several
+/// have keys. Takes no memory. O(log splits).
 pub fn only_part(splits: &[Bound], range: KeyRange) -> Option<u32>
     requires { AreSplits splits.now }
     ensures one { IfSome result (λ part. parts_of splits.now range ≡ (part, range) ∷ []) }
@@ -78,7 +78,7 @@ pub fn keys_of_part(splits: &[Bound], part: usize) -> KeyRange
     }
 }
 
-/// Adds the parts of a range in the partitions from `first` to `last`.
+/// Adds the partitions from `first` to `last`, each with its part of a range.
 fn push_parts(
     parts: &mut SmallVec<(u32, KeyRange), 8>,
     splits: &[Bound],

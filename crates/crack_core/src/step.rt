@@ -1,8 +1,8 @@
-//! One step: a command at a partition; and jobs, which are steps and checkpoints.
+//! Steps and jobs: a step is a command to a partition, a job is a step or a checkpoint.
 
 use crack_row::{Command, Policy, Reply};
 
-/// A command at a partition, and which pending rows are merged for it.
+/// A command to a partition, and the policy by which pending rows are merged for it.
 #[derive(Clone, Copy, Debug)]
 pub struct Step {
     pub part: u32,
@@ -13,7 +13,7 @@ pub struct Step {
 /// A call of a core: a step, or a checkpoint of a partition.
 #[derive(Clone, Copy, Debug)]
 pub enum Job {
-    /// Ask a partition.
+    /// Perform a step.
     Perform(Step),
     /// Make a checkpoint of the partition with this number.
     Fold(u32),
@@ -24,6 +24,6 @@ pub enum Job {
 pub enum Done {
     /// The reply to a step.
     Replied(Reply),
-    /// This many entries were checkpointed.
+    /// The checkpoint of this many commands.
     Folded(u64),
 }

@@ -1,16 +1,16 @@
-//! Partitions that are asked in turn, each for its part of a range.
+//! Partitions asked in order, each for its part of a range.
 ghost use Rattle.std.specs.Prelude.{◌≡◌, ◌⊎◌, ◌<◌, ◌≤◌, ◌≤ℤ◌, ◌^◌, neg_ℤ, pos, [], All, length, vec_capacity};
 ghost use Rattle.std.specs.Prelude.{Ok, Err, IfOk, IfErr};
 ghost use Rattle.std.specs.Result.{result_and};
 ghost use Rattle.crack_plain.specs.Plain.{IsSmall};
 ghost use Rattle.crack_core.specs.Asking.{AsksEach, asking, counted, summed, rows_told, sum_told};
-ghost use Rattle.crack_core.specs.Listing.{listed};
+ghost use Rattle.crack_core.specs.Listing.{rows_listed};
 
 use crate::Query;
 use crack_row::{Command, KeyRange, Policy, Refusal, Reply, Row};
 use std::alloc::Global;
 
-/// Partitions with numbers, which are asked one command after another.
+/// Numbered partitions, which answer one command at a time.
 pub trait AskPart {
     ghost use Rattle.std.specs.Prelude.{ℕ, Result};
     ghost use Rattle.crack_row.specs.declared.command.Command.{Command};
@@ -18,16 +18,16 @@ pub trait AskPart {
     ghost use Rattle.crack_row.specs.declared.command.Reply.{Reply};
     ghost use Rattle.crack_row.specs.declared.refusal.Refusal.{Refusal};
 
-    /// The effect of asking a partition a command by a policy with this outcome, from one state to another.
+    /// How asking a partition changes the state, by its number, the command, the policy and the outcome.
     ghost asks: { Self → ℕ → Command → Policy → Result Reply Refusal → Self → Type 0 };
 
-    /// Asks the partition with this number.
+    /// Asks the partition with this number one command.
     fn ask_part(&mut self, part: u32, command: Command, policy: Policy) -> Result<Reply, Refusal>
         ensures asks { asks self.old part command policy result self.new }
         ensures small { IfOk result IsSmall };
 }
 
-/// What one of several partitions replied.
+/// The reply of one partition, with the partition's number.
 #[derive(Drop)]
 pub struct PartReply {
     pub part: u32,
@@ -35,7 +35,7 @@ pub struct PartReply {
 }
 
 impl PartReply {
-    /// How many rows it counts or lists.
+    /// How many rows the reply counts or lists.
     pub(crate) fn counted(&self) -> u64
         ensures { result ≡ counted self.now.reply }
     {
@@ -46,7 +46,7 @@ impl PartReply {
         }
     }
 
-    /// The sum that it carries.
+    /// The sum in the reply.
     pub(crate) fn summed(&self) -> i128
         ensures { result ≡ summed self.now.reply }
     {
@@ -56,9 +56,9 @@ impl PartReply {
         }
     }
 
-    /// The rows that it lists.
+    /// The rows that the reply lists.
     pub fn rows(&self) -> &[Row]
-        ensures { result.now ≡ listed self.now.reply }
+        ensures { result.now ≡ rows_listed self.now.reply }
     {
         match &self.reply {
             Reply::Rows(rows) => rows.as_slice(),
@@ -67,8 +67,8 @@ impl PartReply {
     }
 }
 
-/// Asks partitions in turn, each for its part of a range, once there is room for their replies. The first refusal ends
-/// it. Refused with 8 before the first is asked if there is no room. Takes memory for a reply of each.
+/// Asks partitions in order, each for its part of a range, and stops at the first refusal. Takes memory for a reply
+/// of each; refused with `OutOfMemory`, before the first is asked, if it finds none.
 pub fn ask_parts<A: AskPart>(
     alloc: Global,
     partitions: &mut A,
@@ -92,7 +92,7 @@ pub fn ask_parts<A: AskPart>(
     }
 }
 
-/// Asks one partition after the other, until one refuses.
+/// Asks partitions in order, until one refuses.
 #[inline(never)]
 fn ask_each<A: AskPart>(
     partitions: &mut A,
@@ -132,7 +132,7 @@ pub fn rows_told(replies: &[PartReply]) -> u64
     total
 }
 
-/// The sums of replies, added.
+/// The sum of the sums in replies.
 pub fn sum_told(replies: &[PartReply]) -> i128
     requires small { All (λ (r : PartReply). IsSmall r.reply) replies.now }
     requires few { length replies.now ≤ 64 }

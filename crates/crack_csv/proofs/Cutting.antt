@@ -14,10 +14,10 @@ use Rattle.crack_row.specs.declared.refusal.Refusal.TheVariants.{WriteFault}
 use Rattle.crack_plain.specs.Plain.{PlainView, rows_in}
 use Rattle.crack_core.specs.Routes.{keys_of_part}
 use Rattle.crack_core.specs.Steps.{Bounds, IsOutcome, IsOutcomeAt, tables_after, table_after, upkept_by, fresh_table}
-use Rattle.crack_core.specs.Listing.{listed}
+use Rattle.crack_core.specs.Listing.{rows_listed}
 use Rattle.crack_commands.specs.Texts.{AppendsFront}
 use Rattle.crack_commands.proofs.Sending.{front_first, front_then}
-use Rattle.crack_csv.specs.Exports.{header_text, record_text, rows_from, asked, lines_of, AreUnsent, IsExportCut}
+use Rattle.crack_csv.specs.Exports.{header_text, record_text, rows_from, after_listing, lines_of, AreUnsent, IsExportCut}
 use Rattle.crack_csv.specs.Inside.{rows_at, IsUnlisted, IsUnwritten, IsPartCut}
 use Rattle.crack_csv.proofs.Exporting.{Exporting, keeps_appends, kept_written, replied_rows, index_there, asked-after, next_is, next_is_there, next_asked, next_rows}
 
@@ -61,10 +61,10 @@ part_unlisted bounds splits tables part keys e accepted accepted' failed left ou
 -- a partition lists the rows of all its keys, and their records aren't all written
 pub part_unwritten : (bounds : Bounds) (splits : List Bound) (tables : List PlainView) (part : ℕ) (keys : Range) (reply : Reply) (e : Refusal) (accepted accepted' : ℕ) (failed failed' : Bool) (left : Option (List PlainView)) (out out' : Option (List ℕ)) → keys ≡ keys_of_part splits part
     → IsOutcomeAt bounds splits tables part (Select keys) (Ok reply) → left ≡ Some (tables_after bounds tables part (Select keys) (Ok reply)) → accepted' ≡ accepted + 1
-    → AreUnsent (map record_text (listed reply)) e failed' out out' → IsPartCut bounds splits tables part e accepted accepted' failed failed' left out out'
+    → AreUnsent (map record_text (rows_listed reply)) e failed' out out' → IsPartCut bounds splits tables part e accepted accepted' failed failed' left out out'
 part_unwritten bounds splits tables part keys reply e accepted accepted' failed failed' left out out' all outcome after one unsent =
     let replied = replied_rows bounds (keys_of_part splits part) (slice_get tables part) keys reply outcome in
-    let rows : listed reply ≡ rows_at splits part replied.0 = ap listed replied.2 ∙ ap (λ (k : Range). rows_in k replied.0.state.rows) all in
+    let rows : rows_listed reply ≡ rows_at splits part replied.0 = ap rows_listed replied.2 ∙ ap (λ (k : Range). rows_in k replied.0.state.rows) all in
     record {
       table = replied.0;
       there = replied.1;
@@ -92,8 +92,8 @@ lines_text splits done out out' written = subst (Appends out out') (ap (λ z. he
 
 -- the next partition refuses the list of its rows
 unlisted_next : (bounds : Bounds) (splits : List Bound) (tables : List PlainView) (part : ℕ) (table : PlainView) (e : Refusal) (accepted now accepted' : ℕ) (failed failed' : Bool) (left : Option (List PlainView)) (out out' out'' : Option (List ℕ)) (done rest : List PlainView)
-    → tables ≡ done ++ rest → length done ≡ part → now ≡ accepted + part → Appends out out' (header_text ++ flat_map record_text (rows_from splits 0 done)) → slice_get (map (asked bounds) done ++ rest) part ≡ Some table
-    → IsUnlisted bounds splits (map (asked bounds) done ++ rest) part table e now accepted' failed failed' left out' out'' → IsExportCut bounds splits tables e accepted accepted' failed failed' left out out''
+    → tables ≡ done ++ rest → length done ≡ part → now ≡ accepted + part → Appends out out' (header_text ++ flat_map record_text (rows_from splits 0 done)) → slice_get (map (after_listing bounds) done ++ rest) part ≡ Some table
+    → IsUnlisted bounds splits (map (after_listing bounds) done ++ rest) part table e now accepted' failed failed' left out' out'' → IsExportCut bounds splits tables e accepted accepted' failed failed' left out out''
 unlisted_next bounds splits tables part table e accepted now accepted' failed failed' left out out' out'' done [] split reached so_far written there next = absurd (next_is_there bounds done part table reached there)
 unlisted_next bounds splits tables part table e accepted now accepted' failed failed' left out out' out'' done (t ∷ rest) split reached so_far written there next =
     let same : table ≡ t = next_is bounds done t rest part table reached there in
@@ -115,8 +115,8 @@ unlisted_next bounds splits tables part table e accepted now accepted' failed fa
 
 -- the records of the next partition aren't all written
 unwritten_next : (bounds : Bounds) (splits : List Bound) (tables : List PlainView) (part : ℕ) (table : PlainView) (e : Refusal) (accepted now accepted' : ℕ) (failed failed' : Bool) (left : Option (List PlainView)) (out out' out'' : Option (List ℕ)) (done rest : List PlainView)
-    → tables ≡ done ++ rest → length done ≡ part → now ≡ accepted + part → Appends out out' (header_text ++ flat_map record_text (rows_from splits 0 done)) → slice_get (map (asked bounds) done ++ rest) part ≡ Some table
-    → IsUnwritten bounds splits (map (asked bounds) done ++ rest) part table e now accepted' failed' left out' out'' → IsExportCut bounds splits tables e accepted accepted' failed failed' left out out''
+    → tables ≡ done ++ rest → length done ≡ part → now ≡ accepted + part → Appends out out' (header_text ++ flat_map record_text (rows_from splits 0 done)) → slice_get (map (after_listing bounds) done ++ rest) part ≡ Some table
+    → IsUnwritten bounds splits (map (after_listing bounds) done ++ rest) part table e now accepted' failed' left out' out'' → IsExportCut bounds splits tables e accepted accepted' failed failed' left out out''
 unwritten_next bounds splits tables part table e accepted now accepted' failed failed' left out out' out'' done [] split reached so_far written there next = absurd (next_is_there bounds done part table reached there)
 unwritten_next bounds splits tables part table e accepted now accepted' failed failed' left out out' out'' done (t ∷ rest) split reached so_far written there next =
     let same : table ≡ t = next_is bounds done t rest part table reached there in
@@ -133,8 +133,8 @@ unwritten_next bounds splits tables part table e accepted now accepted' failed f
     }
 
 how_next : (bounds : Bounds) (splits : List Bound) (tables : List PlainView) (part : ℕ) (table : PlainView) (e : Refusal) (accepted now accepted' : ℕ) (failed failed' : Bool) (left : Option (List PlainView)) (out out' out'' : Option (List ℕ)) (done rest : List PlainView)
-    → tables ≡ done ++ rest → length done ≡ part → now ≡ accepted + part → Appends out out' (header_text ++ flat_map record_text (rows_from splits 0 done)) → slice_get (map (asked bounds) done ++ rest) part ≡ Some table
-    → IsUnlisted bounds splits (map (asked bounds) done ++ rest) part table e now accepted' failed failed' left out' out'' ⊎ IsUnwritten bounds splits (map (asked bounds) done ++ rest) part table e now accepted' failed' left out' out''
+    → tables ≡ done ++ rest → length done ≡ part → now ≡ accepted + part → Appends out out' (header_text ++ flat_map record_text (rows_from splits 0 done)) → slice_get (map (after_listing bounds) done ++ rest) part ≡ Some table
+    → IsUnlisted bounds splits (map (after_listing bounds) done ++ rest) part table e now accepted' failed failed' left out' out'' ⊎ IsUnwritten bounds splits (map (after_listing bounds) done ++ rest) part table e now accepted' failed' left out' out''
     → IsExportCut bounds splits tables e accepted accepted' failed failed' left out out''
 how_next bounds splits tables part table e accepted now accepted' failed failed' left out out' out'' done rest split reached so_far written there (inl next) =
     unlisted_next bounds splits tables part table e accepted now accepted' failed failed' left out out' out'' done rest split reached so_far written there next

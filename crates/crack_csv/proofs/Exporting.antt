@@ -16,9 +16,9 @@ use Rattle.crack_plain.specs.Plain.{PlainView, checkpointed, rows_in}
 use Rattle.crack_core.specs.Routes.{keys_of_part}
 use Rattle.crack_part.specs.Refusals.{first_cause}
 use Rattle.crack_core.specs.Steps.{Bounds, unless, MayLackCell, IsOutcome, IsOutcomeAt, tables_after, table_after, upkept_by, fresh_table}
-use Rattle.crack_core.specs.Listing.{listed}
+use Rattle.crack_core.specs.Listing.{rows_listed}
 use Rattle.crack_commands.proofs.Sending.{Appends-then}
-use Rattle.crack_csv.specs.Exports.{header_text, record_text, rows_from, asked, IsExported}
+use Rattle.crack_csv.specs.Exports.{header_text, record_text, rows_from, after_listing, IsExported}
 use Rattle.crack_csv.specs.Inside.{rows_at, IsPartExported}
 
 -- the place after a list is the first of what follows
@@ -30,7 +30,7 @@ set_behind : {X : Type 0} (xs : List X) (y : X) (ys : List X) (z : X) → slice_
 set_behind [] y ys z = refl
 set_behind (x ∷ xs) y ys z = ap (λ t. x ∷ t) (set_behind xs y ys z)
 
-length-map : (bounds : Bounds) (tables : List PlainView) → length (map (asked bounds) tables) ≡ length tables
+length-map : (bounds : Bounds) (tables : List PlainView) → length (map (after_listing bounds) tables) ≡ length tables
 length-map bounds [] = refl
 length-map bounds (t ∷ tables) = let l = length-map bounds tables in omega (arith, l)
 
@@ -47,7 +47,7 @@ pub record Exporting (bounds : Bounds) (splits : List Bound) (tables : List Plai
   pub split : tables ≡ done ++ rest
   pub reached : length done ≡ part
   pub count_is : count ≡ length (rows_from splits 0 done)
-  pub left_is : left ≡ Some (map (asked bounds) done ++ rest)
+  pub left_is : left ≡ Some (map (after_listing bounds) done ++ rest)
   pub written : Appends out out' (header_text ++ flat_map record_text (rows_from splits 0 done))
 
 pub Exporting-start : (bounds : Bounds) (splits : List Bound) (tables : List PlainView) (left : Option (List PlainView)) (out out' : Option (List ℕ)) → left ≡ Some tables → Appends out out' header_text → Exporting bounds splits tables 0 0 left out out'
@@ -62,28 +62,28 @@ Exporting-start bounds splits tables left out out' known written = record {
 }
 
 -- the partition that is asked next is the first of the rest
-pub next_is : (bounds : Bounds) (done : List PlainView) (t : PlainView) (rest : List PlainView) (part : ℕ) (table : PlainView) → length done ≡ part → slice_get (map (asked bounds) done ++ t ∷ rest) part ≡ Some table → table ≡ t
+pub next_is : (bounds : Bounds) (done : List PlainView) (t : PlainView) (rest : List PlainView) (part : ℕ) (table : PlainView) → length done ≡ part → slice_get (map (after_listing bounds) done ++ t ∷ rest) part ≡ Some table → table ≡ t
 next_is bounds done t rest part table reached there =
-    let n : length (map (asked bounds) done) ≡ part = length-map bounds done ∙ reached in
-    let first : slice_get (map (asked bounds) done ++ t ∷ rest) part ≡ Some t = ap (slice_get (map (asked bounds) done ++ t ∷ rest)) (sym n) ∙ get_behind (map (asked bounds) done) (t ∷ rest) in
+    let n : length (map (after_listing bounds) done) ≡ part = length-map bounds done ∙ reached in
+    let first : slice_get (map (after_listing bounds) done ++ t ∷ rest) part ≡ Some t = ap (slice_get (map (after_listing bounds) done ++ t ∷ rest)) (sym n) ∙ get_behind (map (after_listing bounds) done) (t ∷ rest) in
     cc (first, there)
 
 -- so there is one
-pub next_is_there : (bounds : Bounds) (done : List PlainView) (part : ℕ) (table : PlainView) → length done ≡ part → slice_get (map (asked bounds) done ++ []) part ≡ Some table → ⊥
+pub next_is_there : (bounds : Bounds) (done : List PlainView) (part : ℕ) (table : PlainView) → length done ≡ part → slice_get (map (after_listing bounds) done ++ []) part ≡ Some table → ⊥
 next_is_there bounds done part table reached there =
-    let n : length (map (asked bounds) done) ≡ part = length-map bounds done ∙ reached in
-    let none : slice_get (map (asked bounds) done ++ []) part ≡ None = ap (slice_get (map (asked bounds) done ++ [])) (sym n) ∙ get_behind (map (asked bounds) done) [] in
+    let n : length (map (after_listing bounds) done) ≡ part = length-map bounds done ∙ reached in
+    let none : slice_get (map (after_listing bounds) done ++ []) part ≡ None = ap (slice_get (map (after_listing bounds) done ++ [])) (sym n) ∙ get_behind (map (after_listing bounds) done) [] in
     cc (none, there)
 
 -- and then it is one of those that are asked
-pub next_asked : (bounds : Bounds) (done : List PlainView) (t : PlainView) (rest : List PlainView) (part : ℕ) (table : PlainView) → length done ≡ part → table ≡ t → slice_set (map (asked bounds) done ++ t ∷ rest) part (asked bounds table) ≡ map (asked bounds) (done ++ t ∷ []) ++ rest
+pub next_asked : (bounds : Bounds) (done : List PlainView) (t : PlainView) (rest : List PlainView) (part : ℕ) (table : PlainView) → length done ≡ part → table ≡ t → slice_set (map (after_listing bounds) done ++ t ∷ rest) part (after_listing bounds table) ≡ map (after_listing bounds) (done ++ t ∷ []) ++ rest
 next_asked bounds done t rest part table reached same =
-    let n : length (map (asked bounds) done) ≡ part = length-map bounds done ∙ reached in
-    ap (λ x. slice_set (map (asked bounds) done ++ t ∷ rest) part (asked bounds x)) same
-    ∙ ap (λ i. slice_set (map (asked bounds) done ++ t ∷ rest) i (asked bounds t)) (sym n)
-    ∙ set_behind (map (asked bounds) done) t rest (asked bounds t)
-    ∙ sym (append_assoc (map (asked bounds) done) (asked bounds t ∷ []) rest)
-    ∙ ap (λ z. z ++ rest) (sym (map-append (asked bounds) done (t ∷ [])))
+    let n : length (map (after_listing bounds) done) ≡ part = length-map bounds done ∙ reached in
+    ap (λ x. slice_set (map (after_listing bounds) done ++ t ∷ rest) part (after_listing bounds x)) same
+    ∙ ap (λ i. slice_set (map (after_listing bounds) done ++ t ∷ rest) i (after_listing bounds t)) (sym n)
+    ∙ set_behind (map (after_listing bounds) done) t rest (after_listing bounds t)
+    ∙ sym (append_assoc (map (after_listing bounds) done) (after_listing bounds t ∷ []) rest)
+    ∙ ap (λ z. z ++ rest) (sym (map-append (after_listing bounds) done (t ∷ [])))
 
 -- the rows of one more partition
 pub next_rows : (splits : List Bound) (done : List PlainView) (t : PlainView) (part : ℕ) (table : PlainView) → length done ≡ part → table ≡ t → rows_from splits 0 (done ++ t ∷ []) ≡ rows_from splits 0 done ++ rows_at splits part table
@@ -92,7 +92,7 @@ next_rows splits done t part table reached same = rows_from-push splits 0 done t
 -- the rest begins with the partition that is asked next
 Exporting-next : {bounds : Bounds} {splits : List Bound} {tables : List PlainView} {part count : ℕ} {out out' : Option (List ℕ)} (more : ℕ) (left' : Option (List PlainView)) (out'' : Option (List ℕ)) (done rest : List PlainView)
     → tables ≡ done ++ rest → length done ≡ part → count ≡ length (rows_from splits 0 done) → Appends out out' (header_text ++ flat_map record_text (rows_from splits 0 done))
-    → IsPartExported bounds splits (map (asked bounds) done ++ rest) part more left' out' out'' → Exporting bounds splits tables (part + 1) (count + more) left' out out''
+    → IsPartExported bounds splits (map (after_listing bounds) done ++ rest) part more left' out' out'' → Exporting bounds splits tables (part + 1) (count + more) left' out out''
 Exporting-next {bounds} {splits} {tables} {part} {count} {out} {out'} more left' out'' done [] split reached counted written next = absurd (next_is_there bounds done part next.table reached next.there)
 Exporting-next {bounds} {splits} {tables} {part} {count} {out} {out'} more left' out'' done (t ∷ rest) split reached counted written next =
     let same : next.table ≡ t = next_is bounds done t rest part next.table reached next.there in
@@ -118,10 +118,10 @@ Exporting-more more left' out'' was next = Exporting-next more left' out'' was.d
 pub kept_written : (out a b : Option (List ℕ)) (text : List ℕ) → Appends out a text → Appends a b [] → Appends out b text
 kept_written out a b text h k = Appends-then out a b text [] text h k (sym (append-nil text))
 
-Exporting-whole : {bounds : Bounds} {splits : List Bound} {tables : List PlainView} {count : ℕ} {left : Option (List PlainView)} {out out' : Option (List ℕ)} (done rest : List PlainView) → tables ≡ done ++ rest → length done ≡ length tables → count ≡ length (rows_from splits 0 done) → left ≡ Some (map (asked bounds) done ++ rest) → Appends out out' (header_text ++ flat_map record_text (rows_from splits 0 done)) → IsExported bounds splits tables count left out out'
+Exporting-whole : {bounds : Bounds} {splits : List Bound} {tables : List PlainView} {count : ℕ} {left : Option (List PlainView)} {out out' : Option (List ℕ)} (done rest : List PlainView) → tables ≡ done ++ rest → length done ≡ length tables → count ≡ length (rows_from splits 0 done) → left ≡ Some (map (after_listing bounds) done ++ rest) → Appends out out' (header_text ++ flat_map record_text (rows_from splits 0 done)) → IsExported bounds splits tables count left out out'
 Exporting-whole {bounds} {splits} {tables} done [] split all counted known written =
     let same : tables ≡ done = split ∙ append-nil done in
-    record { count_is = rw same counted; left_is = known ∙ ap Some (append-nil (map (asked bounds) done) ∙ ap (map (asked bounds)) (sym same)); written = rw same written }
+    record { count_is = rw same counted; left_is = known ∙ ap Some (append-nil (map (after_listing bounds) done) ∙ ap (map (after_listing bounds)) (sym same)); written = rw same written }
 Exporting-whole {bounds} {splits} {tables} done (t ∷ rest) split all counted known written = absurd (let l = length-append done (t ∷ rest) in let n = ap length split in omega (arith, l, n, all))
 
 -- all partitions
@@ -154,7 +154,7 @@ index_there (t ∷ tables) zero table other e = cc e
 index_there (t ∷ tables) (suc i) table other e = index_there tables i table other e
 
 -- a list of rows changes none, and neither does a checkpoint
-pub asked-after : (bounds : Bounds) (table : PlainView) (keys : Range) → table_after (upkept_by bounds table) (Select keys) ≡ asked bounds table
+pub asked-after : (bounds : Bounds) (table : PlainView) (keys : Range) → table_after (upkept_by bounds table) (Select keys) ≡ after_listing bounds table
 asked-after bounds table keys = by_test (bounds.due table)
   where
     by_test : (b : Bool) → table_after (cond b (checkpointed table) table) (Select keys) ≡ record { state = table.state; folded = (cond b (checkpointed table) table).folded; since = (cond b (checkpointed table) table).since + 1 }
@@ -163,11 +163,11 @@ asked-after bounds table keys = by_test (bounds.due table)
 
 -- a partition that lists the rows of all its keys is asked, and their records are written
 pub part_exported : (bounds : Bounds) (splits : List Bound) (tables : List PlainView) (part : ℕ) (keys : Range) (reply : Reply) (left : Option (List PlainView)) (out out' : Option (List ℕ)) → keys ≡ keys_of_part splits part
-    → IsOutcomeAt bounds splits tables part (Select keys) (Ok reply) → left ≡ Some (tables_after bounds tables part (Select keys) (Ok reply)) → Appends out out' (flat_map record_text (listed reply))
-    → IsPartExported bounds splits tables part (length (listed reply)) left out out'
+    → IsOutcomeAt bounds splits tables part (Select keys) (Ok reply) → left ≡ Some (tables_after bounds tables part (Select keys) (Ok reply)) → Appends out out' (flat_map record_text (rows_listed reply))
+    → IsPartExported bounds splits tables part (length (rows_listed reply)) left out out'
 part_exported bounds splits tables part keys reply left out out' all outcome after written =
     let replied = replied_rows bounds (keys_of_part splits part) (slice_get tables part) keys reply outcome in
-    let rows : listed reply ≡ rows_at splits part replied.0 = ap listed replied.2 ∙ ap (λ (k : Range). rows_in k replied.0.state.rows) all in
+    let rows : rows_listed reply ≡ rows_at splits part replied.0 = ap rows_listed replied.2 ∙ ap (λ (k : Range). rows_in k replied.0.state.rows) all in
     record {
       table = replied.0;
       there = replied.1;

@@ -14,7 +14,7 @@ use Rattle.crack_row.specs.declared.refusal.Refusal.TheVariants.{WriteFault}
 use Rattle.crack_commands.specs.Texts.{AppendsFront}
 use Rattle.crack_commands.proofs.Sending.{Appends-then}
 use Rattle.crack_session.specs.Calls.{Call, Calls}
-use Rattle.crack_core.specs.Listing.{listed}
+use Rattle.crack_core.specs.Listing.{rows_listed}
 use Rattle.crack_session.proofs.Calling.{Calls-push}
 use Rattle.crack_csv.specs.Asked.{listing, listings, lines_in, IsListed, IsListedFirst}
 use Rattle.crack_csv.specs.Exports.{header_text, record_text, AreUnsent}
@@ -26,16 +26,16 @@ listings-push : (splits : List Bound) (policy : Policy) (part next : ℕ) (repli
 listings-push splits policy part next [] reply e = ap (λ n. listing splits policy n (Ok reply) ∷ []) (let same : part ≡ next = omega (arith, e) in same)
 listings-push splits policy part next (r ∷ replies) reply e = ap (λ (z : List Call). listing splits policy part (Ok r) ∷ z) (listings-push splits policy (part + 1) next replies reply (omega (arith, e)))
 
-rows-push : (replies : List Reply) (reply : Reply) → flat_map listed (replies ++ reply ∷ []) ≡ flat_map listed replies ++ listed reply
-rows-push replies reply = flat_map-append listed replies (reply ∷ []) ∙ ap (λ (z : List Row). flat_map listed replies ++ z) (append-nil (listed reply))
+rows-push : (replies : List Reply) (reply : Reply) → flat_map rows_listed (replies ++ reply ∷ []) ≡ flat_map rows_listed replies ++ rows_listed reply
+rows-push replies reply = flat_map-append rows_listed replies (reply ∷ []) ∙ ap (λ (z : List Row). flat_map rows_listed replies ++ z) (append-nil (rows_listed reply))
 
-lines-push : (replies : List Reply) (reply : Reply) → lines_in (replies ++ reply ∷ []) ≡ lines_in replies ++ map record_text (listed reply)
+lines-push : (replies : List Reply) (reply : Reply) → lines_in (replies ++ reply ∷ []) ≡ lines_in replies ++ map record_text (rows_listed reply)
 lines-push replies reply =
     ap (λ (z : List Row). header_text ∷ map record_text z) (rows-push replies reply)
-    ∙ ap (λ (z : List (List ℕ)). header_text ∷ z) (map-append record_text (flat_map listed replies) (listed reply))
+    ∙ ap (λ (z : List (List ℕ)). header_text ∷ z) (map-append record_text (flat_map rows_listed replies) (rows_listed reply))
 
-text-push : (replies : List Reply) (reply : Reply) → concat (lines_in (replies ++ reply ∷ [])) ≡ concat (lines_in replies) ++ flat_map record_text (listed reply)
-text-push replies reply = ap concat (lines-push replies reply) ∙ concat-append (lines_in replies) (map record_text (listed reply)) ∙ ap (λ (z : List ℕ). concat (lines_in replies) ++ z) (concat_map record_text (listed reply))
+text-push : (replies : List Reply) (reply : Reply) → concat (lines_in (replies ++ reply ∷ [])) ≡ concat (lines_in replies) ++ flat_map record_text (rows_listed reply)
+text-push replies reply = ap concat (lines-push replies reply) ∙ concat-append (lines_in replies) (map record_text (rows_listed reply)) ∙ ap (λ (z : List ℕ). concat (lines_in replies) ++ z) (concat_map record_text (rows_listed reply))
 
 module _ {D : Type 0} (leads : D → Call → D → Type 0) (splits : List Bound) (policy : Policy) (old : D) (out0 : Option (List ℕ)) where
   -- The partitions up to this one are asked, and the rows that they listed are written.
@@ -43,7 +43,7 @@ module _ {D : Type 0} (leads : D → Call → D → Type 0) (splits : List Bound
     pub replies : List Reply
     pub reached : length replies ≡ part
     pub were : Calls leads old (listings splits policy 0 replies) now
-    pub count_is : count ≡ length (flat_map listed replies)
+    pub count_is : count ≡ length (flat_map rows_listed replies)
     pub written : Appends out0 out (concat (lines_in replies))
 
   pub Listing-start : (out : Option (List ℕ)) → Appends out0 out header_text → Listing 0 0 old out
@@ -60,7 +60,7 @@ module _ {D : Type 0} (leads : D → Call → D → Type 0) (splits : List Bound
     replies = was.replies ++ asks.0 ∷ [];
     reached = let l = length-append was.replies (asks.0 ∷ []) in let r = was.reached in omega (arith, l, r);
     were = called part was.replies asks.0 next splits' was.reached was.were same asks.1;
-    count_is = let l = ap length (rows-push was.replies asks.0) in let m = length-append (flat_map listed was.replies) (listed asks.0) in let c = was.count_is in let n = asks.2 in omega (arith, l, m, c, n);
+    count_is = let l = ap length (rows-push was.replies asks.0) in let m = length-append (flat_map rows_listed was.replies) (rows_listed asks.0) in let c = was.count_is in let n = asks.2 in omega (arith, l, m, c, n);
     written = Appends-then out0 out out' _ _ _ was.written asks.3 (text-push was.replies asks.0);
   }
 
@@ -88,7 +88,7 @@ module _ {D : Type 0} (leads : D → Call → D → Type 0) (splits : List Bound
         let l = length-append was.replies (reply ∷ []) in let r = was.reached in omega (arith, l, r, there),
         [],
         subst (λ (l : List Call). Calls leads old l next) (sym (append-nil (listings splits policy 0 replies))) (called part was.replies reply next splits' was.reached was.were same asked),
-        inl (refl, subst (λ (z : List (List ℕ)). AreUnsent z e failed' out0 out') (sym (lines-push was.replies reply)) (unsent_behind (lines_in was.replies) (map record_text (listed reply)) e failed' out0 out out' was.written unsent)),
+        inl (refl, subst (λ (z : List (List ℕ)). AreUnsent z e failed' out0 out') (sym (lines-push was.replies reply)) (unsent_behind (lines_in was.replies) (map record_text (rows_listed reply)) e failed' out0 out out' was.written unsent)),
       )
 
   pub Listing-kept : {part count : ℕ} {now : D} {out : Option (List ℕ)} (failed failed' : Bool) (out' : Option (List ℕ)) → Listing part count now out → part ≡ length splits + 1 → failed' ≡ true → Keeps out out' → IsListedFirst leads splits policy WriteFault old now failed failed' out0 out'

@@ -19,11 +19,11 @@ use Rattle.csv.specs.declared.parser.Action.{Action}
 use Rattle.csv.specs.declared.parser.Action.TheVariants as act
 use Rattle.csv.specs.declared.parser.State.{State}
 use Rattle.csv.specs.declared.parser.State.TheVariants as st
-use Rattle.crack_csv.specs.Begun.{Kept, none_begun, ends, with_byte, kept_of, behind, finished}
+use Rattle.crack_csv.specs.Begun.{KeptRecord, none_begun, ends, with_byte, kept_of_record, behind, finished_records}
 use Rattle.crack_csv.specs.Loaders.{AreLoaded, HasStopped, HasLoaded, HasEnded, EndsWith, StopsAtEnd, all_records_in, LoaderState, IsHead, Takes, StopsBehind, records_in, begun_in}
-use Rattle.crack_csv.specs.Loads.{Refuses, with_row}
+use Rattle.crack_csv.specs.Loads.{Refuses, tables_with_row}
 use Rattle.crack_csv.specs.Records.{is_header, without_header, new_row_of}
-use Rattle.crack_csv.specs.Taking.{ended, kept_by, kept_with, TakesRecord, StopsAtRecord, kept_is_header, kept_row}
+use Rattle.crack_csv.specs.Taking.{ended_record, kept_by, kept_with, TakesRecord, StopsAtRecord, kept_is_header, kept_row}
 use Rattle.crack_session.proofs.Calling.{Calls-push}
 use Rattle.crack_csv.proofs.Inserting.{AllZip-add, AsksRow, IsAnswered}
 use Rattle.crack_csv.proofs.Fed.{are_all}
@@ -33,10 +33,10 @@ use Rattle.crack_csv.proofs.Texts.{begun_more, records_more}
 use Rattle.crack_csv.proofs.Loading.{BringsRow, Fields, AreInserted-push, AreInserted-header, no_header, first_is_header, without_header-push}
 
 -- the next record is read by what is kept of it
-pub header_is : (k : Kept) (state : State) (fields : Fields) (number : ℕ) (is t : Bool) → k ≡ kept_of (ended state fields) → is ≡ (number == 1 && kept_is_header k) → is ≡ t → (number == 1 && is_header fields) ≡ t
+pub header_is : (k : KeptRecord) (state : State) (fields : Fields) (number : ℕ) (is t : Bool) → k ≡ kept_of_record (ended_record state fields) → is ≡ (number == 1 && kept_is_header k) → is ≡ t → (number == 1 && is_header fields) ≡ t
 header_is k state fields number is t kept said tested = ap (λ (h : Bool). number == 1 && h) (sym (ap kept_is_header kept ∙ header_kept state fields)) ∙ sym said ∙ tested
 
-pub row_is : (k : Kept) (state : State) (fields : Fields) (row : Option NewRow) → k ≡ kept_of (ended state fields) → row ≡ kept_row k → new_row_of fields ≡ row
+pub row_is : (k : KeptRecord) (state : State) (fields : Fields) (row : Option NewRow) → k ≡ kept_of_record (ended_record state fields) → row ≡ kept_row k → new_row_of fields ≡ row
 row_is k state fields row kept said = sym (said ∙ ap kept_row kept ∙ row_kept state fields)
 
 refused_none : (splits : List Bound) (policy : Policy) (number : ℕ) (row : Option NewRow) → row ≡ None → IsRefusedBy splits policy number row (BadRecord number) []
@@ -52,18 +52,18 @@ no_field_left act.EndField c field e = absurd (cc e)
 no_field_left act.EndRecord c field e = refl
 
 -- what a loader does with one more byte is seen by what it keeps
-pub ends_kept : (k : Kept) (before : List ℕ) (c : ℕ) → k ≡ kept_of (begun_in before) → is_end (step default_config k.state c).1 ≡ ends (begun_in before) c
-ends_kept k before c kept = ap (λ (z : Kept). is_end (step default_config z.state c).1) kept
+pub ends_kept : (k : KeptRecord) (before : List ℕ) (c : ℕ) → k ≡ kept_of_record (begun_in before) → is_end (step default_config k.state c).1 ≡ ends (begun_in before) c
+ends_kept k before c kept = ap (λ (z : KeptRecord). is_end (step default_config z.state c).1) kept
 
-pub kept_more : (k : Kept) (before : List ℕ) (c : ℕ) → k ≡ kept_of (begun_in before) → kept_with k c ≡ kept_of (with_byte (begun_in before) c)
-kept_more k before c kept = ap (λ (z : Kept). kept_with z c) kept ∙ sym (kept_byte (begun_in before) c)
+pub kept_more : (k : KeptRecord) (before : List ℕ) (c : ℕ) → k ≡ kept_of_record (begun_in before) → kept_with k c ≡ kept_of_record (with_byte (begun_in before) c)
+kept_more k before c kept = ap (λ (z : KeptRecord). kept_with z c) kept ∙ sym (kept_byte (begun_in before) c)
 
 -- a record that a byte ends has no field at hand
-pub kept_ended : (k : Kept) (before : List ℕ) (c : ℕ) → k ≡ kept_of (begun_in before) → is_end (step default_config k.state c).1 ≡ true → kept_with k c ≡ kept_of (ended (with_byte (begun_in before) c).state (with_byte (begun_in before) c).fields)
+pub kept_ended : (k : KeptRecord) (before : List ℕ) (c : ℕ) → k ≡ kept_of_record (begun_in before) → is_end (step default_config k.state c).1 ≡ true → kept_with k c ≡ kept_of_record (ended_record (with_byte (begun_in before) c).state (with_byte (begun_in before) c).fields)
 kept_ended k before c kept end =
     let b = begun_in before in
     let none : (with_byte b c).field ≡ [] = no_field_left (step default_config b.state c).1 c b.field (sym (ends_kept k before c kept) ∙ end) in
-    kept_more k before c kept ∙ ap (λ (z : List ℕ). kept_of (record { state = (with_byte b c).state; fields = (with_byte b c).fields; field = z })) none
+    kept_more k before c kept ∙ ap (λ (z : List ℕ). kept_of_record (record { state = (with_byte b c).state; fields = (with_byte b c).fields; field = z })) none
 
 records_ended : (before : List ℕ) (c : ℕ) → strip_bom (before ++ c ∷ []) ≡ strip_bom before ++ c ∷ [] → ends (begun_in before) c ≡ true → records_in (before ++ c ∷ []) ≡ records_in before ++ (with_byte (begun_in before) c).fields ∷ []
 records_ended before c text end = records_more before c text ∙ ap (λ (t : Bool). records_in before ++ cond t ((with_byte (begun_in before) c).fields ∷ []) []) end
@@ -124,7 +124,7 @@ module _ {D : Type 0} (bounds : D → Bounds) (splits : D → List Bound) (table
         };
         told = λ known e.
             let so_far = was.told known e in
-            let rows = fold (with_row (bounds origin) (splits origin)) known so_far.rows in
+            let rows = fold (tables_with_row (bounds origin) (splits origin)) known so_far.rows in
             AreInserted-push records fields (tables next) so_far other
             (subst (λ (b : Bounds). BringsRow b (splits origin) rows fields (tables next)) was.bounds_are (subst (λ (s : List Bound). BringsRow (bounds now) s rows fields (tables next)) was.splits_are (brings rows so_far.left_is)));
         accepted_are = let a = was.accepted_are in omega (arith, a, one);
@@ -169,23 +169,23 @@ module _ {D : Type 0} (bounds : D → Bounds) (splits : D → List Bound) (table
       record {
         loaded = rw (records, same_number, same_loaded) was.loaded;
         policy_is = same_policy ∙ was.policy_is;
-        kept_is = kept ∙ kept_more s.kept before c was.kept_is ∙ ap kept_of (sym begun);
+        kept_is = kept ∙ kept_more s.kept before c was.kept_is ∙ ap kept_of_record (sym begun);
         head_is = text.0;
       }
 
   -- a byte that ends a record
   pub HasLoaded-ended : {before : List ℕ} {s : LoaderState} {now : D} (c : ℕ) (s' : LoaderState) (next : D) → HasLoaded bounds splits tables accepted leads policy origin before s now → is_end (step default_config s.kept.state c).1 ≡ true
-      → IsHead s'.head (before ++ c ∷ []) × (strip_bom (before ++ c ∷ []) ≡ strip_bom before ++ c ∷ []) → s'.kept ≡ kept_of (none_begun (kept_with s.kept c).state) → s'.policy ≡ s.policy
+      → IsHead s'.head (before ++ c ∷ []) × (strip_bom (before ++ c ∷ []) ≡ strip_bom before ++ c ∷ []) → s'.kept ≡ kept_of_record (none_begun (kept_with s.kept c).state) → s'.policy ≡ s.policy
       → AreLoaded bounds splits tables accepted leads policy origin (records_in before ++ (with_byte (begun_in before) c).fields ∷ []) s'.number s'.loaded next
       → HasLoaded bounds splits tables accepted leads policy origin (before ++ c ∷ []) s' next
   HasLoaded-ended {before} {s} {now} c s' next was end text kept same_policy loaded =
       let is : ends (begun_in before) c ≡ true = sym (ends_kept s.kept before c was.kept_is) ∙ end in
       let begun : begun_in (before ++ c ∷ []) ≡ none_begun (with_byte (begun_in before) c).state = begun_more before c text.1 ∙ ap (λ (t : Bool). cond t (none_begun (with_byte (begun_in before) c).state) (with_byte (begun_in before) c)) is in
-      let state : (kept_with s.kept c).state ≡ (with_byte (begun_in before) c).state = ap (λ (k : Kept). k.state) (kept_more s.kept before c was.kept_is) in
+      let state : (kept_with s.kept c).state ≡ (with_byte (begun_in before) c).state = ap (λ (k : KeptRecord). k.state) (kept_more s.kept before c was.kept_is) in
       record {
         loaded = rw (records_ended before c text.1 is) loaded;
         policy_is = same_policy ∙ was.policy_is;
-        kept_is = kept ∙ ap (λ (z : State). kept_of (none_begun z)) state ∙ ap kept_of (sym begun);
+        kept_is = kept ∙ ap (λ (z : State). kept_of_record (none_begun z)) state ∙ ap kept_of_record (sym begun);
         head_is = text.0;
       }
 
@@ -197,12 +197,12 @@ module _ {D : Type 0} (bounds : D → Bounds) (splits : D → List Bound) (table
 
   -- the last byte of a byte order mark
   pub HasLoaded-marked : {before : List ℕ} {s : LoaderState} {now : D} (c : ℕ) (s' : LoaderState) → HasLoaded bounds splits tables accepted leads policy origin before s now
-      → IsHead s'.head (before ++ c ∷ []) × (begun_in (before ++ c ∷ []) ≡ none_begun st.StartRecord) × (records_in (before ++ c ∷ []) ≡ records_in before) → s'.kept ≡ kept_of (none_begun st.StartRecord) → s'.policy ≡ s.policy → s'.number ≡ s.number → s'.loaded ≡ s.loaded
+      → IsHead s'.head (before ++ c ∷ []) × (begun_in (before ++ c ∷ []) ≡ none_begun st.StartRecord) × (records_in (before ++ c ∷ []) ≡ records_in before) → s'.kept ≡ kept_of_record (none_begun st.StartRecord) → s'.policy ≡ s.policy → s'.number ≡ s.number → s'.loaded ≡ s.loaded
       → HasLoaded bounds splits tables accepted leads policy origin (before ++ c ∷ []) s' now
   HasLoaded-marked {before} {s} {now} c s' was text kept same_policy same_number same_loaded = record {
     loaded = rw (text.2, same_number, same_loaded) was.loaded;
     policy_is = same_policy ∙ was.policy_is;
-    kept_is = kept ∙ ap kept_of (sym text.1);
+    kept_is = kept ∙ ap kept_of_record (sym text.1);
     head_is = text.0;
   }
 
@@ -258,7 +258,7 @@ module _ {D : Type 0} (bounds : D → Bounds) (splits : D → List Bound) (table
 
   -- a row is inserted
   pub TakesRecord-row : (s s' : LoaderState) (now next : D) (is : Bool) (row : NewRow) → is ≡ (s.number + 1 == 1 && kept_is_header s.kept) → is ≡ false → Some row ≡ kept_row s.kept → s'.number ≡ s.number + 1 → s'.loaded ≡ s.loaded + 1
-      → (reply : Reply) × leads now (insertion (splits now) s.policy row (Ok reply)) next → ((known : List PlainView) → tables now ≡ Some known → tables next ≡ Some (with_row (bounds now) (splits now) known row))
+      → (reply : Reply) × leads now (insertion (splits now) s.policy row (Ok reply)) next → ((known : List PlainView) → tables now ≡ Some known → tables next ≡ Some (tables_with_row (bounds now) (splits now) known row))
       → accepted next ≡ accepted now + 1 → splits next ≡ splits now → bounds next ≡ bounds now → TakesRecord bounds splits tables accepted leads s now next s'
   TakesRecord-row s s' now next is row said plain read one more asked inserted counted same_splits same_bounds origin records state fields was kept =
       let is_row : new_row_of fields ≡ Some row = row_is s.kept state fields (Some row) kept read in
@@ -267,7 +267,7 @@ module _ {D : Type 0} (bounds : D → Bounds) (splits : D → List Bound) (table
 
   -- one byte: the last of a byte order mark, within a record, or at its end
   pub Takes-marked : (s s' : LoaderState) (c : ℕ) (now : D)
-      → ((before : List ℕ) → IsHead s.head before → IsHead s'.head (before ++ c ∷ []) × (begun_in (before ++ c ∷ []) ≡ none_begun st.StartRecord) × (records_in (before ++ c ∷ []) ≡ records_in before)) → s'.kept ≡ kept_of (none_begun st.StartRecord)
+      → ((before : List ℕ) → IsHead s.head before → IsHead s'.head (before ++ c ∷ []) × (begun_in (before ++ c ∷ []) ≡ none_begun st.StartRecord) × (records_in (before ++ c ∷ []) ≡ records_in before)) → s'.kept ≡ kept_of_record (none_begun st.StartRecord)
       → s'.policy ≡ s.policy → s'.number ≡ s.number → s'.loaded ≡ s.loaded → Takes bounds splits tables accepted leads s (c ∷ []) now now s'
   Takes-marked s s' c now text kept same_policy same_number same_loaded origin before has =
       HasLoaded-marked bounds splits tables accepted leads s.policy origin c s' has (text before has.head_is) kept same_policy same_number same_loaded
@@ -281,14 +281,14 @@ module _ {D : Type 0} (bounds : D → Bounds) (splits : D → List Bound) (table
   -- the loader in which the record has ended
   pub Takes-ended : (s t s' : LoaderState) (c : ℕ) (now next : D) → is_end (step default_config s.kept.state c).1 ≡ true
       → ((before : List ℕ) → IsHead s.head before → IsHead t.head (before ++ c ∷ []) × (strip_bom (before ++ c ∷ []) ≡ strip_bom before ++ c ∷ [])) → t.kept ≡ kept_with s.kept c → t.policy ≡ s.policy → t.number ≡ s.number → t.loaded ≡ s.loaded
-      → TakesRecord bounds splits tables accepted leads t now next s' → s'.kept ≡ kept_of (none_begun t.kept.state) → s'.policy ≡ t.policy → s'.head ≡ t.head
+      → TakesRecord bounds splits tables accepted leads t now next s' → s'.kept ≡ kept_of_record (none_begun t.kept.state) → s'.policy ≡ t.policy → s'.head ≡ t.head
       → Takes bounds splits tables accepted leads s (c ∷ []) now next s'
   Takes-ended s t s' c now next end text kept same_policy same_number same_loaded takes begins policy_on head_on origin before has =
       let b = with_byte (begun_in before) c in
-      let ready : t.kept ≡ kept_of (ended b.state b.fields) = kept ∙ kept_ended s.kept before c has.kept_is end in
+      let ready : t.kept ≡ kept_of_record (ended_record b.state b.fields) = kept ∙ kept_ended s.kept before c has.kept_is end in
       let was : AreLoaded bounds splits tables accepted leads t.policy origin (records_in before) t.number t.loaded now = rw (same_policy, same_number, same_loaded) has.loaded in
       let loaded = takes origin (records_in before) b.state b.fields was ready in
-      HasLoaded-ended bounds splits tables accepted leads s.policy origin c s' next has end (rw head_on (text before has.head_is)) (begins ∙ ap (λ (k : Kept). kept_of (none_begun k.state)) kept) (policy_on ∙ same_policy)
+      HasLoaded-ended bounds splits tables accepted leads s.policy origin c s' next has end (rw head_on (text before has.head_is)) (begins ∙ ap (λ (k : KeptRecord). kept_of_record (none_begun k.state)) kept) (policy_on ∙ same_policy)
       (rw (← same_policy) loaded)
 
   pub StopsBehind-ended : (s t : LoaderState) (c : ℕ) (now next : D) (fault : LoadFault) → is_end (step default_config s.kept.state c).1 ≡ true
@@ -296,7 +296,7 @@ module _ {D : Type 0} (bounds : D → Bounds) (splits : D → List Bound) (table
       → StopsAtRecord bounds splits tables accepted leads t now next fault → StopsBehind bounds splits tables accepted leads s (c ∷ []) now next fault
   StopsBehind-ended s t c now next fault end text kept same_policy same_number same_loaded stops origin before has =
       let b = with_byte (begun_in before) c in
-      let ready : t.kept ≡ kept_of (ended b.state b.fields) = kept ∙ kept_ended s.kept before c has.kept_is end in
+      let ready : t.kept ≡ kept_of_record (ended_record b.state b.fields) = kept ∙ kept_ended s.kept before c has.kept_is end in
       let was : AreLoaded bounds splits tables accepted leads t.policy origin (records_in before) t.number t.loaded now = rw (same_policy, same_number, same_loaded) has.loaded in
       let stopped = stops origin (records_in before) b.state b.fields was ready in
       HasStopped-ended bounds splits tables accepted leads s.policy origin c fault next has end (text before has.head_is).1 (rw (← same_policy) stopped)
@@ -312,8 +312,8 @@ module _ {D : Type 0} (bounds : D → Bounds) (splits : D → List Bound) (table
         bounds_are = was.bounds_are;
       }
 
-  last_ends : (s : LoaderState) (before : List ℕ) (is t : Bool) → s.kept ≡ kept_of (begun_in before) → is ≡ ends_at_end s.kept.state → is ≡ t → ends_at_end (begun_in before).state ≡ t
-  last_ends s before is t kept said tested = ap (λ (k : Kept). ends_at_end k.state) (sym kept) ∙ sym said ∙ tested
+  last_ends : (s : LoaderState) (before : List ℕ) (is t : Bool) → s.kept ≡ kept_of_record (begun_in before) → is ≡ ends_at_end s.kept.state → is ≡ t → ends_at_end (begun_in before).state ≡ t
+  last_ends s before is t kept said tested = ap (λ (k : KeptRecord). ends_at_end k.state) (sym kept) ∙ sym said ∙ tested
 
   -- the end of a text behind whole records
   pub EndsWith-none : (s : LoaderState) (now : D) (is : Bool) → is ≡ ends_at_end s.kept.state → is ≡ false → EndsWith bounds splits tables accepted leads s now now s.loaded
@@ -322,7 +322,7 @@ module _ {D : Type 0} (bounds : D → Bounds) (splits : D → List Bound) (table
       ap (λ (t : Bool). records_in before ++ cond t (((begun_in before).fields ++ (begun_in before).field ∷ []) ∷ []) []) (last_ends s before is false has.kept_is said none) ∙ append-nil (records_in before) in
       HasEnded-all s.policy origin before s.number s.loaded now (rw records has.loaded)
 
-  last_record : (s : LoaderState) (before : List ℕ) (is : Bool) → s.kept ≡ kept_of (begun_in before) → is ≡ ends_at_end s.kept.state → is ≡ true → all_records_in before ≡ records_in before ++ ((begun_in before).fields ++ (begun_in before).field ∷ []) ∷ []
+  last_record : (s : LoaderState) (before : List ℕ) (is : Bool) → s.kept ≡ kept_of_record (begun_in before) → is ≡ ends_at_end s.kept.state → is ≡ true → all_records_in before ≡ records_in before ++ ((begun_in before).fields ++ (begun_in before).field ∷ []) ∷ []
   last_record s before is kept said ends = ap (λ (t : Bool). records_in before ++ cond t (((begun_in before).fields ++ (begun_in before).field ∷ []) ∷ []) []) (last_ends s before is true kept said ends)
 
   -- and within a record
@@ -330,7 +330,7 @@ module _ {D : Type 0} (bounds : D → Bounds) (splits : D → List Bound) (table
       → EndsWith bounds splits tables accepted leads s now next s'.loaded
   EndsWith-last s t s' now next is said ends same takes origin before has =
       let b = begun_in before in
-      let ready : t.kept ≡ kept_of (ended b.state (b.fields ++ b.field ∷ [])) = ap (λ (z : LoaderState). z.kept) same ∙ ap (kept_by act.EndRecord 0) has.kept_is ∙ kept_last b in
+      let ready : t.kept ≡ kept_of_record (ended_record b.state (b.fields ++ b.field ∷ [])) = ap (λ (z : LoaderState). z.kept) same ∙ ap (kept_by act.EndRecord 0) has.kept_is ∙ kept_last b in
       let was : AreLoaded bounds splits tables accepted leads t.policy origin (records_in before) t.number t.loaded now = rw same has.loaded in
       let loaded = takes origin (records_in before) b.state (b.fields ++ b.field ∷ []) was ready in
       HasEnded-all s.policy origin before s'.number s'.loaded next (rw (last_record s before is has.kept_is said ends) (subst (λ (p : Policy). AreLoaded bounds splits tables accepted leads p origin (records_in before ++ (b.fields ++ b.field ∷ []) ∷ []) s'.number s'.loaded next) (ap (λ (z : LoaderState). z.policy) same) loaded))
@@ -339,14 +339,14 @@ module _ {D : Type 0} (bounds : D → Bounds) (splits : D → List Bound) (table
       → StopsAtEnd bounds splits tables accepted leads s now next fault
   StopsAtEnd-last s t now next fault is said ends same stops origin before has =
       let b = begun_in before in
-      let ready : t.kept ≡ kept_of (ended b.state (b.fields ++ b.field ∷ [])) = ap (λ (z : LoaderState). z.kept) same ∙ ap (kept_by act.EndRecord 0) has.kept_is ∙ kept_last b in
+      let ready : t.kept ≡ kept_of_record (ended_record b.state (b.fields ++ b.field ∷ [])) = ap (λ (z : LoaderState). z.kept) same ∙ ap (kept_by act.EndRecord 0) has.kept_is ∙ kept_last b in
       let was : AreLoaded bounds splits tables accepted leads t.policy origin (records_in before) t.number t.loaded now = rw same has.loaded in
       let stopped = stops origin (records_in before) b.state (b.fields ++ b.field ∷ []) was ready in
       rw (last_record s before is has.kept_is said ends) (subst (λ (p : Policy). HasStopped bounds splits tables accepted leads p origin (records_in before ++ (b.fields ++ b.field ∷ []) ∷ []) fault next) (ap (λ (z : LoaderState). z.policy) same) stopped)
 
   -- a loader that begins has taken no bytes
-  pub HasLoaded-start : (policy : Policy) (origin : D) → HasLoaded bounds splits tables accepted leads policy origin [] (record { policy = policy; head = 0; kept = kept_of (none_begun st.StartRecord); number = 0; loaded = 0 }) origin
-  unfolding strip_bom behind finished
+  pub HasLoaded-start : (policy : Policy) (origin : D) → HasLoaded bounds splits tables accepted leads policy origin [] (record { policy = policy; head = 0; kept = kept_of_record (none_begun st.StartRecord); number = 0; loaded = 0 }) origin
+  unfolding strip_bom behind finished_records
   HasLoaded-start policy origin = record {
     loaded = AreLoaded-start bounds splits tables accepted leads policy origin;
     policy_is = refl;

@@ -6,7 +6,7 @@ use Rattle.crack_row.specs.declared.Bound.{Bound}
 use Rattle.crack_plain.specs.Plain.{PlainView}
 use Rattle.crack_csv.specs.declared.record.NewRow.{NewRow}
 use Rattle.crack_csv.specs.Records.{is_header, without_header, new_row_of}
-use Rattle.crack_csv.specs.Loads.{with_row, AreInserted}
+use Rattle.crack_csv.specs.Loads.{tables_with_row, AreInserted}
 use Rattle.crack_core.specs.Steps.{Bounds}
 
 -- the fields of a record
@@ -15,7 +15,7 @@ Fields = List (List ℕ)
 
 -- a record is a row, which is inserted
 abbrev pub BringsRow : Bounds → List Bound → List PlainView → Fields → Option (List PlainView) → Type 0
-BringsRow bounds splits tables fields left = (row : NewRow) × (new_row_of fields ≡ Some row) × (left ≡ Some (with_row bounds splits tables row))
+BringsRow bounds splits tables fields left = (row : NewRow) × (new_row_of fields ≡ Some row) × (left ≡ Some (tables_with_row bounds splits tables row))
 
 -- whether a record is a header, after these others
 abbrev pub is_header_behind : List Fields → Fields → Bool
@@ -24,7 +24,7 @@ is_header_behind (first ∷ records) fields = false
 
 -- the partitions after these rows are inserted, in order
 abbrev with_rows : Bounds → List Bound → List PlainView → List NewRow → List PlainView
-with_rows bounds splits tables rows = fold (with_row bounds splits) tables rows
+with_rows bounds splits tables rows = fold (tables_with_row bounds splits) tables rows
 
 without_header-more : (header : Bool) (first : Fields) (records : List Fields) (fields : Fields) → cond header (records ++ fields ∷ []) (first ∷ (records ++ fields ∷ [])) ≡ cond header records (first ∷ records) ++ fields ∷ []
 without_header-more true first records fields = refl
@@ -35,9 +35,9 @@ pub without_header-push : (records : List Fields) (fields : Fields) → is_heade
 without_header-push [] fields e = rw e refl
 without_header-push (first ∷ records) fields e = without_header-more (is_header first) first records fields
 
-with_rows-push : (bounds : Bounds) (splits : List Bound) (tables : List PlainView) (rows : List NewRow) (row : NewRow) → with_rows bounds splits tables (rows ++ row ∷ []) ≡ with_row bounds splits (with_rows bounds splits tables rows) row
+with_rows-push : (bounds : Bounds) (splits : List Bound) (tables : List PlainView) (rows : List NewRow) (row : NewRow) → with_rows bounds splits tables (rows ++ row ∷ []) ≡ tables_with_row bounds splits (with_rows bounds splits tables rows) row
 with_rows-push bounds splits tables [] row = refl
-with_rows-push bounds splits tables (first ∷ rows) row = with_rows-push bounds splits (with_row bounds splits tables first) rows row
+with_rows-push bounds splits tables (first ∷ rows) row = with_rows-push bounds splits (tables_with_row bounds splits tables first) rows row
 
 -- one more row is inserted
 pub AreInserted-push : {bounds : Bounds} {splits : List Bound} {tables : List PlainView} {count : ℕ} {left : Option (List PlainView)} (records : List Fields) (fields : Fields) (left' : Option (List PlainView)) (was : AreInserted bounds splits tables records count left) → is_header_behind records fields ≡ false → BringsRow bounds splits (with_rows bounds splits tables was.rows) fields left' → AreInserted bounds splits tables (records ++ fields ∷ []) (count + 1) left'

@@ -8,10 +8,10 @@ use Rattle.std.proofs.lemmas.List.{length-take, length-drop, take_all}
 use Rattle.std.proofs.lemmas.Bool.{ne_eqb}
 use Rattle.std.proofs.lemmas.Slice.Eq.{bytes_eq-Decides}
 use Rattle.csv.specs.declared.parser.State.{State}
-use Rattle.crack_commands.specs.Grammar.{key_of, payload_of}
-use Rattle.crack_csv.specs.Begun.{kept_of}
+use Rattle.crack_commands.specs.Grammar.{key_read, payload_read}
+use Rattle.crack_csv.specs.Begun.{kept_of_record}
 use Rattle.crack_csv.specs.Records.{is_header, new_row_of}
-use Rattle.crack_csv.specs.Taking.{ended, kept_is_header, kept_row}
+use Rattle.crack_csv.specs.Taking.{ended_record, kept_is_header, kept_row}
 use Rattle.crack_commands.specs.Grammar.{number_of, whole_number_of, is_digit}
 
 and_false : (a b : Bool) → (a && (false && b)) ≡ false
@@ -43,10 +43,10 @@ of_kept f long field each = ⊎_elim
     (λ (l : 22 < length field). let cut = length-take 22 field in each (take 22 field) (omega (arith, cut, l)) ∙ sym (each field (omega (arith, l))))
     (⊎_elim (λ (l : 22 < length field). inr l) (λ (l : length field ≤ 22). inl l) (cases_lt 22 (length field)))
 
-long_key : (word : List ℕ) → 21 < length word → key_of word ≡ None
+long_key : (word : List ℕ) → 21 < length word → key_read word ≡ None
 long_key word long = rw (long_number word (omega (arith, long))) refl
 
-long_payload : (word : List ℕ) → 21 < length word → payload_of word ≡ None
+long_payload : (word : List ℕ) → 21 < length word → payload_read word ≡ None
 long_payload word long = rw (long_whole word long) refl
 
 -- a long word isn't a short one
@@ -61,14 +61,14 @@ name_kept : (name field : List ℕ) → length name < 22 → bytes_eq (take 22 f
 name_kept name field short = of_kept (λ word. bytes_eq word name) false field (λ word long. not_the_name name word short long)
 
 -- the fields of a record that are kept suffice to tell whether it is a header, and its row
-pub header_kept : (s : State) (fields : List (List ℕ)) → kept_is_header (kept_of (ended s fields)) ≡ is_header fields
+pub header_kept : (s : State) (fields : List (List ℕ)) → kept_is_header (kept_of_record (ended_record s fields)) ≡ is_header fields
 header_kept s [] = refl
 header_kept s (f ∷ []) = refl
 header_kept s (f ∷ g ∷ []) = rw (name_kept (codes "key") f (omega arith), name_kept (codes "payload") g (omega arith)) refl
 header_kept s (f ∷ g ∷ h ∷ fields) = let more : eqb (min 3 (length (f ∷ g ∷ h ∷ fields))) 2 ≡ false = ne_eqb (min 3 (length (f ∷ g ∷ h ∷ fields))) 2 (λ is. omega (arith, is)) in rw more refl
 
-pub row_kept : (s : State) (fields : List (List ℕ)) → kept_row (kept_of (ended s fields)) ≡ new_row_of fields
+pub row_kept : (s : State) (fields : List (List ℕ)) → kept_row (kept_of_record (ended_record s fields)) ≡ new_row_of fields
 row_kept s [] = refl
 row_kept s (f ∷ []) = refl
-row_kept s (f ∷ g ∷ []) = rw (of_kept key_of None f long_key, of_kept payload_of None g long_payload) refl
+row_kept s (f ∷ g ∷ []) = rw (of_kept key_read None f long_key, of_kept payload_read None g long_payload) refl
 row_kept s (f ∷ g ∷ h ∷ fields) = let more : eqb (min 3 (length (f ∷ g ∷ h ∷ fields))) 2 ≡ false = ne_eqb (min 3 (length (f ∷ g ∷ h ∷ fields))) 2 (λ is. omega (arith, is)) in rw more refl

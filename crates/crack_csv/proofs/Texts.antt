@@ -3,7 +3,7 @@ use Rattle.std.proofs.Common.{◌≡◌, ℕ, zero, suc, ◌&&◌, Bool, true, f
 use Rattle.std.proofs.lemmas.Bool.{eqb-true}
 use Rattle.csv.specs.Reading.{strip_bom, is_bom}
 use Rattle.csv.specs.declared.parser.State.TheVariants as st
-use Rattle.crack_csv.specs.Begun.{none_begun, behind, behind_byte, finished, finished_by}
+use Rattle.crack_csv.specs.Begun.{none_begun, behind, behind_byte, finished_records, finished_by}
 use Rattle.crack_csv.specs.Loaders.{IsHead, records_in, begun_in}
 use Rattle.crack_csv.specs.Taking.{head_after}
 use Rattle.crack_csv.proofs.Fed.{behind-append, behind-one, finished-append, finished-one}
@@ -63,7 +63,7 @@ begun_more bytes c e = ap (behind (none_begun st.StartRecord)) e ∙ behind-appe
 
 pub records_more : (bytes : List ℕ) (c : ℕ) → strip_bom (bytes ++ c ∷ []) ≡ strip_bom bytes ++ c ∷ [] → records_in (bytes ++ c ∷ []) ≡ records_in bytes ++ finished_by (begun_in bytes) c
 records_more bytes c e =
-    ap (finished (none_begun st.StartRecord)) e ∙ finished-append (none_begun st.StartRecord) (strip_bom bytes) (c ∷ []) ∙ ap (λ z. records_in bytes ++ z) (finished-one (begun_in bytes) c)
+    ap (finished_records (none_begun st.StartRecord)) e ∙ finished-append (none_begun st.StartRecord) (strip_bom bytes) (c ∷ []) ∙ ap (λ z. records_in bytes ++ z) (finished-one (begun_in bytes) c)
 
 -- a byte order mark is no part of the text
 pub begun_marked : begun_in (0xEF ∷ 0xBB ∷ 0xBF ∷ []) ≡ none_begun st.StartRecord
@@ -71,39 +71,39 @@ unfolding strip_bom behind
 begun_marked = refl
 
 pub records_marked : records_in (0xEF ∷ 0xBB ∷ 0xBF ∷ []) ≡ records_in (0xEF ∷ 0xBB ∷ [])
-unfolding strip_bom finished
+unfolding strip_bom finished_records
 records_marked = refl
 
 none_in_first : (a : ℕ) → a ≡ 0xEF → records_in (a ∷ []) ≡ []
-unfolding strip_bom finished
+unfolding strip_bom finished_records
 none_in_first a is = rw is refl
 
 none_in_second : (a b : ℕ) → a ≡ 0xEF → b ≡ 0xBB → records_in (a ∷ b ∷ []) ≡ []
-unfolding strip_bom finished
+unfolding strip_bom finished_records
 none_in_second a b first second = rw (first, second) refl
 
 -- the records that bytes finish are the first of those that more bytes finish
 pub records_grow : (bytes more : List ℕ) → (rest : List (List (List ℕ))) × (records_in (bytes ++ more) ≡ records_in bytes ++ rest)
-unfolding strip_bom finished
+unfolding strip_bom finished_records
 records_grow [] more = (records_in more, refl)
 records_grow (a ∷ []) [] = ([], sym (append-nil (records_in (a ∷ []))))
-records_grow (a ∷ []) (b ∷ []) = (finished (behind (none_begun st.StartRecord) (a ∷ [])) (b ∷ []), finished-append (none_begun st.StartRecord) (a ∷ []) (b ∷ []))
+records_grow (a ∷ []) (b ∷ []) = (finished_records (behind (none_begun st.StartRecord) (a ∷ [])) (b ∷ []), finished-append (none_begun st.StartRecord) (a ∷ []) (b ∷ []))
 records_grow (a ∷ []) (b ∷ c ∷ more) = by (is_bom a b c) refl
   where
     by : (t : Bool) → is_bom a b c ≡ t → (rest : List (List (List ℕ))) × (records_in (a ∷ b ∷ c ∷ more) ≡ records_in (a ∷ []) ++ rest)
     by true e = (records_in (a ∷ b ∷ c ∷ more), ap (λ (z : List (List (List ℕ))). z ++ records_in (a ∷ b ∷ c ∷ more)) (sym (none_in_first a (mark_is a b c e).0)))
-    by false e = (finished (behind (none_begun st.StartRecord) (a ∷ [])) (b ∷ c ∷ more), rw e (finished-append (none_begun st.StartRecord) (a ∷ []) (b ∷ c ∷ more)))
+    by false e = (finished_records (behind (none_begun st.StartRecord) (a ∷ [])) (b ∷ c ∷ more), rw e (finished-append (none_begun st.StartRecord) (a ∷ []) (b ∷ c ∷ more)))
 records_grow (a ∷ b ∷ []) [] = ([], sym (append-nil (records_in (a ∷ b ∷ []))))
 records_grow (a ∷ b ∷ []) (c ∷ more) = by (is_bom a b c) refl
   where
     by : (t : Bool) → is_bom a b c ≡ t → (rest : List (List (List ℕ))) × (records_in (a ∷ b ∷ c ∷ more) ≡ records_in (a ∷ b ∷ []) ++ rest)
     by true e = (records_in (a ∷ b ∷ c ∷ more), ap (λ (z : List (List (List ℕ))). z ++ records_in (a ∷ b ∷ c ∷ more)) (sym (none_in_second a b (mark_is a b c e).0 (mark_is a b c e).1)))
-    by false e = (finished (behind (none_begun st.StartRecord) (a ∷ b ∷ [])) (c ∷ more), rw e (finished-append (none_begun st.StartRecord) (a ∷ b ∷ []) (c ∷ more)))
+    by false e = (finished_records (behind (none_begun st.StartRecord) (a ∷ b ∷ [])) (c ∷ more), rw e (finished-append (none_begun st.StartRecord) (a ∷ b ∷ []) (c ∷ more)))
 records_grow (a ∷ b ∷ c ∷ bytes) more = by (is_bom a b c)
   where
-    by : (t : Bool) → (rest : List (List (List ℕ))) × (finished (none_begun st.StartRecord) (cond t (bytes ++ more) (a ∷ b ∷ c ∷ (bytes ++ more))) ≡ finished (none_begun st.StartRecord) (cond t bytes (a ∷ b ∷ c ∷ bytes)) ++ rest)
-    by true = (finished (behind (none_begun st.StartRecord) bytes) more, finished-append (none_begun st.StartRecord) bytes more)
-    by false = (finished (behind (none_begun st.StartRecord) (a ∷ b ∷ c ∷ bytes)) more, finished-append (none_begun st.StartRecord) (a ∷ b ∷ c ∷ bytes) more)
+    by : (t : Bool) → (rest : List (List (List ℕ))) × (finished_records (none_begun st.StartRecord) (cond t (bytes ++ more) (a ∷ b ∷ c ∷ (bytes ++ more))) ≡ finished_records (none_begun st.StartRecord) (cond t bytes (a ∷ b ∷ c ∷ bytes)) ++ rest)
+    by true = (finished_records (behind (none_begun st.StartRecord) bytes) more, finished-append (none_begun st.StartRecord) bytes more)
+    by false = (finished_records (behind (none_begun st.StartRecord) (a ∷ b ∷ c ∷ bytes)) more, finished-append (none_begun st.StartRecord) (a ∷ b ∷ c ∷ bytes) more)
 
 -- one more byte of the text, which isn't the last of a byte order mark
 pub head_step : (h : ℕ) (before : List ℕ) (c : ℕ) → IsHead h before → (h ≡ 2 → eqb c 0xBF ≡ false) → IsHead (head_after h c) (before ++ c ∷ []) × (strip_bom (before ++ c ∷ []) ≡ strip_bom before ++ c ∷ [])

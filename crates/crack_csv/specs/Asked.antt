@@ -1,4 +1,4 @@
--- The calls of a desk by a load and an export, whatever is known of its rows.
+-- The calls of a desk by a load and an export, whether or not its rows are known.
 use Rattle.std.specs.Prelude.{◌≡◌, ℕ, ◌+◌, ◌-◌, ◌^◌, ◌≤◌, ◌⊎◌, Bool, true, List, [], ◌∷◌, ◌++◌, length, map, Option, None, Some, Result, Ok, Err}
 use Rattle.std.specs.List.{AllZip, concat, flat_map}
 use Rattle.std.specs.Io.KnownBytes.{Appends}
@@ -12,70 +12,74 @@ use Rattle.crack_row.specs.declared.refusal.Refusal.{Refusal}
 use Rattle.crack_row.specs.declared.refusal.Refusal.TheVariants.{WriteFault, ReadFault, BadRecord}
 use Rattle.crack_core.specs.Routes.{route, keys_of_part}
 use Rattle.crack_session.specs.Calls.{Call, Asked, Calls}
-use Rattle.crack_core.specs.Listing.{listed}
+use Rattle.crack_core.specs.Listing.{rows_listed}
 use Rattle.crack_csv.specs.declared.TheConstants.{MOST_RECORDS}
 use Rattle.crack_csv.specs.declared.load.LoadFault.{LoadFault}
 use Rattle.crack_csv.specs.declared.record.NewRow.{NewRow}
 use Rattle.crack_csv.specs.Exports.{header_text, record_text, AreUnsent}
 use Rattle.crack_csv.specs.Records.{without_header, new_row_of, AreFirstOf}
 
--- the call that asks the partition of its key to insert a row, and its outcome
+-- the call that inserts a row into the partition of its key, and its outcome
 abbrev pub insertion : List Bound → Policy → NewRow → Result Reply Refusal → Call
 insertion splits policy row outcome = Asked (route splits row.key.0) (Insert row.key row.payload) policy outcome
 
--- These calls insert the rows of this many records, in order and each once, and are answered: each record but a header brings a row.
+-- These calls insert the rows of the records, in order and each once, and are answered: each record but a header has
+-- a row.
 pub record AreInsertions (splits : List Bound) (policy : Policy) (records : List (List (List ℕ))) (count : ℕ) (calls : List Call) : Type 0 where
   pub rows : List NewRow
   pub are : map new_row_of (without_header records) ≡ map Some rows
   pub count_is : length rows ≡ count
   pub each : AllZip (λ (row : NewRow) (call : Call). (reply : Reply) × (call ≡ insertion splits policy row (Ok reply))) rows calls
 
--- these are a reader's bytes, if those are known
+-- the bytes are the reader's, if those are known
 abbrev pub AreBytesOf : Option (List ℕ) → List ℕ → Type 0
 AreBytesOf known bytes = (all : List ℕ) → known ≡ Some all → bytes ≡ all
 
--- on Ok a desk is asked the insertions of all records of the bytes, and nothing else
+-- if a load succeeds, the calls of the desk are the inserts of all records of the bytes
 abbrev pub IsAskedAll : {D : Type 0} → (D → Call → D → Type 0) → List Bound → Policy → List ℕ → ℕ → D → D → Type 0
 IsAskedAll leads splits policy bytes count old new = (records : List (List (List ℕ))) × AreRecords default_config st.StartRecord (strip_bom bytes) records × (calls : List Call) × Calls leads old calls new × AreInsertions splits policy records count calls
 
--- why the record with this number isn't inserted, and the calls for it: none if it isn't a row, else the one that its partition refuses
+-- the refusal of the record with this number, and the calls for it: none if it isn't a row, else the refused insert
 abbrev pub IsRefusedBy : List Bound → Policy → ℕ → Option NewRow → Refusal → List Call → Type 0
 IsRefusedBy splits policy number None e calls = (e ≡ BadRecord number) × (calls ≡ [])
 IsRefusedBy splits policy number (Some row) e calls = calls ≡ insertion splits policy row (Err e) ∷ []
 
--- on a fault it is asked the insertions of the first records, and nothing else, or the one by which the next record is refused
+-- on a fault, the calls of the desk are the inserts of the first records, and the refused insert of the next record,
+-- if the desk refused it
 abbrev pub IsAskedFirst : {D : Type 0} → (D → Call → D → Type 0) → List Bound → Policy → List ℕ → LoadFault → D → D → Type 0
 IsAskedFirst leads splits policy bytes fault old new = (records : List (List (List ℕ))) × AreFirstOf (strip_bom bytes) records × (calls : List Call) × (last : List Call) × Calls leads old (calls ++ last) new × AreInsertions splits policy records fault.loaded calls
     × (((last ≡ []) × (fault.refusal ≡ ReadFault)) ⊎ ((fields : List (List ℕ)) × AreFirstOf (strip_bom bytes) (records ++ fields ∷ []) × (without_header (records ++ fields ∷ []) ≡ without_header records ++ fields ∷ []) × IsRefusedBy splits policy (length records + 1) (new_row_of fields) fault.refusal last))
 
--- the last call of a desk asked it to insert a row, and it refused
+-- the last call of a desk was an insert, which it refused
 abbrev pub IsLastRefused : {D : Type 0} → (D → Call → D → Type 0) → List Bound → Policy → Refusal → D → Type 0
 IsLastRefused {D} leads splits policy e new = (row : NewRow) × (old : D) × leads old (insertion splits policy row (Err e)) new
 
--- why a load is refused with 17: its reader has failed, or was read as often as is counted; there are as many records as allowed; or the desk gave this
--- refusal
+-- why a load is refused with `ReadFault`: its reader failed, or was read 2^64 - 1 times; there are as many records
+-- as allowed; or the desk gave this refusal
 abbrev pub MayBeUnread : {D : Type 0} → (D → Call → D → Type 0) → List Bound → Policy → Bool → ℕ → LoadFault → D → Type 0
 MayBeUnread leads splits policy failed reads fault new = fault.refusal ≡ ReadFault → (failed ≡ true) ⊎ ((2 ^ 64 - 1 ≤ reads) ⊎ ((fault.loaded ≡ MOST_RECORDS) ⊎ IsLastRefused leads splits policy ReadFault new))
 
--- the call that asks a partition for all its rows, and its outcome
+-- the call that lists all rows of a partition, and its outcome
 abbrev pub listing : List Bound → Policy → ℕ → Result Reply Refusal → Call
 listing splits policy part outcome = Asked part (Select (keys_of_part splits part)) policy outcome
 
--- the calls that ask the partitions from this one on, each once and in order, with these replies
+-- the calls that list the rows of the partitions from `part` on, in order, with these replies
 abbrev pub listings : List Bound → Policy → ℕ → List Reply → List Call
 listings splits policy part [] = []
 listings splits policy part (reply ∷ replies) = listing splits policy part (Ok reply) ∷ listings splits policy (part + 1) replies
 
--- the header, and a record for each row that replies list
+-- the header, and a record for each row that the replies list
 abbrev pub lines_in : List Reply → List (List ℕ)
-lines_in replies = header_text ∷ map record_text (flat_map listed replies)
+lines_in replies = header_text ∷ map record_text (flat_map rows_listed replies)
 
--- on Ok a desk is asked for the rows of all its partitions, and nothing else; the header and their records are written
+-- if an export succeeds, the calls of the desk list the rows of all its partitions, and the header and the records
+-- of these rows are written
 abbrev pub IsListed : {D : Type 0} → (D → Call → D → Type 0) → List Bound → Policy → ℕ → D → D → Option (List ℕ) → Option (List ℕ) → Type 0
-IsListed leads splits policy count old new out out' = (replies : List Reply) × (length replies ≡ length splits + 1) × Calls leads old (listings splits policy 0 replies) new × (count ≡ length (flat_map listed replies)) × Appends out out' (concat (lines_in replies))
+IsListed leads splits policy count old new out out' = (replies : List Reply) × (length replies ≡ length splits + 1) × Calls leads old (listings splits policy 0 replies) new × (count ≡ length (flat_map rows_listed replies)) × Appends out out' (concat (lines_in replies))
 
--- on a refusal it is asked for the rows of the first partitions, and their lines aren't all written; or they are, and the next partition refuses; or
--- there is no other, and the output can't be flushed
+-- if an export is refused, the calls of the desk list the rows of the first partitions, and their lines aren't all
+-- written; or they are, and the next partition refuses its list; or there is no other partition, and the output
+-- can't be flushed
 abbrev pub IsListedFirst : {D : Type 0} → (D → Call → D → Type 0) → List Bound → Policy → Refusal → D → D → Bool → Bool → Option (List ℕ) → Option (List ℕ) → Type 0
 IsListedFirst leads splits policy e old new failed failed' out out' = (replies : List Reply) × (length replies ≤ length splits + 1) × (last : List Call) × Calls leads old (listings splits policy 0 replies ++ last) new
     × (((last ≡ []) × AreUnsent (lines_in replies) e failed' out out')

@@ -1,4 +1,4 @@
--- The records of bytes that are taken one at a time.
+-- The records of a text whose bytes are taken one at a time.
 use Rattle.std.specs.Prelude.{ℕ, Bool, List, [], ◌∷◌, ◌++◌, take, length, min, if◌then◌else◌}
 use Rattle.csv.specs.Machine.{step, is_end, ends_at_end, fields_after, field_after}
 use Rattle.csv.specs.Reading.{default_config}
@@ -8,73 +8,74 @@ use Rattle.crack_csv.specs.declared.begun.TheConstants.{FIELD_BYTES}
 use Rattle.crack_csv.specs.declared.begun.Place.{Place}
 use Rattle.crack_csv.specs.declared.begun.Place.TheVariants as pl
 
--- a record that is begun: the state that the next byte meets, the fields that are whole, and the bytes of the one at hand
+-- an unfinished record: the state in which the next byte is taken, the whole fields, and the bytes of the current field
 pub record Begun : Type 0 where
   pub state : State
   pub fields : List (List ℕ)
   pub field : List ℕ
 
--- none is begun yet
+-- no record is begun, in this state
 abbrev pub none_begun : State → Begun
 none_begun state = record { state = state; fields = []; field = [] }
 
--- whether a byte ends the record that is begun
+-- whether a byte ends the unfinished record
 abbrev pub ends : Begun → ℕ → Bool
 ends b c = is_end (step default_config b.state c).1
 
--- the record that is begun, with one more byte; if this ends it, these are its fields
+-- the unfinished record with one more byte, even if the byte ends it
 abbrev pub with_byte : Begun → ℕ → Begun
 with_byte b c = record { state = (step default_config b.state c).0; fields = fields_after (step default_config b.state c).1 b.fields b.field; field = field_after (step default_config b.state c).1 c b.field }
 
--- the record that is begun behind one more byte
+-- the unfinished record after one more byte: none is begun if the byte ends it
 abbrev pub behind_byte : Begun → ℕ → Begun
 behind_byte b c = if ends b c then none_begun (with_byte b c).state else with_byte b c
 
--- the record that one more byte finishes, if it does
+-- the record that one more byte finishes, if it finishes one
 abbrev pub finished_by : Begun → ℕ → List (List (List ℕ))
 finished_by b c = if ends b c then (with_byte b c).fields ∷ [] else []
 
--- the record that is begun behind bytes
+-- the unfinished record after these bytes
 unfoldable pub behind : Begun → List ℕ → Begun
 behind b [] = b
 behind b (c ∷ cs) = behind (behind_byte b c) cs
 
--- the records that bytes finish
-unfoldable pub finished : Begun → List ℕ → List (List (List ℕ))
-finished b [] = []
-finished b (c ∷ cs) = finished_by b c ++ finished (behind_byte b c) cs
+-- the records that these bytes finish
+unfoldable pub finished_records : Begun → List ℕ → List (List (List ℕ))
+finished_records b [] = []
+finished_records b (c ∷ cs) = finished_by b c ++ finished_records (behind_byte b c) cs
 
--- the record that the end of the input finishes, if one is begun
+-- the record that the end of the input finishes, if it finishes one
 abbrev pub finished_by_end : Begun → List (List (List ℕ))
 finished_by_end b = if ends_at_end b.state then (b.fields ++ b.field ∷ []) ∷ [] else []
 
--- what is kept of a record that is begun: the state, how many fields are whole, up to three, and the first bytes of the first two fields
-pub record Kept : Type 0 where
+-- the parts of an unfinished record that are kept: the state, how many fields are whole, up to 3, and the first
+-- bytes of the first two fields
+pub record KeptRecord : Type 0 where
   pub state : State
   pub whole : ℕ
   pub first : List ℕ
   pub second : List ℕ
 
--- the first of whole fields and the one at hand
+-- the first field, whole or current
 abbrev pub first_in : List (List ℕ) → List ℕ → List ℕ
 first_in [] field = field
 first_in (f ∷ fields) field = f
 
--- the second, of which there are no bytes yet if there is none
+-- the second field, whole or current, or no bytes if it isn't begun
 abbrev pub second_in : List (List ℕ) → List ℕ → List ℕ
 second_in [] field = []
 second_in (f ∷ []) field = field
 second_in (f ∷ g ∷ fields) field = g
 
--- what is kept of it
-abbrev pub kept_of : Begun → Kept
-kept_of b = record { state = b.state; whole = min 3 (length b.fields); first = take FIELD_BYTES (first_in b.fields b.field); second = take FIELD_BYTES (second_in b.fields b.field) }
+-- the parts of an unfinished record that are kept
+abbrev pub kept_of_record : Begun → KeptRecord
+kept_of_record b = record { state = b.state; whole = min 3 (length b.fields); first = take FIELD_BYTES (first_in b.fields b.field); second = take FIELD_BYTES (second_in b.fields b.field) }
 
--- the state of a place
-abbrev pub state_of : Place → State
-state_of pl.StartRecord = st.StartRecord
-state_of pl.StartField = st.StartField
-state_of pl.InField = st.InField
-state_of pl.InQuoted = st.InQuoted
-state_of pl.AfterQuote = st.AfterQuote
-state_of pl.AfterReturn = st.AfterCr
+-- the state for a place
+abbrev pub reader_state : Place → State
+reader_state pl.StartRecord = st.StartRecord
+reader_state pl.StartField = st.StartField
+reader_state pl.InField = st.InField
+reader_state pl.InQuoted = st.InQuoted
+reader_state pl.AfterQuote = st.AfterQuote
+reader_state pl.AfterReturn = st.AfterCr

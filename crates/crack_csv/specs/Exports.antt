@@ -1,4 +1,4 @@
--- What `export_csv` leaves.
+-- The result of `export_csv`.
 use Rattle.std.specs.Prelude.{◌≡◌, ℕ, ◌+◌, ◌⊎◌, List, [], ◌∷◌, ◌++◌, length, map, slice_get, Option, Some, Err, codes, decimal, Bool, true}
 use Rattle.std.specs.List.{concat, flat_map}
 use Rattle.std.specs.Fmt.{signed_decimal}
@@ -21,41 +21,43 @@ header_text = codes "key,payload\n"
 abbrev pub record_text : Row → List ℕ
 record_text row = decimal row.key.0 ++ (codes "," ++ (signed_decimal row.payload.0 ++ codes "\n"))
 
--- the rows of these partitions, whose numbers rise from this one on: those of each in turn, by rising serial
+-- the rows of these partitions, the first of which has the number `part`: partition by partition, by rising serial
 abbrev pub rows_from : List Bound → ℕ → List PlainView → List Row
 rows_from splits part [] = []
 rows_from splits part (table ∷ tables) = rows_in (keys_of_part splits part) table.state.rows ++ rows_from splits (part + 1) tables
 
--- a partition that was asked for its rows: these are as they were, and its history has one more entry, after the checkpoint that is due
-abbrev pub asked : Bounds → PlainView → PlainView
-asked bounds table = record { state = table.state; folded = (upkept_by bounds table).folded; since = (upkept_by bounds table).since + 1 }
+-- a partition that listed its rows: they stay as they were, and its history has one more entry, after the checkpoint
+-- that was due
+abbrev pub after_listing : Bounds → PlainView → PlainView
+after_listing bounds table = record { state = table.state; folded = (upkept_by bounds table).folded; since = (upkept_by bounds table).since + 1 }
 
--- The header and a record for each row are written, by rising partition, and within each its rows by rising serial.
+-- The header and a record for each row are written, by rising partition and within a partition by rising serial.
 pub record IsExported (bounds : Bounds) (splits : List Bound) (tables : List PlainView) (count : ℕ) (left : Option (List PlainView)) (out out' : Option (List ℕ)) : Type 0 where
   pub count_is : count ≡ length (rows_from splits 0 tables)
-  pub left_is : left ≡ Some (map (asked bounds) tables)
+  pub left_is : left ≡ Some (map (after_listing bounds) tables)
   pub written : Appends out out' (header_text ++ flat_map record_text (rows_from splits 0 tables))
 
 -- the header, and a record for each row of these partitions
 abbrev pub lines_of : List Bound → List PlainView → List (List ℕ)
 lines_of splits tables = header_text ∷ map record_text (rows_from splits 0 tables)
 
--- why texts aren't all written: the writer failed; a prefix of them is written
+-- the writer failed, and only a prefix of the texts is written
 abbrev pub AreUnsent : List (List ℕ) → Refusal → Bool → Option (List ℕ) → Option (List ℕ) → Type 0
 AreUnsent texts e failed' out out' = (e ≡ WriteFault) × (failed' ≡ true) × AppendsFront out out' (concat texts)
 
--- why an export stops after these partitions, before the rest: the lines aren't all written; or they are, and the next partition refuses the
--- list of its rows; or there is no other, and the output can't be flushed
+-- why an export stops after these partitions: their lines aren't all written; or they are, and the next partition
+-- refuses its list; or there is no other partition, and the output can't be flushed
 abbrev pub IsStopped : Bounds → List Bound → List PlainView → List PlainView → Refusal → Bool → Bool → Option (List ℕ) → Option (List ℕ) → Type 0
 IsStopped bounds splits done rest e failed failed' out out' = AreUnsent (lines_of splits done) e failed' out out'
     ⊎ ((table : PlainView) × (slice_get rest 0 ≡ Some table) × IsOutcome bounds (keys_of_part splits (length done)) (Some table) (Select (keys_of_part splits (length done))) (Err e) × (failed' ≡ failed) × Appends out out' (concat (lines_of splits done)))
     ⊎ ((e ≡ WriteFault) × (failed' ≡ true) × (rest ≡ []) × Appends out out' (concat (lines_of splits done)))
 
--- An export that is refused: the first partitions are asked, and their rows are unchanged; the rest is unchanged as a whole.
+-- An export is refused: the first partitions listed their rows, which are unchanged, and the others are unchanged as
+-- a whole.
 pub record IsExportCut (bounds : Bounds) (splits : List Bound) (tables : List PlainView) (e : Refusal) (accepted accepted' : ℕ) (failed failed' : Bool) (left : Option (List PlainView)) (out out' : Option (List ℕ)) : Type 0 where
   pub done : List PlainView
   pub rest : List PlainView
   pub split : tables ≡ done ++ rest
-  pub left_is : left ≡ Some (map (asked bounds) done ++ rest)
+  pub left_is : left ≡ Some (map (after_listing bounds) done ++ rest)
   pub accepted_are : accepted' ≡ accepted + length done
   pub cause : IsStopped bounds splits done rest e failed failed' out out'

@@ -1,4 +1,4 @@
--- What a loader has taken, and what it asked of a desk.
+-- What a loader has taken, and its calls of a desk.
 use Rattle.std.specs.Prelude.{◌≡◌, ◌⊎◌, ℕ, zero, suc, ◌+◌, ◌<◌, List, [], ◌∷◌, ◌++◌, length, Option, Some}
 use Rattle.csv.specs.Reading.{strip_bom}
 use Rattle.csv.specs.declared.parser.State.TheVariants as st
@@ -11,32 +11,33 @@ use Rattle.crack_row.specs.declared.refusal.Refusal.TheVariants.{ReadFault}
 use Rattle.crack_csv.specs.declared.TheConstants.{MOST_RECORDS}
 use Rattle.crack_csv.specs.declared.load.LoadFault.{LoadFault}
 use Rattle.crack_csv.specs.Asked.{AreInsertions, IsAskedAll, IsRefusedBy}
-use Rattle.crack_csv.specs.Begun.{Begun, Kept, none_begun, behind, finished, finished_by_end, kept_of}
+use Rattle.crack_csv.specs.Begun.{Begun, KeptRecord, none_begun, behind, finished_records, finished_by_end, kept_of_record}
 use Rattle.crack_csv.specs.Loads.{AreInserted, IsLoaded, Refuses}
 use Rattle.crack_csv.specs.Records.{without_header, new_row_of}
 
 -- the records that bytes finish, without a byte order mark
 abbrev pub records_in : List ℕ → List (List (List ℕ))
-records_in bytes = finished (none_begun st.StartRecord) (strip_bom bytes)
+records_in bytes = finished_records (none_begun st.StartRecord) (strip_bom bytes)
 
--- the record that is begun behind them
+-- the unfinished record after bytes, without a byte order mark
 abbrev pub begun_in : List ℕ → Begun
 begun_in bytes = behind (none_begun st.StartRecord) (strip_bom bytes)
 
--- all records of bytes: the end of the input finishes the last
+-- all records of bytes: the end of the input finishes the last one
 abbrev pub all_records_in : List ℕ → List (List (List ℕ))
 all_records_in bytes = records_in bytes ++ finished_by_end (begun_in bytes)
 
--- what contracts see of a loader: its policy, how many bytes it took while these may be a byte order mark, the record that is begun, as far as it is kept,
--- how many records it took, and how many rows were inserted
+-- what contracts see of a loader: its policy, how many bytes of a byte order mark it took, or 3 if no more can
+-- follow, the kept parts of the unfinished record, how many records it took, and how many rows it inserted
 pub record LoaderState : Type 0 where
   pub policy : Policy
   pub head : ℕ
-  pub kept : Kept
+  pub kept : KeptRecord
   pub number : ℕ
   pub loaded : ℕ
 
--- the bytes that are taken are the first of a byte order mark, and only so many; or whatever follows them isn't a part of one
+-- the bytes are exactly the first 0, 1 or 2 bytes of a byte order mark; or, from 3 on, no bytes after them are part
+-- of one
 abbrev pub IsHead : ℕ → List ℕ → Type 0
 IsHead zero bytes = bytes ≡ []
 IsHead (suc zero) bytes = bytes ≡ 0xEF ∷ []
@@ -44,8 +45,8 @@ IsHead (suc (suc zero)) bytes = bytes ≡ 0xEF ∷ 0xBB ∷ []
 IsHead (suc (suc (suc n))) bytes = (more : List ℕ) → strip_bom (bytes ++ more) ≡ strip_bom bytes ++ more
 
 module _ {D : Type 0} (bounds : D → Bounds) (splits : D → List Bound) (tables : D → Option (List PlainView)) (accepted : D → ℕ) (leads : D → Call → D → Type 0) (policy : Policy) (origin : D) where
-  -- Since a desk was in this state it was asked to insert the rows of these records, in order, each once, by this policy, and nothing else; each was
-  -- answered. If the rows were known, these are added to them.
+  -- Since the state `origin` the desk executed the inserts of the rows of these records, in order, each once and
+  -- under this policy, and no other call. If the rows were known, the records' rows are added to them.
   pub record AreLoaded (records : List (List (List ℕ))) (number loaded : ℕ) (now : D) : Type 0 where
     pub count : length records ≡ number
     pub calls : List Call
@@ -56,15 +57,15 @@ module _ {D : Type 0} (bounds : D → Bounds) (splits : D → List Bound) (table
     pub splits_are : splits now ≡ splits origin
     pub bounds_are : bounds now ≡ bounds origin
 
-  -- It was asked so for the records that these bytes finish, and the loader keeps what is left of them.
+  -- The desk has loaded the records that these bytes finish, and the loader keeps its parts of the unfinished record.
   pub record HasLoaded (bytes : List ℕ) (s : LoaderState) (now : D) : Type 0 where
     pub loaded : AreLoaded (records_in bytes) s.number s.loaded now
     pub policy_is : s.policy ≡ policy
-    pub kept_is : s.kept ≡ kept_of (begun_in bytes)
+    pub kept_is : s.kept ≡ kept_of_record (begun_in bytes)
     pub head_is : IsHead s.head bytes
 
-  -- It was asked so for all of these records but the last, which isn't a header, and is refused: there are as many as allowed, or by itself, or by the desk,
-  -- which was asked for its row. That is the cause of the fault.
+  -- The desk has loaded all of these records but the last, which isn't a header and is refused, and that is the cause
+  -- of the fault: as many rows are inserted as allowed, the record isn't a row, or the desk refuses its insert.
   pub record HasStopped (records : List (List (List ℕ))) (fault : LoadFault) (now : D) : Type 0 where
     pub first : List (List (List ℕ))
     pub fields : List (List ℕ)
@@ -82,7 +83,7 @@ module _ {D : Type 0} (bounds : D → Bounds) (splits : D → List Bound) (table
     pub splits_are : splits now ≡ splits origin
     pub bounds_are : bounds now ≡ bounds origin
 
-  -- It was asked so for all records of these bytes, as the library reads them.
+  -- The desk has loaded all records of these bytes, as the `csv` crate reads them.
   pub record HasEnded (bytes : List ℕ) (count : ℕ) (now : D) : Type 0 where
     pub asked : IsAskedAll leads (splits origin) policy bytes count origin now
     pub told : (known : List PlainView) → tables origin ≡ Some known → IsLoaded (bounds origin) (splits origin) known bytes count (tables now)
@@ -98,10 +99,10 @@ Takes {D} bounds splits tables accepted leads old bytes desk desk' new = (origin
 abbrev pub StopsBehind : {D : Type 0} → (D → Bounds) → (D → List Bound) → (D → Option (List PlainView)) → (D → ℕ) → (D → Call → D → Type 0) → LoaderState → List ℕ → D → D → LoadFault → Type 0
 StopsBehind {D} bounds splits tables accepted leads old bytes desk desk' fault = (origin : D) (before : List ℕ) → HasLoaded bounds splits tables accepted leads old.policy origin before old desk → HasStopped bounds splits tables accepted leads old.policy origin (records_in (before ++ bytes)) fault desk'
 
--- Whatever a loader took, the rows of all its records are inserted, so many.
+-- Whatever a loader took, the rows of all its records are inserted, `count` in number.
 abbrev pub EndsWith : {D : Type 0} → (D → Bounds) → (D → List Bound) → (D → Option (List PlainView)) → (D → ℕ) → (D → Call → D → Type 0) → LoaderState → D → D → ℕ → Type 0
 EndsWith {D} bounds splits tables accepted leads old desk desk' count = (origin : D) (before : List ℕ) → HasLoaded bounds splits tables accepted leads old.policy origin before old desk → HasEnded bounds splits tables accepted leads old.policy origin before count desk'
 
--- or the last of them is refused
+-- whatever a loader took, the last of its records is refused
 abbrev pub StopsAtEnd : {D : Type 0} → (D → Bounds) → (D → List Bound) → (D → Option (List PlainView)) → (D → ℕ) → (D → Call → D → Type 0) → LoaderState → D → D → LoadFault → Type 0
 StopsAtEnd {D} bounds splits tables accepted leads old desk desk' fault = (origin : D) (before : List ℕ) → HasLoaded bounds splits tables accepted leads old.policy origin before old desk → HasStopped bounds splits tables accepted leads old.policy origin (all_records_in before) fault desk'

@@ -8,22 +8,22 @@ use Rattle.crack_core.specs.Steps.{Bounds}
 use Rattle.crack_session.specs.Calls.{Call}
 use Rattle.crack_csv.specs.declared.load.LoadFault.{LoadFault}
 use Rattle.crack_csv.specs.Asked.{AreBytesOf, IsAskedFirst}
-use Rattle.crack_csv.specs.Begun.{kept_of, none_begun}
+use Rattle.crack_csv.specs.Begun.{kept_of_record, none_begun}
 use Rattle.crack_csv.specs.Loaders.{HasEnded, LoaderState}
 use Rattle.crack_csv.specs.Loads.{IsCutShort}
 
--- a load that begins, by this policy
+-- a new load under this policy
 abbrev pub begun_by : Policy → LoaderState
-begun_by policy = record { policy = policy; head = 0; kept = kept_of (none_begun st.StartRecord); number = 0; loaded = 0 }
+begun_by policy = record { policy = policy; head = 0; kept = kept_of_record (none_begun st.StartRecord); number = 0; loaded = 0 }
 
 module _ {D : Type 0} (bounds : D → Bounds) (splits : D → List Bound) (tables : D → Option (List PlainView)) (accepted : D → ℕ) (leads : D → Call → D → Type 0) (policy : Policy) (origin : D) (known : Option (List ℕ)) where
-  -- A desk was asked to insert the rows of all records of some bytes, which are a reader's, if those are known.
+  -- A desk has loaded all records of some bytes, which are the reader's if those are known.
   pub record HasReadAll (count : ℕ) (now : D) : Type 0 where
     pub bytes : List ℕ
     pub bytes_are : AreBytesOf known bytes
     pub ended : HasEnded bounds splits tables accepted leads policy origin bytes count now
 
-  -- It was asked so for the first of them, up to a fault.
+  -- A desk has loaded the first records of some bytes, which are the reader's if those are known, up to a fault.
   pub record HasReadFirst (fault : LoadFault) (now : D) : Type 0 where
     pub bytes : List ℕ
     pub bytes_are : AreBytesOf known bytes

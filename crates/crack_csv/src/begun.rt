@@ -1,49 +1,49 @@
-//! The record that is begun, of bytes that are taken one at a time.
+//! The unfinished record of a text whose bytes are taken one at a time.
 ghost use Rattle.std.specs.Prelude.{◌≡◌, ◌≢◌, ◌++◌, ◌∷◌, [], ◌+◌, min, take, length, true, false, IfSome, IfNone};
 ghost use Rattle.csv.specs.Machine.{step, is_end, ends_at_end};
 ghost use Rattle.csv.specs.Reading.{default_config};
 ghost use Rattle.csv.specs.declared.parser.State.TheVariants as st;
 ghost use Rattle.csv.specs.declared.parser.Action.TheVariants as act;
-ghost use Rattle.crack_csv.specs.Begun.{kept_of, none_begun, state_of};
+ghost use Rattle.crack_csv.specs.Begun.{kept_of_record, none_begun, reader_state};
 ghost use Rattle.crack_csv.specs.Taking.{kept_with, kept_by, action_of};
 
 use arrayvec::ArrayVec;
 use std::marker::Model;
 
-/// How many bytes of a field are kept: one more than a number may have, with its sign.
+/// How many bytes of a field are kept: one more than a number and its sign may have.
 pub(crate) const FIELD_BYTES: usize = 22;
 
-/// Where the next byte falls.
+/// The place of the next byte in a text.
 #[derive(Clone, Copy, PartialEq, Eq, Debug)]
 pub(crate) enum Place {
     /// Before a record.
     StartRecord,
-    /// At the start of a field behind a comma.
+    /// At the start of a field, after a comma.
     StartField,
-    /// In a field, or behind one, outside quotes.
+    /// In a field or after it, outside quotes.
     InField,
     /// Inside quotes.
     InQuoted,
-    /// Behind a quote that may close the field, or be the first of two.
+    /// After a quote that may close the field, or be the first of two.
     AfterQuote,
-    /// Behind a carriage return that ended a record.
+    /// After a carriage return that ended a record.
     AfterReturn,
 }
 
-/// What a byte does.
+/// The effect of a byte.
 #[derive(Clone, Copy, PartialEq, Eq, Debug)]
 enum Effect {
-    /// Nothing.
+    /// It has none.
     Skip,
-    /// It is one of the field's.
+    /// It is added to the field.
     Copy,
     /// It ends the field.
     EndField,
-    /// It ends the field, and the record with it.
+    /// It ends the field and the record.
     EndRecord,
 }
 
-/// What is kept of the record that is begun: how many fields are whole, up to three, and the first bytes of two. It
+/// What is kept of the unfinished record: how many fields are whole, up to 3, and the first bytes of two fields. It
 /// takes no memory.
 #[derive(Drop)]
 pub(crate) struct BegunRecord {
@@ -54,12 +54,12 @@ pub(crate) struct BegunRecord {
 }
 
 impl Model for BegunRecord {
-    ghost use Rattle.crack_csv.specs.Begun.{Kept, state_of};
+    ghost use Rattle.crack_csv.specs.Begun.{KeptRecord, reader_state};
 
-    ghost Value = { Kept };
+    ghost Value = { KeptRecord };
 
     ghost view = { λ r. record {
-      state = state_of r.place;
+      state = reader_state r.place;
       whole = r.whole;
       first = r.first.items;
       second = r.second.items;
@@ -67,9 +67,9 @@ impl Model for BegunRecord {
 }
 
 impl BegunRecord {
-    /// None is begun yet.
+    /// No record is begun yet.
     pub(crate) fn new() -> BegunRecord
-        ensures { result ≡ kept_of (none_begun st.StartRecord) }
+        ensures { result ≡ kept_of_record (none_begun st.StartRecord) }
     {
         BegunRecord {
             place: Place::StartRecord,
@@ -104,7 +104,7 @@ impl BegunRecord {
         }
     }
 
-    /// Takes the end of the input, and returns whether it ends the record.
+    /// Takes the end of the input, and returns whether it ends a record.
     pub(crate) fn end(&mut self) -> bool
         ensures kept { result ≡ true → self.new ≡ kept_by act.EndRecord 0 self.old }
         ensures same { result ≡ false → self.new ≡ self.old }
@@ -119,7 +119,7 @@ impl BegunRecord {
         }
     }
 
-    /// The first bytes of the fields, if there are exactly two that are whole.
+    /// The kept bytes of the fields, if exactly two are whole.
     pub(crate) fn fields(&self) -> Option<(&[u8], &[u8])>
         ensures some { IfSome result (λ pair. (self.now.whole ≡ 2) × (pair.0.now ≡ self.now.first)
             × (pair.1.now ≡ self.now.second)) }
@@ -132,10 +132,10 @@ impl BegunRecord {
         }
     }
 
-    /// Begins another record.
+    /// Begins another record at the same place.
     #[inline(always)]
     pub(crate) fn clear(&mut self)
-        ensures { self.new ≡ kept_of (none_begun self.old.state) }
+        ensures { self.new ≡ kept_of_record (none_begun self.old.state) }
     {
         self.whole = 0;
         self.first.clear();
@@ -144,13 +144,13 @@ impl BegunRecord {
 
     /// Begins another record at the start of a text.
     pub(crate) fn restart(&mut self)
-        ensures { self.new ≡ kept_of (none_begun st.StartRecord) }
+        ensures { self.new ≡ kept_of_record (none_begun st.StartRecord) }
     {
         self.place = Place::StartRecord;
         self.clear();
     }
 
-    /// Adds a byte to the field at hand, as far as it is kept.
+    /// Adds a byte to the current field, if there is room.
     #[inline(always)]
     fn copy(&mut self, byte: u8)
         ensures { self.new ≡ kept_by act.Copy byte self.old }
@@ -162,7 +162,7 @@ impl BegunRecord {
         }
     }
 
-    /// Ends the field at hand.
+    /// Ends the current field.
     #[inline(always)]
     fn end_field(&mut self)
         ensures { self.new ≡ kept_by act.EndField 0 self.old }
@@ -171,7 +171,7 @@ impl BegunRecord {
     }
 }
 
-/// Adds a byte to a field, as far as it is kept.
+/// Adds a byte to a field, if there is room.
 #[inline(always)]
 fn keep(field: &mut ArrayVec<u8, FIELD_BYTES>, byte: u8)
     ensures { field.new.items ≡ take FIELD_BYTES (field.old.items ++ byte ∷ []) }
@@ -181,11 +181,11 @@ fn keep(field: &mut ArrayVec<u8, FIELD_BYTES>, byte: u8)
     }
 }
 
-/// The next place, and what the byte does, by the defaults of the `csv` crate.
+/// The place after a byte, and the effect of the byte, by the defaults of the `csv` crate.
 #[inline(always)]
 fn behind(place: Place, byte: u8) -> (Place, Effect)
-    ensures place { state_of result.0 ≡ (step default_config (state_of place) byte).0 }
-    ensures effect { action_of result.1 ≡ (step default_config (state_of place) byte).1 }
+    ensures place { reader_state result.0 ≡ (step default_config (reader_state place) byte).0 }
+    ensures effect { action_of result.1 ≡ (step default_config (reader_state place) byte).1 }
 {
     match (place, byte) {
         (Place::InQuoted, b'"') => (Place::AfterQuote, Effect::Skip),

@@ -1,11 +1,11 @@
-//! Exports rows as CSV.
+//! Exporting rows as CSV.
 ghost use Rattle.std.specs.Prelude.{◌≡◌, ◌+◌, ◌≤◌, ◌<◌, ◌^◌, ◌++◌, [], List, Some, length, drop, IfOk, IfErr, OnOk};
 ghost use Rattle.std.specs.List.{flat_map};
 ghost use Rattle.crack_row.specs.Devices.{device, has_failed};
 ghost use Rattle.crack_plain.specs.Plain.{PlainView};
 ghost use Rattle.crack_core.specs.Steps.{tables_of};
 ghost use Rattle.crack_commands.specs.Texts.{Writes};
-ghost use Rattle.crack_core.specs.Listing.{listed};
+ghost use Rattle.crack_core.specs.Listing.{rows_listed};
 ghost use Rattle.crack_csv.specs.Exports.{record_text, rows_from, IsExported, IsExportCut};
 ghost use Rattle.crack_csv.specs.Asked.{IsListed, IsListedFirst};
 ghost use Rattle.crack_csv.specs.Inside.{IsPartExported, IsPartCut, AsksAndWrites, AsksAndCuts};
@@ -18,10 +18,10 @@ use crack_session::rest::has_room;
 use crack_session::{Desk, Output};
 use std::io::Write;
 
-/// Writes the header `key,payload` and then a record for each row, and returns how many rows there were; records end
-/// with a line feed. Each partition is asked for a list of all its rows, which a history keeps if the desk has one. The
-/// output is flushed at the end. The first refusal ends the export: 6, 7, 8 or 10 of a partition, or 18. The list of
-/// one partition's rows is in memory; texts take none.
+/// Writes the header `key,payload` and then a record for each row, and returns how many rows there were. Records end
+/// with a line feed. Each partition is asked to list all its rows, which a history keeps if the desk has one. The
+/// output is flushed at the end. The first refusal ends the export: `HistoryFull`, `GateGaveUp`, `OutOfMemory` or
+/// `LifeOver` of a partition, or `WriteFault`. The rows of one partition at a time are in memory; the texts take none.
 pub fn export_csv<D: Desk, W: Write>(
     desk: &mut D,
     policy: Policy,
@@ -30,15 +30,14 @@ pub fn export_csv<D: Desk, W: Write>(
     ensures exported { IfOk result (λ count. (tables : List PlainView) → D.tables desk.old ≡ Some tables →
         IsExported (D.bounds desk.old) (D.splits desk.old) tables count (D.tables desk.new)
         (W.contents (device writer.old)) (W.contents (device writer.new))) }
-    // On a refusal the first partitions are asked, and no row is changed. Their records are written as far as the cause
-    // implies.
+    // On a refusal the first partitions were asked, and no row is changed. A prefix of their records is written, as
+    // the cause implies.
     ensures cut { IfErr result (λ e. (tables : List PlainView) → D.tables desk.old ≡ Some tables →
         IsExportCut (D.bounds desk.old) (D.splits desk.old) tables e (D.accepted desk.old) (D.accepted desk.new)
         (has_failed writer.old) (has_failed writer.new) (D.tables desk.new) (W.contents (device writer.old))
         (W.contents (device writer.new))) }
-    // Whatever is known of the rows: each partition is asked for them, once, in order and by this policy, and what is
-    // written is the header and a record for each row that it lists; on a refusal the last call may be the refused
-    // one.
+    // Whether or not the rows are known: each partition lists its rows once, in order and under this policy, and the
+    // header and a record for each listed row are written. On a refusal the last call may be the refused one.
     ensures asks { IfOk result (λ count.
         IsListed D.leads (D.splits desk.old) policy count desk.old desk.new (W.contents (device writer.old))
         (W.contents (device writer.new))) }
@@ -68,7 +67,7 @@ pub fn export_csv<D: Desk, W: Write>(
     }
 }
 
-/// The keys of a core's rows are those of their partitions, so an export of it leaves no row out. Does nothing.
+/// A core's partitions hold only rows with keys of their own, so an export of the core leaves no row out. Does nothing.
 pub fn leaves_no_row_out(core: &Core)
     ensures { rows_from core.now.splits 0 (tables_of core.now.parts) ≡
         flat_map (λ (table : PlainView). table.state.rows) (tables_of core.now.parts) }
@@ -76,7 +75,7 @@ pub fn leaves_no_row_out(core: &Core)
     core.facts();
 }
 
-/// Asks one partition for all its rows, and writes a record for each.
+/// Lists all rows of one partition, and writes a record for each.
 fn export_part<D: Desk, W: Write>(
     desk: &mut D,
     policy: Policy,
@@ -120,7 +119,7 @@ fn export_part<D: Desk, W: Write>(
 
 /// The rows that a reply lists.
 fn listed(reply: &Reply) -> &[Row]
-    ensures { result.now ≡ listed reply.now }
+    ensures { result.now ≡ rows_listed reply.now }
 {
     match reply {
         Reply::Rows(rows) => rows.as_slice(),
@@ -128,7 +127,7 @@ fn listed(reply: &Reply) -> &[Row]
     }
 }
 
-/// Writes a record for each of the rows: fills output with them, and writes that each time it is full, and at the end.
+/// Writes a record for each row: fills the output, and writes it each time it is full and at the end.
 fn write_rows<W: Write>(
     rows: &[Row],
     writer: &mut Watched<W>,
@@ -148,8 +147,8 @@ fn write_rows<W: Write>(
     Ok(())
 }
 
-/// Adds a record for each of the rows from one of them on, while there is room, and returns the place of the first
-/// that isn't added.
+/// Adds records of the rows from index `at` on while there is room, and returns the index of the first row that
+/// isn't added.
 fn push_rows(rows: &[Row], at: usize, out: &mut Output) -> usize
     requires there { at < length rows.now }
     requires empty { out.old.items ≡ [] }
@@ -166,7 +165,7 @@ fn push_rows(rows: &[Row], at: usize, out: &mut Output) -> usize
     next
 }
 
-/// Writes what output holds, and empties it.
+/// Writes the output, and empties it.
 fn send_all<W: Write>(writer: &mut Watched<W>, out: &mut Output) -> Result<(), Refusal>
     ensures writes { Writes W.contents out.old.items result writer.old writer.new }
     ensures empty { out.new.items ≡ [] }

@@ -1,4 +1,4 @@
-//! The insertion of a record's row.
+//! Inserting the row of a record.
 ghost use Rattle.std.specs.Prelude.{◌≡◌, ◌+◌, List, Some, Ok, Err, is_ok, IfErr, OnOk, if◌then◌else◌};
 ghost use Rattle.crack_row.specs.declared.command.Command.TheVariants.{Insert};
 ghost use Rattle.crack_plain.specs.Plain.{PlainView};
@@ -6,7 +6,7 @@ ghost use Rattle.crack_core.specs.Routes.{route};
 ghost use Rattle.crack_core.specs.Steps.{IsOutcomeAt};
 ghost use Rattle.crack_row.specs.declared.command.Reply.{Reply};
 ghost use Rattle.crack_csv.specs.Asked.{insertion};
-ghost use Rattle.crack_csv.specs.Loads.{with_row};
+ghost use Rattle.crack_csv.specs.Loads.{tables_with_row};
 
 use crate::record::NewRow;
 use crack_core::route;
@@ -16,7 +16,7 @@ use crack_session::Desk;
 /// Inserts a row into the partition of its key.
 pub(crate) fn insert_row<D: Desk>(desk: &mut D, policy: Policy, row: NewRow) -> Result<(), Refusal>
     ensures inserted { OnOk result ((tables : List PlainView) → D.tables desk.old ≡ Some tables →
-        D.tables desk.new ≡ Some (with_row (D.bounds desk.old) (D.splits desk.old) tables row)) }
+        D.tables desk.new ≡ Some (tables_with_row (D.bounds desk.old) (D.splits desk.old) tables row)) }
     ensures kept { IfErr result (λ _. (tables : List PlainView) → D.tables desk.old ≡ Some tables →
         D.tables desk.new ≡ Some tables) }
     ensures refused { IfErr result (λ e. (tables : List PlainView) → D.tables desk.old ≡ Some tables →

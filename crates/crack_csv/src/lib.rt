@@ -1,4 +1,4 @@
-//! Rows as CSV: input records are inserted into a table, and a table's rows are output as records.
+//! Rows as CSV: loads records into a table, and exports a table's rows as records.
 #![tactic(auto)]
 
 mod begun;

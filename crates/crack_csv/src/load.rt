@@ -1,4 +1,4 @@
-//! Loads rows from CSV: read, and feed a loader.
+//! Loading rows from CSV: read, and feed a loader.
 ghost use Rattle.std.specs.Prelude.{◌≡◌, ◌+◌, ◌≤◌, ℕ, List, Some, IfErr, IfOk, OnOk};
 ghost use Rattle.crack_row.specs.Devices.{device, has_failed, reads_of};
 ghost use Rattle.crack_plain.specs.Plain.{PlainView};
@@ -12,44 +12,45 @@ use crack_row::{Policy, Refusal, Watched};
 use crack_session::Desk;
 use std::io::Read;
 
-/// How many bytes are read at a time, at most.
+/// The greatest number of bytes in one read.
 const ROOM_BYTES: usize = 8192;
 
 /// A load that was cut short. The rows that it inserted stay.
 #[derive(Clone, Copy, PartialEq, Eq, Debug)]
 pub struct LoadFault {
-    /// 6, 7, 8, 9, 10, 17 or 19.
+    /// `HistoryFull`, `GateGaveUp`, `OutOfMemory`, `NoCell`, `LifeOver`, `ReadFault` or `BadRecord`.
     pub refusal: Refusal,
     /// How many rows were inserted.
     pub loaded: u64,
 }
 
 /// Inserts the row of each record in a reader's bytes, in order, each into the partition of its key, and returns how
-/// many. A first record of the fields `key` and `payload` is a header, which is skipped. Records are read with commas
-/// and double quotes; a record that doesn't have two fields, or with a field that isn't a number of 1 to 20 digits in
-/// range, for a payload with or without a minus sign, is refused with 19. A reader that fails is refused with 17, and
-/// so is one record more than `MOST_RECORDS`. Takes only the memory that the desk takes.
+/// many rows it inserted. A first record of the fields `key` and `payload` is a header, and skipped. Records have
+/// commas and double quotes. Refused with `BadRecord` if a record doesn't have two fields, or a field isn't a number
+/// of 1 to 20 digits in range, for a payload with or without a minus sign; and with `ReadFault` if the reader fails,
+/// or has one more record than `MOST_RECORDS`. Takes only the memory that the desk takes.
 pub fn load_csv<D: Desk, R: Read>(
     desk: &mut D,
     policy: Policy,
     reader: &mut Watched<R>,
 ) -> Result<u64, LoadFault>
-    // Whatever the reader does, the desk was asked to insert the rows of exactly the records in some bytes, in order,
-    // each once, by this policy, and each was answered. If the reader's bytes are known, these are they.
+    // Whatever the reader does, the desk executed inserts of the rows of exactly the records in some bytes, in
+    // order, each once and under this policy. If the reader's bytes are known, they are these bytes.
     ensures asks { IfOk result (λ count. (bytes : List ℕ) × AreBytesOf (R.remaining (device reader.old)) bytes
         × IsAskedAll D.leads (D.splits desk.old) policy bytes count desk.old desk.new) }
-    // On a fault it was asked for the first of these records, and the last call may be the refused one.
+    // On a fault, the desk was asked for the first of these inserts, and the last call may be the refused one.
     ensures asks_in_part { IfErr result (λ fault. (bytes : List ℕ) × AreBytesOf (R.remaining (device reader.old)) bytes
         × IsAskedFirst D.leads (D.splits desk.old) policy bytes fault desk.old desk.new) }
-    // If the rows are known, those of all records are added to them.
+    // If the rows are known, the rows of all records are added to them.
     ensures loaded { IfOk result (λ count. (tables : List PlainView) → D.tables desk.old ≡ Some tables →
         (bytes : List ℕ) × AreBytesOf (R.remaining (device reader.old)) bytes
         × IsLoaded (D.bounds desk.old) (D.splits desk.old) tables bytes count (D.tables desk.new)) }
-    // Or those of the first, up to where the reader failed, or up to a refused one.
+    // On a fault, the rows of the first records are added to them, up to where the reader failed or a record was
+    // refused.
     ensures cut_short { IfErr result (λ fault. (tables : List PlainView) → D.tables desk.old ≡ Some tables →
         (bytes : List ℕ) × AreBytesOf (R.remaining (device reader.old)) bytes
         × IsCutShort (D.bounds desk.old) (D.splits desk.old) tables bytes fault (D.tables desk.new)) }
-    // It is refused with 17 only by the reader, after as many records as allowed, or by the desk.
+    // The load is refused with `ReadFault` only by the reader, after `MOST_RECORDS` records, or by the desk.
     ensures causes { IfErr result (λ fault. MayBeUnread D.leads (D.splits desk.old) policy (has_failed reader.new)
         (reads_of reader.new) fault desk.new) }
     ensures few { IfOk result (λ count. count ≤ MOST_RECORDS) }
@@ -63,7 +64,7 @@ pub fn load_csv<D: Desk, R: Read>(
     load_reads(desk, &mut loader, reader)
 }
 
-/// Feeds a loader that begins what a reader gives, up to the end of its input.
+/// Feeds the bytes of a reader to a new loader, up to the end of the input.
 fn load_reads<D: Desk, R: Read>(
     desk: &mut D,
     loader: &mut Loader,
@@ -94,7 +95,7 @@ fn load_reads<D: Desk, R: Read>(
     Err(unread(loader))
 }
 
-/// The fault of a loader whose text isn't read on.
+/// The fault of a load whose bytes can't be read on.
 fn unread(loader: &Loader) -> LoadFault
     ensures { result ≡ record { refusal = Refusal.ReadFault; loaded = loader.now.loaded } }
 {

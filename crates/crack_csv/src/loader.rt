@@ -1,11 +1,11 @@
-//! Loaders, to which the bytes of a text are fed, wherever these come from.
+//! Loaders, which are fed the bytes of a CSV text, whatever their source.
 ghost use Rattle.std.specs.Prelude.{◌≡◌, ◌≤◌, ◌<◌, ◌+◌, ◌++◌, ◌∷◌, ◌==◌, ◌&&◌, [], ℕ, List, true, false, length, take};
 ghost use Rattle.std.specs.Prelude.{IfErr, IfOk, OnErr, OnOk};
 ghost use Rattle.csv.specs.Machine.{step, is_end, ends_at_end};
 ghost use Rattle.csv.specs.Reading.{default_config, strip_bom};
 ghost use Rattle.csv.specs.declared.parser.Action.TheVariants as act;
 ghost use Rattle.csv.specs.declared.parser.State.TheVariants as st;
-ghost use Rattle.crack_csv.specs.Begun.{kept_of, none_begun};
+ghost use Rattle.crack_csv.specs.Begun.{kept_of_record, none_begun};
 ghost use Rattle.crack_csv.specs.Loaders.{EndsWith, IsHead, StopsAtEnd, StopsBehind, Takes};
 ghost use Rattle.crack_csv.specs.Loaders.{records_in, begun_in};
 ghost use Rattle.crack_csv.specs.declared.load.LoadFault.{LoadFault};
@@ -22,7 +22,7 @@ use crack_row::{Policy, Refusal};
 use crack_session::Desk;
 use std::marker::Model;
 
-/// A load between two calls that feed it: the record that is begun, its policy and counts. It takes no memory.
+/// A load between two calls of `feed`: its policy, counts and unfinished record. It takes no memory.
 #[derive(Drop)]
 pub struct Loader {
     policy: Policy,
@@ -51,12 +51,12 @@ impl Model for Loader {
 }
 
 impl Loader {
-    /// A load that begins, by this policy.
+    /// A new load under this policy.
     pub fn new(policy: Policy) -> Loader
         ensures { result ≡ record {
           policy = policy;
           head = 0;
-          kept = kept_of (none_begun st.StartRecord);
+          kept = kept_of_record (none_begun st.StartRecord);
           number = 0;
           loaded = 0;
         } }
@@ -78,13 +78,13 @@ impl Loader {
         self.loaded
     }
 
-    /// Takes bytes as the next ones of its text, and inserts the rows of the records that they finish, in order. It
-    /// stops at a record that is refused, and isn't fed again then.
+    /// Takes the next bytes of the text, and inserts the rows of the records that they finish, in order. A record
+    /// that is refused stops the load, which must not be fed after that.
     pub fn feed<D: Desk>(&mut self, desk: &mut D, bytes: &[u8]) -> Result<(), LoadFault>
-        // Whatever bytes it took before, it goes on with these.
+        // Whatever bytes were taken before, the load goes on with these bytes.
         ensures goes_on { OnOk result (Takes D.bounds D.splits D.tables D.accepted D.leads self.old bytes.now desk.old
             desk.new self.new) }
-        // Or the last record that some of them finish is refused.
+        // On a fault, the last record that some of the bytes finish is refused.
         ensures stops { IfErr result (λ fault. (taken : ℕ) × (taken ≤ length bytes.now)
             × StopsBehind D.bounds D.splits D.tables D.accepted D.leads self.old (take taken bytes.now) desk.old
             desk.new fault) }
@@ -100,12 +100,12 @@ impl Loader {
         Ok(())
     }
 
-    /// Takes the end of its text, which finishes the record that is begun, and returns how many rows were inserted.
+    /// Takes the end of the text, which finishes an unfinished record, and returns how many rows were inserted.
     pub fn end<D: Desk>(&mut self, desk: &mut D) -> Result<u64, LoadFault>
-        // Whatever bytes it took, the rows of all their records are inserted.
+        // Whatever bytes were taken, the rows of all their records are inserted.
         ensures all { IfOk result (λ count. EndsWith D.bounds D.splits D.tables D.accepted D.leads self.old desk.old
             desk.new count) }
-        // Or the last of them is refused.
+        // On a fault, the last record is refused.
         ensures stops { IfErr result (λ fault. StopsAtEnd D.bounds D.splits D.tables D.accepted D.leads self.old
             desk.old desk.new fault) }
         ensures few { IfOk result (λ count. count ≤ MOST_RECORDS) }
@@ -122,7 +122,7 @@ impl Loader {
         }
     }
 
-    /// Takes the end of its text, and returns whether it ends a record.
+    /// Takes the end of the text, and returns whether it ends a record.
     fn takes_last(&mut self) -> bool
         ensures ends { result ≡ ends_at_end self.old.kept.state }
         ensures last { result ≡ true → self.new ≡ record self.old { kept = kept_by act.EndRecord 0 self.old.kept } }
@@ -149,13 +149,13 @@ impl Loader {
         Ok(())
     }
 
-    /// Whether a byte is the last of a byte order mark, which is no part of the text. If so, the text begins behind it.
+    /// Whether a byte is the last of a byte order mark, which isn't part of the text. If so, the text begins after it.
     #[inline(always)]
     fn takes_mark(&mut self, byte: u8) -> bool
         ensures marked { result ≡ true → (before : List ℕ) → IsHead self.old.head before →
             IsHead self.new.head (before ++ byte ∷ []) × (begun_in (before ++ byte ∷ []) ≡ none_begun st.StartRecord)
             × (records_in (before ++ byte ∷ []) ≡ records_in before) }
-        ensures begins { result ≡ true → self.new.kept ≡ kept_of (none_begun st.StartRecord) }
+        ensures begins { result ≡ true → self.new.kept ≡ kept_of_record (none_begun st.StartRecord) }
         ensures plain { result ≡ false → (before : List ℕ) → IsHead self.old.head before →
             IsHead self.new.head (before ++ byte ∷ [])
             × (strip_bom (before ++ byte ∷ []) ≡ strip_bom before ++ byte ∷ []) }
@@ -171,11 +171,11 @@ impl Loader {
         }
     }
 
-    /// The same among the first bytes.
+    /// Implements `takes_mark` for the first bytes.
     #[inline(never)]
     fn takes_last_mark(&mut self, byte: u8) -> bool
         ensures marked { result ≡ true → (self.old.head ≡ 2) × (byte ≡ 0xBF) × (self.new.head ≡ 3) }
-        ensures begins { result ≡ true → self.new.kept ≡ kept_of (none_begun st.StartRecord) }
+        ensures begins { result ≡ true → self.new.kept ≡ kept_of_record (none_begun st.StartRecord) }
         ensures plain { result ≡ false → (self.new.head ≡ head_after self.old.head byte)
             × (self.old.head ≡ 2 → (byte == 0xBF) ≡ false) }
         ensures kept { result ≡ false → self.new.kept ≡ self.old.kept }
@@ -197,13 +197,13 @@ impl Loader {
         false
     }
 
-    /// Inserts the row of the record that has ended, unless it is a header, and begins another.
+    /// Inserts the row of the record that has ended, unless it is a header, and begins another record.
     fn finish<D: Desk>(&mut self, desk: &mut D) -> Result<(), Refusal>
         ensures goes_on { OnOk result (TakesRecord D.bounds D.splits D.tables D.accepted D.leads self.old desk.old
             desk.new self.new) }
         ensures stops { IfErr result (λ e. StopsAtRecord D.bounds D.splits D.tables D.accepted D.leads self.old desk.old
             desk.new (record { refusal = e; loaded = self.new.loaded })) }
-        ensures begins { OnOk result (self.new.kept ≡ kept_of (none_begun self.old.kept.state)) }
+        ensures begins { OnOk result (self.new.kept ≡ kept_of_record (none_begun self.old.kept.state)) }
         ensures policy { self.new.policy ≡ self.old.policy }
         ensures head { self.new.head ≡ self.old.head }
     {
@@ -237,7 +237,7 @@ impl Loader {
         self.number == 0 && is_header(&self.begun)
     }
 
-    /// Whether as many rows are inserted as are allowed.
+    /// Whether `MOST_RECORDS` rows are inserted.
     fn is_full(&self) -> bool
         ensures full { result ≡ true → self.now.loaded ≡ MOST_RECORDS }
         ensures few { result ≡ false → self.now.loaded < MOST_RECORDS }
@@ -259,19 +259,19 @@ impl Loader {
         self.policy
     }
 
-    /// The row of the record that has ended, if it is one.
+    /// The row of the record that has ended, if it has one.
     fn next_row(&self) -> Option<NewRow>
         ensures { result ≡ kept_row self.now.kept }
     {
         new_row(&self.begun)
     }
 
-    /// Counts the record that has ended, and its row if one was inserted, and begins another.
+    /// Counts the record that has ended and the rows inserted for it, and begins another record.
     fn begin_next(&mut self, rows: u64)
         requires few { self.old.loaded + rows ≤ MOST_RECORDS }
         requires numbered { self.old.number ≤ self.old.loaded + rows }
         ensures { self.new ≡ record self.old {
-          kept = kept_of (none_begun self.old.kept.state);
+          kept = kept_of_record (none_begun self.old.kept.state);
           number = self.old.number + 1;
           loaded = self.old.loaded + rows;
         } }
@@ -281,7 +281,7 @@ impl Loader {
         self.begun.clear();
     }
 
-    /// Takes one more byte of the record that is begun, and returns whether it ends it.
+    /// Takes one more byte of the unfinished record, and returns whether it ends the record.
     #[inline(always)]
     fn takes_end(&mut self, byte: u8) -> bool
         ensures ends { result ≡ is_end (step default_config self.old.kept.state byte).1 }
@@ -291,7 +291,7 @@ impl Loader {
     }
 }
 
-/// Whether the fields of a record are the names of the two fields.
+/// Whether a record is a header: its two fields are `key` and `payload`.
 fn is_header(begun: &BegunRecord) -> bool
     ensures { result ≡ kept_is_header begun.now }
 {
@@ -301,7 +301,7 @@ fn is_header(begun: &BegunRecord) -> bool
     }
 }
 
-/// The row of a record that has exactly two fields, a key and a payload, both numbers in range.
+/// The row of a record, if it has exactly two fields, a key and a payload in range.
 fn new_row(begun: &BegunRecord) -> Option<NewRow>
     ensures { result ≡ kept_row begun.now }
 {

@@ -1,7 +1,7 @@
 //! The rows of records.
 use crack_row::{Key, Payload};
 
-/// The row that is inserted for a record.
+/// The row of a record that is loaded.
 #[derive(Clone, Copy, PartialEq, Eq, Debug)]
 pub struct NewRow {
     pub key: Key,

@@ -1,4 +1,4 @@
-//! Rows as texts of CSV records.
+//! Writing rows as CSV records.
 ghost use Rattle.std.specs.Prelude.{◌≡◌, ◌+◌, ◌≤◌, ◌++◌, decimal, length};
 ghost use Rattle.std.specs.Fmt.{signed_decimal};
 ghost use Rattle.crack_csv.specs.Exports.{record_text};
@@ -7,10 +7,10 @@ use arrayvec::ArrayVec;
 use crack_commands::push;
 use crack_row::{Key, Payload, Row};
 
-/// Room for a record: two numbers of at most 20 bytes, and two bytes more.
+/// The space for a record: two numbers of at most 20 bytes, and two bytes more.
 pub const RECORD_BYTES: usize = 42;
 
-/// The record of the names of the two fields.
+/// The header: a record of the names of the two fields.
 pub const HEADER: &[u8] = b"key,payload\n";
 
 /// Adds the record of a row.

@@ -1,4 +1,4 @@
-//! Devices that fail at the call that a test names: a reader and a writer.
+//! A reader and a writer for tests, which fail at a call that the test names.
 #![tactic(auto)]
 
 pub mod sink;

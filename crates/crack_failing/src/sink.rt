@@ -1,4 +1,4 @@
-//! A writer that keeps what it takes, takes little of it, and fails.
+//! A writer that keeps the bytes written to it, may accept few at a time, and fails at a chosen call.
 ghost use Rattle.std.specs.Prelude.{◌≡◌, ◌+◌, ◌<◌, ◌≤◌, ◌^◌, ◌-◌, min, max, Some, is_ok, nat_le, nat_lt, IfOk, OnOk};
 ghost use Rattle.std.specs.Io.{WritesAtMost};
 ghost use Rattle.std.specs.Io.KnownBytes.{Keeps, WriteAppends};
@@ -6,7 +6,8 @@ ghost use Rattle.std.specs.Io.KnownBytes.{Keeps, WriteAppends};
 use std::io;
 use std::io::Write;
 
-/// A writer that keeps the bytes that it takes, up to a call that fails. Its calls are its writes and its flushes.
+/// A writer that keeps the bytes that it accepts, and may fail from some call on. Writes and flushes count as
+/// calls.
 #[derive(Drop)]
 pub struct Sink {
     bytes: Vec<u8>,
@@ -16,8 +17,7 @@ pub struct Sink {
 }
 
 impl Sink {
-    /// A writer that takes all that it is given, after the bytes that are there, and fails only if it finds no memory
-    /// for them.
+    /// Makes a writer that appends every byte it is given to these, and fails only if it finds no memory for them.
     pub fn new(bytes: Vec<u8>) -> Sink
         ensures bytes { result.bytes ≡ bytes }
         ensures whole { result.most ≡ 2 ^ 64 - 1 }
@@ -31,14 +31,14 @@ impl Sink {
         }
     }
 
-    /// The same writer, which takes at most this many bytes at a time, or one if this is 0.
+    /// Limits each write to this many bytes, or to one byte if `most` is 0.
     pub fn taking(self, most: usize) -> Sink
         ensures { result ≡ record self { most = most } }
     {
         Sink { most, ..self }
     }
 
-    /// The same writer, whose k-th call, from 1, fails, as does each after it. A failed call takes no bytes.
+    /// Makes the k-th call (counted from 1) and every later one fail. A failed call accepts no bytes.
     pub fn failing_at(self, k: u64) -> Sink
         ensures { result ≡ record self { fails_at = k } }
     {
@@ -48,28 +48,28 @@ impl Sink {
         }
     }
 
-    /// The bytes that it took, after those that were there.
+    /// The initial bytes, and then those accepted.
     pub fn bytes(&self) -> &[u8]
         ensures { result.now ≡ self.now.bytes.items }
     {
         self.bytes.as_slice()
     }
 
-    /// The bytes that it took, after those that were there.
+    /// The initial bytes, and then those accepted.
     pub fn into_bytes(self) -> Vec<u8>
         ensures { result ≡ self.bytes }
     {
         self.bytes
     }
 
-    /// How many calls there were, including failed ones; stops at the greatest number.
+    /// The number of calls, including failed ones. It stops at the greatest number of 64 bits.
     pub fn calls(&self) -> u64
         ensures { result ≡ self.now.calls }
     {
         self.calls
     }
 
-    /// Counts a call, and returns whether it is to fail.
+    /// Counts a call, and returns whether the call fails.
     fn fails(&mut self) -> bool
         ensures calls { self.new ≡ record self.old { calls = min (self.old.calls + 1) (2 ^ 64 - 1) } }
         ensures fails { result ≡ nat_le self.old.fails_at self.new.calls }

@@ -1,4 +1,4 @@
-//! A reader over memory that returns bytes in pieces, and fails.
+//! A reader of bytes in memory that returns them in pieces, and fails at a chosen read.
 ghost use Rattle.std.specs.Prelude.{◌≡◌, ◌+◌, ◌<◌, ◌^◌, ◌-◌, [], min, length, drop, Some, is_ok, nat_lt, IfOk};
 ghost use Rattle.std.specs.Io.{ReadsAtMost};
 ghost use Rattle.crack_failing.specs.Sizes.{most_at};
@@ -7,10 +7,10 @@ ghost use Rattle.std.specs.Io.KnownBytes.{ReadConsumes};
 use std::io;
 use std::io::Read;
 
-/// The sizes of a reader that gives one byte at a time.
+/// The sizes for a reader that returns one byte at a time.
 pub const ONE_BYTE: &[usize] = &[1];
 
-/// A reader that gives bytes of memory: in pieces of any sizes, and up to a read that fails.
+/// A reader that returns bytes of memory in pieces of given sizes, and may fail from some read on.
 #[derive(Drop)]
 pub struct Source<'a> {
     bytes: &'a [u8],
@@ -20,7 +20,7 @@ pub struct Source<'a> {
 }
 
 impl<'a> Source<'a> {
-    /// A reader that gives all that there is room for, and never fails.
+    /// Makes a reader that fills the buffer at each read as far as it has bytes, and never fails.
     pub fn new(bytes: &'a [u8]) -> Source<'a>
         ensures bytes { result.bytes.now ≡ bytes.now }
         ensures whole { result.sizes.now ≡ [] }
@@ -34,8 +34,8 @@ impl<'a> Source<'a> {
         }
     }
 
-    /// The same reader, whose reads give at most this many bytes each, by these sizes in turn and then from the first
-    /// one again; if a size is 0, one byte. Without sizes it gives all that there is room for.
+    /// Limits each read to the next of these sizes, which repeat from the first one; a size of 0 counts as 1.
+    /// Without sizes a read is limited only by its buffer.
     pub fn cut(self, sizes: &'a [usize]) -> Source<'a>
         ensures sizes { result.sizes.now ≡ sizes.now }
         ensures bytes { result.bytes.now ≡ self.entry.bytes.now }
@@ -44,7 +44,7 @@ impl<'a> Source<'a> {
         Source { sizes, ..self }
     }
 
-    /// The same reader, whose k-th read, from 1, fails, as does each after it. A failed read takes no bytes.
+    /// Makes the k-th read (counted from 1) and every later one fail. A failed read takes no bytes.
     pub fn failing_at(self, k: u64) -> Source<'a>
         ensures fails { result.fails_at ≡ k }
         ensures bytes { result.bytes.now ≡ self.entry.bytes.now }
@@ -56,14 +56,14 @@ impl<'a> Source<'a> {
         }
     }
 
-    /// The bytes that weren't given yet.
+    /// The bytes that weren't read yet.
     pub fn left(&self) -> &'a [u8]
         ensures { result.now ≡ self.now.bytes.now }
     {
         self.bytes
     }
 
-    /// How many bytes the next read may give.
+    /// The greatest number of bytes that the next read may return.
     fn most(&self) -> usize
         ensures value { result ≡ most_at self.now.sizes.now self.now.reads }
         ensures some { 0 < result }

@@ -1,24 +1,24 @@
 -- What private clauses alone cite.
--- What a pass that is on its way will find.
+-- What a pass that is under way will find.
 use Rattle.std.specs.Prelude.{ℕ, Bool, cond, List, All, ◌<◌, IfSome, Option, Some, None}
 use Rattle.std.specs.Option.{option_map}
 use Rattle.crack_row.specs.declared.InnerBound.{InnerBound}
 use Rattle.crack_index.specs.declared.mark.Mark.{Mark}
 use Rattle.crack_index.specs.Passes.{Progress, are_few, left_behind, next_few}
 
--- a pass that has met a bound comes only to bounds above it
+-- a pass that has met a bound has only bounds above it ahead
 abbrev pub AreAhead : Option Mark → Progress → List Mark → Type 0
 AreAhead last p ms = IfSome last (λ _. All (λ (m : Mark). p.after < m.bound.0) ms)
 
--- what a pass finds that has met this bound last, if any, and comes to these marks
+-- what a pass finds in these marks after it met the bound of the mark `last`, if any
 abbrev pub found_from : ℕ → Option Mark → Progress → List Mark → Option InnerBound × Progress
 found_from len None p ms = next_few len p ms
 found_from len (Some m) p ms = cond (are_few len p ms) (Some m.bound, p) (next_few len (left_behind m p) ms)
 
--- what a pass has found that halts at this bound, if any
+-- what a pass has found that halts at this mark's bound, if any
 abbrev pub halted : Option Mark → Progress → Option InnerBound × Progress
 halted last p = (option_map (λ (m : Mark). m.bound) last, p)
 
--- what a pass finds that has halted, or comes to these marks
+-- what a pass finds that has halted, or otherwise comes to these marks
 abbrev pub found_or : Bool → ℕ → Option Mark → Progress → List Mark → Option InnerBound × Progress
 found_or has_halted len last p ms = cond has_halted (halted last p) (found_from len last p ms)

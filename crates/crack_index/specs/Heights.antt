@@ -1,13 +1,13 @@
--- How many marks the height of a balanced tree allows.
+-- How many marks a balanced tree of a given height has.
 use Rattle.std.specs.Prelude.{ℕ, zero, suc, ◌+◌, ◌*◌}
 
--- the fewest marks of a balanced tree of this height
+-- the least number of marks in a balanced tree of this height
 abbrev pub least : ℕ → ℕ
 least zero = 0
 least (suc zero) = 1
 least (suc (suc h)) = 1 + least (suc h) + least h
 
--- one more than the most marks of a tree of this height
+-- one more than the greatest number of marks in a tree of this height
 abbrev pub most : ℕ → ℕ
 most zero = 1
 most (suc h) = 2 * most h

@@ -1,5 +1,5 @@
 -- What private clauses alone cite.
--- The invariants of a tree and of an index: rising marks, and sides of almost equal height.
+-- The invariants of a tree and of an index: marks in rising order, and subtrees of almost equal height.
 use Rattle.std.specs.Prelude.{◌≡◌, ℕ, ◌+◌, ◌-◌, ◌^◌, ◌<◌, ◌≤◌, max, length, List, ◌∷◌, ◌++◌, Option, Some, None}
 use Rattle.std.specs.declared.alloc.Global.{Global}
 use Rattle.std.proofs.Common.{Box}
@@ -8,29 +8,30 @@ use Rattle.crack_index.specs.Marks.{Rising}
 use Rattle.crack_index.specs.Heights.{least, most}
 use Rattle.crack_index.specs.Trees.{Grown, marks_of}
 
--- its height: 0 if it is empty
+-- the height, 0 for an empty tree
 abbrev pub height_of : Option (Box Grown Global) → ℕ
 height_of None = 0
 height_of (Some n) = n.value.height
 
--- this many marks fit the height
+-- a balanced tree of this height may have this many marks
 pub record IsTall (marks height : ℕ) : Type 0 where
   pub least : least height ≤ marks
   pub most : marks < most height
 
--- neither height is more than this many above the other
+-- two heights differ by at most this number
 pub record DifferByAtMost (by l r : ℕ) : Type 0 where
   pub left : l ≤ r + by
   pub right : r ≤ l + by
 
--- the marks rise, the height that is stored is right, and the sides differ by at most one
+-- the marks rise, the stored height is right, and the subtrees' heights differ by at most one
 pub record IsBalanced (left : Option (Box Grown Global)) (mark : Mark) (right : Option (Box Grown Global)) (height : ℕ) : Type 0 where
   pub rising : Rising (marks_of left ++ mark ∷ marks_of right)
   pub high : height ≡ max (height_of left) (height_of right) + 1
   pub even : DifferByAtMost 1 (height_of left) (height_of right)
   pub tall : IsTall (length (marks_of left ++ mark ∷ marks_of right)) height
 
--- the invariant of an index: its marks rise, there are this many, and they and the spare nodes are fewer than the greatest number
+-- the invariant of an index: its marks rise, `len` is their number, and marks and spare nodes together are fewer
+-- than 2^64 - 1
 pub record IsKept (marks : List Mark) (spare len : ℕ) : Type 0 where
   pub rising : Rising marks
   pub counted : length marks ≡ len

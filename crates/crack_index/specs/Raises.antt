@@ -1,17 +1,20 @@
--- The result of a walk over the bounds of an index from the highest down, if a visitor returns how far each of them rises.
+-- The result of a walk over the bounds of an index, from the highest down, in which a visitor returns how far each
+-- bound rises.
 use Rattle.std.specs.Prelude.{ℕ, ◌+◌, ◌<◌, min, List, [], ◌∷◌}
 use Rattle.crack_index.specs.declared.mark.Mark.{Mark}
 
--- the mark this many places further up
+-- the mark moved up by this many places
 abbrev pub higher : ℕ → Mark → Mark
 higher rise m = record m { position = m.position + rise }
 
--- a walk over marks, the highest first, by the effect of a visitor that is given a mark and returns how far it rises: how far the first may rise at
--- most, the marks and the visitor before, the marks and the visitor after, and how far the next may rise at most
+-- a walk over marks, from the highest down, with a visitor that returns how far each mark rises: how far the first
+-- mark may rise, the marks and the visitor before, the marks and the visitor after, and how far the mark that would
+-- follow may rise
 pub data Raises {V : Type 0} (rises : V → Mark → ℕ → V → Type 0) : ℕ → List Mark → V → List Mark → V → ℕ → Type 0 where
   -- no mark is left
   done : (most : ℕ) (v : V) → Raises rises most [] v [] v most
-  -- if none may rise, the visitor isn't asked
+  -- no mark may rise, so the visitor isn't called
   stays : (m : Mark) (ms ms' : List Mark) (v w : V) (last : ℕ) → Raises rises 0 ms v ms' w last → Raises rises 0 (m ∷ ms) v (m ∷ ms') w last
-  -- the mark rises as far as the visitor returns, but no farther than it may, and the next mark no farther than that
+  -- the mark rises as far as the visitor returns, but no farther than it may, and the next mark may rise no farther
+  -- than that
   goes_on : (most rise last : ℕ) (m : Mark) (ms ms' : List Mark) (v w x : V) → 0 < most → rises v m rise w → Raises rises (min rise most) ms w ms' x last → Raises rises most (m ∷ ms) v (higher (min rise most) m ∷ ms') x last

@@ -1,5 +1,5 @@
 -- What private clauses alone cite.
--- The invariant of a tree of pieces: the total that each node holds, and sides of almost equal height.
+-- The invariants of a tree of pieces: the total that each node stores, and subtrees of almost equal height.
 use Rattle.std.specs.Prelude.{◌≡◌, ⊤, ℕ, ℤ, pos, ◌+◌, ◌+ℤ◌, ◌^◌, ◌<◌, ◌&&◌, max, nat_le, unsigned_abs, cond, length, List, [], ◌∷◌, ◌++◌, Option, Some, None}
 use Rattle.std.specs.Ordering.{int_eq}
 use Rattle.std.specs.declared.alloc.Global.{Global}
@@ -11,7 +11,7 @@ use Rattle.crack_index.specs.Sums.{IsKnown}
 use Rattle.crack_index.specs.Cuts.{Rises}
 use Rattle.crack_index.specs.SumTrees.{Summed, entries_of}
 
--- its height: 0 if it is empty
+-- the height, 0 for an empty tree
 abbrev pub levels_of : Option (Box Summed Global) → ℕ
 levels_of None = 0
 levels_of (Some n) = n.value.height
@@ -21,7 +21,7 @@ abbrev pub total_of : List (ℕ × ℤ) → ℤ
 total_of [] = pos 0
 total_of (e ∷ es) = e.1 +ℤ total_of es
 
--- the total distance from 0 of the pieces' sums
+-- the sum of the absolute values of the pieces' sums
 abbrev pub distance_of : List (ℕ × ℤ) → ℕ
 distance_of [] = 0
 distance_of (e ∷ es) = unsigned_abs e.1 + distance_of es
@@ -31,7 +31,8 @@ abbrev pub AllKnown : List (ℕ × ℤ) → Type 0
 AllKnown [] = ⊤
 AllKnown (e ∷ es) = IsKnown e.1 × AllKnown es
 
--- the total of the pieces, or UNKNOWN: only if a sum isn't known, or the sums are too far from 0 in total
+-- the total of the pieces, or `UNKNOWN`; never `UNKNOWN` if all sums are known and their absolute values add up to
+-- less than 2^127
 pub record IsTotal (es : List (ℕ × ℤ)) (total : ℤ) : Type 0 where
   pub right : IsKnown total → AllKnown es × (total ≡ total_of es)
   pub found : AllKnown es → distance_of es < 2 ^ 127 → IsKnown total
@@ -41,19 +42,19 @@ abbrev pub inside : Range → List (ℕ × ℤ) → List (ℕ × ℤ)
 inside range [] = []
 inside range (e ∷ es) = cond (is_in range e.0) (e ∷ inside range es) (inside range es)
 
--- where the first piece begins that begins at this key or above it, and whose sum isn't known
+-- the start of the first piece that begins at or above this key and whose sum is unknown
 abbrev pub unknown_from : ℕ → List (ℕ × ℤ) → Option ℕ
 unknown_from first [] = None
 unknown_from first (e ∷ es) = cond (nat_le first e.0 && int_eq e.1 UNKNOWN) (Some e.0) (unknown_from first es)
 
--- the height and the total that are stored are right, and the sides differ by at most one
+-- the stored height and total are right, and the subtrees' heights differ by at most one
 pub record IsSummed (left : Option (Box Summed Global)) (entry : ℕ × ℤ) (right : Option (Box Summed Global)) (total : ℤ) (height : ℕ) : Type 0 where
   pub high : height ≡ max (levels_of left) (levels_of right) + 1
   pub even : DifferByAtMost 1 (levels_of left) (levels_of right)
   pub tall : IsTall (length (entries_of left ++ entry ∷ entries_of right)) height
   pub summed : IsTotal (entries_of left ++ entry ∷ entries_of right) total
 
--- the invariant of the pieces: they rise, and there are this many
+-- the invariant of the pieces: their starts rise, and `len` is their number
 pub record AreKept (es : List (ℕ × ℤ)) (len : ℕ) : Type 0 where
   pub rises : Rises es
   pub counted : length es ≡ len

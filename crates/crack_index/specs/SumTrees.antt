@@ -8,7 +8,7 @@ pub record Summed : Type 0 where
   pub entries : List (ℕ × ℤ)
   pub height : ℕ
 
--- the pieces of a side, which may be empty
+-- the pieces of a tree, none if it is empty
 abbrev pub entries_of : Option (Box Summed Global) → List (ℕ × ℤ)
 entries_of None = []
 entries_of (Some n) = n.value.entries

@@ -1,66 +1,69 @@
--- The sums of pieces. A piece is an entry: the key where it begins, up to the next entry's, and its sum.
+-- The sums of pieces. A piece is an entry: the key where it begins, and its sum. It ends where the next entry
+-- begins.
 use Rattle.std.specs.Prelude.{◌≡◌, ⊤, ◌⊎◌, ℕ, ℤ, pos, ◌+◌, ◌+ℤ◌, unsigned_abs, ◌^◌, ◌<◌, ◌≤◌, ◌&&◌, ◌||◌, ◌==◌, not, int_le, int_lt, Bool, cond, List, [], ◌∷◌}
 use Rattle.std.specs.Ordering.{int_eq}
 use Rattle.crack_row.specs.Ranges.{Range, is_in}
 use Rattle.crack_row.specs.declared.TheConstants.{GREATEST_BOUND}
 use Rattle.crack_index.specs.declared.sums.TheConstants.{UNKNOWN}
 
--- where the first piece begins; past all keys if there is none
+-- the start of the first piece, or `GREATEST_BOUND` if there is none
 abbrev pub start_of : List (ℕ × ℤ) → ℕ
 start_of [] = GREATEST_BOUND
 start_of (e ∷ es) = e.0
 
--- the number is a sum that is known
+-- the sum is known
 abbrev pub IsKnown : ℤ → Type 0
 IsKnown sum = sum ≡ UNKNOWN → ⊥
 
--- each known sum is the measure of its piece: `m low high` is the sum of the keys from low on, below high
+-- each known sum is the measure of its piece, where `m low high` is the sum of the keys from `low` up to but not
+-- including `high`
 abbrev pub AreRight : (ℕ → ℕ → ℤ) → List (ℕ × ℤ) → Type 0
 AreRight m [] = ⊤
 AreRight m (e ∷ es) = (IsKnown e.1 → e.1 ≡ m e.0 (start_of es)) × AreRight m es
 
--- the measure of a range is the sum of those of its two parts, and that of a range without keys is 0
+-- the measure of a range is the sum of the measures of its two parts, and the measure of an empty range is 0
 pub record IsAdditive (m : ℕ → ℕ → ℤ) : Type 0 where
   pub parts : (low mid high : ℕ) → low ≤ mid → mid ≤ high → m low high ≡ m low mid +ℤ m mid high
   pub none : (bound : ℕ) → m bound bound ≡ pos 0
 
--- a change by this amount at the key leads from one measure to the other: it changes the sums of the ranges that have the key, and no other
+-- the second measure is the first one after a change by this amount at the key: only the sums of ranges that
+-- contain the key change
 abbrev pub Changes : ℕ → ℤ → (ℕ → ℕ → ℤ) → (ℕ → ℕ → ℤ) → Type 0
 Changes key amount m m' = (low high : ℕ) → m' low high ≡ cond (is_in (record { low = low; high = high }) key) (m low high +ℤ amount) (m low high)
 
--- the number fits into 128 bits, with a sign
+-- whether the number fits into a signed number of 128 bits
 abbrev pub fits : ℤ → Bool
 fits sum = int_le UNKNOWN sum && int_lt sum (pos (2 ^ 127))
 
--- a sum after a change: UNKNOWN if it wasn't known, or would be too far from 0
+-- a sum after a change, `UNKNOWN` if the sum was unknown or becomes too far from 0
 abbrev pub later : ℤ → ℤ → ℤ
 later change sum = cond (int_eq sum UNKNOWN || not (fits (sum +ℤ change))) UNKNOWN (sum +ℤ change)
 
--- the sum of two pieces as one: UNKNOWN if one of theirs isn't known, or it would be too far from 0
+-- the sum of two pieces as one, `UNKNOWN` if either sum is unknown or the result is too far from 0
 abbrev pub both : ℤ → ℤ → ℤ
 both lower upper = cond (int_eq upper UNKNOWN) UNKNOWN (later upper lower)
 
--- the pieces after a change at the key: the one that has the key gets its later sum
+-- the pieces after a change at the key: the sum of the piece that contains the key changes
 abbrev pub adjusted : ℕ → ℤ → List (ℕ × ℤ) → List (ℕ × ℤ)
 adjusted key change [] = []
 adjusted key change (e ∷ es) = cond (is_in (record { low = e.0; high = start_of es }) key) ((e.0, later change e.1) ∷ es) (e ∷ adjusted key change es)
 
--- the pieces after the one that begins at the key became one with the piece below it, if there is one: all others stay as they are
+-- the pieces after the one that begins at the key was joined to the piece below it, if there is one
 abbrev pub joined : ℕ → List (ℕ × ℤ) → List (ℕ × ℤ)
 joined key [] = []
 joined key (e ∷ []) = e ∷ []
 joined key (e ∷ f ∷ fs) = cond (key == f.0) ((e.0, both e.1 f.1) ∷ fs) (e ∷ joined key (f ∷ fs))
 
--- what is reported of ranges that have keys is their measure
+-- each reported sum of a range that isn't empty is the range's measure
 abbrev pub AreTold : (ℕ → ℕ → ℤ → Type 0) → (ℕ → ℕ → ℤ) → Type 0
 AreTold says m = (low high : ℕ) (sum : ℤ) → low < high → says low high sum → sum ≡ m low high
 
--- a piece begins at the bound, or it is the one past all keys
+-- a piece begins at the bound, or the bound is `GREATEST_BOUND`
 abbrev pub IsEnd : ℕ → List (ℕ × ℤ) → Type 0
 IsEnd bound [] = bound ≡ GREATEST_BOUND
 IsEnd bound (e ∷ es) = (bound ≡ e.0) ⊎ IsEnd bound es
 
--- the sums of the pieces that begin in the range are known
+-- the sums of all pieces that begin in the range are known
 abbrev pub AreKnown : Range → List (ℕ × ℤ) → Type 0
 AreKnown range [] = ⊤
 AreKnown range (e ∷ es) = (range.low ≤ e.0 → e.0 < range.high → IsKnown e.1) × AreKnown range es
@@ -70,12 +73,12 @@ abbrev pub total_in : Range → List (ℕ × ℤ) → ℤ
 total_in range [] = pos 0
 total_in range (e ∷ es) = cond (is_in range e.0) (e.1 +ℤ total_in range es) (total_in range es)
 
--- the total distance from 0 of the sums of the pieces that begin in the range
+-- the sum of the absolute values of the sums of the pieces that begin in the range
 abbrev pub distance_in : Range → List (ℕ × ℤ) → ℕ
 distance_in range [] = 0
 distance_in range (e ∷ es) = cond (is_in range e.0) (unsigned_abs e.1 + distance_in range es) (distance_in range es)
 
--- the second pieces are the first ones after cuts, and after sums that were reported: true sums stay true, and each bound stays
+-- the new pieces come from the old ones by cuts and reported sums: right sums stay right, and each bound stays
 pub record Extends (says : ℕ → ℕ → ℤ → Type 0) (old new : List (ℕ × ℤ)) : Type 0 where
   pub right : (m : ℕ → ℕ → ℤ) → IsAdditive m → AreTold says m → AreRight m old → AreRight m new
   pub ends : (bound : ℕ) → IsEnd bound old → IsEnd bound new

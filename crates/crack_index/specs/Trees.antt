@@ -9,7 +9,7 @@ pub record Grown : Type 0 where
   pub marks : List Mark
   pub height : ℕ
 
--- the marks of a side, which may be empty
+-- the marks of a tree, none if it is empty
 abbrev pub marks_of : Option (Box Grown Global) → List Mark
 marks_of None = []
 marks_of (Some n) = n.value.marks

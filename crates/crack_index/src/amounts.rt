@@ -1,4 +1,4 @@
-//! Sums that are known, or not.
+//! Arithmetic on sums. A result is `UNKNOWN` if an operand is, or if 128 bits aren't enough.
 ghost use Rattle.std.specs.Prelude.{◌≡◌, ◌-◌, ◌*◌, ◌<◌, ◌≤◌, IsTrue};
 ghost use Rattle.crack_row.specs.declared.TheConstants.{GREATEST_BOUND};
 ghost use Rattle.crack_index.specs.Sums.{IsKnown, both, later};
@@ -22,7 +22,7 @@ pub(crate) fn later(sum: i128, change: i128) -> i128
     }
 }
 
-/// The sum of one part of a piece, by that of the piece and that of the other part.
+/// The sum of one part of a piece, from the sums of the piece and of the other part.
 pub(crate) fn rest(whole: i128, part: i128) -> i128
     ensures { IsRest whole part result }
 {
@@ -35,7 +35,7 @@ pub(crate) fn rest(whole: i128, part: i128) -> i128
     }
 }
 
-/// The sum of a piece, by those of its two parts.
+/// The sum of a piece, from the sums of its two parts.
 #[inline]
 pub(crate) fn whole(lower: i128, upper: i128) -> i128
     ensures { result ≡ both lower upper }
@@ -49,7 +49,7 @@ pub(crate) fn whole(lower: i128, upper: i128) -> i128
     }
 }
 
-/// The source's sum of the keys from `low` on, below `high`.
+/// The source's sum of the keys from `low` up to but not including `high`, or `UNKNOWN`.
 pub(crate) fn asked<S: Source>(source: &S, low: BoundNumber, high: BoundNumber) -> i128
     ensures { IsKnown result → S.says source.now low high result }
 {
@@ -62,8 +62,8 @@ pub(crate) fn asked<S: Source>(source: &S, low: BoundNumber, high: BoundNumber) 
     }
 }
 
-/// Whether the part of a piece between `low` and `high` has more than three quarters of the keys of the piece, which
-/// begins at `start`, up to `next`, and the source prefers the rest of the piece.
+/// Whether the part of a piece between `low` and `high` has more than three quarters of the piece's keys (from
+/// `start` up to but not including `next`), and the source prefers to sum the rest of the piece.
 pub(crate) fn prefers_rest<S: Source>(
     source: &S,
     low: BoundNumber,

@@ -17,22 +17,22 @@ use crack_row::{InnerBound, Key, KeyRange, PieceSize, Refusal};
 use std::alloc::Global;
 use std::marker::Model;
 
-/// A stretch of the column between neighbouring bounds.
+/// A piece of the column, between neighbouring bounds.
 #[derive(Clone, Copy, PartialEq, Eq, Debug)]
 pub struct Piece {
-    /// The greatest bound at or below its keys; `None` at the partition's low end.
+    /// The greatest bound at or below the piece's keys, or `None` at the partition's low end.
     pub low: Option<InnerBound>,
-    /// The least bound above its keys; `None` at the partition's high end.
+    /// The least bound above the piece's keys, or `None` at the partition's high end.
     pub high: Option<InnerBound>,
-    /// The place of its first row.
+    /// The place of the first row.
     pub from: usize,
-    /// The place after its last row.
+    /// The place after the last row.
     pub to: usize,
 }
 
-/// The bounds that divide a cracked column, in rising order ("Database Cracking", CIDR 2007).
-/// Contracts see the list of its marks, and for how many more it has room.
-/// They are in a balanced tree, whose nodes come from a stock of spare ones.
+/// The bounds that divide a cracked column, in rising order ("Database Cracking", CIDR 2007). They are in a
+/// balanced tree, whose nodes come from a stock of spare nodes. Contracts see the list of marks, and for how many
+/// more there is room.
 #[derive(Drop)]
 pub struct CrackerIndex {
     root: Link,
@@ -54,7 +54,7 @@ impl Model for CrackerIndex {
 }
 
 impl CrackerIndex {
-    /// An index without bounds. Takes no memory.
+    /// Makes an index without bounds. Takes no memory.
     pub fn new(alloc: Global) -> CrackerIndex
         ensures marks { result.marks ≡ [] }
         ensures room { result.room ≡ 0 }
@@ -66,7 +66,8 @@ impl CrackerIndex {
         }
     }
 
-    /// Makes room for `n` more bounds. Refused with 8 if it finds no memory; room that was made until then stays.
+    /// Makes room for `n` more bounds. Refused with `OutOfMemory` if no memory is found; room made until then
+    /// stays.
     pub fn reserve(&mut self, n: usize) -> Result<(), Refusal>
         ensures marks { self.new.marks ≡ self.old.marks }
         ensures ok { OnOk result (n ≤ self.new.room) }
@@ -98,7 +99,7 @@ impl CrackerIndex {
         self.len == 0
     }
 
-    /// The height of the tree of the bounds: 0 for none. O(1).
+    /// The height of the tree of bounds, 0 if there are none. O(1).
     pub fn height(&self) -> u32
         ensures least { least result ≤ length self.now.marks }
         ensures most { length self.now.marks < most result }
@@ -106,7 +107,7 @@ impl CrackerIndex {
         tree::height(&self.root)
     }
 
-    /// Adds a bound at the place. Takes no memory. O(log bounds).
+    /// Adds a bound, which isn't in the index yet, at the place. Takes no memory. O(log bounds).
     pub fn add(&mut self, bound: InnerBound, position: usize)
         requires room { 0 < self.old.room }
         requires absent { HasBound self.old.marks bound.0 → ⊥ }
@@ -123,7 +124,7 @@ impl CrackerIndex {
         self.len += 1;
     }
 
-    /// Removes a bound, and frees its node. Takes no memory. O(log bounds).
+    /// Removes a bound of the index, and frees a node. Takes no memory. O(log bounds).
     pub fn remove(&mut self, bound: InnerBound)
         requires { HasBound self.old.marks bound.0 }
         ensures marks { self.new.marks ≡ removed bound.0 self.old.marks }
@@ -135,8 +136,8 @@ impl CrackerIndex {
         self.len -= 1;
     }
 
-    /// A pass over at most `bounds` of the bounds above a key, the lowest first. It finds those whose two pieces hold
-    /// at most `rows` rows together. O(log bounds).
+    /// A pass over at most `bounds` of the bounds above a key, the lowest first. It finds those whose two pieces
+    /// hold at most `rows` rows together. O(log bounds).
     pub fn pass_after(&self, key: Key, rows: usize, bounds: usize) -> Pass
         ensures { result ≡ pass_above key.0 rows bounds self.now.marks }
     {
@@ -144,8 +145,8 @@ impl CrackerIndex {
         Pass::new(key, from, rows, bounds)
     }
 
-    /// Removes the next bound that a pass finds, and returns it, in a column of `len` rows; `None` at the end of the
-    /// pass. Takes no memory. O(log bounds) and a step for each bound that the pass meets.
+    /// Removes and returns the next bound that a pass finds, in a column of `len` rows; `None` once the pass has
+    /// ended. Takes no memory. O(log bounds), and a step for each bound that the pass meets.
     pub fn remove_few(&mut self, pass: &mut Pass, len: usize) -> Option<InnerBound>
         ensures found { (result, pass.new) ≡ next_few len pass.old self.old.marks }
         ensures there { IfSome result (λ b. HasBound self.old.marks b.0) }
@@ -170,7 +171,7 @@ impl CrackerIndex {
         pass.next_few(&self.root, len)
     }
 
-    /// The position of the bound, if it is in the index. O(log bounds).
+    /// The place of the bound, or `None` if it isn't in the index. O(log bounds).
     pub fn position(&self, bound: InnerBound) -> Option<usize>
         ensures found { IsSome result ↔ HasBound self.now.marks bound.0 }
         ensures place { IfSome result (λ place. place ≡ position_of bound.0 self.now.marks) }
@@ -191,7 +192,7 @@ impl CrackerIndex {
         tree::next_above(&self.root, key.number())
     }
 
-    /// The least bound above this one, which need not be in the index, with its place. O(log bounds).
+    /// The least bound above this one, which need not be in the index. O(log bounds).
     pub fn next_after(&self, bound: InnerBound) -> Option<Mark>
         ensures value { result ≡ next_mark bound.0 self.now.marks }
         ensures there { IfSome result (λ m. Contains self.now.marks m) }
@@ -209,7 +210,7 @@ impl CrackerIndex {
         tree::last_at(&self.root, key.number())
     }
 
-    /// The piece whose keys hold this key, in a column of `len` rows. O(log bounds).
+    /// The piece that contains this key, in a column of `len` rows. O(log bounds).
     pub fn piece_of(&self, key: Key, len: usize) -> Piece
         ensures value { result ≡ piece_at key.0 len self.now.marks }
         ensures order { All (λ m. m.position ≤ len) self.now.marks → result.from ≤ result.to }
@@ -228,8 +229,8 @@ impl CrackerIndex {
         }
     }
 
-    /// The sizes of the pieces, in rising order, in a column of `len` rows whose keys lie in this range;
-    /// refused with 8 if it finds no memory. O(bounds).
+    /// The sizes of the pieces, in rising order, in a column of `len` rows whose keys lie in this range. O(bounds).
+    /// Refused with `OutOfMemory` if no memory is found.
     pub fn pieces(&self, keys: KeyRange, len: usize) -> Result<Vec<PieceSize>, Refusal>
         ensures ok { IfOk result (λ v. v.items ≡ pieces_from (record { 0 = keys.low }) 0 self.now.marks
             (record { 0 = keys.high }) len) }
@@ -242,8 +243,8 @@ impl CrackerIndex {
         tree::piece_sizes(*self.spare.allocator(), &self.root, self.len, keys, len)
     }
 
-    /// Each bound at or above this one that is at its place moves up by one.
-    /// O(log bounds) and the bounds at that place.
+    /// Moves this bound, and each higher bound at the same place, up by one place. O(log bounds + bounds at that
+    /// place).
     pub fn raise_from(&mut self, bound: InnerBound)
         requires there { HasBound self.old.marks bound.0 }
         requires small { position_of bound.0 self.old.marks < usize.MAX }
@@ -256,8 +257,8 @@ impl CrackerIndex {
         }
     }
 
-    /// Each bound at or below this one that is at its place moves down by one.
-    /// O(log bounds) and the bounds at that place.
+    /// Moves this bound, and each lower bound at the same place, down by one place. O(log bounds + bounds at that
+    /// place).
     pub fn lower_to(&mut self, bound: InnerBound)
         requires there { HasBound self.old.marks bound.0 }
         requires above_zero { 0 < position_of bound.0 self.old.marks }
@@ -270,8 +271,7 @@ impl CrackerIndex {
         }
     }
 
-    /// Each bound that is at the place moves down by one.
-    /// O(log bounds) and the bounds at that place.
+    /// Moves each bound at the place down by one. O(log bounds + bounds at that place).
     pub fn lower_at(&mut self, position: usize)
         requires { All (λ m. m.position ≡ position → 0 < position) self.old.marks }
         ensures marks { self.new.marks ≡ map (lowered_at position) self.old.marks }
@@ -283,8 +283,8 @@ impl CrackerIndex {
         }
     }
 
-    /// Each bound at or above this one that is at its place moves up by one; returns the first bound
-    /// that was after that place. O(log bounds) and the bounds at that place.
+    /// Moves this mark's bound, and each higher bound at the same place, up by one place. Returns the first bound
+    /// that was after that place. O(log bounds + bounds at that place).
     pub fn raise_past(&mut self, mark: Mark) -> Option<Mark>
         requires there { Contains self.old.marks mark }
         requires small { mark.position < usize.MAX }
@@ -300,8 +300,8 @@ impl CrackerIndex {
         next
     }
 
-    /// Each bound at or below this one that is at its place moves down by one; returns the last bound
-    /// that was before that place. O(log bounds) and the bounds at that place.
+    /// Moves this mark's bound, and each lower bound at the same place, down by one place. Returns the last bound
+    /// that was before that place. O(log bounds + bounds at that place).
     pub fn lower_past(&mut self, mark: Mark) -> Option<Mark>
         requires there { Contains self.old.marks mark }
         requires above_zero { 0 < mark.position }
@@ -317,10 +317,10 @@ impl CrackerIndex {
         next
     }
 
-    /// Walks up from the least bound above the key: the visitor is given the place of the bound, and if it returns
-    /// true, that bound and those above it that are there move up by one, and the walk goes on to the next place.
-    /// Returns the bound at which it ended, if one is left. O(log bounds) and the bounds at the places on its way.
-    /// Takes no memory.
+    /// Walks up from the least bound above the key. The visitor is given the place of the bound. If it returns
+    /// true, that bound and the higher bounds at the same place move up by one, and the walk goes on to the next
+    /// place that has bounds. Returns the bound at which the visitor ended the walk, if it did. O(log bounds +
+    /// bounds at the visited places). Takes no memory.
     #[inline(always)]
     pub fn climb<V: Visitor>(&mut self, key: Key, visitor: &mut V) -> Option<Mark>
         requires small { All (λ m. m.position < usize.MAX) self.old.marks }
@@ -335,10 +335,11 @@ impl CrackerIndex {
         walk::climb(&mut self.root, key.number(), visitor)
     }
 
-    /// Walks down from the greatest bound at or below the key: the visitor is given the last place before the bound,
-    /// and if it returns true, that bound and those below it that are at its place move down by one, and the walk goes
-    /// on to the next place. Returns the bound at which it ended, if one is left; a bound at the column's front has no
-    /// place before it, and ends it. O(log bounds) and the bounds at the places on its way. Takes no memory.
+    /// Walks down from the greatest bound at or below the key. The visitor is given the last place before the
+    /// bound. If it returns true, that bound and the lower bounds at the same place move down by one, and the walk
+    /// goes on to the next place that has bounds. A bound at the place 0 has no place before it, and ends the walk.
+    /// Returns the bound at which the walk ended, if one is left. O(log bounds + bounds at the visited places).
+    /// Takes no memory.
     #[inline(always)]
     pub fn descend<V: Visitor>(&mut self, key: Key, visitor: &mut V) -> Option<Mark>
         requires ready { V.is_ready visitor.old }
@@ -352,9 +353,10 @@ impl CrackerIndex {
         walk::descend(&mut self.root, key.number(), visitor)
     }
 
-    /// Walks over the bounds from the highest down: the visitor is given each, and returns how far it rises. No bound
-    /// rises further than the one above it, and none further than `most`; if one doesn't rise, the walk ends. Returns
-    /// how far the lowest rose. O(bounds that rise + log bounds). Takes no memory.
+    /// Walks over the bounds from the highest down. The visitor is given each, and returns how far it rises. No
+    /// bound rises farther than `most` or than the one above it, and a bound that doesn't rise ends the walk.
+    /// Returns how far the lowest rose, or `most` if there is none. O(bounds that rise + log bounds). Takes no
+    /// memory.
     pub fn raise_each<V: Raiser>(&mut self, most: usize, visitor: &mut V) -> usize
         requires small { All (λ m. m.position + most ≤ usize.MAX) self.old.marks }
         requires ready { V.is_ready visitor.old }
@@ -366,8 +368,9 @@ impl CrackerIndex {
     {
         raising::raise_down(&mut self.root, most, visitor)
     }
-    /// Walks over the bounds from the lowest up: the visitor is given each, and returns its new place. No bound moves
-    /// before the one below it. Returns the place of the last, or 0 if there is none. O(bounds). Takes no memory.
+    /// Walks over the bounds from the lowest up. The visitor is given each, and returns its new place. No bound
+    /// moves before the one below it. Returns the place of the last, or 0 if there is none. O(bounds). Takes no
+    /// memory.
     pub fn place_each<V: Placer>(&mut self, visitor: &mut V) -> usize
         requires { V.is_ready visitor.old }
         ensures places { Places V.places 0 self.old.marks visitor.old self.new.marks visitor.new result }

@@ -1,5 +1,5 @@
-//! The index of a cracked column: the bounds that divide it, each with the place at which it does
-//! ("Database Cracking", CIDR 2007); and the sums of the pieces into which bounds divide the keys.
+//! The cracker index: the bounds that divide a cracked column, each with its place ("Database Cracking", CIDR
+//! 2007). Also the sums of the pieces into which bounds divide the keys.
 #![tactic(auto)]
 
 mod amounts;

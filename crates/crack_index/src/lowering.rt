@@ -1,4 +1,4 @@
-//! A walk over the marks of a tree from the lowest up, which moves each to the place that a visitor returns.
+//! A walk over the marks of a tree, from the lowest up, that moves each mark to the place that a visitor returns.
 ghost use Rattle.std.specs.Prelude.{◌≡◌, ◌∷◌, [], length};
 ghost use Rattle.crack_index.specs.Marks.{Rising};
 ghost use Rattle.crack_index.specs.Keeps.{height_of};
@@ -8,8 +8,8 @@ ghost use Rattle.crack_index.specs.Trees.{marks_of};
 use crate::tree::{Link, Node};
 use crate::{Mark, Placer};
 
-/// Moves the marks of a tree, from the lowest up, to the places that the visitor returns, but none before the one below
-/// it or before `least`. Returns the place of the last. O(marks).
+/// Moves the marks of a tree, from the lowest up, to the places that the visitor returns, but none before the one
+/// below it or before `least`. Returns the place of the last, or `least` if there is none. O(marks).
 pub(crate) fn place_up<V: Placer>(link: &mut Link, least: usize, visitor: &mut V) -> usize
     requires ready { V.is_ready visitor.old }
     ensures places { Places V.places least (marks_of link.old) visitor.old (marks_of link.new) visitor.new result }

@@ -1,4 +1,4 @@
-//! Passes over the bounds of an index, in search of those whose two pieces hold few rows together.
+//! Passes over the bounds of an index, in search of bounds whose two pieces hold few rows together.
 ghost use Rattle.std.specs.Prelude.{◌≡◌, ℕ, ◌<◌, ◌≤◌, ◌-◌, ◌↔◌, List, ◌∷◌, ◌++◌, All, IsTrue};
 ghost use Rattle.std.specs.Option.{option_map};
 ghost use Rattle.crack_row.specs.declared.Key.{Key};
@@ -12,16 +12,17 @@ use crate::tree::{Link, Node};
 use crack_row::{InnerBound, Key, KeyNumber};
 use std::marker::Model;
 
-/// A pass over the bounds of an index, the lowest first. It finds each bound whose two pieces hold few rows together.
+/// A pass over the bounds of an index, the lowest first. It finds each bound whose two pieces hold few rows
+/// together.
 #[derive(Drop)]
 pub struct Pass {
-    /// It has met the bounds up to this number.
+    /// The pass has met the bounds up to this number.
     after: KeyNumber,
-    /// Where the piece below the next bound begins.
+    /// The place where the piece below the next bound begins.
     from: usize,
-    /// How many rows are few.
+    /// How many rows count as few.
     rows: usize,
-    /// How many more bounds it meets.
+    /// How many more bounds the pass may meet.
     bounds: usize,
 }
 
@@ -34,7 +35,8 @@ impl Model for Pass {
 }
 
 impl Pass {
-    /// A pass over this many of the bounds above a key, where the piece below them begins at this place.
+    /// Makes a pass over at most `bounds` bounds above the key `after`. The piece below them begins at the place
+    /// `from`.
     pub(crate) fn new(after: Key, from: usize, rows: usize, bounds: usize) -> Pass
         ensures { result ≡ record { after = after.0; from = from; rows = rows; bounds = bounds } }
     {
@@ -46,7 +48,7 @@ impl Pass {
         }
     }
 
-    /// The key above which the bounds are that it didn't meet, if it meets no more.
+    /// If the pass may meet no more bounds, the key above which those lie that it didn't meet.
     pub fn stopped(&self) -> Option<Key>
         ensures { option_map (λ (k : Key). k.0) result ≡ stopped_at self.now }
     {
@@ -57,8 +59,8 @@ impl Pass {
         }
     }
 
-    /// The next bound whose two pieces hold few rows together, in a column of `len` rows: who goes on with the pass has
-    /// removed it. O(log marks) and a step for each bound that it meets.
+    /// The next bound whose two pieces hold few rows together, in a column of `len` rows. To go on with the pass,
+    /// the caller must remove it. O(log marks), and a step for each bound that the pass meets.
     pub(crate) fn next_few(&mut self, link: &Link, len: usize) -> Option<InnerBound>
         ensures { (result, self.new) ≡ next_few len self.old (marks_of link.now) }
     {
@@ -74,22 +76,22 @@ impl Pass {
         None
     }
 
-    /// Whether there are few rows from the piece below the next bound up to this place.
+    /// Whether few rows lie between the start of the piece below the next bound and this place.
     fn are_few(&self, to: usize) -> bool
         ensures { IsTrue result ↔ (to - self.now.from ≤ self.now.rows) }
     {
         to.saturating_sub(self.from) <= self.rows
     }
 
-    /// Whether it hasn't met the bound of this mark.
+    /// Whether the pass hasn't met the mark's bound yet.
     fn is_before(&self, mark: Mark) -> bool
         ensures { IsTrue result ↔ (self.now.after < mark.bound.0) }
     {
         self.after < mark.bound.number()
     }
 
-    /// Comes to a bound after the last one that it met, where the piece above that one ends. Returns whether it halts:
-    /// the two pieces of the last one hold few rows, or it meets no more bounds.
+    /// Goes on to a bound, where the upper piece of the last met bound ends. Returns whether the pass halts: the
+    /// two pieces of the last met bound hold few rows, or it may meet no more.
     fn meet(&mut self, last: &mut Option<Mark>, mark: Mark) -> bool
         requires { self.old.after < mark.bound.0 }
         ensures found { (len : ℕ) (ms : List Mark)
@@ -113,7 +115,8 @@ impl Pass {
     }
 }
 
-/// The part of a pass that is in this tree; `last` is the bound that it met last. Returns whether it halts there.
+/// Does the part of a pass that lies in this tree. `last` is the bound that the pass met last. Returns whether it
+/// halted.
 fn meet_all(link: &Link, pass: &mut Pass, last: &mut Option<Mark>) -> bool
     ensures found { (len : ℕ) (ms : List Mark) → AreAhead last.old pass.old (marks_of link.now)
         → found_from len last.old pass.old (marks_of link.now ++ ms) ≡ found_or result len last.new pass.new ms }

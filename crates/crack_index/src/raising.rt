@@ -1,4 +1,4 @@
-//! A walk over the marks of a tree from the highest down, which raises each as far as a visitor returns.
+//! A walk over the marks of a tree, from the highest down, that raises each mark as far as a visitor returns.
 ghost use Rattle.std.specs.Prelude.{◌≡◌, ◌+◌, ◌≤◌, ◌∷◌, [], reverse, length, All};
 ghost use Rattle.crack_index.specs.Marks.{Rising};
 ghost use Rattle.crack_index.specs.Keeps.{height_of};
@@ -8,8 +8,9 @@ ghost use Rattle.crack_index.specs.Trees.{marks_of};
 use crate::tree::{Link, Node};
 use crate::{Mark, Raiser};
 
-/// Raises the marks of a tree from the highest down, each as far as the visitor returns, but no further than the one
-/// above it or than `most`. Returns how far the next below them may rise. O(marks that rise + log marks).
+/// Raises the marks of a tree, from the highest down, each as far as the visitor returns, but no farther than the
+/// mark above it rose, or than `most`. Returns how far the next mark below them may rise. O(marks that rise + log
+/// marks).
 pub(crate) fn raise_down<V: Raiser>(link: &mut Link, most: usize, visitor: &mut V) -> usize
     requires small { All (λ m. m.position + most ≤ usize.MAX) (marks_of link.old) }
     requires ready { V.is_ready visitor.old }
@@ -38,7 +39,7 @@ pub(crate) fn raise_down<V: Raiser>(link: &mut Link, most: usize, visitor: &mut 
     raise_down(left, here, visitor)
 }
 
-/// Raises one mark as far as the visitor returns, but no further than `most`. Returns how far it rose.
+/// Raises one mark as far as the visitor returns, but no farther than `most`. Returns how far it rose.
 fn raise_mark<V: Raiser>(mark: &mut Mark, most: usize, visitor: &mut V) -> usize
     requires small { mark.old.position + most ≤ usize.MAX }
     requires ready { V.is_ready visitor.old }

@@ -1,17 +1,17 @@
-//! The source of sums that aren't known.
+//! A source that is asked for unknown sums.
 ghost use Rattle.std.specs.Prelude.{ℕ, ℤ, IfSome};
 
 use crack_row::KeyRange;
 
-/// A source of the sums of key ranges, such as a store with its rows. It has no access to the pieces.
+/// A source of the sums of key ranges, such as a store of rows. It has no access to the pieces.
 pub trait Source {
-    /// What it reports: the keys from the first number on, below the second, have this sum.
+    /// What the source reports: this sum of the keys from the first number up to but not including the second.
     ghost says: { Self → ℕ → ℕ → ℤ → Type 0 };
 
-    /// The sum of the range; none if it has none to give.
+    /// The sum of the range, or `None` if the source can't give it.
     fn sum(&self, range: KeyRange) -> Option<i128>
         ensures { IfSome result (λ sum. says self.now range.low range.high sum) };
 
-    /// Whether it can sum the rest of a whole range with less work than a part of it.
+    /// Whether the source can sum the rest of the whole range with less work than the part.
     fn prefers_rest(&self, part: KeyRange, whole: KeyRange) -> bool;
 }

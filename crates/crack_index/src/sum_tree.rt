@@ -1,5 +1,5 @@
-//! An AVL tree of pieces in rising order. Each node also holds the total of its subtree, so that the total of a range
-//! takes a step per level.
+//! An AVL tree of pieces in rising order. Each node also stores the total of its subtree, so the total of a range
+//! takes one step per level.
 ghost use Rattle.std.specs.Prelude.{◌≡◌, ◌+◌, ◌^◌, ◌<◌, ◌≤◌, max, length, [], ◌∷◌, ◌++◌, ℕ};
 ghost use Rattle.crack_row.specs.declared.TheConstants.{GREATEST_BOUND};
 ghost use Rattle.crack_index.specs.Sums.{IsEnd};
@@ -15,13 +15,13 @@ use crack_row::{BoundNumber, GREATEST_BOUND, KeyNumber};
 use std::marker::Model;
 use std::mem;
 
-/// Where a piece begins, and its sum.
+/// The start of a piece, and its sum.
 pub(crate) type Entry = (KeyNumber, i128);
 
-/// A tree of pieces; none if there are no pieces.
+/// A tree of pieces, or `None` if there are no pieces.
 pub(crate) type Link = Option<Box<Node>>;
 
-/// A piece between the trees of those below and above it, and the total of all of them. Contracts see all pieces in
+/// A piece, the trees of the pieces below and above it, and the total of all of them. Contracts see all pieces in
 /// order, and the height.
 #[derive(Drop)]
 pub(crate) struct Node {
@@ -58,7 +58,7 @@ struct Parts {
 }
 
 impl Node {
-    /// The tree of one piece.
+    /// Makes a tree of one piece.
     pub(crate) fn leaf(entry: Entry) -> Node
         ensures entries { result.entries ≡ entry ∷ [] }
         ensures height { result.height ≡ 1 }
@@ -72,7 +72,7 @@ impl Node {
         }
     }
 
-    /// Takes the node apart: it is left without sides.
+    /// Takes the node apart. The node is left without children.
     fn open(&mut self) -> Parts
         ensures entries { self.old.entries ≡ entries_of result.left ++ result.entry ∷ entries_of result.right }
         ensures high { self.old.height ≡ max (levels_of result.left) (levels_of result.right) + 1 }
@@ -90,7 +90,7 @@ impl Node {
     }
 }
 
-/// The height of a tree: 0 if there are no pieces. O(1).
+/// The height of a tree, 0 if it is empty. O(1).
 fn height(link: &Link) -> u32
     ensures value { result ≡ levels_of link.now }
     ensures tall { IsTall (length (entries_of link.now)) (levels_of link.now) }
@@ -101,7 +101,7 @@ fn height(link: &Link) -> u32
     }
 }
 
-/// The total of a tree: 0 if there are no pieces. O(1).
+/// The total of a tree, 0 if it is empty. O(1).
 #[inline]
 fn total(link: &Link) -> i128
     ensures { IsTotal (entries_of link.now) result }
@@ -112,7 +112,7 @@ fn total(link: &Link) -> i128
     }
 }
 
-/// The total of both sides and the piece between them. O(1).
+/// The total of two subtrees and the piece between them. O(1).
 #[inline]
 fn total_over(left: &Link, sum: i128, right: &Link) -> i128
     ensures { (start : ℕ) → IsTotal (entries_of left.now ++ (start, sum) ∷ entries_of right.now) result }
@@ -120,7 +120,7 @@ fn total_over(left: &Link, sum: i128, right: &Link) -> i128
     amounts::whole(amounts::whole(total(left), sum), total(right))
 }
 
-/// The piece that has the key. O(log pieces), one comparison per level.
+/// The piece that contains the key. O(log pieces), one comparison per level.
 pub(crate) fn last_at(link: &Link, key: KeyNumber) -> Option<Entry>
     requires { Rises (entries_of link.now) }
     ensures { result ≡ piece_at key (entries_of link.now) }
@@ -144,7 +144,7 @@ pub(crate) fn last_at(link: &Link, key: KeyNumber) -> Option<Entry>
     found
 }
 
-/// Where the first piece begins that begins above the key; past all keys if there is none. O(log pieces), one
+/// The start of the first piece that begins above the key, or `GREATEST_BOUND` if there is none. O(log pieces), one
 /// comparison per level.
 pub(crate) fn next_above(link: &Link, key: KeyNumber) -> BoundNumber
     requires { Rises (entries_of link.now) }
@@ -169,7 +169,7 @@ pub(crate) fn next_above(link: &Link, key: KeyNumber) -> BoundNumber
     found
 }
 
-/// The total of the pieces that begin at `first` to `last`. O(log pieces), one step per level.
+/// The total of the pieces that begin at keys from `first` to `last`. O(log pieces), one step per level.
 pub(crate) fn total_between(link: &Link, first: KeyNumber, last: KeyNumber) -> i128
     requires { Rises (entries_of link.now) }
     ensures { IsTotal (inside (span first last) (entries_of link.now)) result }
@@ -194,7 +194,7 @@ pub(crate) fn total_between(link: &Link, first: KeyNumber, last: KeyNumber) -> i
     0
 }
 
-/// The total of the pieces that begin at `first` or above it. O(log pieces), one step per level.
+/// The total of the pieces that begin at or above `first`. O(log pieces), one step per level.
 fn total_from(link: &Link, first: KeyNumber) -> i128
     requires { Rises (entries_of link.now) }
     ensures { IsTotal (inside (record { low = first; high = GREATEST_BOUND }) (entries_of link.now)) result }
@@ -218,7 +218,7 @@ fn total_from(link: &Link, first: KeyNumber) -> i128
     sum
 }
 
-/// The total of the pieces that begin at `last` or below it. O(log pieces), one step per level.
+/// The total of the pieces that begin at or below `last`. O(log pieces), one step per level.
 fn total_to(link: &Link, last: KeyNumber) -> i128
     requires { Rises (entries_of link.now) }
     ensures { IsTotal (inside (span 0 last) (entries_of link.now)) result }
@@ -242,8 +242,8 @@ fn total_to(link: &Link, last: KeyNumber) -> i128
     sum
 }
 
-/// Where the first piece begins that begins at `first` or above it, and whose sum isn't known. O(log pieces): a tree
-/// whose total is known isn't searched.
+/// The start of the first piece that begins at or above `first` and whose sum is unknown. O(log pieces): subtrees
+/// with a known total aren't searched.
 pub(crate) fn first_unknown(link: &Link, first: KeyNumber) -> Option<KeyNumber>
     requires { Rises (entries_of link.now) }
     ensures { result ≡ unknown_from first (entries_of link.now) }
@@ -273,7 +273,7 @@ pub(crate) fn first_unknown(link: &Link, first: KeyNumber) -> Option<KeyNumber>
     first_unknown(right, first)
 }
 
-/// The tree with one more piece, which begins at a key where none begins, in the node that is passed in. O(log pieces),
+/// Inserts a piece into the tree, in the node that is passed in. No piece may begin at its key yet. O(log pieces),
 /// takes no memory.
 pub(crate) fn insert(link: Link, entry: Entry, mut node: Box<Node>) -> Box<Node>
     requires rises { Rises (entries_of link) }
@@ -297,7 +297,7 @@ pub(crate) fn insert(link: Link, entry: Entry, mut node: Box<Node>) -> Box<Node>
     }
 }
 
-/// Gives the piece that begins at the key this sum. O(log pieces), takes no memory.
+/// Sets the sum of the piece that begins at the key. O(log pieces), takes no memory.
 pub(crate) fn give(link: &mut Link, key: KeyNumber, sum: i128)
     requires { Rises (entries_of link.old) }
     ensures entries { entries_of link.new ≡ given key sum (entries_of link.old) }
@@ -323,8 +323,8 @@ pub(crate) fn give(link: &mut Link, key: KeyNumber, sum: i128)
     *total = total_over(left, entry.1, right);
 }
 
-/// The tree of both sides and the piece between them, in this node. One side may be two levels higher than the other:
-/// then it is rotated. O(1).
+/// Makes a tree of two subtrees and the piece between them, in this node. One subtree may be two levels higher than
+/// the other; then the tree is rotated. O(1).
 fn join(left: Link, entry: Entry, right: Link, node: Box<Node>) -> Box<Node>
     requires near { DifferByAtMost 2 (levels_of left) (levels_of right) }
     requires fits { max (levels_of left) (levels_of right) ≤ 2 ^ 31 }
@@ -339,8 +339,8 @@ fn join(left: Link, entry: Entry, right: Link, node: Box<Node>) -> Box<Node>
     }
 }
 
-/// The tree of both sides and the piece between them, in this node, if neither side is more than a level higher.
-/// O(1).
+/// Makes a tree of two subtrees and the piece between them, in this node. The subtrees' heights differ by at most
+/// one. O(1).
 fn with_children(left: Link, entry: Entry, right: Link, mut node: Box<Node>) -> Box<Node>
     requires even { DifferByAtMost 1 (levels_of left) (levels_of right) }
     requires fits { max (levels_of left) (levels_of right) + 1 < 2 ^ 32 }
@@ -359,7 +359,7 @@ fn with_children(left: Link, entry: Entry, right: Link, mut node: Box<Node>) -> 
     node
 }
 
-/// Rotates if the left side is two levels higher: `spare` becomes a node below the top.
+/// Rotates a tree whose left subtree is two levels higher. `spare` becomes a node below the top.
 fn lean_left(mut top: Box<Node>, entry: Entry, right: Link, spare: Box<Node>) -> Box<Node>
     requires two_higher { top.value.height ≡ levels_of right + 2 }
     requires fits { top.value.height ≤ 2 ^ 31 }
@@ -385,7 +385,7 @@ fn lean_left(mut top: Box<Node>, entry: Entry, right: Link, spare: Box<Node>) ->
     with_children(Some(before), parts.entry, Some(behind), middle)
 }
 
-/// Rotates if the right side is two levels higher: `spare` becomes a node below the top.
+/// Rotates a tree whose right subtree is two levels higher. `spare` becomes a node below the top.
 fn lean_right(left: Link, entry: Entry, mut top: Box<Node>, spare: Box<Node>) -> Box<Node>
     requires two_higher { top.value.height ≡ levels_of left + 2 }
     requires fits { top.value.height ≤ 2 ^ 31 }
@@ -411,14 +411,14 @@ fn lean_right(left: Link, entry: Entry, mut top: Box<Node>, spare: Box<Node>) ->
     with_children(Some(before), parts.entry, Some(behind), middle)
 }
 
-/// The first piece of a tree, and the tree of the others.
+/// The first piece of a tree, and the tree of the other pieces.
 #[derive(Drop)]
 struct First {
     entry: Entry,
     rest: Link,
 }
 
-/// Takes the first piece out of a tree, and frees its node. O(log pieces), takes no memory.
+/// Removes the first piece from a tree, and frees its node. O(log pieces), takes no memory.
 fn take_first(mut node: Box<Node>) -> First
     requires few { length node.value.entries ≤ 2 ^ 64 }
     ensures entries { node.value.entries ≡ result.entry ∷ entries_of result.rest }
@@ -437,8 +437,7 @@ fn take_first(mut node: Box<Node>) -> First
     }
 }
 
-/// The tree without the piece that begins at the key, if there is one, whose node is freed. O(log pieces), takes no
-/// memory.
+/// Removes the piece that begins at the key, if there is one, and frees a node. O(log pieces), takes no memory.
 pub(crate) fn remove(link: Link, key: KeyNumber) -> Link
     requires rises { Rises (entries_of link) }
     requires few { length (entries_of link) ≤ 2 ^ 64 }

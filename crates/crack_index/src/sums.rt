@@ -1,4 +1,4 @@
-//! The sums of the pieces that bounds divide the keys of a partition into.
+//! The sums of the pieces into which bounds divide the keys of a partition.
 ghost use Rattle.std.specs.Prelude.{◌≡◌, ℕ, ℤ, ◌+◌, ◌<◌, ◌≤◌, ◌^◌, ◌↔◌, [], length, IsTrue, IsSome, IfSome, OnSome};
 ghost use Rattle.std.specs.Map.{keys_of};
 ghost use Rattle.crack_row.specs.declared.TheConstants.{GREATEST_BOUND};
@@ -13,12 +13,12 @@ use crack_row::{BoundNumber, GREATEST_KEY, Key, KeyNumber, KeyRange};
 use std::alloc::Global;
 use std::marker::Model;
 
-/// The value for a sum that isn't known. No sum of rows is as low.
+/// The value that stands for an unknown sum. No sum of rows is that low.
 pub const UNKNOWN: i128 = -170141183460469231731687303715884105728;
 
-/// The known sums of pieces. A piece has the keys from where it begins up to the next piece, or all keys from there on;
-/// no piece has the keys below the first. Contracts see the list of the pieces, each with the key where it begins, and
-/// its sum or `UNKNOWN`.
+/// The sums of pieces, if known. A piece has the keys from its start up to the next piece, or all keys from its
+/// start on; no piece has the keys below the first. Contracts see the list of pieces, each with its start, and its
+/// sum or `UNKNOWN`.
 #[derive(Drop)]
 pub struct PieceSums {
     root: Link,
@@ -38,19 +38,19 @@ impl Model for PieceSums {
     ghost invariant = { λ s. AreKept (entries_of s.root) s.len };
 }
 
-/// Where a walk over pieces ended.
+/// The result of a walk over pieces.
 #[derive(Clone, Copy, Debug)]
 pub(crate) enum Walked {
-    /// After the last piece, with their total.
+    /// All sums are known, and this is their total.
     Whole(i128),
-    /// At the piece that begins here, whose sum isn't known.
+    /// The first piece whose sum is unknown begins here.
     Unknown(KeyNumber),
-    /// Where the total would be too far from 0.
+    /// The total is too far from 0.
     TooFar,
 }
 
 impl PieceSums {
-    /// No pieces. Takes no memory.
+    /// Makes an empty list. Takes no memory.
     pub fn new(alloc: Global) -> PieceSums
         ensures { result ≡ [] }
     {
@@ -75,7 +75,7 @@ impl PieceSums {
         self.len == 0
     }
 
-    /// Forgets all pieces, and frees their memory.
+    /// Removes all pieces, and frees their memory.
     pub fn clear(&mut self)
         ensures { self.new ≡ [] }
     {
@@ -83,7 +83,8 @@ impl PieceSums {
         self.len = 0;
     }
 
-    /// Notes that the sum of the rows at the key has changed by this amount. Takes no memory. O(log pieces).
+    /// Adds this amount to the sum of the piece that contains the key, if it is known. Takes no memory. O(log
+    /// pieces).
     pub fn adjust(&mut self, key: Key, change: i128)
         ensures value { self.new ≡ adjusted key.0 change self.old }
         ensures keys { keys_of self.new ≡ keys_of self.old }
@@ -95,8 +96,8 @@ impl PieceSums {
         self.give(start, amounts::later(sum, change));
     }
 
-    /// Joins the piece that begins at the key to the one below it, if there are two such pieces. Their sum is known if
-    /// both sums are. Takes no memory. O(log pieces).
+    /// Joins the piece that begins at the key to the one below it, if both exist. Their sum is known if both sums
+    /// are and it fits. Takes no memory. O(log pieces).
     pub fn join(&mut self, key: Key)
         ensures value { self.new ≡ joined key.0 self.old }
         ensures right { (m : ℕ → ℕ → ℤ) → IsAdditive m → AreRight m self.old → AreRight m self.new }
@@ -118,7 +119,7 @@ impl PieceSums {
         self.give(low, amounts::whole(lower, upper));
     }
 
-    /// Drops the piece that begins at the key: its keys are the piece's below it.
+    /// Removes the piece that begins at the key. Its keys become keys of the piece below it.
     fn drop_at(&mut self, key: KeyNumber)
         requires { IsEnd key self.old }
         ensures value { self.new ≡ dropped key self.old }
@@ -129,10 +130,10 @@ impl PieceSums {
         self.len -= 1;
     }
 
-    /// The sum of a range, by the pieces in it. The pieces in which its ends lie are cut there, and the source is asked
-    /// for sums that aren't known: of parts of the range, or, where it prefers that, of the rest of a piece in which an
-    /// end lies. None if it finds no memory, the source has no sum, or 128 bits aren't enough; the known sums stay
-    /// right. O(log pieces), and that for each sum that is asked for, besides what the source does.
+    /// The sum of a range, from the sums of the pieces in it. The pieces that contain its ends are cut there. The
+    /// source is asked for each unknown sum: of a part of the range, or, if it prefers that, of the rest of a piece
+    /// that contains an end. `None` if no memory is found, the source has no sum, or 128 bits aren't enough; known
+    /// sums stay right. O(log pieces), and as much for each sum asked for, besides the source's work.
     pub fn sum<S: Source>(&mut self, range: KeyRange, source: &S) -> Option<i128>
         requires { range.low < range.high }
         ensures right { (m : ℕ → ℕ → ℤ) → IsAdditive m → AreTold (S.says source.now) m → AreRight m self.old
@@ -160,7 +161,7 @@ impl PieceSums {
         }
     }
 
-    /// Cuts the piece that has the key `first` there. False if memory for one more piece isn't found.
+    /// Cuts the piece that contains the key `first` there. Returns false if no memory is found.
     fn cut_low<S: Source>(&mut self, first: KeyNumber, last: KeyNumber, source: &S) -> bool
         ensures more { Extends (S.says source.now) self.old self.new }
         ensures cut { IsTrue result → IsEnd first self.new }
@@ -187,7 +188,7 @@ impl PieceSums {
         self.split_above(start, first, sum, source)
     }
 
-    /// Cuts the piece that has the key `last` after it. False if memory for one more piece isn't found.
+    /// Cuts the piece that contains the key `last` after it. Returns false if no memory is found.
     fn cut_high<S: Source>(&mut self, last: KeyNumber, source: &S) -> bool
         ensures more { Extends (S.says source.now) self.old self.new }
         ensures cut { IsTrue result → IsEnd (last + 1) self.new }
@@ -220,8 +221,8 @@ impl PieceSums {
         self.split_below(start, high, sum, source)
     }
 
-    /// Cuts the piece that begins at `start` at the key `at`, where none begins. The source is asked for the sum of the
-    /// lower part; the upper one has the rest of the piece's sum. False if memory for one more piece isn't found.
+    /// Cuts the piece that begins at `start` at the key `at`, where none begins. Asks the source for the sum of the
+    /// lower part; the upper part gets the rest. Returns false if no memory is found.
     fn split_below<S: Source>(
         &mut self,
         start: KeyNumber,
@@ -238,7 +239,7 @@ impl PieceSums {
         self.split(start, at, lower, amounts::rest(sum, lower))
     }
 
-    /// The same, if the source is asked for the sum of the upper part.
+    /// Like `split_below`, but asks the source for the sum of the upper part.
     fn split_above<S: Source>(
         &mut self,
         start: KeyNumber,
@@ -255,8 +256,8 @@ impl PieceSums {
         self.split(start, at, amounts::rest(sum, upper), upper)
     }
 
-    /// The sum of the keys from `first` to `last`, once the source was asked for the sums that aren't known from the
-    /// piece at `start` on.
+    /// The sum of the keys from `first` to `last`, after asking the source for each unknown sum of the pieces from
+    /// `start` on.
     fn learned<S: Source>(
         &mut self,
         first: KeyNumber,
@@ -279,8 +280,8 @@ impl PieceSums {
         }
     }
 
-    /// Asks the source for each sum that isn't known, of the pieces that begin at `first` to `last`. False if it has
-    /// none for one of them.
+    /// Asks the source for each unknown sum of the pieces that begin at keys from `first` to `last`. Returns false
+    /// if the source doesn't have one of them.
     fn learn<S: Source>(&mut self, first: KeyNumber, last: KeyNumber, source: &S) -> bool
         requires { first ≤ last }
         ensures { Extends (S.says source.now) self.old self.new }
@@ -300,7 +301,7 @@ impl PieceSums {
         true
     }
 
-    /// The total of the pieces that begin at `first` to `last`, or the first whose sum isn't known.
+    /// The total of the pieces that begin at `first` to `last`, or the first whose sum is unknown.
     fn walk(&self, first: KeyNumber, last: KeyNumber) -> Walked
         requires { first ≤ last }
         ensures { Walks (span first last) self.now result }
@@ -318,7 +319,7 @@ impl PieceSums {
         Walked::Unknown(start)
     }
 
-    /// The piece that has the key: where it begins, and its sum.
+    /// The piece that contains the key: its start and its sum.
     fn piece_at(&self, key: KeyNumber) -> Option<Entry>
         ensures value { result ≡ piece_at key self.now }
         ensures rises { Rises self.now }
@@ -326,7 +327,7 @@ impl PieceSums {
         sum_tree::last_at(&self.root, key)
     }
 
-    /// Where the first piece begins that begins above the key; past all keys if there is none.
+    /// The start of the first piece that begins above the key, or `GREATEST_BOUND` if there is none.
     fn next_at(&self, key: KeyNumber) -> BoundNumber
         ensures value { result ≡ next_at key self.now }
         ensures rises { Rises self.now }
@@ -334,8 +335,8 @@ impl PieceSums {
         sum_tree::next_above(&self.root, key)
     }
 
-    /// Cuts the piece that begins at `start` at the key `at`, where none begins: its lower part and its upper part have
-    /// these sums. False if memory for one more piece isn't found; then nothing has changed.
+    /// Cuts the piece that begins at `start` at the key `at`, where none begins, and gives the parts these sums.
+    /// Returns false, and changes nothing, if no memory is found.
     fn split(&mut self, start: KeyNumber, at: KeyNumber, lower: i128, upper: i128) -> bool
         requires { IsEnd at self.old → ⊥ }
         ensures ok { IsTrue result → self.new ≡ given start lower (put at upper self.old) }
@@ -349,7 +350,8 @@ impl PieceSums {
         true
     }
 
-    /// Adds a piece that begins at the key, where none begins. False if memory isn't found; then nothing has changed.
+    /// Adds a piece that begins at the key, where none begins. Returns false, and changes nothing, if no memory is
+    /// found.
     fn put(&mut self, key: KeyNumber, sum: i128) -> bool
         requires { IsEnd key self.old → ⊥ }
         ensures ok { IsTrue result → self.new ≡ put key sum self.old }
@@ -369,7 +371,7 @@ impl PieceSums {
         true
     }
 
-    /// Gives the piece that begins at the key this sum.
+    /// Sets the sum of the piece that begins at the key.
     fn give(&mut self, key: KeyNumber, sum: i128)
         ensures value { self.new ≡ given key sum self.old }
         ensures rises { Rises self.old }

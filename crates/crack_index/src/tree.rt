@@ -1,5 +1,5 @@
-//! An AVL tree of marks in rising order, whose nodes the caller passes in, and whose look-ups and moves take no memory
-//! ("An algorithm for the organization of information", 1962).
+//! An AVL tree of marks in rising order ("An algorithm for the organization of information", 1962). The caller
+//! passes its nodes in. Look-ups and moves of marks take no memory.
 ghost use Rattle.std.specs.Prelude.{◌≡◌, ◌+◌, ◌-◌, ◌^◌, ◌<◌, ◌≤◌, max, length, [], ◌∷◌, ◌++◌, map, List, ℕ, vec_len};
 ghost use Rattle.std.specs.Prelude.{vec_capacity, OnOk, IfOk, IfErr};
 ghost use Rattle.crack_index.specs.Marks.{Rising, added, last_mark, next_mark, first_behind, last_before, raised};
@@ -16,10 +16,10 @@ use std::alloc::Global;
 use std::marker::Model;
 use std::mem;
 
-/// A tree of marks; none if there are no marks.
+/// A tree of marks, or `None` if there are no marks.
 pub(crate) type Link = Option<Box<Node>>;
 
-/// A mark between the trees of those before and after it. Contracts see all marks in rising order, and the height.
+/// A mark, and the trees of the marks before and after it. Contracts see all marks in rising order, and the height.
 #[derive(Drop)]
 pub(crate) struct Node {
     pub(crate) mark: Mark,
@@ -54,7 +54,7 @@ struct Parts {
 }
 
 impl Node {
-    /// The tree of one mark.
+    /// Makes a tree of one mark.
     pub(crate) fn leaf(mark: Mark) -> Node
         ensures marks { result.marks ≡ mark ∷ [] }
         ensures height { result.height ≡ 1 }
@@ -67,7 +67,7 @@ impl Node {
         }
     }
 
-    /// Takes the node apart: it is left without sides.
+    /// Takes the node apart. The node is left without children.
     fn open(&mut self) -> Parts
         ensures marks { self.old.marks ≡ marks_of result.left ++ result.mark ∷ marks_of result.right }
         ensures balanced { IsBalanced result.left result.mark result.right self.old.height }
@@ -83,7 +83,7 @@ impl Node {
     }
 }
 
-/// The height of a tree: 0 if there are no marks. O(1).
+/// The height of a tree, 0 if it is empty. O(1).
 pub(crate) fn height(link: &Link) -> u32
     ensures value { result ≡ height_of link.now }
     ensures tall { IsTall (length (marks_of link.now)) (height_of link.now) }
@@ -166,7 +166,7 @@ pub(crate) fn neighbours(link: &Link, number: KeyNumber) -> (Option<Mark>, Optio
     (below, above)
 }
 
-/// The first mark that is after the place. O(log marks), one comparison per level.
+/// The first mark after the place. O(log marks), one comparison per level.
 pub(crate) fn first_behind(link: &Link, place: usize) -> Option<Mark>
     ensures { result ≡ first_behind place (marks_of link.now) }
 {
@@ -189,7 +189,7 @@ pub(crate) fn first_behind(link: &Link, place: usize) -> Option<Mark>
     found
 }
 
-/// The last mark that is before the place. O(log marks), one comparison per level.
+/// The last mark before the place. O(log marks), one comparison per level.
 pub(crate) fn last_before(link: &Link, place: usize) -> Option<Mark>
     ensures { result ≡ last_before place (marks_of link.now) }
 {
@@ -212,7 +212,7 @@ pub(crate) fn last_before(link: &Link, place: usize) -> Option<Mark>
     found
 }
 
-/// The tree with one more mark, in the node that is passed in. O(log marks), takes no memory.
+/// Inserts a mark into the tree, in the node that is passed in. O(log marks), takes no memory.
 pub(crate) fn insert(link: Link, mark: Mark, mut node: Box<Node>) -> Box<Node>
     requires rising { Rising (added mark (marks_of link)) }
     requires few { length (marks_of link) < 2 ^ 64 }
@@ -234,8 +234,8 @@ pub(crate) fn insert(link: Link, mark: Mark, mut node: Box<Node>) -> Box<Node>
     }
 }
 
-/// The tree of both sides and the mark between them, in this node. One side may be two levels higher than the other:
-/// then it is rotated. O(1).
+/// Makes a tree of two subtrees and the mark between them, in this node. One subtree may be two levels higher than
+/// the other; then the tree is rotated. O(1).
 fn join(left: Link, mark: Mark, right: Link, node: Box<Node>) -> Box<Node>
     requires rising { Rising (marks_of left ++ mark ∷ marks_of right) }
     requires near { DifferByAtMost 2 (height_of left) (height_of right) }
@@ -251,8 +251,8 @@ fn join(left: Link, mark: Mark, right: Link, node: Box<Node>) -> Box<Node>
     }
 }
 
-/// The tree of both sides and the mark between them, in this node, if neither side is more than a level higher.
-/// O(1).
+/// Makes a tree of two subtrees and the mark between them, in this node. The subtrees' heights differ by at most
+/// one. O(1).
 fn with_children(left: Link, mark: Mark, right: Link, mut node: Box<Node>) -> Box<Node>
     requires rising { Rising (marks_of left ++ mark ∷ marks_of right) }
     requires even { DifferByAtMost 1 (height_of left) (height_of right) }
@@ -270,7 +270,7 @@ fn with_children(left: Link, mark: Mark, right: Link, mut node: Box<Node>) -> Bo
     node
 }
 
-/// Rotates if the left side is two levels higher: `spare` becomes a node below the top.
+/// Rotates a tree whose left subtree is two levels higher. `spare` becomes a node below the top.
 fn lean_left(mut top: Box<Node>, mark: Mark, right: Link, spare: Box<Node>) -> Box<Node>
     requires rising { Rising (top.value.marks ++ mark ∷ marks_of right) }
     requires two_higher { top.value.height ≡ height_of right + 2 }
@@ -297,7 +297,7 @@ fn lean_left(mut top: Box<Node>, mark: Mark, right: Link, spare: Box<Node>) -> B
     with_children(Some(before), parts.mark, Some(behind), middle)
 }
 
-/// Rotates if the right side is two levels higher: `spare` becomes a node below the top.
+/// Rotates a tree whose right subtree is two levels higher. `spare` becomes a node below the top.
 fn lean_right(left: Link, mark: Mark, mut top: Box<Node>, spare: Box<Node>) -> Box<Node>
     requires rising { Rising (marks_of left ++ mark ∷ top.value.marks) }
     requires two_higher { top.value.height ≡ height_of left + 2 }
@@ -324,14 +324,14 @@ fn lean_right(left: Link, mark: Mark, mut top: Box<Node>, spare: Box<Node>) -> B
     with_children(Some(before), parts.mark, Some(behind), middle)
 }
 
-/// The first mark of a tree, and the tree of the others.
+/// The first mark of a tree, and the tree of the other marks.
 #[derive(Drop)]
 struct First {
     mark: Mark,
     rest: Link,
 }
 
-/// Takes the first mark out of a tree, and frees its node. O(log marks), takes no memory.
+/// Removes the first mark from a tree, and frees its node. O(log marks), takes no memory.
 fn take_first(mut node: Box<Node>) -> First
     requires few { length node.value.marks < 2 ^ 64 }
     ensures marks { node.value.marks ≡ result.mark ∷ marks_of result.rest }
@@ -350,7 +350,7 @@ fn take_first(mut node: Box<Node>) -> First
     }
 }
 
-/// The tree without the mark of this bound, if it has one, whose node is freed. O(log marks), takes no memory.
+/// Removes the mark of this bound, if the tree has it, and frees a node. O(log marks), takes no memory.
 pub(crate) fn remove(link: Link, bound: KeyNumber) -> Link
     requires few { length (marks_of link) < 2 ^ 64 }
     ensures marks { marks_of result ≡ removed bound (marks_of link) }
@@ -376,7 +376,7 @@ pub(crate) fn remove(link: Link, bound: KeyNumber) -> Link
     Some(join(left, first.mark, first.rest, here))
 }
 
-/// Each bound at or above `low` that is at the place moves up by one. O(log marks) and the marks at that place.
+/// Moves each bound at or above `low` that is at the place up by one. O(log marks + marks at the place).
 pub(crate) fn raise(link: &mut Link, low: KeyNumber, place: usize)
     requires { place < usize.MAX }
     ensures marks { marks_of link.new ≡ map (raised low place) (marks_of link.old) }
@@ -402,7 +402,7 @@ pub(crate) fn raise(link: &mut Link, low: KeyNumber, place: usize)
     }
 }
 
-/// Each bound at or below `high` that is at the place moves down by one. O(log marks) and the marks at that place.
+/// Moves each bound at or below `high` that is at the place down by one. O(log marks + marks at the place).
 pub(crate) fn lower(link: &mut Link, high: KeyNumber, place: usize)
     requires { 0 < place }
     ensures marks { marks_of link.new ≡ map (lowered high place) (marks_of link.old) }
@@ -428,7 +428,7 @@ pub(crate) fn lower(link: &mut Link, high: KeyNumber, place: usize)
     }
 }
 
-/// Each bound that is at the place moves down by one. O(log marks) and the marks at that place.
+/// Moves each bound that is at the place down by one. O(log marks + marks at the place).
 pub(crate) fn lower_at(link: &mut Link, place: usize)
     requires { 0 < place }
     ensures marks { marks_of link.new ≡ map (lowered_at place) (marks_of link.old) }
@@ -454,15 +454,15 @@ pub(crate) fn lower_at(link: &mut Link, place: usize)
     }
 }
 
-/// Where one piece ends and the next begins.
+/// An end of a piece, where the next one begins.
 #[derive(Clone, Copy)]
 struct Edge {
     bound: Bound,
     position: usize,
 }
 
-/// Adds the sizes of the pieces that end at the marks of the tree, in order. The first begins at `last`, which is then
-/// the last mark. O(marks), takes no memory.
+/// Appends the sizes of the pieces that end at the tree's marks, in order. The first piece begins at `last`, which
+/// becomes the edge at the last mark. O(marks), takes no memory.
 fn append_pieces(link: &Link, last: &mut Edge, pieces: &mut Vec<PieceSize>)
     requires room { vec_len pieces.old + length (marks_of link.now) ≤ vec_capacity pieces.old }
     ensures made { (rest : List Mark) (high : Bound) (to : ℕ)
@@ -487,8 +487,8 @@ fn append_pieces(link: &Link, last: &mut Edge, pieces: &mut Vec<PieceSize>)
     append_pieces(right, last, pieces);
 }
 
-/// The sizes of the pieces between the marks of a tree, this many, and at both ends; refused with 8 if it finds no
-/// memory. O(marks).
+/// The sizes of the pieces between the `marks` marks of a tree, and of those at both ends. O(marks). Refused with
+/// `OutOfMemory` if no memory is found.
 pub(crate) fn piece_sizes(
     alloc: Global,
     link: &Link,
@@ -516,7 +516,7 @@ pub(crate) fn piece_sizes(
     Ok(pieces)
 }
 
-/// Where the piece below a mark ends.
+/// The end of the piece below a mark.
 fn edge_at(mark: Mark) -> Edge
     ensures { result ≡ record { bound = record { 0 = mark.bound.0 }; position = mark.position } }
 {
@@ -526,7 +526,7 @@ fn edge_at(mark: Mark) -> Edge
     }
 }
 
-/// The size of the piece between two edges: 0 if the second is before the first.
+/// The size of the piece between two edges, 0 if the second is before the first.
 fn piece_between(low: Edge, high: Edge) -> PieceSize
     ensures { result ≡ size_between low.bound low.position high.bound high.position }
 {
@@ -537,8 +537,8 @@ fn piece_between(low: Edge, high: Edge) -> PieceSize
     }
 }
 
-/// Fills the stock up to this many spare nodes, one box at a time. Refused with 8 if it finds no memory; the nodes made
-/// until then stay.
+/// Fills the stock up to this many spare nodes, one box at a time. Refused with `OutOfMemory` if no memory is
+/// found; nodes made until then stay in the stock.
 pub(crate) fn fill(spare: &mut Vec<Box<Node>>, nodes: usize) -> Result<(), Refusal>
     requires { vec_len spare.old ≤ nodes }
     ensures ok { OnOk result (nodes ≤ vec_len spare.new) }

@@ -1,17 +1,17 @@
-//! The visitors of walks over the bounds of an index.
+//! Visitors of walks over the bounds of an index.
 ghost use Rattle.std.specs.Prelude.{ℕ, Bool};
 ghost use Rattle.crack_index.specs.declared.mark.Mark.{Mark};
 
 use crate::Mark;
 
-/// The visitor of a walk over the bounds of an index. At each place where bounds are it does the work of a step, and
-/// returns whether the walk goes on. It has no access to the index. A walk calls it once for each place, and its body
-/// is a part of the walk's loop: mark `visit` with `#[inline(always)]`.
+/// The visitor of a walk over the bounds of an index. At each place that has bounds it does one step's work, and
+/// returns whether the walk goes on. It has no access to the index. A walk calls it once for each place, and
+/// inlines it in its loop: mark `visit` with `#[inline(always)]`.
 pub trait Visitor {
-    /// When it may be given a place.
+    /// The states in which the visitor may be called.
     ghost is_ready: { Self → Type 0 };
 
-    /// The effect of a visit: from the first state, at this place, with this answer, to the second.
+    /// The effect of a visit: the state before, the place, the result, and the state after.
     ghost visits: { Self → ℕ → Bool → Self → Type 0 };
 
     /// Does the work at the place, and returns whether the walk goes on.
@@ -21,32 +21,32 @@ pub trait Visitor {
         ensures ready { is_ready self.new };
 }
 
-/// The visitor of a walk over the bounds of an index from the highest down, which returns how far each of them rises.
+/// The visitor of a walk over the bounds of an index, from the highest down, that returns how far each bound rises.
 /// It has no access to the index.
 pub trait Raiser {
-    /// When it may be given a bound.
+    /// The states in which the visitor may be called.
     ghost is_ready: { Self → Type 0 };
 
-    /// The effect of a visit: from the first state, at this mark, with this rise, to the second.
+    /// The effect of a visit: the state before, the mark, its rise, and the state after.
     ghost rises: { Self → Mark → ℕ → Self → Type 0 };
 
-    /// Does the work at the bound, and returns by how many places it moves up.
+    /// Does the work at the bound, and returns by how many places the bound moves up.
     fn rise(&mut self, mark: Mark) -> usize
         requires { is_ready self.old }
         ensures rises { rises self.old mark result self.new }
         ensures ready { is_ready self.new };
 }
 
-/// The visitor of a walk over the bounds of an index from the lowest up, which returns the new place of each. It has no
-/// access to the index.
+/// The visitor of a walk over the bounds of an index, from the lowest up, that returns the new place of each bound.
+/// It has no access to the index.
 pub trait Placer {
-    /// When it may be given a bound.
+    /// The states in which the visitor may be called.
     ghost is_ready: { Self → Type 0 };
 
-    /// The effect of a visit: from the first state, at this mark, with this place, to the second.
+    /// The effect of a visit: the state before, the mark, its new place, and the state after.
     ghost places: { Self → Mark → ℕ → Self → Type 0 };
 
-    /// Does the work at the bound, and returns its new place.
+    /// Does the work at the bound, and returns the bound's new place.
     fn place(&mut self, mark: Mark) -> usize
         requires { is_ready self.old }
         ensures places { places self.old mark result self.new }

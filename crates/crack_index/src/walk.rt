@@ -1,5 +1,5 @@
-//! Walks over the marks of a tree in order, from place to place, each one recursion over the tree: a bound at the place
-//! of the last visit moves as well, and at a bound after it the visitor is given the next place.
+//! Walks over the marks of a tree in order, from place to place. Each walk is one recursion over the tree. A bound
+//! at the place of the last visit moves without a visit; at a bound after it the visitor is given the next place.
 ghost use Rattle.std.specs.Prelude.{ℕ, ◌≡◌, ◌<◌, ◌≤◌, reverse, length, All, Contains, IfSome, None, is_some};
 ghost use Rattle.crack_index.specs.Marks.{Rising, next_mark, last_mark};
 ghost use Rattle.crack_index.specs.Steps.{Goes, StepsUp, StepsDown};
@@ -10,17 +10,17 @@ use crate::tree::{Link, Node};
 use crate::{Mark, Visitor};
 use crack_row::KeyNumber;
 
-/// The progress of a walk.
+/// The state of a walk.
 #[derive(Clone, Copy)]
 struct Way {
-    /// The place from which bounds moved last; before any moved, a place at which none can move.
+    /// The place of the last visit, whose bounds move; at first a place from which none can move.
     last: usize,
-    /// The bound at which the walk ended, if it has.
+    /// The bound at which the walk ended, if it has ended.
     ended: Option<Mark>,
 }
 
-/// Walks up from the first mark above the number. Returns the mark at which it ended. O(log marks) and the marks at the
-/// places on its way.
+/// Walks up from the first mark above the number. Returns the mark at which the walk ended. O(log marks), and one
+/// step for each mark at the visited places.
 #[inline(always)]
 pub(crate) fn climb<V: Visitor>(link: &mut Link, number: KeyNumber, visitor: &mut V) -> Option<Mark>
     requires rising { Rising (marks_of link.old) }
@@ -43,8 +43,8 @@ pub(crate) fn climb<V: Visitor>(link: &mut Link, number: KeyNumber, visitor: &mu
     way.ended
 }
 
-/// Walks down from the last mark at or below the number. Returns the mark at which it ended. O(log marks) and the marks
-/// at the places on its way.
+/// Walks down from the last mark at or below the number. Returns the mark at which the walk ended. O(log marks),
+/// and one step for each mark at the visited places.
 #[inline(always)]
 pub(crate) fn descend<V: Visitor>(
     link: &mut Link,
@@ -70,7 +70,7 @@ pub(crate) fn descend<V: Visitor>(
     way.ended
 }
 
-/// The part of a walk up that is in this tree. Returns whether the walk has ended.
+/// Does the part of a walk up that lies in this tree. Returns whether the walk has ended.
 fn raise_along<V: Visitor>(
     node: &mut Node,
     number: KeyNumber,
@@ -112,8 +112,8 @@ fn raise_along<V: Visitor>(
     }
 }
 
-/// The part of a walk up that is in this tree, if all bounds are above the number from which it began: so it
-/// compares none with it. Returns whether the walk has ended.
+/// Does the part of a walk up that lies in this tree, whose bounds are all above the walk's first number, so none
+/// is compared with it. Returns whether the walk has ended.
 fn raise_all<V: Visitor>(node: &mut Node, way: &mut Way, visitor: &mut V) -> bool
     requires going { way.old.ended ≡ None }
     requires above { (number : ℕ) × All (λ m. number < m.bound.0) node.old.marks }
@@ -145,7 +145,7 @@ fn raise_all<V: Visitor>(node: &mut Node, way: &mut Way, visitor: &mut V) -> boo
     }
 }
 
-/// The part of a walk down that is in this tree. Returns whether the walk has ended.
+/// Does the part of a walk down that lies in this tree. Returns whether the walk has ended.
 fn lower_along<V: Visitor>(
     node: &mut Node,
     number: KeyNumber,
@@ -186,8 +186,8 @@ fn lower_along<V: Visitor>(
     }
 }
 
-/// The part of a walk down that is in this tree, if no bound is above the number from which it began: so it compares
-/// none with it. Returns whether the walk has ended.
+/// Does the part of a walk down that lies in this tree, whose bounds aren't above the walk's first number, so none
+/// is compared with it. Returns whether the walk has ended.
 fn lower_all<V: Visitor>(node: &mut Node, way: &mut Way, visitor: &mut V) -> bool
     requires going { way.old.ended ≡ None }
     requires below { (number : ℕ) × All (λ m. m.bound.0 ≤ number) node.old.marks }
@@ -219,7 +219,7 @@ fn lower_all<V: Visitor>(node: &mut Node, way: &mut Way, visitor: &mut V) -> boo
     }
 }
 
-/// What a walk up does at a bound above the number from which it began. Returns whether the walk has ended.
+/// Does the step of a walk up at a bound above the walk's first number. Returns whether the walk has ended.
 #[inline(always)]
 fn step_up<V: Visitor>(mark: &mut Mark, way: &mut Way, visitor: &mut V) -> bool
     requires going { way.old.ended ≡ None }
@@ -244,7 +244,7 @@ fn step_up<V: Visitor>(mark: &mut Mark, way: &mut Way, visitor: &mut V) -> bool
     }
 }
 
-/// What a walk down does at a bound at or below the number where it began. Returns whether the walk has ended.
+/// Does the step of a walk down at a bound at or below the walk's first number. Returns whether the walk has ended.
 #[inline(always)]
 fn step_down<V: Visitor>(mark: &mut Mark, way: &mut Way, visitor: &mut V) -> bool
     requires going { way.old.ended ≡ None }

@@ -3,6 +3,7 @@ use denote.Param.Send.{IsSend, IsSync, struct_send, struct_sync, sendable}
 use denote.Struct.Declared.{shape}
 use Rattle.std.proofs.Crossing.{crosses}
 use Rattle.crack_loop.specs.contracts.admission.Admission as Admission
+use Rattle.crack_loop.specs.contracts.pace.Pace as Pace
 use Rattle.crack_loop.specs.contracts.server.Post as Post
 
 -- poll, listener, events
@@ -12,3 +13,7 @@ post-send = struct_send (shape Post.the_type) (search (sendable, crosses) depth 
 -- progress, is_over, is_stopping
 pub admission-sync : IsSync Admission.the_field.row
 admission-sync = struct_sync (shape Admission.the_type) (search (sendable, crosses) depth 30, (search (sendable, crosses) depth 30, (search (sendable, crosses) depth 30, tt)))
+
+-- answered, longest, second
+pub pace-send : IsSend Pace.the_field.row
+pace-send = struct_send (shape Pace.the_type) (search (sendable, crosses) depth 30, (search (sendable, crosses) depth 30, (search (sendable, crosses) depth 30, tt)))

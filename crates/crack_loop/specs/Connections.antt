@@ -1,4 +1,4 @@
--- A connection of a server, seen from its worker: its state, what it does next, and what feeding its session does to it.
+-- A connection of a server without its stream: its state, what it does next, and what feeding its session does.
 use Rattle.std.specs.Prelude.{◌≡◌, ℕ, ◌-◌, ◌≤◌, Bool, true, false, List, [], ◌∷◌, length, take, drop, Option, None, if◌then◌else◌, IsTrue}
 use Rattle.crack_row.specs.declared.Bound.{Bound}
 use Rattle.crack_row.specs.declared.command.Policy.{Policy}
@@ -13,8 +13,8 @@ use Rattle.crack_session.specs.declared.feeding.Why.TheVariants.{Wants, Full, Qu
 use Rattle.crack_loop.specs.declared.connection.Next.{Next}
 use Rattle.crack_loop.specs.declared.connection.Next.TheVariants.{Write, Answer, Read, Close}
 
--- what contracts see of a connection: its session; the bytes that were received and aren't fed to it yet; the texts that it appended and that aren't written
--- yet; why it stopped taking bytes; and whether its input has ended
+-- what contracts see of a connection: its session; the bytes that were received and aren't fed to it yet; the texts
+-- that it appended and that aren't written yet; why it stopped taking bytes; and whether its input has ended
 pub record ConnectionState : Type 0 where
   pub session : SessionState
   pub received : List ℕ
@@ -22,7 +22,7 @@ pub record ConnectionState : Type 0 where
   pub stopped : Why
   pub has_ended : Bool
 
--- a session that begins with this policy
+-- a new session with this policy
 abbrev pub new_session : Policy → SessionState
 new_session policy = record {
   begun = [];
@@ -36,7 +36,7 @@ abbrev pub is_none : List ℕ → Bool
 is_none [] = true
 is_none (b ∷ bs) = false
 
--- what is next of a connection of which all texts are written
+-- what a connection does next, once all its texts are written
 abbrev pub next_taking : Why → Bool → Bool → Next
 next_taking Full none has_ended = Answer
 next_taking Quit none has_ended = Close
@@ -45,27 +45,28 @@ next_taking Wants false has_ended = Answer
 next_taking Wants true true = Close
 next_taking Wants true false = Read
 
--- what is next of a connection: texts that wait are written before anything else is done
+-- what a connection does next: texts that wait are written before anything else is done
 abbrev pub next_of : ConnectionState → Next
 next_of c = if is_none c.unsent then next_taking c.stopped (is_none c.received) c.has_ended else Write
 
--- why a connection is cut off: it couldn't be written to, or not be read
+-- the refusal if a connection is cut off: it couldn't be written to, or couldn't be read
 abbrev pub fault_of : Next → Refusal
 fault_of Write = WriteFault
 fault_of _ = ReadFault
 
--- the bytes that are left for later by a session that stopped: those after its end aren't
-abbrev pub left_by : Why → List ℕ → List ℕ
-left_by Full bytes = bytes
-left_by _ bytes = []
+-- the bytes that a stopped session leaves for later: none after it has ended
+abbrev pub left_for_later : Why → List ℕ → List ℕ
+left_for_later Full bytes = bytes
+left_for_later _ bytes = []
 
--- The session of a connection is fed the first of these bytes, and what it doesn't take is left for later, if memory is found for that.
+-- The session of a connection is fed the first of these bytes, and keeps what it doesn't take, if memory is found
+-- for that.
 pub record Answers {D : Type 0} (bounds : D → Bounds) (splits : D → List Bound) (tables : D → Option (List PlainView)) (leads : D → Call → D → Type 0) (old : ConnectionState) (bytes : List ℕ) (desk desk' : D) (out out' : List ℕ) (is_kept : Bool) (new : ConnectionState) : Type 0 where
   pub taken : ℕ
   pub within : taken ≤ length bytes
   pub feeds : Feeds bounds splits tables leads old.session (take taken bytes) desk desk' out out' new.session
   pub stopped : StoppedFor new.stopped (length bytes - taken) out' new.session
-  pub left : IsTrue is_kept → new.received ≡ left_by new.stopped (drop taken bytes)
-  pub spares : left_by new.stopped (drop taken bytes) ≡ [] → IsTrue is_kept
+  pub left : IsTrue is_kept → new.received ≡ left_for_later new.stopped (drop taken bytes)
+  pub spares : left_for_later new.stopped (drop taken bytes) ≡ [] → IsTrue is_kept
   pub unsent : new.unsent ≡ old.unsent
   pub has_ended : new.has_ended ≡ old.has_ended

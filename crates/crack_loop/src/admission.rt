@@ -1,4 +1,4 @@
-//! The connections that a server accepts, on all its threads.
+//! Accepting the connections of a server, for all its threads.
 use crate::connection::has_passed;
 use crate::terms::Ending;
 use mio::net::{TcpListener, TcpStream};
@@ -7,7 +7,7 @@ use std::net::SocketAddr;
 use std::sync::atomic::{AtomicBool, Ordering};
 use std::sync::{Mutex, Wait};
 
-/// The counts of a server.
+/// The counts of a server's connections. `most` is how many may be accepted.
 #[derive(Drop)]
 pub(crate) struct Progress {
     accepted: u64,
@@ -15,41 +15,52 @@ pub(crate) struct Progress {
     open: u64,
     served: u64,
     cut_off: u64,
-    /// How many clients were turned away since the last report of this, and the last of them.
+    /// How many clients were turned away since this was last reported, and the last of them.
     turned_away: u64,
     last_away: Option<SocketAddr>,
-    /// When they were reported last.
+    /// How many accepts failed since this was last reported.
+    failed: u64,
+    /// When each of the two was last reported.
     reported: Option<u64>,
+    failed_reported: Option<u64>,
 }
 
-/// The least time between two reports of clients that were turned away, in milliseconds.
+/// The least time between two reports of clients that were turned away, or of failed accepts, in milliseconds.
 const REPORT_MILLIS: u64 = 1000;
 
-/// What came of an accept.
+/// Whether a report is due: there was none yet, the last one was at least a second ago, or the server ends.
+fn is_due(reported: Option<u64>, now: u64, is_end: bool) -> bool {
+    match reported {
+        Some(then) => is_end || has_passed(REPORT_MILLIS, then, now),
+        None => true,
+    }
+}
+
+/// The result of an accept.
 #[derive(Drop)]
 pub(crate) enum Arrival {
-    /// A connection.
+    /// A connection was accepted.
     Accepted(TcpStream, SocketAddr),
-    /// One more than the server may have.
+    /// A connection was turned away: as many are open as may be.
     TurnedAway(TcpStream),
-    /// None waits, or none is accepted any more.
+    /// No connection waits, or no more are accepted.
     Nobody,
     /// The accept failed.
     Failed,
 }
 
-/// How many connections a server has accepted and has open, and whether it accepts more.
+/// The counts of a server's connections, and whether it accepts more.
 #[derive(Drop)]
 pub(crate) struct Admission {
     pub(crate) progress: Mutex<Progress>,
-    /// Whether no more are accepted.
+    /// Whether no more connections are accepted.
     is_over: AtomicBool,
     /// Whether the server stops.
     is_stopping: AtomicBool,
 }
 
 impl Admission {
-    /// Nothing is accepted yet by a server with this ending.
+    /// The state of a new server with this ending.
     pub(crate) fn new(ending: Ending) -> Admission {
         let most = match ending {
             Ending::AfterSessions(sessions) => sessions,
@@ -64,15 +75,17 @@ impl Admission {
                 cut_off: 0,
                 turned_away: 0,
                 last_away: None,
+                failed: 0,
                 reported: None,
+                failed_reported: None,
             }),
             is_over: AtomicBool::new(most == 0),
             is_stopping: AtomicBool::new(false),
         }
     }
 
-    /// Accepts a connection, if one waits and the server may accept it, with at most this many open. The lock is held
-    /// meanwhile, so that no more are accepted than may be. An accept that fails counts as one.
+    /// Accepts a connection, if one waits, or turns it away if `clients` are open. The lock is held meanwhile, so
+    /// that no more are accepted than may be. An accept that fails counts as a connection.
     pub(crate) fn accept<Rt: Wait>(
         &self,
         rt: &Rt,
@@ -92,7 +105,10 @@ impl Admission {
             Ok((stream, client)) => Arrival::Accepted(stream, client),
             Err(error) => match error.kind() {
                 ErrorKind::WouldBlock | ErrorKind::Interrupted => return Arrival::Nobody,
-                _ => Arrival::Failed,
+                _ => {
+                    progress.failed = progress.failed.saturating_add(1);
+                    Arrival::Failed
+                }
             },
         };
         if let Arrival::Accepted(..) = &arrival {
@@ -117,7 +133,7 @@ impl Admission {
         self.is_over.load(Ordering::SeqCst)
     }
 
-    /// Whether the server stops: connections end as soon as they have nothing to read.
+    /// Whether the server stops: each connection ends as soon as it has nothing to read.
     pub(crate) fn is_stopping(&self) -> bool {
         self.is_stopping.load(Ordering::SeqCst)
     }
@@ -132,8 +148,7 @@ impl Admission {
         }
     }
 
-    /// How many clients were turned away since this last returned some, and the last of them: none if this was less
-    /// than a second ago, unless the server ends.
+    /// Takes the number of clients that were turned away, and the last of them, if there are any and a report is due.
     pub(crate) fn take_turned_away<Rt: Wait>(
         &self,
         rt: &Rt,
@@ -141,10 +156,7 @@ impl Admission {
         is_end: bool,
     ) -> Option<(u64, SocketAddr)> {
         let mut progress = self.progress.lock(rt);
-        let is_due = match progress.reported {
-            Some(then) => is_end || has_passed(REPORT_MILLIS, then, now),
-            None => true,
-        };
+        let is_due = is_due(progress.reported, now, is_end);
         let count = progress.turned_away;
         match progress.last_away {
             Some(client) if is_due && count > 0 => {
@@ -156,13 +168,31 @@ impl Admission {
         }
     }
 
-    /// Accepts no more.
+    /// Takes the number of accepts that failed, if there are any and a report is due.
+    pub(crate) fn take_failed<Rt: Wait>(&self, rt: &Rt, now: u64, is_end: bool) -> Option<u64> {
+        let mut progress = self.progress.lock(rt);
+        let count = progress.failed;
+        if count == 0 || !is_due(progress.failed_reported, now, is_end) {
+            return None;
+        }
+        progress.failed = 0;
+        progress.failed_reported = Some(now);
+        Some(count)
+    }
+
+    /// Stops the server: no more connections are accepted.
     pub(crate) fn stop(&self) {
         self.is_over.store(true, Ordering::SeqCst);
         self.is_stopping.store(true, Ordering::SeqCst);
     }
 
-    /// How many connections were served, and how many of them were cut off.
+    /// How many connections are open, and how many sessions have begun.
+    pub(crate) fn counts<Rt: Wait>(&self, rt: &Rt) -> (u64, u64) {
+        let progress = self.progress.lock(rt);
+        (progress.open, progress.served.saturating_add(progress.open))
+    }
+
+    /// How many connections have ended, and how many of them were cut off.
     pub(crate) fn served<Rt: Wait>(&self, rt: &Rt) -> (u64, u64) {
         let progress = self.progress.lock(rt);
         (progress.served, progress.cut_off)

@@ -1,10 +1,10 @@
-//! Bytes that wait, of a connection that is busy.
+//! Bytes of a busy connection that wait.
 ghost use Rattle.std.specs.Prelude.{◌≡◌, ◌==◌, [], length, drop, IsOk, OnOk, OnErr};
 
 use std::alloc::{AllocError, Global};
 use std::marker::Model;
 
-/// Bytes that wait until they are passed on, the first ones first. It holds memory only while some wait.
+/// A queue of bytes that wait to be passed on. It holds memory only while it isn't empty.
 #[derive(Drop)]
 pub struct Backlog {
     bytes: Vec<u8>,
@@ -22,7 +22,7 @@ impl Model for Backlog {
 }
 
 impl Backlog {
-    /// No bytes.
+    /// An empty queue.
     pub fn new(alloc: Global) -> Backlog
         ensures { result ≡ [] }
     {
@@ -32,7 +32,7 @@ impl Backlog {
         }
     }
 
-    /// The bytes that wait.
+    /// The bytes that wait, the oldest first.
     pub fn as_slice(&self) -> &[u8]
         ensures { result.now ≡ self.now }
     {
@@ -46,7 +46,7 @@ impl Backlog {
         self.passed == self.bytes.len()
     }
 
-    /// Has these bytes wait, in place of all others. Refused if no memory is found.
+    /// Replaces the bytes that wait. Refused if no memory is found; then nothing has changed.
     pub fn keep(&mut self, alloc: Global, bytes: &[u8]) -> Result<(), AllocError>
         ensures ok { OnOk result (self.new ≡ bytes.now) }
         ensures err { OnErr result (self.new ≡ self.old) }
@@ -63,7 +63,7 @@ impl Backlog {
         Ok(())
     }
 
-    /// Passes on the first bytes, this many or all.
+    /// Removes the first `count` bytes, or all if there are fewer.
     pub fn pass(&mut self, alloc: Global, count: usize)
         ensures { self.new ≡ drop count self.old }
     {

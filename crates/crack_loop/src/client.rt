@@ -10,36 +10,37 @@ use std::alloc::Global;
 use std::io::{ErrorKind, Read, Write};
 use std::net::SocketAddr;
 
-/// A connection, at the thread that serves it.
+/// A connection of a thread, with its stream.
 #[derive(Drop)]
 pub(crate) struct Client {
     pub(crate) stream: TcpStream,
     pub(crate) connection: Connection,
     pub(crate) address: SocketAddr,
-    /// When its stream last gave or took a byte, by its thread's clock.
+    /// When the stream last delivered or accepted a byte, by the thread's own time.
     pub(crate) heard: u64,
-    /// Whether it is among those whose turn comes.
+    /// Whether the connection is queued for a turn.
     pub(crate) is_queued: bool,
-    /// Whether its client sends no more than what has arrived.
+    /// Whether the client sends no more than what has arrived.
     pub(crate) is_half_closed: bool,
 }
 
-/// What follows a turn.
+/// What a connection does after a turn.
 #[derive(Clone, Copy, PartialEq, Eq, Debug)]
 pub(crate) enum After {
-    /// Another turn, without waiting.
+    /// It takes another turn without waiting.
     Turn,
-    /// A turn once its stream is ready.
+    /// It takes a turn once its stream is ready.
     Event,
-    /// Its end.
+    /// It ends.
     End,
-    /// Its end before its session has ended.
+    /// It is cut off before its session has ended.
     CutOff(Refusal),
 }
 
 impl Client {
-    /// Does what is next: it writes texts once, or answers and writes once, or reads, answers and writes once. So a
-    /// thread's connections share it fairly. When the server stops, one that has nothing to read ends.
+    /// Takes the connection's next step: writes texts once, or answers and writes once, or reads, answers and writes
+    /// once. So the connections of a thread share it fairly. If the server stops, a connection that has nothing to
+    /// read ends.
     pub(crate) fn turn<D: Desk>(
         &mut self,
         alloc: Global,
@@ -60,7 +61,8 @@ impl Client {
         }
     }
 
-    /// Notes that its turn comes, and whether its client has ended its sending. Returns whether it wasn't queued yet.
+    /// Marks the connection as queued, and records whether its client has ended its sending. Returns whether it
+    /// wasn't queued.
     pub(crate) fn is_due(&mut self, is_half_closed: bool) -> bool {
         self.is_half_closed = self.is_half_closed || is_half_closed;
         let is_new = !self.is_queued;
@@ -85,7 +87,7 @@ impl Client {
         }
     }
 
-    /// Writes texts that were just appended; those that the stream doesn't take wait.
+    /// Writes texts that were just appended. What the stream doesn't take waits.
     fn send(&mut self, alloc: Global, room: &Room, now: u64) -> After
         requires { self.old.connection.unsent ≡ [] }
     {
@@ -109,7 +111,7 @@ impl Client {
         }
     }
 
-    /// Reads once, and answers.
+    /// Reads once, answers and writes.
     fn read<D: Desk>(
         &mut self,
         alloc: Global,
@@ -140,7 +142,7 @@ impl Client {
         }
     }
 
-    /// Answers bytes that were just read, this many, or the end of its input, if there are none.
+    /// Answers the first `count` bytes that were just read, or the end of the input if `count` is 0, and writes.
     fn answer<D: Desk>(
         &mut self,
         alloc: Global,
@@ -166,8 +168,8 @@ impl Client {
         }
     }
 
-    /// What follows a read that took all that the stream had: it needn't read again before the stream is ready, unless
-    /// the end of its input is there.
+    /// What follows a read that took all bytes of the stream: the connection waits until the stream is ready, unless
+    /// it has bytes to answer or its client has ended its sending.
     fn after_all(&self) -> After {
         match self.connection.next() {
             Next::Read if !self.is_half_closed => After::Event,

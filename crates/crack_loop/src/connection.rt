@@ -1,4 +1,4 @@
-//! A connection of a server, seen from its worker: a session, and the bytes on their way to it and from it.
+//! A connection without its stream: a session, the bytes that it receives, and the texts that it sends.
 ghost use Rattle.std.specs.Prelude.{◌≡◌, ◌≢◌, ◌≤◌, ◌+◌, ◌↔◌, [], ◌∷◌, false, true, length, drop};
 ghost use Rattle.std.specs.Prelude.{is_ok, IsTrue, IsOk, OnOk, OnErr};
 ghost use Rattle.crack_session.specs.declared.feeding.Why.TheVariants.{Wants};
@@ -10,7 +10,7 @@ use crack_session::{Desk, Fed, Output, Session, Why};
 use std::alloc::{AllocError, Global};
 use std::marker::Model;
 
-/// A connection without its stream. While it is idle it holds no memory but its own.
+/// A connection without its stream. An idle one holds no memory but its own.
 #[derive(Drop)]
 pub struct Connection {
     session: Session,
@@ -20,7 +20,7 @@ pub struct Connection {
     has_ended: bool,
 }
 
-/// Whether this much time has passed since a moment.
+/// Whether at least `time` has passed from `since` to `now`.
 pub fn has_passed(time: u64, since: u64, now: u64) -> bool
     ensures { IsTrue result ↔ (since + time ≤ now) }
 {
@@ -30,11 +30,11 @@ pub fn has_passed(time: u64, since: u64, now: u64) -> bool
 /// What a connection does next.
 #[derive(Clone, Copy, PartialEq, Eq, Debug)]
 pub enum Next {
-    /// It writes texts, as soon as its stream takes some.
+    /// It writes texts, once its stream takes some.
     Write,
     /// It answers what it has received, whether or not its stream is ready.
     Answer,
-    /// It reads, as soon as its stream has something.
+    /// It reads, once its stream has bytes.
     Read,
     /// It closes its stream.
     Close,
@@ -55,7 +55,7 @@ impl Model for Connection {
 }
 
 impl Connection {
-    /// A connection whose session begins, with this policy.
+    /// A connection with a new session that has this policy.
     pub fn new(alloc: Global, policy: Policy) -> Connection
         ensures session { result.session ≡ new_session policy }
         ensures received { result.received ≡ [] }
@@ -72,8 +72,8 @@ impl Connection {
         }
     }
 
-    /// What it does next: it writes what waits before it answers anything, and answers all that it received before it
-    /// reads again. So a client that doesn't read its replies isn't read either.
+    /// What the connection does next. It writes all texts before it answers anything, and answers all that it
+    /// received before it reads again, so a client that doesn't read its replies isn't read either.
     pub fn next(&self) -> Next
         ensures next { result ≡ next_of self.now }
         ensures written { result ≢ Next.Write → self.now.unsent ≡ [] }
@@ -98,8 +98,8 @@ impl Connection {
         }
     }
 
-    /// Feeds bytes that were just read to its session. What this doesn't take since output is full waits. Refused if no
-    /// memory is found for that.
+    /// Feeds bytes that were just read to the session, and keeps those that it doesn't take since the output is
+    /// full. Refused if no memory is found for them.
     pub fn receive<D: Desk>(
         &mut self,
         alloc: Global,
@@ -119,8 +119,8 @@ impl Connection {
         }
     }
 
-    /// Feeds what waits to its session: bytes that this didn't take when output was full, or none, if only texts are
-    /// left of its last answer.
+    /// Feeds the kept bytes to the session: those that it didn't take when the output was full, or none if only the
+    /// rest of its last answer's text is left.
     pub fn resume<D: Desk>(&mut self, alloc: Global, desk: &mut D, out: &mut Output)
         ensures { Answers D.bounds D.splits D.tables D.leads self.old self.old.received desk.old desk.new
             out.old.items out.new.items true self.new }
@@ -135,8 +135,8 @@ impl Connection {
         }
     }
 
-    /// Takes the end of its input: a line that is unfinished is answered, and the connection closes after that. Refused
-    /// if output is full and no memory is found.
+    /// Takes the end of the input: an unfinished line is answered, and then the connection closes. Refused if the
+    /// output is full and no memory is found.
     pub fn end<D: Desk>(
         &mut self,
         alloc: Global,
@@ -151,14 +151,15 @@ impl Connection {
         self.receive(alloc, desk, b"\n", out)
     }
 
-    /// The texts that wait to be written.
+    /// The texts that aren't written yet.
     pub fn unsent(&self) -> &[u8]
         ensures { result.now ≡ self.now.unsent }
     {
         self.unsent.as_slice()
     }
 
-    /// Has texts wait that its session appended and that weren't written. Refused if no memory is found.
+    /// Keeps texts that the session appended and that aren't written yet. Refused if no memory is found; then
+    /// nothing has changed.
     pub fn wait_with(&mut self, alloc: Global, texts: &[u8]) -> Result<(), AllocError>
         requires { self.old.unsent ≡ [] }
         ensures ok { OnOk result (self.new ≡ record self.old { unsent = texts.now }) }
@@ -168,14 +169,14 @@ impl Connection {
         self.unsent.keep(alloc, texts)
     }
 
-    /// Notes that the first bytes of what waited are written, this many.
+    /// Records that the first `count` bytes of the texts were written.
     pub fn sent(&mut self, alloc: Global, count: usize)
         ensures { self.new ≡ record self.old { unsent = drop count self.old.unsent } }
     {
         self.unsent.pass(alloc, count);
     }
 
-    /// Why it is cut off, if it is.
+    /// The refusal if the connection is cut off now.
     pub fn fault(&self) -> Refusal
         ensures { result ≡ fault_of (next_of self.now) }
     {
@@ -185,7 +186,7 @@ impl Connection {
         }
     }
 
-    /// How many statements its session answered.
+    /// How many statements the session answered.
     pub fn statements(&self) -> u64
         ensures { result ≡ self.now.session.progress.statements }
     {

@@ -19,41 +19,50 @@ use std::net::{Shutdown, SocketAddr};
 use std::sync::Wait;
 use std::time::Duration;
 
-/// The token of the listener; those of connections are their keys.
+/// The token of the listener. The token of a connection is its key.
 pub(crate) const LISTENER: usize = usize::MAX;
 
 /// The token of a thread's waker.
 pub(crate) const WAKER: usize = usize::MAX - 1;
 
-/// How long a thread waits for events at most, and how often it looks for connections that have waited too long, in
-/// milliseconds.
+/// The longest time that a thread waits for events, and the time between two searches for connections that have
+/// waited too long, in milliseconds.
 pub(crate) const LOOK_MILLIS: u64 = 250;
 
-/// By how much a thread's own time goes on in one round at most, in milliseconds.
+/// The most by which a thread's own time advances in one round, in milliseconds.
 const MOST_ROUND_MILLIS: u64 = 2 * LOOK_MILLIS;
 
-/// The connections of one thread, and those whose turn comes.
+/// The number of rounds, of at most a millisecond each, for which a thread that has more than its share of the
+/// connections leaves a new one to the other threads.
+const MOST_LEFT: u32 = 4;
+
+/// The connections of one thread, and the queue of those that take the next turns.
 #[derive(Drop)]
 pub(crate) struct Crowd {
     poll: Poll,
     listener: TcpListener,
     clients: Slab<Client>,
-    /// The keys of the connections whose turn comes, each once.
+    /// The keys of the connections that take the next turns, each once.
     queue: VecDeque<usize>,
     room: Room,
     /// Whether a connection may wait at the listener.
     may_arrive: bool,
-    /// The host's time, and the thread's own, which stands still while the process is stopped.
+    /// For how many rounds in a row it was left to the other threads.
+    left: u32,
+    /// The host's time in milliseconds, and the thread's own, which stands still while the process is stopped.
     now: u64,
     awake: u64,
-    /// When it last looked for connections that have waited too long.
+    /// When the thread last searched for connections that have waited too long.
     looked: u64,
-    /// When the server began to stop, if it has.
+    /// When the server began to stop, if it did.
     stopping_since: Option<u64>,
+    /// How many statements were answered since the last `look`, and the longest time of a turn, in microseconds.
+    answered: u64,
+    longest: u64,
 }
 
 impl Crowd {
-    /// No connections.
+    /// A thread without connections.
     pub(crate) fn new(alloc: Global, poll: Poll, listener: TcpListener, now: u64) -> Crowd {
         Crowd {
             poll,
@@ -65,24 +74,28 @@ impl Crowd {
                 out: Output::new(),
             },
             may_arrive: true,
+            left: 0,
             now,
             awake: 0,
             looked: now,
             stopping_since: None,
+            answered: 0,
+            longest: 0,
         }
     }
 
-    /// Waits until something has happened, or not at all if a turn comes without that, and queues the connections that
+    /// Waits until something happens, or not at all if a turn or an accept is next, and queues the connections that
     /// are ready.
     pub(crate) fn wait<Rt: Wait, H: Host>(
         &mut self,
         service: &Service<'_, Rt, H>,
         events: &mut Events,
     ) {
-        let most = if self.may_arrive || !self.queue.is_empty() {
-            0
-        } else {
-            LOOK_MILLIS
+        let most = match (self.may_arrive, self.left) {
+            _ if !self.queue.is_empty() => 0,
+            (true, 0) => 0,
+            (true, _) => 1,
+            (false, _) => LOOK_MILLIS,
         };
         if self
             .poll
@@ -100,8 +113,8 @@ impl Crowd {
         }
     }
 
-    /// Reads the clock. The thread's own time goes on by what has passed, but not by much more than if it had waited
-    /// for events in vain, so that no client is blamed for a pause of the process.
+    /// Reads the clock. The thread's own time advances by the time that passed, at most by `MOST_ROUND_MILLIS`, so
+    /// that no client is blamed for a pause of the process.
     pub(crate) fn read_clock<Rt: Wait, H: Host>(&mut self, service: &Service<'_, Rt, H>) {
         let now = service.host.millis();
         let passed = now.saturating_sub(self.now).min(MOST_ROUND_MILLIS);
@@ -109,11 +122,17 @@ impl Crowd {
         self.now = now;
     }
 
-    /// Accepts one connection, if one waits.
+    /// Accepts one connection, if one waits. A thread that has more than its share of the connections first leaves
+    /// it to the other threads for a few rounds.
     pub(crate) fn accept<Rt: Wait, H: Host>(&mut self, service: &Service<'_, Rt, H>) {
         if !self.may_arrive {
             return;
         }
+        if self.left < MOST_LEFT && service.is_above_share(self.clients.len()) {
+            self.left += 1;
+            return;
+        }
+        self.left = 0;
         let clients = service.terms.clients;
         let was_over = service.admission.is_over();
         match service
@@ -123,16 +142,20 @@ impl Crowd {
             Arrival::Accepted(stream, client) => self.admit(service, stream, client),
             Arrival::TurnedAway(stream) => {
                 turn_away(&stream, clients, &mut self.room);
-                service.report_turned_away(self.now, false);
+                service.report_refused(self.now, false);
             }
-            Arrival::Nobody | Arrival::Failed => self.may_arrive = false,
+            Arrival::Nobody => self.may_arrive = false,
+            Arrival::Failed => {
+                self.may_arrive = false;
+                service.report_refused(self.now, false);
+            }
         }
         if !was_over && service.admission.is_over() {
             service.wake_all();
         }
     }
 
-    /// Adds a connection, whose turn comes at once.
+    /// Adds a connection, and queues it for a turn at once.
     fn admit<Rt: Wait, H: Host>(
         &mut self,
         service: &Service<'_, Rt, H>,
@@ -167,7 +190,7 @@ impl Crowd {
         self.enqueue(service, key, false);
     }
 
-    /// Queues a connection, unless it is queued.
+    /// Queues a connection, unless it is queued already.
     fn enqueue<Rt: Wait, H: Host>(
         &mut self,
         service: &Service<'_, Rt, H>,
@@ -184,7 +207,7 @@ impl Crowd {
         }
     }
 
-    /// Has each queued connection take a turn, and queues those that go on without an event.
+    /// Lets each queued connection take a turn, and queues those again that don't have to wait for an event.
     pub(crate) fn take_turns<Rt: Wait, D: Desk, H: Host>(
         &mut self,
         service: &Service<'_, Rt, H>,
@@ -193,25 +216,40 @@ impl Crowd {
         let count = self.queue.len();
         'turns: for _ in 0..count {
             if let Some(key) = self.queue.pop_front() {
-                let after = self.turn(service.alloc, desk, key);
+                let after = self.turn(service, desk, key);
                 self.follow(service, key, after);
             }
         }
     }
 
-    /// Has a connection take a turn.
-    fn turn<D: Desk>(&mut self, alloc: Global, desk: &mut D, key: usize) -> After {
+    /// Lets a connection take a turn, and records how many statements were answered and how long that took.
+    fn turn<Rt: Wait, D: Desk, H: Host>(
+        &mut self,
+        service: &Service<'_, Rt, H>,
+        desk: &mut D,
+        key: usize,
+    ) -> After {
         let is_stopping = self.stopping_since.is_some();
+        let begun = service.host.micros();
         match self.clients.get_mut(key) {
             Some(client) => {
                 client.is_queued = false;
-                client.turn(alloc, desk, &mut self.room, self.awake, is_stopping)
+                let before = client.connection.statements();
+                let room = &mut self.room;
+                let after = client.turn(service.alloc, desk, room, self.awake, is_stopping);
+                let answered = client.connection.statements().saturating_sub(before);
+                if answered > 0 {
+                    let took = service.host.micros().saturating_sub(begun);
+                    self.answered = self.answered.saturating_add(answered);
+                    self.longest = self.longest.max(took);
+                }
+                after
             }
             None => After::Event,
         }
     }
 
-    /// Does what follows a turn.
+    /// Queues or removes a connection after its turn.
     fn follow<Rt: Wait, H: Host>(
         &mut self,
         service: &Service<'_, Rt, H>,
@@ -226,7 +264,7 @@ impl Crowd {
         }
     }
 
-    /// Closes a connection, which was cut off if there is a refusal with its cause.
+    /// Closes a connection. If `cut_off` has a refusal and its cause, the connection was cut off.
     fn remove<Rt: Wait, H: Host>(
         &mut self,
         service: &Service<'_, Rt, H>,
@@ -240,14 +278,16 @@ impl Crowd {
         }
     }
 
-    /// From time to time cuts off the connections that have waited too long, and tries an accept again that failed.
+    /// Every `LOOK_MILLIS`, cuts off the connections that have waited too long, reports, and allows a failed accept
+    /// to be tried again.
     pub(crate) fn look<Rt: Wait, H: Host>(&mut self, service: &Service<'_, Rt, H>) {
         if !has_passed(LOOK_MILLIS, self.looked, self.now) {
             return;
         }
         self.looked = self.now;
         self.may_arrive = true;
-        service.report_turned_away(self.now, false);
+        service.report_refused(self.now, false);
+        self.tell_pace(service);
         if let Some(idle) = service.terms.idle {
             let most = u64::from(idle) * 1000;
             'keys: for key in 0..self.clients.capacity() {
@@ -258,7 +298,16 @@ impl Crowd {
         }
     }
 
-    /// Why a connection is cut off, if it has waited this long.
+    /// Reports to the server what was answered since the last report.
+    fn tell_pace<Rt: Wait, H: Host>(&mut self, service: &Service<'_, Rt, H>) {
+        if self.answered > 0 {
+            service.note_pace(self.now, self.answered, self.longest);
+            self.answered = 0;
+            self.longest = 0;
+        }
+    }
+
+    /// Why a connection is cut off, if it has waited for `most` milliseconds.
     fn overdue(&self, key: usize, most: u64) -> Option<Refusal> {
         match self.clients.get(key) {
             Some(client) if !client.is_queued && has_passed(most, client.heard, self.awake) => {
@@ -268,7 +317,7 @@ impl Crowd {
         }
     }
 
-    /// If the server stops, each connection takes a turn, in which it ends unless it is busy.
+    /// Once the server stops, queues each connection for a turn, in which it ends unless it is busy.
     pub(crate) fn heed_stop<Rt: Wait, H: Host>(&mut self, service: &Service<'_, Rt, H>) {
         if self.stopping_since.is_none() && service.admission.is_stopping() {
             self.stopping_since = Some(self.now);
@@ -278,7 +327,8 @@ impl Crowd {
         }
     }
 
-    /// Whether its thread ends: no more connections come, and there are none, or a stop has waited long enough.
+    /// Whether the thread ends: no more connections are accepted, and there are none left or the stop has waited
+    /// long enough.
     pub(crate) fn is_done<Rt: Wait, H: Host>(&self, service: &Service<'_, Rt, H>) -> bool {
         let most = u64::from(service.terms.drain) * 1000;
         let waited = match self.stopping_since {
@@ -299,8 +349,8 @@ impl Crowd {
     }
 }
 
-/// Tells a client that there are too many. What it has sent is read, since closing resets a connection that has
-/// something to read, and a client may not see the refusal then.
+/// Reports to a client that there are too many. What it has sent is read, since closing a connection with unread
+/// bytes resets it, and the client may not see the refusal.
 fn turn_away(stream: &TcpStream, clients: u64, room: &mut Room) {
     let mut line: ArrayString<40> = ArrayString::new();
     let _ = writeln!(line, "refused 20 {clients}");

@@ -1,4 +1,4 @@
-//! Connections of a server, any number of them on each of its threads.
+//! The connections of a server, any number of them on each of its threads.
 #![tactic(auto)]
 
 mod admission;
@@ -6,6 +6,8 @@ pub mod backlog;
 mod client;
 pub mod connection;
 mod crowd;
+mod pace;
+mod served;
 pub mod server;
 pub mod terms;
 
@@ -14,10 +16,10 @@ use crack_session::Output;
 pub use server::serve_connections;
 pub use terms::{Ending, Terms};
 
-/// How many bytes one read takes at most.
+/// The greatest number of bytes in one read.
 pub const READ_BYTES: usize = 4096;
 
-/// Room that all connections of a thread use in turn.
+/// Buffers that all connections of a thread use in turn.
 #[derive(Drop)]
 pub(crate) struct Room {
     pub(crate) input: [u8; READ_BYTES],

@@ -1,6 +1,8 @@
-//! A server: connections at any desks, each desk's thread serving as many as come to it.
+//! A server: one thread for each desk, which serves any number of connections.
 use crate::admission::Admission;
 use crate::crowd::{Crowd, LISTENER, WAKER};
+use crate::pace::Pace;
+use crate::served::Served;
 use crate::terms::{Ending, Service, Terms};
 use crack_row::Refusal;
 use crack_service::{Host, Notice};
@@ -10,14 +12,14 @@ use mio::{Events, Interest, Poll, Token, Waker};
 use std::alloc::Global;
 use std::io::{ErrorKind, Read};
 use std::net::Net;
-use std::sync::Wait;
+use std::sync::{Mutex, Wait};
 use std::thread::Threads;
 use std::{io, net, thread};
 
-/// How many events a thread takes at once.
+/// The greatest number of events that a thread takes at once.
 const EVENTS: usize = 1024;
 
-/// What a thread waits with.
+/// The sources and events that a thread waits for.
 #[derive(Drop)]
 struct Post {
     poll: Poll,
@@ -25,12 +27,13 @@ struct Post {
     events: Events,
 }
 
-/// Serves connections of a listener at desks, each desk on a thread of its own, which serves any number of connections:
-/// until as many were accepted as the options say and have ended, or until `input` ends or fails. Then no more are
-/// accepted; what has arrived is answered, each connection ends that has nothing more to read, and the others are cut
-/// off after `terms.drain` seconds. Returns the desks. The host is notified of each session that was cut off, and of
-/// the end. Refused with 17 if the listener can't be waited for, and with 8 if no memory is found for the threads, or
-/// one can't be started; no connection is accepted then.
+/// Serves the connections of a listener at desks. Each desk has a thread of its own, which serves any number of
+/// connections. If the ending is `AfterSessions`, the server ends once that many connections were accepted and have
+/// ended. If it is `AtEndOfInput`, the server stops once `input` ends or fails: no more connections are accepted,
+/// what has arrived is answered, each connection ends once it has nothing more to read, and the others are cut off
+/// after `terms.drain` seconds. Returns the desks. The host is notified of each session that was cut off, and of the
+/// end. Refused with `ReadFault` if the listener can't be waited for, and with `OutOfMemory` if no memory is found
+/// for the threads or one can't be started; then no connection is accepted.
 pub fn serve_connections<
     Rt: Threads + Wait + Net + Sync,
     D: Desk + Send + Drop,
@@ -46,22 +49,25 @@ pub fn serve_connections<
     input: &mut I,
 ) -> Result<Vec<D>, Refusal> {
     let (posts, wakers) = posts(rt, alloc, listener, desks.len())?;
+    let begun = host.millis();
     let service = Service {
         rt,
         alloc,
         terms,
         host,
         admission: Admission::new(terms.ending),
+        pace: Mutex::new(Pace::new(begun / 1000)),
+        begun,
         wakers,
     };
     let ended = serve_posts(rt, alloc, &service, posts, desks, input)?;
-    service.report_turned_away(host.millis(), true);
+    service.report_refused(host.millis(), true);
     let (sessions, cut_off) = service.admission.served(rt);
     host.note(Notice::Ended { sessions, cut_off });
     Ok(ended)
 }
 
-/// Starts a thread for each desk, and waits for their ends.
+/// Starts a thread for each desk, and waits until all have ended.
 fn serve_posts<Rt: Threads + Wait + Net + Sync, D: Desk + Send + Drop, H: Host + Sync, I: Read>(
     rt: &Rt,
     alloc: Global,
@@ -97,8 +103,7 @@ fn serve_posts<Rt: Threads + Wait + Net + Sync, D: Desk + Send + Drop, H: Host +
     all.ok_or(Refusal::OutOfMemory)
 }
 
-/// What each of this many threads waits with, and what ends its wait. Refused with 17 if the system has no more of
-/// these.
+/// Makes the sources and the waker of each thread. Refused with `ReadFault` if the system has no more of them.
 fn posts<N: Net>(
     net: &N,
     alloc: Global,
@@ -125,7 +130,7 @@ fn posts<N: Net>(
     Ok((posts, wakers))
 }
 
-/// A set of sources with a listener in it, and what ends a wait for these.
+/// Makes a set of sources with a listener in it, and a waker that ends a wait for them.
 fn watch<N: Net>(net: &N, listener: &net::TcpListener) -> io::Result<(Poll, TcpListener, Waker)> {
     let poll = Poll::new(net)?;
     let mut listener = TcpListener::from_std(listener.try_clone()?);
@@ -135,7 +140,7 @@ fn watch<N: Net>(net: &N, listener: &net::TcpListener) -> io::Result<(Poll, TcpL
     Ok((poll, listener, waker))
 }
 
-/// Serves connections at a desk until the server ends.
+/// Serves connections at a desk until the server ends, and returns the desk.
 fn serve_post<Rt: Wait, D: Desk + Drop, H: Host>(
     service: &Service<'_, Rt, H>,
     post: Post,
@@ -146,7 +151,7 @@ fn serve_post<Rt: Wait, D: Desk + Drop, H: Host>(
         listener,
         events,
     } = post;
-    let (mut desk, mut events) = (desk, events);
+    let (mut served, mut events) = (Served { desk, service }, events);
     let mut crowd = Crowd::new(service.alloc, poll, listener, service.host.millis());
     service.admission.await_start(service.rt);
     'rounds: for _ in 0..u64::MAX {
@@ -154,17 +159,18 @@ fn serve_post<Rt: Wait, D: Desk + Drop, H: Host>(
         crowd.read_clock(service);
         crowd.accept(service);
         crowd.heed_stop(service);
-        crowd.take_turns(service, &mut desk);
+        crowd.take_turns(service, &mut served);
         crowd.look(service);
         if crowd.is_done(service) {
             break;
         }
     }
     crowd.cut_off_all(service);
+    let Served { desk, .. } = served;
     desk
 }
 
-/// Waits until the input of a server ends, if the server ends with it, and stops it then.
+/// If the server ends with its input, waits for the end of the input, and then stops the server.
 fn await_end<Rt: Wait, H: Host, I: Read>(service: &Service<'_, Rt, H>, input: &mut I) {
     if let Ending::AtEndOfInput = service.terms.ending {
         read_out(input);
@@ -173,7 +179,7 @@ fn await_end<Rt: Wait, H: Host, I: Read>(service: &Service<'_, Rt, H>, input: &m
     }
 }
 
-/// Reads an input to its end, or until it fails.
+/// Reads an input until it ends or fails.
 fn read_out<I: Read>(input: &mut I) {
     let mut bytes = [0u8; 512];
     'reads: for _ in 0..u64::MAX {

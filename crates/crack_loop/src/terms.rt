@@ -1,19 +1,21 @@
-//! The options of a server, and what all its threads share.
+//! The options of a server, and the state that its threads share.
 use crate::admission::Admission;
+use crate::pace::{Pace, SECONDS};
+use crack_commands::Traffic;
 use crack_row::{Policy, Refusal};
 use crack_service::{Cause, Host, Notice};
 use mio::Waker;
 use std::alloc::Global;
 use std::net::SocketAddr;
-use std::sync::Wait;
+use std::sync::{Mutex, Wait};
 
 /// When a server ends.
 #[derive(Clone, Copy, Drop)]
 pub enum Ending {
-    /// Once this many connections were accepted, and have ended. An accept that fails counts as one.
+    /// Once this many connections were accepted and have ended. An accept that fails counts as a connection.
     AfterSessions(u64),
-    /// When its input ends: no more connections are accepted then, and those that are open end as soon as they have
-    /// nothing to read.
+    /// When its input ends: then no more connections are accepted, and open ones end as soon as they have nothing to
+    /// read.
     AtEndOfInput,
 }
 
@@ -24,17 +26,17 @@ pub struct Terms {
     pub policy: Policy,
     /// When the server ends.
     pub ending: Ending,
-    /// How long a connection may wait for its client, in seconds, at least 1; without it, forever.
+    /// How many seconds a connection may wait for its client, at least 1, or `None` for any time.
     pub idle: Option<u32>,
     /// How many connections may be open at once.
     pub clients: u64,
-    /// How long a stop waits for connections that are busy, in seconds.
+    /// How many seconds a stop waits for busy connections.
     pub drain: u32,
-    /// Whether the host takes note of checkpoints that were due.
+    /// Whether the host is notified of checkpoints that were due.
     pub notes_checkpoints: bool,
 }
 
-/// What the threads of a server share.
+/// The state that the threads of a server share.
 #[derive(Drop)]
 pub(crate) struct Service<'a, Rt: Wait, H: Host> {
     pub(crate) rt: &'a Rt,
@@ -42,19 +44,49 @@ pub(crate) struct Service<'a, Rt: Wait, H: Host> {
     pub(crate) terms: Terms,
     pub(crate) host: &'a H,
     pub(crate) admission: Admission,
-    /// For each thread, what ends its wait for events.
+    pub(crate) pace: Mutex<Pace>,
+    /// When the server started, in the host's milliseconds.
+    pub(crate) begun: u64,
+    /// A waker for each thread, which ends its wait for events.
     pub(crate) wakers: Vec<Waker>,
 }
 
 impl<'a, Rt: Wait, H: Host> Service<'a, Rt, H> {
-    /// Ends each thread's wait for events. One that can't be woken ends it by itself soon.
+    /// Ends each thread's wait for events. A thread that can't be woken ends its wait soon by itself.
     pub(crate) fn wake_all(&self) {
         'threads: for waker in &self.wakers {
             let _ = waker.wake();
         }
     }
 
-    /// Counts a connection that has ended, and reports it if it was cut off.
+    /// Whether a thread with this many connections has more than its share of those that are open.
+    pub(crate) fn is_above_share(&self, clients: usize) -> bool {
+        let (open, _) = self.admission.counts(self.rt);
+        (clients as u64).saturating_mul(self.wakers.len() as u64) > open
+    }
+
+    /// Records that a thread answered statements shortly before `now`, and the longest time of one turn, in
+    /// microseconds.
+    pub(crate) fn note_pace(&self, now: u64, answered: u64, longest: u64) {
+        self.pace.lock(self.rt).note(now / 1000, answered, longest);
+    }
+
+    /// The server's traffic now.
+    pub(crate) fn traffic(&self) -> Traffic {
+        let now = self.host.millis();
+        let uptime = now.saturating_sub(self.begun) / 1000;
+        let (clients, sessions) = self.admission.counts(self.rt);
+        let (answered, longest) = self.pace.lock(self.rt).last_minute(now / 1000);
+        Traffic {
+            clients,
+            sessions,
+            statements_per_second: answered / uptime.clamp(1, SECONDS),
+            longest_microseconds: longest,
+            uptime_seconds: uptime,
+        }
+    }
+
+    /// Counts a connection that has ended, and notifies the host if it was cut off.
     pub(crate) fn end(&self, client: SocketAddr, cut_off: Option<(Refusal, Cause)>) {
         self.admission.end(self.rt, cut_off.is_some());
         if let Some((refusal, cause)) = cut_off {
@@ -66,14 +98,18 @@ impl<'a, Rt: Wait, H: Host> Service<'a, Rt, H> {
         }
     }
 
-    /// Reports the clients that were turned away since the last report, at most once a second until the server's end.
-    pub(crate) fn report_turned_away(&self, now: u64, is_end: bool) {
+    /// Notifies the host of the clients that were turned away and the accepts that failed since the last notice: of
+    /// each at most once a second, and at the server's end.
+    pub(crate) fn report_refused(&self, now: u64, is_end: bool) {
         if let Some((count, client)) = self.admission.take_turned_away(self.rt, now, is_end) {
             self.host.note(Notice::TurnedAway {
                 count,
                 client,
                 clients: self.terms.clients,
             });
+        }
+        if let Some(count) = self.admission.take_failed(self.rt, now, is_end) {
+            self.host.note(Notice::NotAccepted { count });
         }
     }
 }

@@ -1,7 +1,7 @@
-//! Servers over a plain table, and what their clients do.
+//! Servers over a core, and their clients.
+use crack_core::Core;
 use crack_loop::{Ending, Terms, serve_connections};
-use crack_plain::PlainTable;
-use crack_row::{Policy, Refusal};
+use crack_row::{GREATEST_LIMIT, Policy, Refusal};
 use crack_service::Alone;
 use std::alloc::Global;
 use std::io;
@@ -12,7 +12,7 @@ use std::sync::Wait;
 use std::thread::Threads;
 use std::time::Duration;
 
-/// The terms of a server with this ending.
+/// The options of a server with this ending.
 pub(crate) fn terms(ending: Ending) -> Terms {
     Terms {
         policy: Policy::Ripple,
@@ -24,24 +24,24 @@ pub(crate) fn terms(ending: Ending) -> Terms {
     }
 }
 
-/// How many rows a server over a plain table, on one thread, holds at its end.
+/// Runs a server over a core with one partition, on one thread, and returns how many rows there are at the end.
 pub(crate) fn rows_after<H: Threads + Wait + Net + Sync, I: Read>(
     rt: &H,
     alloc: Global,
     listener: &TcpListener,
     terms: Terms,
     input: &mut I,
-) -> Result<usize, Refusal> {
+) -> Result<u64, Refusal> {
     let mut desks = Vec::new(alloc);
-    desks.push(PlainTable::new(alloc))?;
+    desks.push(Core::open(alloc, &[], GREATEST_LIMIT)?)?;
     let ended = serve_connections(rt, alloc, listener, desks, terms, &Alone, input)?;
     match ended.first() {
-        Some(table) => Ok(table.rows().len()),
+        Some(core) => Ok(core.statistics(0)?.rows),
         None => Ok(0),
     }
 }
 
-/// A listener, and its port.
+/// A listener on a free port, and the port.
 pub(crate) fn listening<N: Net<Listener = TcpListener, Stream = TcpStream> + Abort>(
     rt: &N,
 ) -> (TcpListener, u16) {
@@ -51,7 +51,7 @@ pub(crate) fn listening<N: Net<Listener = TcpListener, Stream = TcpStream> + Abo
     (listener, address.port())
 }
 
-/// A connection to this port. A read of it fails if nothing comes for twenty seconds.
+/// A connection to this port, whose reads fail after twenty seconds without a byte.
 pub(crate) fn connect<N: Net<Listener = TcpListener, Stream = TcpStream>>(
     rt: &N,
     port: u16,
@@ -61,7 +61,7 @@ pub(crate) fn connect<N: Net<Listener = TcpListener, Stream = TcpStream>>(
     Ok(stream)
 }
 
-/// All that a client gets until the server closes its connection.
+/// Reads until the server closes the connection.
 pub(crate) fn rest_of(alloc: Global, stream: &TcpStream) -> io::Result<Vec<u8>> {
     let mut bytes = Vec::new(alloc);
     let mut stream = stream;
@@ -69,7 +69,7 @@ pub(crate) fn rest_of(alloc: Global, stream: &TcpStream) -> io::Result<Vec<u8>> 
     Ok(bytes)
 }
 
-/// What a client gets that sends these bytes, and ends its sending there.
+/// Sends bytes as a client, ends the sending, and returns all replies.
 pub(crate) fn answers<N: Net<Listener = TcpListener, Stream = TcpStream>>(
     rt: &N,
     alloc: Global,

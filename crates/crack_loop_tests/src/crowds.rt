@@ -6,10 +6,10 @@ use std::io::Write;
 use std::net::{Net, Shutdown, TcpListener, TcpStream};
 use std::{io, thread};
 
-/// How many clients are connected at once.
+/// How many clients are connected at the same time.
 const CLIENTS: usize = 300;
 
-/// Sends these bytes as each of these clients, one after the other.
+/// Sends bytes over each of these connections.
 fn send_all(clients: &Vec<TcpStream>, bytes: &[u8]) -> io::Result<()> {
     'clients: for stream in clients {
         let mut stream = stream;
@@ -18,7 +18,7 @@ fn send_all(clients: &Vec<TcpStream>, bytes: &[u8]) -> io::Result<()> {
     Ok(())
 }
 
-/// How many of these clients got a row each for two inserts, and a count, until their connections were closed.
+/// How many of these clients got row numbers for two inserts and a count before their connections were closed.
 fn answered(alloc: Global, clients: &Vec<TcpStream>) -> io::Result<usize> {
     let mut count = 0usize;
     'clients: for stream in clients {
@@ -36,8 +36,8 @@ fn answered(alloc: Global, clients: &Vec<TcpStream>) -> io::Result<usize> {
     Ok(count)
 }
 
-/// Has all clients send their statements in pieces, each piece by all clients before the next, and returns how many of
-/// them got the right answers.
+/// Sends the statements of all clients in pieces, each piece for all clients before the next one, and returns how
+/// many clients got the right replies.
 fn interleaved<N: Net<Listener = TcpListener, Stream = TcpStream>>(
     rt: &N,
     alloc: Global,
@@ -69,7 +69,7 @@ fn three_hundred_clients_are_answered_by_one_thread(rt: HostRuntime) {
         || interleaved(&rt, alloc, port),
     );
     assert!(rt; right.ok() == Some(CLIENTS));
-    assert!(rt; rows == Ok(2 * CLIENTS));
+    assert!(rt; rows == Ok(2 * CLIENTS as u64));
 }
 
 #[test]

@@ -1,4 +1,4 @@
-//! Clients that keep a server's thread busy, or leave it waiting, beside honest ones.
+//! Clients that keep a server's thread busy or waiting, and honest clients at the same time.
 use crate::clients::{answers, connect, listening, rest_of, rows_after, terms};
 use crack_loop::{Ending, Terms};
 use std::alloc::Global;
@@ -6,13 +6,13 @@ use std::io::Write;
 use std::net::{Net, TcpListener, TcpStream};
 use std::{io, thread};
 
-/// How many rows a deaf client lists at a time.
+/// How many rows a deaf client inserts, and then lists at a time.
 const ROWS: usize = 2000;
 
-/// How many bytes the replies to the inserts of these rows have, from `row 0.0` to `row 0.1999`.
+/// The length in bytes of the replies to these inserts, from `row 0.0` to `row 0.1999`.
 const REPLY_BYTES: usize = 20890;
 
-/// A client that inserts rows, then asks for all of them again and again, and reads none.
+/// A client that inserts rows, requests all of them again and again, and reads none.
 fn deaf<N: Net<Listener = TcpListener, Stream = TcpStream>>(
     rt: &N,
     port: u16,
@@ -29,7 +29,7 @@ fn deaf<N: Net<Listener = TcpListener, Stream = TcpStream>>(
     Ok(stream)
 }
 
-/// What an honest client gets beside a deaf one, which leaves then.
+/// The replies to an honest client while a deaf one is connected.
 fn beside_a_deaf_one<N: Net<Listener = TcpListener, Stream = TcpStream>>(
     rt: &N,
     alloc: Global,
@@ -41,7 +41,7 @@ fn beside_a_deaf_one<N: Net<Listener = TcpListener, Stream = TcpStream>>(
     got
 }
 
-/// What an honest client gets beside one that sends its statement byte by byte, and what that one gets.
+/// The replies to honest clients while a slow one sends its statements byte by byte, and then the slow one's.
 fn beside_a_slow_one<N: Net<Listener = TcpListener, Stream = TcpStream>>(
     rt: &N,
     alloc: Global,
@@ -60,7 +60,7 @@ fn beside_a_slow_one<N: Net<Listener = TcpListener, Stream = TcpStream>>(
     Ok(got)
 }
 
-/// What an honest client gets after one that leaves before it reads its reply, which resets its connection.
+/// The replies to an honest client after one that closed its connection with unread replies, which resets it.
 fn after_a_reset<N: Net<Listener = TcpListener, Stream = TcpStream>>(
     rt: &N,
     alloc: Global,
@@ -74,7 +74,7 @@ fn after_a_reset<N: Net<Listener = TcpListener, Stream = TcpStream>>(
     answers(rt, alloc, port, b"count 0 10\n")
 }
 
-/// What the third of three clients gets where two may be connected, and what a fourth gets once the first has left.
+/// The replies to the third client if two may be connected, and to a fourth once the first has left.
 fn one_too_many<N: Net<Listener = TcpListener, Stream = TcpStream>>(
     rt: &N,
     alloc: Global,
@@ -95,7 +95,7 @@ fn one_too_many<N: Net<Listener = TcpListener, Stream = TcpStream>>(
     Ok(got)
 }
 
-/// What a client of a server does.
+/// How the hostile clients behave.
 #[derive(Clone, Copy)]
 enum Clients {
     Deaf,
@@ -104,7 +104,7 @@ enum Clients {
     TooMany,
 }
 
-/// What the honest client gets.
+/// The replies that a case checks.
 fn play<N: Net<Listener = TcpListener, Stream = TcpStream>>(
     rt: &N,
     alloc: Global,
@@ -119,7 +119,7 @@ fn play<N: Net<Listener = TcpListener, Stream = TcpStream>>(
     }
 }
 
-/// What clients do, how many sessions there are, what the honest client gets, and how many rows there are at the end.
+/// How clients behave, how many sessions there are, the expected replies, and how many rows there are at the end.
 const CASES: [(Clients, u64, &[u8], usize); 4] = [
     (Clients::Deaf, 2, b"count 0\ncount 0\n", ROWS),
     (
@@ -151,6 +151,6 @@ fn honest_clients_are_answered_beside_hostile_ones(rt: HostRuntime) {
         );
         let got = got.ok().expect(&rt, "answers");
         assert!(rt; got.as_slice() == wanted, "case {place}");
-        assert!(rt; held == Ok(rows), "case {place}");
+        assert!(rt; held == Ok(rows as u64), "case {place}");
     }
 }

@@ -1,4 +1,4 @@
-//! Tests of connections over loopback: what no clause says.
+//! Tests of connections over loopback, for what no contract says.
 #![tactic(auto)]
 
 #[cfg(test)]

@@ -6,7 +6,7 @@ use std::io::{Read, Write};
 use std::net::{Net, TcpListener, TcpStream};
 use std::{io, thread};
 
-/// What a client gets that says nothing after one statement, once the server's input ends.
+/// A client that sends one statement and then nothing: returns what it gets once the server's input has ended.
 fn silent<N: Net<Listener = TcpListener, Stream = TcpStream>>(
     rt: &N,
     alloc: Global,

@@ -9,13 +9,13 @@ use Rattle.crack_store.specs.declared.ways.CarryEnd.TheVariants.{Buries, Evicts,
 use Rattle.crack_state.specs.Inside.{Advances}
 use Rattle.crack_merge.specs.Merges.{BuriesFew}
 
--- where a carry ends by a rule
+-- the store after a carry ended by this rule
 abbrev pub ended : CarryEnd → Carried → State
 ended Buries c = buried c
 ended Evicts c = returned c
 ended Appends c = appended c
 
--- the hand isn't a pending deletion
+-- the row in hand isn't a pending deletion
 abbrev pub IsLasting : Carried → Type 0
 IsLasting c = times c.hand.slot (slots c.store.pending_out) ≡ 0
 
@@ -25,18 +25,18 @@ MayEnd Buries c = IsDoomed c
 MayEnd Evicts c = IsLasting c
 MayEnd Appends c = IsLasting c × (piece_end c.store (hand_key c) ≡ length c.store.column)
 
--- a row that is evicted isn't below the ceiling
+-- the key of a row evicted by this rule isn't below the ceiling
 abbrev pub EvictsOver : Option ℕ → CarryEnd → ℕ → Type 0
 EvictsOver ceiling Buries key = ⊤
 EvictsOver ceiling Evicts key = ¬ IsBelow ceiling key
 EvictsOver ceiling Appends key = ⊤
 
--- pending insertions were carried in; each carry buried one row at most
+-- pending insertions were carried in, and at most one row was buried for each
 pub record PutsIn (policy : Policy) (s t : State) : Type 0 where
   pub advances : Advances policy s t
   pub few : BuriesFew s t
 
--- pending deletions were taken out
+-- rows with pending deletions were deleted
 pub record TakesOut (policy : Policy) (s t : State) : Type 0 where
   pub advances : Advances policy s t
   pub pending_in : t.pending_in ≡ s.pending_in

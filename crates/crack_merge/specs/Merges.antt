@@ -1,4 +1,4 @@
--- The effect of a carry, a pull and a merge on a store.
+-- The effects of carries, pulls and merges on a store.
 use Rattle.std.specs.Prelude.{◌≡◌, ◌≢◌, ◌<◌, ◌≤◌, ⊤, ℕ, ◌+◌, ◌++◌, take, drop, length, List, [], Option, Some, None}
 use Rattle.crack_row.specs.Ranges.{Range}
 use Rattle.crack_row.specs.declared.command.Policy.{Policy}
@@ -15,32 +15,32 @@ abbrev pub IsCeiling : Option ℕ → Range → Type 0
 IsCeiling None r = ⊤
 IsCeiling (Some bound) r = r.high ≤ bound
 
--- a carry, step by step, each by the first rule that applies
+-- a carry; each of its steps is the first of these rules that applies
 pub data Carries (ceiling : Option ℕ) : Carried → State → Type 0 where
-  -- the hand is doomed: it is buried, and the carry ends
+  -- the row in hand is doomed: it is buried, and the carry ends
   buries : (c : Carried) → IsDoomed c → Carries ceiling c (buried c)
-  -- else, its key is at or above the ceiling: the row is evicted, and the carry ends
+  -- otherwise, if its key is at or above the ceiling: it is evicted, and the carry ends
   evicts : (c : Carried) (bound : ℕ) → ¬ IsDoomed c → ceiling ≡ Some bound → bound ≤ hand_key c → Carries ceiling c (returned c)
-  -- else, the own piece of the hand ends at the column's end: the hand becomes the column's last row, and the carry ends
+  -- otherwise, if its own piece ends at the column's end: it is appended to the column, and the carry ends
   ends : (c : Carried) → ¬ IsDoomed c → IsBelow ceiling (hand_key c) → piece_end c.store (hand_key c) ≡ length c.store.column → Carries ceiling c (appended c)
-  -- else, it ends before that: the hand takes the place of the row there, and the carry goes on with that row in hand
+  -- otherwise it takes the place where its own piece ends, and the carry goes on with the row that was there
   goes_on : (c : Carried) (t : State) → ¬ IsDoomed c → IsBelow ceiling (hand_key c) → piece_end c.store (hand_key c) < length c.store.column → Carries ceiling (pushed_on c) t → Carries ceiling c t
 
--- pending insertions of a range were carried, in order of arrival: each was lifted at the place where a search from the place of the one before found
--- it, the last of all at this place
+-- pending insertions in a range were carried, in order of arrival: each was found by a search from the place of the
+-- one before, the last one at this place
 pub data CarriesIn (ceiling : Option ℕ) (r : Range) (s : State) : ℕ → State → Type 0 where
-  -- none was
+  -- no pending insertion was carried
   begins : CarriesIn ceiling r s 0 s
-  -- one more was: room was made, and it was lifted and carried
+  -- one more was carried: room was made, and it was lifted and carried
   carries : (from place : ℕ) (t u v : State) → CarriesIn ceiling r s from t → Finds r (keys_at t.cells t.pending_in) from (Some place) → SameButRoom t u → Carries ceiling (lifted place u) v → CarriesIn ceiling r s place v
 
--- all pending insertions of a range were carried: the search finds none after the last
+-- all pending insertions in a range were carried: a search from the last one's place finds none
 pub record CarriesAll (ceiling : Option ℕ) (r : Range) (s t : State) : Type 0 where
   pub from : ℕ
   pub carries : CarriesIn ceiling r s from t
   pub none : Finds r (keys_at t.cells t.pending_in) from None
 
--- some of them were, the first ones, and no memory was found for the next, which the search finds
+-- the first pending insertions in a range were carried, and no memory was found for the next one
 pub record CarriesSome (ceiling : Option ℕ) (r : Range) (s t : State) : Type 0 where
   pub from : ℕ
   pub last : State
@@ -53,40 +53,43 @@ pub record CarriesSome (ceiling : Option ℕ) (r : Range) (s t : State) : Type 0
 abbrev pub BuriesFew : State → State → Type 0
 BuriesFew s t = length s.pending_out + length t.pending_in ≤ length t.pending_out + length s.pending_in
 
--- the pull of a doomed row, step by step, each by the first rule that applies
+-- the pull of a doomed row; each of its steps is the first of these rules that applies
 pub data Pulls (doomed : Handle) : Carried → State → Type 0 where
-  -- the hand is that row: it is buried, and the pull ends
+  -- the row in hand is the doomed row: it is buried, and the pull ends
   reaches : (c : Carried) → c.hand ≡ doomed → Pulls doomed c (buried c)
-  -- else, that row is in the own piece of the hand: the hand takes its place, it is buried, and the pull ends
+  -- otherwise, if the doomed row is in the own piece of the row in hand: they are exchanged, it is buried, and the
+  -- pull ends
   exchanges : (c : Carried) (place : ℕ) → c.hand ≢ doomed → StandsAt c.store.column place doomed → piece_start c.store (hand_key c) ≤ place → place < piece_end c.store (hand_key c) → Pulls doomed c (buried (exchanged place c))
-  -- else, it is before that piece: the hand takes the last place before its piece, and the pull goes on with the row that was there in hand
+  -- otherwise the row in hand takes the last place before its own piece, and the pull goes on with the row that was
+  -- there
   draws : (c : Carried) (place : ℕ) (t : State) → c.hand ≢ doomed → StandsAt c.store.column place doomed → place < piece_start c.store (hand_key c) → Pulls doomed (pulled_back c) t → Pulls doomed c t
 
--- a pull begins with the pending insertion of these keys that a search finds from a place on, and the next search continues from there; without one,
--- it begins with the column's last row
+-- a pull begins with the filler that a search from `seen` finds, and the next search continues from there; without
+-- a filler it begins with the column's last row
 pub data Begins (fillers : Range) (s : State) (seen : ℕ) : ℕ → Carried → Type 0 where
-  -- a filler
+  -- a filler is found
   fills : (place : ℕ) → Finds fillers (keys_at s.cells s.pending_in) seen (Some place) → Begins fillers s seen place (lifted place s)
-  -- no filler is left, and the next search looks at none
+  -- no filler is left, and the next search looks at no pending insertion
   takes_last : Finds fillers (keys_at s.cells s.pending_in) seen None → Begins fillers s seen (length s.pending_in) (lifted_last s)
 
--- pending deletions of a range were pulled, in order of arrival: each at the place where a search from the place of the one before found it, the last
--- of all at the first of the two places; the search for fillers continues from the second
+-- rows with pending deletions in a range were pulled, in order of arrival: each was found by a search from the
+-- place of the one before, the last one at the first of the two places; the search for fillers continues from the
+-- second
 pub data PullsOut (r fillers : Range) (s : State) : ℕ → ℕ → State → Type 0 where
-  -- none was, and no filler is before the place
+  -- no row was pulled, and no filler is before the place
   begins : (seen : ℕ) → seen ≤ length s.pending_in → NoneIn fillers (keys_at s.cells s.pending_in) 0 seen → PullsOut r fillers s 0 seen s
-  -- one more was
+  -- one more row was pulled
   pulls : (from place seen next : ℕ) (doomed : Handle) (t u : State) (c : Carried) → PullsOut r fillers s from seen t → Finds r (keys_at t.cells t.pending_out) from (Some place) → StandsAt t.pending_out place doomed → Begins fillers t seen next c → Pulls doomed c u → PullsOut r fillers s place next u
 
--- all pending deletions of a range were pulled: the search finds none after the last
+-- all pending deletions in a range were pulled: a search from the last one's place finds none
 pub record PullsAll (r fillers : Range) (s t : State) : Type 0 where
   pub from : ℕ
   pub seen : ℕ
   pub pulls : PullsOut r fillers s from seen t
   pub none : Finds r (keys_at t.cells t.pending_out) from None
 
--- the pending insertions of a store after those of the range among the first ones, this many, were merged under ripple: they are gone, and after the
--- others are the evicted ones, at most as many
+-- the pending insertions after those in the range among the first `passed` were merged under ripple: those are
+-- gone, and the evicted rows, at most as many, follow the others
 pub record EvictsFirst (s : State) (r : Range) (left : List Handle) : Type 0 where
   pub passed : ℕ
   pub within : passed ≤ length s.pending_in
@@ -95,16 +98,16 @@ pub record EvictsFirst (s : State) (r : Range) (left : List Handle) : Type 0 whe
   pub some : SomeOf evicted (drop (edge s r.high) s.column)
   pub few : length evicted ≤ count_inside s.cells r (take passed s.pending_in)
 
--- which pending insertions are left by a merge of this policy that found no memory: the first ones, this many, are gone; complete
--- takes all from the front, in order of arrival, gradual and ripple those of the range; under ripple fillers may be gone
+-- the pending insertions that are left by a merge of this policy that found no memory: complete merged the first
+-- ones, gradual and ripple the first ones in the range; under ripple, fillers may be gone too
 abbrev pub LeavesRest : Policy → State → State → Range → Type 0
 LeavesRest Complete s t r = (k : ℕ) × (k ≤ length s.pending_in) × (t.pending_in ≡ drop k s.pending_in)
 LeavesRest Gradual s t r = (k : ℕ) × (k ≤ length s.pending_in) × (t.pending_in ≡ outside_of s.cells r (take k s.pending_in) ++ drop k s.pending_in)
 LeavesRest Ripple s t r = (hs : List Handle) × EvictsFirst s r hs × Fills s t r hs
 LeavesRest Auto s t r = ⊥
 
--- a merge that found no memory on the way: what it did until then stays, and commands see the same rows as before; some of the pending deletions are
--- left, in order of arrival
+-- a merge that found no memory on its way: its effects until then stay, commands see the same rows as before, and
+-- some of the pending deletions are left, in order
 pub record Stops (policy : Policy) (s t : State) (r : Range) : Type 0 where
   pub follows : Follows s t
   pub intact : IsIntact t []

@@ -1,13 +1,14 @@
--- What ripple leaves unchanged, and what it counts.
+-- What a ripple merge leaves unchanged, and what it counts.
 use Rattle.std.specs.Prelude.{◌≡◌, ℕ, ◌+◌, ◌*◌, ◌≤◌, ◌&&◌, nat_lt, max, min, length, take, drop, count_by, []}
 use Rattle.crack_row.specs.Ranges.{Range}
 use Rattle.crack_index.specs.Marks.{bounds_of}
 use Rattle.crack_state.specs.State.{State, IsIntact}
 use Rattle.crack_state.specs.Merge.{Follows, StillReads, SomeOf, Evicts, LosesFirst, IsExact, beyond, edge, outside_of, count_inside}
 
--- the pending insertions of a range are put in, near it: the column is the same before the range's low end, and from the place of its high
--- end on, where that place is after the rows were put in; the rows after the range that were replaced are evicted, or buried if they were
--- doomed, at most as many as pending insertions in the range; and the column is as long as it was, or shorter, unless the range ends it
+-- the pending insertions in a range are inserted near it: the column is unchanged before the range's low end, and
+-- from the new place of its high end on; of the rows after the range that were replaced, doomed ones are buried and
+-- others evicted, of each at most as many as pending insertions in the range; the column keeps its length, unless
+-- the range's high end moves past it
 pub record PutsInNear (s t : State) (r : Range) : Type 0 where
   pub follows : Follows s t
   pub intact : IsIntact t []
@@ -19,12 +20,14 @@ pub record PutsInNear (s t : State) (r : Range) : Type 0 where
   pub behind : drop (edge t r.high) t.column ≡ drop (edge t r.high) s.column
   pub long : length t.column ≡ max (length s.column) (edge t r.high)
 
--- how many fillers there are for the doomed rows of a range: one for each, or as many as pending insertions from the range's end up to the next bound
+-- the number of fillers for the pending deletions in a range: one for each, but no more than pending insertions
+-- from the range's end up to the next bound
 abbrev pub fillers_of : State → Range → ℕ
 fillers_of s r = min (count_inside s.cells (beyond s r) s.pending_in) (count_inside s.cells r s.pending_out)
 
--- the pending deletions of a range are taken out, and no others; the fillers, which are the first, leave the pending insertions, and the column
--- is shorter by one for each row that had none; if each had one, the column is the same from the place of the range's high end on
+-- the rows with pending deletions in a range are deleted, and no others; the first fillers leave the pending
+-- insertions, and the column is shorter by one for each deleted row without a filler; if each has a filler, the
+-- column is unchanged from the place of the range's high end on
 pub record TakesOutNear (s t : State) (r : Range) : Type 0 where
   pub follows : Follows s t
   pub intact : IsIntact t []
@@ -34,16 +37,17 @@ pub record TakesOutNear (s t : State) (r : Range) : Type 0 where
   pub long : length t.column + length s.pending_out ≡ length s.column + length t.pending_out + fillers_of s r
   pub behind : fillers_of s r ≡ count_inside s.cells r s.pending_out → drop (edge s r.high) t.column ≡ drop (edge s r.high) s.column
 
--- near: first the pending insertions of the range are put in, and then the remaining pending deletions of the range are taken out
+-- a merge near the range: first its pending insertions are inserted, then the rows with its remaining pending
+-- deletions are deleted
 pub record MergesNear (s t : State) (r : Range) : Type 0 where
   pub filled : State
   pub puts_in : PutsInNear s filled r
   pub takes_out : TakesOutNear filled t r
 
--- how many pieces the range has in a store that is cracked at its ends
+-- the number of pieces of the range, in a store that is cracked at the range's ends
 abbrev pub pieces_of : State → Range → ℕ
 pieces_of s r = count_by (λ bound. nat_lt r.low bound && nat_lt bound r.high) (bounds_of s.marks) + 1
 
--- if every counter is exact, each row that was put in has moved at most as many rows as the range has pieces
+-- if every counter is exact, each row that was inserted moved at most as many rows as the range has pieces
 abbrev pub MovesNear : State → State → Range → Type 0
 MovesNear s t r = IsExact t.tally → t.tally.moved + s.tally.put_in * pieces_of s r ≤ s.tally.moved + t.tally.put_in * pieces_of s r

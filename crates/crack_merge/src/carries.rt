@@ -1,4 +1,4 @@
-//! The carry, and the carries of a range.
+//! Carries of pending insertions.
 ghost use Rattle.std.specs.Prelude.{◌≡◌, ◌<◌, ◌≤◌, None, Some, [], length, IsTrue, IsFalse, IfSome, IfNone, IfOk};
 ghost use Rattle.std.specs.Prelude.{IfErr};
 ghost use Rattle.crack_arena.specs.Rows.{keys_at};
@@ -12,12 +12,12 @@ ghost use Rattle.crack_merge.specs.Loops.{MayEnd, EvictsOver, ended};
 use crack_row::{Bound, KeyRange, Refusal};
 use crack_store::{CarryEnd, Carrying, Store};
 
-/// Carries the pending insertions of a range, each up to the ceiling, in order of arrival; passes over the others once.
-/// The ceiling lies at or above the range's high end, so no row that is evicted is in the range. O(1) for each pending
-/// row that it passes, and O(log bounds) and the pieces on its way for each that it carries. If there is no bound and
-/// the range has all keys, it is one loop, with room made once for all; if there is no ceiling, or no row is doomed,
-/// the rows are carried in bulk, which goes once through the pieces for all of them. Refused with 8 if it finds no
-/// memory; the rows carried until then stay where they are.
+/// Carries the pending insertions in a range into the column, each up to the ceiling, in order of arrival. The
+/// ceiling is at or above the range's high end, so no evicted row is in the range. One pass over the pending
+/// insertions, and O(log bounds + pieces on its way) for each carried row. If there is no bound and the range has
+/// all keys, the rows are appended in one loop, with room made once for all. Otherwise, if there is no ceiling or
+/// no row is doomed, the rows are carried in bulk, in one pass over the pieces. Refused with `OutOfMemory` if no
+/// memory is found; rows carried before stay where they are.
 pub fn carry_range(
     mut store: Store,
     range: KeyRange,
@@ -50,8 +50,8 @@ pub fn carry_range(
     }
 }
 
-/// The first pending insertion of a range, from which they are carried one after the other; none if there was none or
-/// all were carried at once. O(pending insertions).
+/// The place of the first pending insertion in a range, if they are to be carried one after another. `None` if
+/// there is none, or if all were carried at once. O(pending insertions).
 fn first_to_carry(store: &mut Store, range: KeyRange, ceiling: Option<Bound>) -> Option<usize>
     requires { IsCeiling (ceiling_of ceiling) range }
     ensures carried { IfNone result (CarriesAll (ceiling_of ceiling) range store.old store.new) }
@@ -67,8 +67,8 @@ fn first_to_carry(store: &mut Store, range: KeyRange, ceiling: Option<Bound>) ->
     Some(first)
 }
 
-/// Carries all pending insertions of a range at once under a ceiling or none, of which `first` is the first; returns
-/// whether it did so. O(pending insertions), and O(pieces) for each that is carried.
+/// Carries all pending insertions in a range at once, with or without a ceiling. `first` is the place of the first.
+/// Returns whether it did so. O(pending insertions), and O(pieces) for each carried row.
 fn carry_all(store: &mut Store, range: KeyRange, first: usize, ceiling: Option<Bound>) -> bool
     requires ceiling { IsCeiling (ceiling_of ceiling) range }
     requires first { Finds range (keys_at store.old.cells store.old.pending_in) 0 (Some first) }
@@ -81,9 +81,9 @@ fn carry_all(store: &mut Store, range: KeyRange, first: usize, ceiling: Option<B
     }
 }
 
-/// Carries all pending insertions of a range at once, of which `first` is the first; returns whether it did so. If
-/// there is no bound and the range has all keys, they are appended to the column, else they are carried in bulk.
-/// Without memory for all of them it carries none. O(pending insertions), and O(pieces) for each that is carried.
+/// Carries all pending insertions in a range at once. `first` is the place of the first. Returns whether it did so.
+/// If there is no bound and the range has all keys, they are appended to the column; otherwise they are carried in
+/// bulk. Carries none if no memory is found for all. O(pending insertions), and O(pieces) for each carried row.
 pub(crate) fn carry_at_once(store: &mut Store, range: KeyRange, first: usize) -> bool
     requires { Finds range (keys_at store.old.cells store.old.pending_in) 0 (Some first) }
     ensures all { IsTrue result → CarriesAll None range store.old store.new }
@@ -96,7 +96,7 @@ pub(crate) fn carry_at_once(store: &mut Store, range: KeyRange, first: usize) ->
     store.carry_in_bulk(range, first)
 }
 
-/// Like `carry_at_once`, but under a ceiling: the rows beyond it that they replace are evicted.
+/// Like `carry_at_once`, but under a ceiling: rows at or above it that are replaced are evicted.
 fn carry_under(store: &mut Store, range: KeyRange, first: usize, ceiling: Bound) -> bool
     requires ceiling { range.high ≤ ceiling.0 }
     requires first { Finds range (keys_at store.old.cells store.old.pending_in) 0 (Some first) }
@@ -122,7 +122,7 @@ fn is_appendable(store: &Store, range: KeyRange) -> bool
     has_all && store.is_uncracked()
 }
 
-/// Puts all pending insertions after the column's last row; returns whether it found memory for them.
+/// Appends all pending insertions to the column. Returns whether memory was found for them.
 fn append_at_once(store: &mut Store) -> bool
     requires { store.old.marks ≡ [] }
     ensures all { IsTrue result → SameButRoom (all_appended store.old) store.new }
@@ -131,9 +131,9 @@ fn append_at_once(store: &mut Store) -> bool
     store.append_all().is_ok()
 }
 
-/// Carries the hand up through the pieces until a rule holds that ends the carry, and returns which. As long as none
-/// does, the hand takes the place where its own piece ends, and the row that was there is in hand. O(log bounds) and
-/// O(1) for each piece, and the bounds at its place; takes no memory.
+/// Carries the row in hand up through the pieces until a rule ends the carry, and returns that rule. In each step
+/// the row in hand takes the place where its own piece ends, and the row that was there comes into the hand. O(log
+/// bounds), and O(1) for each piece and for each bound at its place. Takes no memory.
 pub(crate) fn carry(carrying: &mut Carrying, ceiling: Option<Bound>) -> CarryEnd
     ensures ends { MayEnd result carrying.new }
     ensures evicts { EvictsOver (ceiling_of ceiling) result (hand_key carrying.new) }
@@ -146,7 +146,7 @@ pub(crate) fn carry(carrying: &mut Carrying, ceiling: Option<Bound>) -> CarryEnd
     carrying.carry_up(ceiling)
 }
 
-/// Ends a carry by its rule.
+/// Ends a carry by this rule.
 pub(crate) fn end(carrying: Carrying, rule: CarryEnd) -> Store
     requires ends { MayEnd rule carrying }
     requires column_room { 0 < carrying.store.column_room }
@@ -160,7 +160,7 @@ pub(crate) fn end(carrying: Carrying, rule: CarryEnd) -> Store
     }
 }
 
-/// Ends a carry by its rule, and takes the pending insertion at this place into the hand.
+/// Ends a carry by this rule, and takes the pending insertion at this place into the hand.
 pub(crate) fn end_and_lift(carrying: &mut Carrying, rule: CarryEnd, place: usize)
     requires ends { MayEnd rule carrying.old }
     requires column_room { 1 < carrying.old.store.column_room }

@@ -13,10 +13,10 @@ use crate::report::counted_between;
 use crack_row::{KeyRange, Refusal};
 use crack_store::{MergeReport, Store};
 
-/// Merges every pending row, if one of them has its key in the range, else none; the range was cracked before.
-/// O(pieces) for each pending row, and one search for the place of each doomed row. Refused with 8 if it finds no
-/// memory for a pending insertion; the rows put in until then stay where they are, and only the doomed rows that they
-/// met are gone.
+/// Merges all pending rows if at least one of them has its key in the range, otherwise none. The range must be
+/// cracked. O(pieces) for each pending row, and one search for the place of each doomed row. Refused with
+/// `OutOfMemory` if no memory is found for a pending insertion. Then rows inserted before stay where they are, and
+/// only the doomed rows that their carries met are gone.
 pub fn merge_complete(
     store: Store,
     range: KeyRange,
@@ -58,7 +58,7 @@ fn is_touched(store: &Store, range: KeyRange) -> bool
     store.first_in(range).is_some() || store.first_out(range).is_some()
 }
 
-/// Puts in every pending insertion, in order of arrival.
+/// Inserts all pending insertions, in order of arrival.
 fn put_in_all(mut store: Store) -> Result<Store, (Store, Refusal)>
     ensures ok { IfOk result (λ t. PutsIn Complete store t) }
     ensures all { IfOk result (λ t. t.pending_in ≡ []) }
@@ -91,7 +91,7 @@ fn put_in_all(mut store: Store) -> Result<Store, (Store, Refusal)>
     Ok(end(carrying, rule))
 }
 
-/// Puts in every pending insertion at once, if that is worth it and memory is found for all; returns whether none is
+/// Inserts all pending insertions at once, if that is worth it and memory is found for all. Returns whether none is
 /// left. O(pending insertions), and O(pieces) for each.
 fn put_in_at_once(store: &mut Store) -> bool
     ensures puts { IsTrue result → PutsIn Complete store.old store.new }
@@ -107,7 +107,7 @@ fn put_in_at_once(store: &mut Store) -> bool
     carry_at_once(store, keys, 0)
 }
 
-/// Takes out every pending deletion, in order of arrival, each by the column's last row.
+/// Deletes the rows with pending deletions, in order of arrival. The column's last row takes the place of each.
 fn take_out_all(store: Store) -> Store
     ensures takes { TakesOut Complete store result }
     ensures all { result.pending_out ≡ [] }

@@ -1,5 +1,5 @@
-//! Merges of pending rows into the cracker column, each row by a carry or a pull ("Updating a Cracked Database", SIGMOD
-//! 2007).
+//! Merges of pending rows into the cracker column, each row by a carry or a pull ("Updating a Cracked Database",
+//! SIGMOD 2007).
 #![tactic(auto)]
 
 pub mod carries;

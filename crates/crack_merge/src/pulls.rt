@@ -1,4 +1,4 @@
-//! The pull.
+//! Pulls of doomed rows.
 ghost use Rattle.std.specs.Prelude.{◌≡◌, ◌<◌, ◌≤◌, ◌⊎◌, ℕ, None, length, Contains};
 ghost use Rattle.crack_arena.specs.Arena.{StandsAt};
 ghost use Rattle.crack_arena.specs.Rows.{keys_at};
@@ -10,12 +10,12 @@ use crack_arena::Handle;
 use crack_row::{KeyRange, Row};
 use crack_store::{Carrying, Store};
 
-/// Takes the pending deletions of a range out, in order of arrival; passes over the others once. A pending insertion
-/// whose key is one of `fillers` fills the place of each, the first from the place `seen` on, and if there is none left
-/// the column's last row. No filler is before `seen`; pending insertions are passed over once. O(1) for each pending
-/// row that it passes; for each that it takes out O(log bounds) and the pieces on its way, and one search for its
-/// place. Those for which there are fillers are taken out in bulk, and then the others, if that is worth it and there
-/// is memory for a list of them. Takes no other memory.
+/// Deletes the rows with pending deletions in a range, in order of arrival. The place of each is taken by a filler,
+/// the first pending insertion at or after `seen` whose key is in `fillers`; or by the column's last row if no
+/// filler is left. No filler is before `seen`. One pass over the pending deletions and one over the pending
+/// insertions. For each deleted row O(log bounds + pieces on its way), and one search for its place. Those with
+/// fillers are pulled in bulk first, and then the others, if that is worth it and memory is found for a list of
+/// them. Takes no other memory.
 pub fn pull_range(mut store: Store, range: KeyRange, fillers: KeyRange, seen: usize) -> Store
     requires behind { fillers.low < fillers.high → range.high ≤ fillers.low }
     requires within { seen ≤ length store.pending_in }
@@ -36,7 +36,7 @@ pub fn pull_range(mut store: Store, range: KeyRange, fillers: KeyRange, seen: us
     pull_rest(store, range, fillers)
 }
 
-/// Takes out those that are left after the first were pulled in bulk, each by a filler.
+/// Deletes the rows that are left after the first ones were pulled in bulk, each by a filler.
 fn pull_rest(store: Store, range: KeyRange, fillers: KeyRange) -> Store
     requires behind { fillers.low < fillers.high → range.high ≤ fillers.low }
     requires room { 0 < store.column_room }
@@ -48,8 +48,8 @@ fn pull_rest(store: Store, range: KeyRange, fillers: KeyRange) -> Store
     }
 }
 
-/// Takes them out if no filler is found from the place `seen` on: in bulk, if that is worth it and there is memory
-/// for a list of them.
+/// Deletes the rows if there is no filler at or after `seen`: in bulk, if that is worth it and memory is found for
+/// a list of them, otherwise one after another.
 fn pull_unfilled(mut store: Store, range: KeyRange, fillers: KeyRange, seen: usize) -> Store
     requires behind { fillers.low < fillers.high → range.high ≤ fillers.low }
     requires within { seen ≤ length store.pending_in }
@@ -65,7 +65,7 @@ fn pull_unfilled(mut store: Store, range: KeyRange, fillers: KeyRange, seen: usi
     pull_each(store, range, fillers, seen)
 }
 
-/// Takes them out one after the other, as `pull_range` does.
+/// Deletes the rows one after another, as `pull_range` describes.
 fn pull_each(mut store: Store, range: KeyRange, fillers: KeyRange, seen: usize) -> Store
     requires behind { fillers.low < fillers.high → range.high ≤ fillers.low }
     requires within { seen ≤ length store.pending_in }
@@ -92,9 +92,8 @@ fn pull_each(mut store: Store, range: KeyRange, fillers: KeyRange, seen: usize) 
     }
 }
 
-/// Takes the first filler from the place `seen` on into the hand, and if there is none the column's last row;
-/// returns from where the next filler is to be searched for. O(1) for each pending insertion that it passes. Takes no
-/// memory.
+/// Takes the first filler at or after `seen` into the hand, or the column's last row if there is none. Returns
+/// where the search for the next filler begins. O(1) for each pending insertion that it passes. Takes no memory.
 fn begin(store: Store, fillers: KeyRange, seen: usize) -> (Carrying, usize)
     requires some { 0 < length store.column }
     requires room { (length store.pending_in ≤ seen) ⊎ (0 < store.column_room) }
@@ -109,7 +108,7 @@ fn begin(store: Store, fillers: KeyRange, seen: usize) -> (Carrying, usize)
     }
 }
 
-/// Buries the hand, and begins the next pull as `begin` does, with the store in its place.
+/// Buries the row in hand, and begins the next pull as `begin` does, but in place.
 fn bury_and_begin(carrying: &mut Carrying, fillers: KeyRange, seen: usize) -> usize
     requires doomed { IsDoomed carrying.old }
     requires some { 0 < length carrying.old.store.column }
@@ -129,11 +128,11 @@ fn bury_and_begin(carrying: &mut Carrying, fillers: KeyRange, seen: usize) -> us
     }
 }
 
-/// Brings a doomed row into the hand: the cell in hand moves down through the pieces to fill its place, each time to
-/// the last place before its own piece, and the row that was there is in hand. Another doomed row that comes into hand
-/// moves on like any other. The cell in hand may come from any place after the doomed row; at the end of the pull the
-/// doomed row is in hand, and is to be buried. O(log bounds) and O(1) for each piece, and the bounds at its place; one
-/// search for the doomed row's place. Takes no memory.
+/// Brings a doomed row into the hand. In each step the row in hand takes the last place before its own piece, and
+/// the row that was there is in hand; in the doomed row's piece it takes the doomed row's place. Another doomed row
+/// that comes into hand moves on like any other. The first row in hand may come from any place after the doomed
+/// row. In the end the doomed row is in hand, and is to be buried. O(log bounds), O(1) for each piece and for each
+/// bound at its place, and one search for the doomed row's place. Takes no memory.
 fn draw(carrying: &mut Carrying, doomed: Handle<Row>)
     requires pending { Contains carrying.old.store.pending_out doomed }
     requires ahead { (place : ℕ) → StandsAt carrying.old.store.column place doomed → place <
@@ -143,7 +142,7 @@ fn draw(carrying: &mut Carrying, doomed: Handle<Row>)
     ensures pending_out { carrying.new.store.pending_out ≡ carrying.old.store.pending_out }
 {
     carrying.facts();
-    // its place can't change before a step reaches it
+    // The row's place can't change before a step reaches it.
     let Some(place) = carrying.find(doomed) else {
         return;
     };

@@ -1,10 +1,10 @@
-//! What a merge counted.
+//! The report of a merge.
 ghost use Rattle.std.specs.Prelude.{◌≡◌};
 ghost use Rattle.crack_state.specs.Merge.{counted_between};
 
 use crack_store::MergeReport;
 
-/// What was counted since `before`, up to `after`.
+/// What was counted after `before`, up to `after`.
 pub fn counted_between(before: MergeReport, after: MergeReport) -> MergeReport
     ensures { result ≡ counted_between before after }
 {

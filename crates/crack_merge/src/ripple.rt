@@ -1,4 +1,4 @@
-//! The ripple merge: pending rows of a range are merged, and room is made near it.
+//! The ripple merge: merges the pending rows in a range, and makes room near the range.
 ghost use Rattle.std.specs.Prelude.{◌≡◌, ◌<◌, ◌≤◌, false, Ok, IsOk, IfOk, IfErr};
 ghost use Rattle.std.specs.List.{All};
 ghost use Rattle.crack_row.specs.declared.command.Policy.TheVariants.{Ripple};
@@ -13,13 +13,13 @@ use crate::report::counted_between;
 use crack_row::{KeyRange, Refusal};
 use crack_store::{MergeReport, Store};
 
-/// Merges the pending rows whose key is in the range, and no others except doomed rows in the way and fillers, with
-/// room made near the range; the range was cracked before. A row that is evicted is merged by a later call whose range
-/// needs it, or becomes a filler in this one. O(pending rows) to find them, O(pieces of the range) for each that is put
-/// in, and for each that is taken out if a filler takes its place; O(pieces) for the others that are taken out; and one
-/// search for the place of each. Refused with 8 if it finds no memory for a pending insertion of the range or for a
-/// filler; the rows that it had put in stay where they are, no filler is taken, and only the doomed rows that the
-/// carries met are gone.
+/// Merges the pending rows in the range, with room made near it. Other pending rows are merged only if they are
+/// fillers, or doomed rows in the way. The range must be cracked. An evicted row becomes a filler in this call, or
+/// is merged by a later call whose range needs it.
+/// O(pending rows) to find them. For each insertion, and for each deletion whose place a filler takes, O(pieces of
+/// the range); for each other deletion O(pieces). One search for the place of each doomed row. Refused with
+/// `OutOfMemory` if no memory is found for a pending insertion in the range or for a filler. Then rows inserted
+/// before stay where they are, no filler is merged, and only the doomed rows that the carries met are gone.
 pub fn merge_ripple(store: Store, range: KeyRange) -> Result<(Store, MergeReport), (Store, Refusal)>
     requires some { range.low < range.high }
     requires low { store.keys.low ≤ range.low }
@@ -53,9 +53,9 @@ pub fn merge_ripple(store: Store, range: KeyRange) -> Result<(Store, MergeReport
     }
 }
 
-/// The first part of `merge_ripple`: puts the pending insertions of the range in, in order of arrival.
-/// O(pending rows) to find them, O(pieces of the range) for each.
-/// Refused with 8 if it finds no memory for one of them; the rows that it had put in stay where they are.
+/// The first part of `merge_ripple`: inserts the pending insertions in the range, in order of arrival. O(pending
+/// rows) to find them, and O(pieces of the range) for each. Refused with `OutOfMemory` if no memory is found for
+/// one of them; rows inserted before stay where they are.
 pub fn ripple_in(store: Store, range: KeyRange) -> Result<Store, (Store, Refusal)>
     requires some { range.low < range.high }
     requires low { store.keys.low ≤ range.low }
@@ -77,11 +77,11 @@ pub fn ripple_in(store: Store, range: KeyRange) -> Result<Store, (Store, Refusal
     carry_range(store, range, Some(range.high()))
 }
 
-/// The second part of `merge_ripple`: takes the pending deletions of the range out, in order of arrival. A filler takes
-/// the place of each, the first pending insertion from the range's end up to the next bound, and if there is none left
-/// the column's last row. O(pending rows) to find them, O(pieces of the range) for each that has a filler, O(pieces)
-/// for the others, and one search for its place. Refused with 8 if it finds no memory for a filler; then nothing has
-/// changed.
+/// The second part of `merge_ripple`: deletes the rows with pending deletions in the range, in order of arrival.
+/// The place of each is taken by a filler, the first pending insertion from the range's end up to the next bound;
+/// or by the column's last row if no filler is left. O(pending rows) to find them. O(pieces of the range) for each
+/// with a filler, O(pieces) for each other one, and one search for the place of each. Refused with `OutOfMemory` if
+/// no memory is found for a filler; then no row has moved.
 pub fn ripple_out(mut store: Store, range: KeyRange) -> Result<Store, (Store, Refusal)>
     requires some { range.low < range.high }
     requires low { store.keys.low ≤ range.low }
@@ -107,6 +107,6 @@ pub fn ripple_out(mut store: Store, range: KeyRange) -> Result<Store, (Store, Re
     if let Err(refusal) = store.make_room() {
         return Err((store, refusal));
     }
-    // a place is enough for all fillers: each pull that begins with one gives a place of the column back
+    // Room for one handle is enough for all fillers: each pull that begins with a filler gives the room back.
     Ok(pull_range(store, range, fillers, first))
 }

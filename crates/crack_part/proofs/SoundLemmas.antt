@@ -1,7 +1,8 @@
 -- A partition's invariant, and what follows from it.
-use Rattle.std.proofs.Common.{◌≡◌, ℕ, ◌+◌, ◌-◌, ◌^◌, ◌<◌, ◌≤◌, List, [], ◌∷◌, ◌++◌, length, Bool, true, false, Option, Some, None, IfSome, option_and_then, arith, refl, sym, ap, subst, ◌∙◌}
+use Rattle.std.proofs.Common.{◌≡◌, ℕ, ◌+◌, ◌-◌, ◌^◌, ◌<◌, ◌≤◌, List, [], ◌∷◌, ◌++◌, length, Bool, true, false, Option, Some, None, IfSome, option_and_then, arith, inl, inr, refl, sym, ap, subst, ◌∙◌}
 use Rattle.std.specs.List.{All}
 use Rattle.std.specs.List.Sorted.{IsPermutation}
+use Rattle.std.proofs.lemmas.Bool.{cases_eq}
 use Rattle.std.proofs.lemmas.List.Sorted.{IsPermutation-sym, IsPermutation-trans, IsPermutation-cons, IsPermutation-to_front, All-permutation}
 use Rattle.crack_row.specs.Commands.{change_of, range_of, brought_key}
 use Rattle.crack_row.specs.Ranges.{Range, IsIn}
@@ -20,12 +21,13 @@ use Rattle.crack_plain.specs.Plain.{PlainState, IsNumbered, by_serial, changed, 
 use Rattle.crack_plain.proofs.Words.{IsWithin}
 use Rattle.crack_plain.proofs.Laws.{IsNumbered-no_rows, IsNumbered-after, next-changed-le}
 use Rattle.crack_plain.proofs.OrderLaws.{IsPermutation-by_serial}
+use Rattle.crack_arena.specs.declared.TheConstants.{MOST_CELLS}
 use Rattle.crack_state.specs.State.{State, live_rows, freed_of, IsIntact}
 use Rattle.crack_state.specs.Steps.{IsAdmissible, SameButRoom, admitted}
-use Rattle.crack_state.specs.Points.{pending_by, MayFree, IsRenewable, IsRewritable, Removes, Rewrites}
+use Rattle.crack_state.specs.Points.{pending_by, handle_by, MayFree, IsRenewable, IsRewritable, Removes, Rewrites}
 use Rattle.crack_state.proofs.KeyedLaws.{handle_of-fresh}
 use Rattle.crack_state.proofs.AdmitLaws.{live_rows-admitted, freed-admitted, cells-admitted}
-use Rattle.crack_state.proofs.PointLaws.{Spends, Spends-cancels, Spends-dooms, Spends-rewrites, found_by}
+use Rattle.crack_state.proofs.PointLaws.{Spends, Spends-cancels, Spends-dooms, Spends-rewrites, found_by, stands1}
 use Rattle.crack_store.specs.Inside.{no_cells}
 use Rattle.crack_part.specs.Parts.{Part, IsLimit, IsSound, folded_part, IsFaithful, ServesCleared, Prepares, Performs, state_of}
 use Rattle.crack_part.specs.Inside.{placed, MayPerform}
@@ -51,12 +53,13 @@ next-above p sound =
     let live = live_rows p.store in
     All-permutation (λ (r : Row). r.serial.0 < p.next) (state_of p).rows live (IsPermutation-sym live (state_of p).rows (IsPermutation-by_serial live)) sound.numbered.below
 
--- there are far fewer cells than there may be, and far fewer were freed
-few_cells : (p : Part) → IsSound p → length p.store.cells < 2 ^ 32 - 1 + length p.store.free
+-- there are fewer cells than there may be
+few_cells : (p : Part) → IsSound p → length p.store.cells < MOST_CELLS + length p.store.free
 few_cells p sound = omega (arith, sound.cells, sound.limited.cells.1)
 
-few_freed : (p : Part) → IsSound p → MayFree p.store
-few_freed p sound = omega (arith, sound.few_freed, accepted-le-life p sound)
+-- before a command of its life, one more may be freed
+few_freed : (p : Part) → IsSound p → p.folded + p.since < p.limits.life → MayFree p.store
+few_freed p sound lives = omega (arith, sound.few_freed, sound.limited.life.1, lives)
 
 -- a row that is placed may be admitted
 IsAdmissible-placed : (p : Part) (key : Key) (payload : Payload) → IsSound p → IsIn p.keys key.0 → IsAdmissible (placed p.next key payload) p.store
@@ -71,11 +74,11 @@ abbrev BringsWithin : Range → Option Change → Type 0
 BringsWithin keys change = IfSome (option_and_then brought_key change) (λ (key : Key). IsIn keys key.0)
 
 -- a change whose key is the partition's may be made
-MayPerform-within : (p : Part) (change : Option Change) → IsSound p → BringsWithin p.keys change → MayPerform p.next change p.store
-MayPerform-within p None sound within = tt
-MayPerform-within p (Some (Place key payload)) sound within = IsAdmissible-placed p key payload sound within
-MayPerform-within p (Some (Remove serial)) sound within = few_freed p sound
-MayPerform-within p (Some (Rewrite serial key payload)) sound within = (rw sound.ends within, record { cell = few_cells p sound; few = few_freed p sound })
+MayPerform-within : (p : Part) (change : Option Change) → IsSound p → p.folded + p.since < p.limits.life → BringsWithin p.keys change → MayPerform p.next change p.store
+MayPerform-within p None sound lives within = tt
+MayPerform-within p (Some (Place key payload)) sound lives within = IsAdmissible-placed p key payload sound within
+MayPerform-within p (Some (Remove serial)) sound lives within = few_freed p sound lives
+MayPerform-within p (Some (Rewrite serial key payload)) sound lives within = (rw sound.ends within, record { cell = few_cells p sound; few = few_freed p sound lives })
 
 -- the live rows, and the numbers that the count of commands bounds, are as they were
 pub IsSound-kept : (p : Part) (t : State) → IsSound p → Keeps p.store t → IsIntact t [] → IsSound (record p { store = t })
@@ -105,9 +108,9 @@ IsPermutation-placed live now plain row faithful one =
     IsPermutation-trans now (row ∷ live) (plain ++ row ∷ []) (IsPermutation-sym (row ∷ live) now one) (IsPermutation-trans (row ∷ live) (row ∷ plain) (plain ++ row ∷ []) front back)
 
 -- a command whose key is the partition's may be performed, however its store was prepared
-pub MayPerform-prepared : (policy : Policy) (p : Part) (command : Command) (u : State) → IsSound p → IsWithin p.keys command → Prepares policy p.keys (range_of command) p.store u → MayPerform p.next (change_of command) u
-MayPerform-prepared policy p command u sound within prepared =
-    MayPerform-within (record p { store = u }) (change_of command) (IsSound-prepared policy p (range_of command) u sound prepared) within
+pub MayPerform-prepared : (policy : Policy) (p : Part) (command : Command) (u : State) → IsSound p → p.folded + p.since < p.limits.life → IsWithin p.keys command → Prepares policy p.keys (range_of command) p.store u → MayPerform p.next (change_of command) u
+MayPerform-prepared policy p command u sound lives within prepared =
+    MayPerform-within (record p { store = u }) (change_of command) (IsSound-prepared policy p (range_of command) u sound prepared) lives within
 
 -- the live rows are as they were
 pub IsFaithful-kept : (s t : State) (next : ℕ) (plain : PlainState) → Keeps s t → IsFaithful s next plain → IsFaithful t next plain
@@ -154,13 +157,46 @@ Spends-performed next (Some (Remove serial)) s t intact may removes = Spends-rem
 Spends-performed next (Some (Rewrite serial key payload)) s t intact may replaces =
     Spends-replaced s t (row_with serial key payload) (pending_by s serial.0) refl intact may.0 may.1 replaces
 
-pub Spends-served : (policy : Policy) (p : Part) (command : Command) (t : State) → IsSound p → IsWithin p.keys command → ServesCleared policy p.keys p.next command p.store t → Spends 1 1 p.store t
-Spends-served policy p command t sound within served =
+-- what has no cell has none to free, now or later
+abbrev pub SpendsNone : State → State → Type 0
+SpendsNone s t = length s.cells ≡ 0 → freed_of t.cells + length t.pending_out ≤ freed_of s.cells + length s.pending_out
+
+-- a row that a serial leads to has a cell
+has-cell : (s : State) (serial : ℕ) (pending : Bool) → pending_by s serial ≡ Some pending → IsIntact s [] → length s.cells ≡ 0 → ⊥
+has-cell s serial pending is intact empty =
+    let known = stands1 s serial (handle_by s serial) (found_by s serial pending is).leads intact in
+    omega (arith, known.within, empty)
+
+SpendsNone-same : (s t : State) → t ≡ s → SpendsNone s t
+SpendsNone-same s t same empty = rw same (omega arith)
+
+SpendsNone-removed : (s t : State) (serial : ℕ) (o : Option Bool) → pending_by s serial ≡ o → IsIntact s [] → Removes o serial s t → SpendsNone s t
+SpendsNone-removed s t serial None is intact same empty = SpendsNone-same s t same empty
+SpendsNone-removed s t serial (Some pending) is intact removes empty = absurd (has-cell s serial pending is intact empty)
+
+SpendsNone-replaced : (s t : State) (row : Row) (o : Option Bool) → pending_by s row.serial.0 ≡ o → IsIntact s [] → Rewrites o row s t → SpendsNone s t
+SpendsNone-replaced s t row None is intact same empty = SpendsNone-same s t same empty
+SpendsNone-replaced s t row (Some pending) is intact rewrites empty = absurd (has-cell s row.serial.0 pending is intact empty)
+
+SpendsNone-performed : (next : ℕ) (change : Option Change) (s t : State) → IsIntact s [] → Performs next change s t → SpendsNone s t
+SpendsNone-performed next None s t intact same empty = SpendsNone-same s t same empty
+SpendsNone-performed next (Some (Place key payload)) s t intact admits empty =
+    let row = placed next key payload in
+    let keeps = Keeps-room (admitted row s) t admits in
+    omega (arith, keeps.freed, freed-admitted row s intact)
+SpendsNone-performed next (Some (Remove serial)) s t intact removes empty = SpendsNone-removed s t serial.0 (pending_by s serial.0) refl intact removes empty
+SpendsNone-performed next (Some (Rewrite serial key payload)) s t intact replaces empty =
+    SpendsNone-replaced s t (row_with serial key payload) (pending_by s serial.0) refl intact replaces empty
+
+pub Spends-served : (policy : Policy) (p : Part) (command : Command) (t : State) → IsSound p → p.folded + p.since < p.limits.life → IsWithin p.keys command → ServesCleared policy p.keys p.next command p.store t → Spends 1 1 p.store t × SpendsNone p.store t
+Spends-served policy p command t sound lives within served =
     let before = IsSound-prepared policy p (range_of command) served.ready sound served.prepared in
     let keeps = Keeps-prepared policy p.keys (range_of command) p.store served.ready served.prepared in
-    let may = MayPerform-prepared policy p command served.ready sound within served.prepared in
-    let spends = Spends-performed p.next (change_of command) served.ready t before.intact may served.performed in
-    record { keys = spends.keys ∙ keeps.ends; cells = omega (arith, spends.cells, keeps.cells); freed = omega (arith, spends.freed, keeps.freed) }
+    let may = MayPerform-prepared policy p command served.ready sound lives within served.prepared in
+    let spends = Spends-performed p.next (change_of command) served.ready t before.intact may served.performed in (
+      record { keys = spends.keys ∙ keeps.ends; cells = omega (arith, spends.cells, keeps.cells); freed = omega (arith, spends.freed, keeps.freed) },
+      λ empty. let none = SpendsNone-performed p.next (change_of command) served.ready t before.intact served.performed (omega (arith, empty, keeps.cells)) in omega (arith, none, keeps.freed),
+    )
 
 -- a limit of a history, and the greatest of the others
 pub AreLimits-of_history : (limit : ℕ) → IsLimit limit → AreLimits (of_history limit)
@@ -182,18 +218,21 @@ IsSound-opened keys limits store is limited intact = record {
 }
 
 -- one more command
-pub IsSound-served : (p : Part) (command : Command) (next folded since : ℕ) (t : State) → IsSound p → folded + since ≡ p.folded + p.since + 1 → since ≤ p.limits.history → p.folded + p.since < p.limits.life → length t.cells ≤ p.limits.cells → IsIntact t [] → IsFaithful t next (after (state_of p) command) → Spends 1 1 p.store t → IsSound (record p { next = next; folded = folded; since = since; store = t })
-IsSound-served p command next folded since t sound one few life fits intact faithful spends =
+pub IsSound-served : (p : Part) (command : Command) (next folded since : ℕ) (t : State) → IsSound p → folded + since ≡ p.folded + p.since + 1 → since ≤ p.limits.history → p.folded + p.since < p.limits.life → length t.cells ≤ p.limits.cells → IsIntact t [] → IsFaithful t next (after (state_of p) command) → Spends 1 1 p.store t × SpendsNone p.store t → IsSound (record p { next = next; folded = folded; since = since; store = t })
+IsSound-served p command next folded since t sound one few life fits intact faithful spent =
     let plain = after (state_of p) command in
     let numbered = IsNumbered-after (state_of p) command sound.numbered in
     record {
       limited = sound.limited;
       numbered = subst IsNumbered (sym (state-faithful t next plain faithful numbered)) numbered;
-      ends = spends.keys ∙ sound.ends;
+      ends = spent.0.keys ∙ sound.ends;
       intact = intact;
       cells = fits;
-      few_cells = omega (arith, one, spends.cells, sound.few_cells);
-      few_freed = omega (arith, one, spends.freed, sound.few_freed);
+      few_cells = omega (arith, one, spent.0.cells, sound.few_cells);
+      few_freed = elim (cases_eq (length p.store.cells) 0) [
+        | inl empty ↦ omega (arith, one, spent.1 empty, sound.few_freed)
+        | inr some ↦ omega (arith, one, some, spent.0.freed, sound.few_freed, sound.few_cells)
+      ];
       few_placed = omega (arith, one, faithful.serial, next-changed-le (state_of p) (change_of command), sound.few_placed);
       few_since = few;
       lived = omega (arith, one, life);

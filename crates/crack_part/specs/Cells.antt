@@ -7,17 +7,17 @@ use Rattle.crack_state.specs.State.{State}
 use Rattle.crack_state.specs.Points.{pending_by}
 use Rattle.crack_part.specs.Upkeep.{is_automatic}
 
--- whether a change needs one more cell for a row: for one that is placed, and for one that replaces a row of the column
+-- whether a change takes one more cell: an insertion does, and an update of a row of the column
 abbrev pub takes_cell : State → Option Change → Bool
 takes_cell s (Some (Place key payload)) = true
 takes_cell s (Some (Rewrite serial key payload)) = unwrap_or (option_map not (pending_by s serial.0)) false
 takes_cell s _ = false
 
--- whether a change needs a cell while none is free, and there are as many as there may be
+-- whether a change takes a cell while none is free and there are as many as the limit
 abbrev pub lacks_cell : ℕ → State → Option Change → Bool
 lacks_cell most s change = nat_le most (length s.cells) && ((length s.free == 0) && takes_cell s change)
 
--- whether there are doomed rows whose cells upkeep may free
+-- whether upkeep may free cells: it is automatic, and deletions are pending
 abbrev pub may_clear : Limits → State → Bool
 may_clear limits s = is_automatic limits.upkeep && not (length s.pending_out == 0)
 

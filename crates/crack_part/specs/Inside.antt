@@ -23,45 +23,45 @@ use Rattle.crack_part.specs.Cells.{lacks_cell, is_without_cell, is_cleared_first
 use Rattle.crack_part.specs.Refusals.{stopped_by, first_cause, refusal_of}
 use Rattle.crack_part.specs.Upkeep.{answered}
 
--- the row that a change places
+-- the row that a change inserts
 abbrev pub placed : ℕ → Key → Payload → Row
 placed serial key payload = row_with (record { 0 = serial }) key payload
 
--- if that is due, all pending rows are merged, by a read of all keys under complete
+-- all pending rows are merged if that is due, by a read of all keys under complete
 abbrev pub Readies : Bool → State → State → Type 0
 Readies due s t = ((due ≡ false) × (t ≡ s)) ⊎ ((due ≡ true) × CracksAndMerges Complete s t s.keys)
 
--- the intersection of a range with the keys, if any
+-- the intersection of a range with the keys, or none if it is empty
 abbrev pub IsCommon : Range → Range → Option Range → Type 0
 IsCommon range keys None = (clipped range keys).high ≤ (clipped range keys).low
 IsCommon range keys (Some common) = (common ≡ clipped range keys) × (common.low < common.high)
 
--- the same for the range that a command reads, if any
+-- the intersection of the range that a command reads, if any, with the keys
 abbrev pub AreCommon : Option Range → Range → Option Range → Type 0
 AreCommon None keys common = common ≡ None
 AreCommon (Some range) keys common = IsCommon range keys common
 
--- when a change may be made, in which the next row gets this serial
+-- whether a change may be made, where an inserted row gets this serial
 abbrev pub MayPerform : ℕ → Option Change → State → Type 0
 MayPerform next None s = Unit {0}
 MayPerform next (Some (Place key payload)) s = IsAdmissible (placed next key payload) s
 MayPerform next (Some (Remove serial)) s = MayFree s
 MayPerform next (Some (Rewrite serial key payload)) s = IsIn s.keys key.0 × IsRenewable s
 
--- the refusal of a command by a partition, if any, whatever cells there are
+-- the refusal of a command by a partition, if any, apart from a missing cell
 abbrev pub early_refusal_of : Part → Command → Option Refusal
 early_refusal_of part command = first_cause part.keys (stopped_by part.limits (table_of part)) false command
 
--- cells are freed if that is due, so that a command lacks none
+-- cells are freed if that is due, so that the command lacks none
 abbrev pub Frees : Part → Command → Part → Type 0
 Frees p command q = (lacks_cell q.limits.cells q.store (change_of command) ≡ false) × (is_without_cell p.limits p.store (change_of command) ≡ false) × Readies (is_cleared_first p.limits p.store (change_of command)) p.store q.store
 
--- none is freed: either it isn't due, or there is no memory for it
+-- no cell is freed: either upkeep frees none, or no memory is found for it
 abbrev pub FreesNone : Part → Command → Refusal → Part → Type 0
 FreesNone p command e q = ((e ≡ NoCell) × (is_without_cell p.limits p.store (change_of command) ≡ true) × (q ≡ p)) ⊎ ((e ≡ OutOfMemory) × (is_cleared_first p.limits p.store (change_of command) ≡ true) × StopsAt Complete p.store q.store p.store.keys)
 
--- The outcome of a command at a partition that refuses it for this cause, if any, and changes or leaves its store in this way: the reply of its plain
--- rows, and one more command; or a refusal, which leaves its plain table unchanged.
+-- the outcome of a command at a partition that refuses it for this cause, if any: the reply of the plain rows, and
+-- one more command; or a refusal, which leaves the plain table unchanged; the store changes by `Served` or `Spared`
 pub record AppliesBy (command : Command) (cause : Option Refusal) (Served Spared : State → Type 0) (old : Part) (result : Result Reply Refusal) (new : Part) : Type 0 where
   pub reply : IfOk result (λ reply. reply ≡ reply_to (state_of old) command)
   pub small : IfOk result IsSmall
@@ -74,6 +74,6 @@ pub record AppliesBy (command : Command) (cause : Option Refusal) (Served Spared
   pub refused : IfSome cause (λ e. (result ≡ Err e) × (new ≡ old))
   pub memory : cause ≡ None → IfErr result (λ e. e ≡ OutOfMemory)
 
--- the whole outcome
+-- the outcome of a command at a partition
 abbrev pub Applies : Policy → Command → Part → Result Reply Refusal → Part → Type 0
 Applies policy command old result new = AppliesBy command (refusal_of old command) (Serves policy old command) (Spares policy old command) old result new

@@ -13,17 +13,17 @@ use Rattle.crack_part.specs.Parts.{Part, table_of}
 use Rattle.crack_part.specs.Upkeep.{is_full}
 use Rattle.crack_part.specs.Cells.{is_without_cell}
 
--- whether a key, if there is one, is one of these
+-- whether there is no key, or it is one of these
 abbrev pub is_key_in : Range → Option Key → Bool
 is_key_in keys None = true
 is_key_in keys (Some key) = is_in keys key.0
 
--- why a partition with these limits accepts no more commands: as many were accepted since its last checkpoint as its limit allows, and it makes
--- no checkpoint by itself, or as many since its opening as it may accept in total
+-- why a partition with these limits accepts no more commands: as many were accepted since its last checkpoint as
+-- its limit and upkeep is on request, or as many since its opening as its life
 abbrev pub stopped_by : Limits → PlainView → Option Refusal
 stopped_by limits table = if is_full limits table.since then Some (HistoryFull limits.history) else (if nat_le limits.life (accepted_of table) then Some LifeOver else None)
 
--- the first cause to refuse a command: its key is none of these, no more commands are accepted, it lacks a cell
+-- the first cause to refuse a command: its key is none of these, no more commands are accepted, a cell is missing
 abbrev pub first_cause : Range → Option Refusal → Bool → Command → Option Refusal
 first_cause keys stop lacks command = if is_key_in keys (key_of command) then option_or stop (if lacks then Some NoCell else None) else Some KeyOutside
 

@@ -1,4 +1,4 @@
--- What a partition does by itself if it has accepted as many commands since its last checkpoint as its history may have.
+-- What a partition does if it has accepted as many commands since its last checkpoint as its history may have.
 use Rattle.std.specs.Prelude.{ℕ, Bool, true, false, ◌+◌, ◌&&◌, not, nat_le, if◌then◌else◌}
 use Rattle.crack_row.specs.declared.command.Command.{Command}
 use Rattle.crack_row.specs.declared.limit.Limits.{Limits}
@@ -19,10 +19,10 @@ is_full limits since = nat_le limits.history since && not (is_automatic limits.u
 abbrev pub is_due : Limits → ℕ → Bool
 is_due limits since = nat_le limits.history since && is_automatic limits.upkeep
 
--- the plain table that answers the next command: checkpointed, if a checkpoint is due
+-- the plain table that answers the next command: after a checkpoint, if one is due
 abbrev pub upkept : Limits → PlainView → PlainView
 upkept limits table = if is_due limits table.since then checkpointed table else table
 
--- the plain table after an answered command, which is one more since the last checkpoint
+-- the plain table after an answered command, which counts as one more since the last checkpoint
 abbrev pub answered : Limits → PlainView → Command → PlainView
 answered limits table command = record { state = after table.state command; folded = (upkept limits table).folded; since = (upkept limits table).since + 1 }

@@ -18,7 +18,7 @@ use crate::replies::{gone, rewritten};
 use crack_row::{Command, Key, Payload, Refusal, Reply, Row, Serial};
 use crack_store::Store;
 
-/// Inserts a row, which gets this serial; returns the reply. O(1), amortised.
+/// Inserts a row, which gets the serial `next`, and returns the reply. O(1), amortised.
 #[inline(always)]
 pub(crate) fn place(
     store: &mut Store,
@@ -48,7 +48,7 @@ pub(crate) fn place(
     Ok(Reply::Placed(row.serial))
 }
 
-/// Removes the row with a serial, if there is one; returns the reply. O(1), amortised.
+/// Deletes the row with this serial, if there is one, and returns the reply. O(log pieces), amortised.
 #[inline(never)]
 pub(crate) fn remove(
     store: &mut Store,
@@ -77,7 +77,7 @@ pub(crate) fn remove(
     Ok(gone(row))
 }
 
-/// Replaces the row with the same serial, if there is one; returns the reply. O(1), amortised.
+/// Replaces the row with the same serial, if there is one, and returns the reply. O(log pieces), amortised.
 #[inline(never)]
 pub(crate) fn rewrite(
     store: &mut Store,

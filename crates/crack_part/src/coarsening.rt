@@ -9,14 +9,14 @@ use crate::passes::Passes;
 use crack_row::{Key, Policy};
 use crack_store::Store;
 
-/// A bound is forgotten if its two pieces hold at most this many rows together.
+/// A bound is forgotten if the two pieces beside it have at most this many rows together.
 const FEW_ROWS: usize = 1024;
 
-/// How many bounds a pass meets before one read, in less than 2 ms.
-const MOST_BOUNDS: usize = 2048;
+/// The most bounds that a pass before a read looks at, in less than 1 ms.
+const MOST_BOUNDS: usize = 512;
 
-/// Forgets bounds under `Policy::Auto`, if a pass over them is due, and joins the known sums of their pieces. No row
-/// moves. Takes no memory.
+/// Makes a pass over the bounds under `Policy::Auto`, if one is due: forgets bounds, and joins the known sums of
+/// their pieces. Moves no row. Takes no memory.
 #[inline(always)]
 pub(crate) fn coarsen(store: &mut Store, passes: &mut Passes, known: &mut KnownSums, policy: Policy)
     ensures coarse { store.new ≡ coarsened (due_by policy passes.old store.old) store.old }

@@ -1,4 +1,4 @@
-//! The known sums of pieces of a partition.
+//! The known sums of a partition's pieces.
 ghost use Rattle.std.specs.Prelude.{◌≡◌, ℕ, ℤ, ◌<◌, ◌≤◌, ◌^◌, ◌↔◌, [], IsTrue, IfSome, IsSome, OnSome};
 ghost use Rattle.std.specs.Map.{keys_of};
 ghost use Rattle.crack_row.specs.Rows.{sum_of};
@@ -15,15 +15,15 @@ use crack_store::Store;
 use std::alloc::Global;
 use std::marker::Model;
 
-/// If more rows than this were placed since the sums were last used, the sums are forgotten: looking the rows up would
-/// take longer than summing again.
+/// If more rows than this were inserted since the sums were last used, the sums are forgotten: looking up those
+/// rows would take longer than summing again.
 const MOST_PLACED: u64 = 256;
 
-/// A part of so few rows is summed, whatever the rest of its piece.
+/// A part with at most this many rows is summed itself, whatever the rest of its piece.
 const FEW_ROWS: u64 = 512;
 
-/// The known sums of pieces, of the rows that were placed before a serial. They are sums of plain rows, by key, so
-/// cracks and merges don't change them.
+/// The known sums of pieces, over the rows inserted before the serial `since`. They are sums of plain rows by key,
+/// so cracks and merges don't change them.
 #[derive(Drop)]
 pub(crate) struct KnownSums {
     pieces: PieceSums,
@@ -39,7 +39,7 @@ impl Model for KnownSums {
 }
 
 impl KnownSums {
-    /// No sums. Takes no memory.
+    /// No known sums. Takes no memory.
     pub(crate) fn new(alloc: Global) -> KnownSums
         ensures { result ≡ record { pieces = []; since = 0 } }
     {
@@ -49,7 +49,7 @@ impl KnownSums {
         }
     }
 
-    /// Notes that the row with a serial was removed, if there was one. O(log pieces), amortised.
+    /// Records that the row with this serial was deleted, if there was one. O(log pieces), amortised.
     pub(crate) fn remove(&mut self, serial: Serial, row: Option<Row>, next: u64)
         ensures knows { (plain : PlainState) → IsNumbered plain → row_in plain.rows serial ≡ row →
             Knows self.old plain → Knows self.new (after plain (Command.Delete serial)) }
@@ -64,7 +64,7 @@ impl KnownSums {
         }
     }
 
-    /// Notes that a row was put in the place of the one with its serial, if there was one. O(log pieces), amortised.
+    /// Records that `row` replaced `before`, the row with its serial, if there was one. O(log pieces), amortised.
     pub(crate) fn replace(&mut self, before: Option<Row>, row: Row, next: u64)
         ensures knows { (plain : PlainState) → IsNumbered plain → row_in plain.rows row.serial ≡ before → Knows self.old
             plain → Knows self.new (after plain (Command.Update row.serial row.key row.payload)) }
@@ -88,8 +88,9 @@ impl KnownSums {
         self.pieces.join(bound.key());
     }
 
-    /// The sum of a range for which the store is settled. Parts whose sum isn't known are summed in the store. None if
-    /// it finds no memory, or 128 bits aren't enough. O(log pieces) once the sums of the pieces in the range are known.
+    /// The sum of a range for which the store is settled. Parts whose sum isn't known are summed in the store.
+    /// `None` if no memory is found, or if 128 bits aren't enough. O(log pieces) once the sums of the pieces in the
+    /// range are known.
     pub(crate) fn sum(&mut self, store: &Store, next: u64, range: KeyRange) -> Option<i128>
         requires filled { range.low < range.high }
         requires settled { IsSettled store.now range }
@@ -105,7 +106,7 @@ impl KnownSums {
         self.pieces.sum(range, &Settled { store, range })
     }
 
-    /// Adds the rows that were placed since the sums were last used, or forgets the sums if these rows are many.
+    /// Adds the rows inserted since the sums were last used, or forgets the sums if there are many such rows.
     fn catch_up(&mut self, store: &Store, next: u64)
         ensures knows { (plain : PlainState) → IsNumbered plain → IsFaithful store.now next plain →
             Knows self.old plain → Knows self.new plain × (self.new.since ≡ next) }
@@ -119,8 +120,8 @@ impl KnownSums {
         self.since = next;
     }
 
-    /// Forgets the sums if many rows were placed since they were last used: the next sum would forget them, so a
-    /// change needn't adjust them.
+    /// Forgets the sums if many rows were inserted since they were last used. The next sum would forget them
+    /// anyway, so a change needn't adjust them.
     fn forget_if_late(&mut self, next: u64)
         ensures { self.new ≡ left next self.old }
     {
@@ -130,7 +131,7 @@ impl KnownSums {
     }
 }
 
-/// Adds the rows with these serials that are still there. O(rows * log pieces).
+/// Adds the rows with serials from `from` up to `next` that still exist. O(rows * log pieces).
 fn take_in(pieces: &mut PieceSums, store: &Store, from: u64, next: u64)
     ensures right { (plain : PlainState) → IsNumbered plain → IsFaithful store.now next plain → from ≤ next →
         AreRight (sum_before from plain.rows) pieces.old → AreRight (sum_before next plain.rows) pieces.new }
@@ -153,7 +154,7 @@ fn add(pieces: &mut PieceSums, row: Option<Row>)
     }
 }
 
-/// A store that is settled for a range of its keys, as the source of the sums of all ranges for which it is settled.
+/// A store that is settled for a range of its keys, as a source of the sums of ranges.
 #[derive(Clone, Copy)]
 struct Settled<'a> {
     store: &'a Store,
@@ -161,8 +162,8 @@ struct Settled<'a> {
 }
 
 impl Settled<'_> {
-    /// Whether the store is cracked at the ends of a range, and settled for it: it is a part of its range, or no row in
-    /// it is pending. O(log bounds), and the pending rows unless it is a part.
+    /// Whether the store is cracked at the ends of `range` and settled for it: `range` is a part of the settled
+    /// range, or no row in it is pending. O(log bounds), and a pass over the pending rows unless it is a part.
     #[inline]
     fn is_settled(&self, range: KeyRange) -> bool
         ensures cracked { IsTrue result → IsCracked self.now.store.now range }
@@ -194,7 +195,7 @@ impl Settled<'_> {
         true
     }
 
-    /// Whether a range is a part of its range.
+    /// Whether `range` is a part of the settled range.
     #[inline]
     fn is_part(&self, range: KeyRange) -> bool
         ensures { IsTrue result ↔ (self.now.range.low ≤ range.low) × (range.high ≤ self.now.range.high) }

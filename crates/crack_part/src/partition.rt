@@ -1,4 +1,4 @@
-//! Commands and their replies.
+//! A partition: its commands and their replies.
 ghost use Rattle.std.specs.Prelude.{◌≡◌, ◌⊎◌, None, Some, ◌+◌, ◌<◌, ◌^◌, [], length, nat_le, if◌then◌else◌};
 ghost use Rattle.std.specs.Prelude.{true, false, IsFalse, IsOk, IfOk, IfErr, IfSome, OnErr, OnOk, Err};
 ghost use Rattle.crack_row.specs.Commands.{change_of, key_of, range_of};
@@ -33,8 +33,8 @@ use crack_store::{MergeReport, Store};
 use std::alloc::Global;
 use std::marker::Model;
 
-/// The rows whose keys lie in one range, and how many commands it accepted. Contracts see the layout of the store of
-/// its rows, and the plain table that it represents: the live rows by rising serial, and the counts.
+/// The rows whose keys lie in one range, and the counts of the commands that the partition accepted. Contracts see
+/// the layout of its store, and the plain table that it represents: the live rows by rising serial, and the counts.
 pub struct Partition {
     alloc: Global,
     keys: KeyRange,
@@ -47,7 +47,7 @@ pub struct Partition {
     known: KnownSums,
 }
 
-// (Written out, so that the crates above call this function, and prove nothing about the fields.)
+// Written out, so that crates that use this one call this function, and prove nothing about the fields.
 impl Drop for Partition {
     fn drop(self) {
         let Partition {
@@ -92,9 +92,8 @@ impl Model for Partition {
 }
 
 impl Partition {
-    /// A partition without rows, for these keys, that accepts at most `limit` commands after each checkpoint. Takes no
-    /// memory.
-    /// Refused with 14 if the limit isn't 1 to `GREATEST_LIMIT`.
+    /// Opens a partition without rows, for these keys, that accepts at most `limit` commands between two
+    /// checkpoints. Takes no memory. Refused with `BadLimit` if the limit isn't 1 to `GREATEST_LIMIT`.
     pub fn open(alloc: Global, keys: KeyRange, limit: u64) -> Result<Partition, Refusal>
         ensures ok { IfOk result (λ p. (p.keys ≡ keys) × (p.limits ≡ of_history limit)) }
         ensures new { IfOk result (λ p. (p.next ≡ 0) × (p.folded ≡ 0) × (p.since ≡ 0)) }
@@ -108,8 +107,8 @@ impl Partition {
         Partition::open_with(alloc, keys, Limits::of_history(limit))
     }
 
-    /// A partition without rows, for these keys, within these limits. Takes no memory.
-    /// Refused with 14 if a limit isn't 1 to the greatest of its kind.
+    /// Opens a partition without rows, for these keys and with these limits. Takes no memory. Refused with
+    /// `BadLimit` if a limit isn't 1 to the greatest of its kind.
     pub fn open_with(alloc: Global, keys: KeyRange, limits: Limits) -> Result<Partition, Refusal>
         ensures ok { IfOk result (λ p. (p.keys ≡ keys) × (p.limits ≡ limits)) }
         ensures new { IfOk result (λ p. (p.next ≡ 0) × (p.folded ≡ 0) × (p.since ≡ 0)) }
@@ -135,15 +134,15 @@ impl Partition {
         })
     }
 
-    /// States the invariants of every partition, and does nothing.
+    /// States the invariant of every partition, and does nothing.
     pub fn facts(&self)
         ensures { IsSound self.now }
     {
         let _ = &self.store;
     }
 
-    /// Its rows, by rising serial. It cracks and merges nothing. O(cells) if serials rise with the cells, else
-    /// O(n log n) for n rows. Refused with 8 if it finds no memory.
+    /// The rows, by rising serial. Cracks and merges nothing. O(cells) if serials rise with the cells, else O(n log
+    /// n) for n rows. Refused with `OutOfMemory` if no memory is found.
     pub fn rows_in_order(&self) -> Result<Vec<Row>, Refusal>
         ensures ok { IfOk result (λ rows. rows.items ≡ (state_of self.now).rows) }
         ensures err { IfErr result (λ e. e ≡ Refusal.OutOfMemory) }
@@ -151,8 +150,9 @@ impl Partition {
         self.store.live_rows()
     }
 
-    /// Counts the commands since the last checkpoint with those before it; returns how many there were. It cracks and
-    /// merges nothing, changes no row and no later reply, and can't fail. The pending lists' unused memory is freed.
+    /// Makes a checkpoint: counts the commands since the last one with those before it, and returns how many there
+    /// were. Cracks and merges nothing, changes no row and no later reply, and can't fail. Frees the pending lists'
+    /// unused memory.
     pub fn checkpoint(&mut self) -> u64
         ensures since { result ≡ self.old.since }
         ensures folded { self.new ≡ folded_part self.old }
@@ -164,14 +164,14 @@ impl Partition {
         since
     }
 
-    /// The keys that its rows may have.
+    /// The range of keys that the rows may have.
     pub fn keys(&self) -> KeyRange
         ensures { result ≡ self.now.keys }
     {
         self.keys
     }
 
-    /// How many commands it accepts after each checkpoint.
+    /// The greatest number of commands accepted between two checkpoints.
     pub fn limit(&self) -> u64
         ensures value { result ≡ self.now.limits.history }
         ensures limited { IsLimit self.now.limits.history }
@@ -179,7 +179,7 @@ impl Partition {
         self.limits.history
     }
 
-    /// Its limits.
+    /// The limits of the partition.
     pub fn limits(&self) -> Limits
         ensures value { result ≡ self.now.limits }
         ensures limited { AreLimits self.now.limits }
@@ -187,15 +187,15 @@ impl Partition {
         self.limits
     }
 
-    /// The counts of its merges since it was opened. Takes no memory.
+    /// The merge counts since the partition was opened. Takes no memory.
     pub fn tally(&self) -> MergeReport
         ensures { result ≡ self.now.store.tally }
     {
         self.store.tally()
     }
 
-    /// The layout, as numbers, and the pieces of the column. It cracks and merges nothing, and isn't counted as a
-    /// command. Refused with 8 if it finds no memory. O(pieces).
+    /// The layout as numbers, and the pieces of the column. Cracks and merges nothing, and isn't counted as a
+    /// command. Refused with `OutOfMemory` if no memory is found. O(pieces).
     pub fn layout(&self) -> Result<Layout, Refusal>
         ensures ok { IfOk result (λ layout. IsLayoutOf self.now.store layout) }
         ensures equations { IfOk result (λ layout. IsLayout self.now.keys layout) }
@@ -205,7 +205,7 @@ impl Partition {
         self.store.layout()
     }
 
-    /// Why it refuses a command, if it does, whatever memory there is: what `apply` reports then. O(1).
+    /// Why `apply` would refuse the command whatever memory there is; `None` if it wouldn't. O(1).
     pub fn refusal(&self, command: &Command) -> Option<Refusal>
         ensures { result ≡ refusal_of self.now command.now }
     {
@@ -218,25 +218,31 @@ impl Partition {
         None
     }
 
-    /// Whether the next command that it answers makes a checkpoint first.
+    /// Whether a checkpoint is made before the next command that is answered.
     pub fn is_due(&self) -> bool
         ensures { result ≡ is_due self.now.limits self.now.since }
     {
         self.is_at_limit() && is_automatic(self.limits.upkeep)
     }
 
-    /// Answers one command, and counts it. If upkeep is automatic, it makes a checkpoint first, as `checkpoint` does,
-    /// if it has accepted as many commands as its limit since the last one; and if an insert, or an update of a row of
-    /// the column, finds no free cell and as many cells as their limit, while doomed rows wait, it merges all pending
-    /// rows first, as a count of all keys does under `Policy::Complete`. Refused, in this order: with 4 if the command
-    /// has a key that isn't the partition's, with 6 if that many commands were accepted and upkeep is on request, with
-    /// 10 if it has accepted as many commands as its life, with 9 if no cell is free and upkeep frees none, with 8 if
-    /// no memory is found. After 4, 6, 10 and 9 nothing has changed. After 8 no checkpoint is made, but that merge may
-    /// be made in part or as a whole; a command that reads no range has changed nothing else, and one that reads a
-    /// range has at most cracked the column at its ends and merged in part or as a whole. An insert is O(1), amortised,
-    /// a delete and an update O(log pieces), without upkeep. A command that reads a range cracks the pieces in which
-    /// its ends fall and merges by the policy what its range needs; a count is then O(log pieces), a sum as well, with
-    /// a step for each row of the pieces whose sum isn't known, and a select O(m log m) for m rows in the range.
+    /// Answers one command, and counts it.
+    ///
+    /// If upkeep is automatic, two things may come first. If as many commands as the limit were accepted since the
+    /// last checkpoint, a checkpoint is made, as `checkpoint` does. If an insert, or an update of a row of the
+    /// column, finds no free cell and as many cells as the limit, while deletions are pending, all pending rows are
+    /// merged, as a count of all keys does under `Policy::Complete`.
+    ///
+    /// Refused, in this order: with `KeyOutside` if the command has a key that isn't the partition's, with
+    /// `HistoryFull` if as many commands as the limit were accepted since the last checkpoint and upkeep is on
+    /// request, with `LifeOver` if as many were accepted as the life allows, with `NoCell` if a cell is missing and
+    /// upkeep frees none, with `OutOfMemory` if no memory is found. Only `OutOfMemory` may leave a change: no
+    /// checkpoint is made, but that merge may be made in part or as a whole. A command that reads a range may also
+    /// have cracked and merged for it, in part or as a whole, and forgotten bounds under `Policy::Auto`.
+    ///
+    /// Without upkeep, an insert is O(1), amortised, and a delete or an update O(log pieces). A command that reads
+    /// a range cracks the pieces in which its ends fall, and merges what the range needs by the policy. A count is
+    /// then O(log pieces); so is a sum, with a step for each row of the pieces whose sum isn't known; a select is
+    /// O(m log m) for m rows in the range.
     #[inline(always)]
     pub fn apply(&mut self, command: Command, policy: Policy) -> Result<Reply, Refusal>
         ensures reply { IfOk result (λ reply. reply ≡ reply_to (state_of self.old) command) }
@@ -258,8 +264,8 @@ impl Partition {
         self.apply_with_cell(command, policy)
     }
 
-    /// Answers one command, as `apply` does, with two copies of the reply. A list is copied, which may be refused with
-    /// 8 as well.
+    /// Answers one command, as `apply` does, and returns the reply with two copies. A list is copied, which may
+    /// also be refused with `OutOfMemory`.
     #[inline(always)]
     pub fn apply_copied(&mut self, command: Command, policy: Policy) -> Result<Copies, Refusal>
         ensures reply { IfOk result (λ copies. copies.reply ≡ reply_to (state_of self.old) command) }
@@ -281,7 +287,7 @@ impl Partition {
         match copied(reply, self.alloc) {
             Ok(copies) => Ok(copies),
             Err(refusal) => {
-                // only a list may find no memory here, and a command whose reply is a list makes no change
+                // Only the copy of a list can find no memory, and a command whose reply is a list changes no row.
                 self.folded = folded;
                 self.since = since;
                 Err(refusal)
@@ -289,7 +295,7 @@ impl Partition {
         }
     }
 
-    /// Answers a command if no cell is missing, as `apply` does.
+    /// Answers a command that lacks no cell, as `apply` does.
     #[inline(always)]
     fn apply_with_cell(&mut self, command: Command, policy: Policy) -> Result<Reply, Refusal>
         requires cell { lacks_cell self.old.limits.cells self.old.store (change_of command) ≡ false }
@@ -322,8 +328,8 @@ impl Partition {
         Ok(reply)
     }
 
-    /// Answers a command that may need upkeep. Its outcome has its place in memory here, so that `apply` doesn't clear
-    /// one for it at its beginning.
+    /// Answers a command that may need upkeep. The outcome has a slot of its own here, so that `apply` doesn't
+    /// clear one on entry.
     #[inline(always)]
     fn apply_apart(&mut self, command: Command, policy: Policy) -> Result<Reply, Refusal>
         ensures applies { Applies policy command self.old result self.new }
@@ -351,7 +357,7 @@ impl Partition {
         }
     }
 
-    /// Whether it has accepted as many commands as its limit since the last checkpoint, or a command lacks a cell.
+    /// Whether as many commands as the limit were accepted since the last checkpoint, or the command lacks a cell.
     #[inline(always)]
     fn may_need_upkeep(&self, command: &Command) -> bool
         ensures { IsFalse result → lacks_cell self.now.limits.cells self.now.store (change_of command.now) ≡ false }
@@ -359,7 +365,7 @@ impl Partition {
         self.is_at_limit() || self.wants_cell(command)
     }
 
-    /// Whether it has accepted as many commands as its limit since the last checkpoint.
+    /// Whether as many commands as the limit were accepted since the last checkpoint.
     #[inline(always)]
     fn is_at_limit(&self) -> bool
         ensures { result ≡ nat_le self.now.limits.history self.now.since }
@@ -367,7 +373,7 @@ impl Partition {
         self.since >= self.limits.history
     }
 
-    /// Whether a command needs a cell while none is free and there are as many as there may be. O(1).
+    /// Whether a command takes a cell while none is free and there are as many as the limit. O(1).
     #[inline(always)]
     fn wants_cell(&self, command: &Command) -> bool
         ensures { result ≡ lacks_cell self.now.limits.cells self.now.store (change_of command.now) }
@@ -375,15 +381,16 @@ impl Partition {
         lacks_cell(&self.store, self.limits.cells, command)
     }
 
-    /// Whether there are doomed rows whose cells upkeep may free. O(1).
+    /// Whether upkeep may free cells: it is automatic, and deletions are pending. O(1).
     fn may_clear(&self) -> bool
         ensures { result ≡ may_clear self.now.limits self.now.store }
     {
         is_automatic(self.limits.upkeep) && self.store.pending_out() != 0
     }
 
-    /// Frees cells if a command lacks one: the doomed rows that wait are taken out, by a merge of all pending rows.
-    /// Refused with 9 if upkeep is on request or none wait, and with 8 if no memory is found.
+    /// Frees cells if a command lacks one: a merge of all pending rows takes the pending deletions out. Refused
+    /// with `NoCell` if upkeep is on request or no deletion is pending, and with `OutOfMemory` if no memory is
+    /// found.
     fn make_cell(&mut self, command: &Command) -> Result<(), Refusal>
         ensures frees { OnOk result (Frees self.old command.now self.new) }
         ensures err { IfErr result (λ e. FreesNone self.old command.now e self.new) }
@@ -398,7 +405,7 @@ impl Partition {
         self.clear()
     }
 
-    /// Merges all pending rows, so that the cells of the doomed ones are free.
+    /// Merges all pending rows, which frees the cells of the pending deletions.
     fn clear(&mut self) -> Result<(), Refusal>
         requires waits { 0 < length self.old.store.pending_out }
         ensures cleared { OnOk result (CracksAndMerges Policy.Complete self.old.store self.new.store
@@ -417,7 +424,7 @@ impl Partition {
         )
     }
 
-    /// Whether it has accepted as many commands as its limit since the last checkpoint, and upkeep is on request.
+    /// Whether as many commands as the limit were accepted since the last checkpoint, and upkeep is on request.
     #[inline(always)]
     fn is_full(&self) -> bool
         ensures { result ≡ is_full self.now.limits self.now.since }
@@ -425,7 +432,7 @@ impl Partition {
         self.is_at_limit() && !is_automatic(self.limits.upkeep)
     }
 
-    /// Refuses a command for the first cause except lack of a cell, before any memory is allocated.
+    /// Refuses a command for the first cause other than a missing cell, before memory is allocated.
     #[inline(always)]
     fn may_keep(&self, command: &Command) -> Result<(), Refusal>
         ensures ok { OnOk result (early_refusal_of self.now command.now ≡ None) }
@@ -457,7 +464,7 @@ fn is_automatic(upkeep: Upkeep) -> bool
     }
 }
 
-/// Whether a command needs a cell while none is free and there are as many as there may be. O(1).
+/// Whether a command takes a cell while none is free and there are as many as `most`. O(1).
 #[inline(always)]
 fn lacks_cell(store: &Store, most: u64, command: &Command) -> bool
     ensures { result ≡ lacks_cell most store.now (change_of command.now) }
@@ -465,7 +472,7 @@ fn lacks_cell(store: &Store, most: u64, command: &Command) -> bool
     store.cells() as u64 >= most && store.free_cells() == 0 && takes_cell(store, command)
 }
 
-/// Whether a command needs one more cell: an insert, or an update of a row of the column. O(1).
+/// Whether a command takes one more cell: an insert does, and an update of a row of the column. O(1).
 #[inline(always)]
 fn takes_cell(store: &Store, command: &Command) -> bool
     ensures { result ≡ takes_cell store.now (change_of command.now) }
@@ -477,7 +484,7 @@ fn takes_cell(store: &Store, command: &Command) -> bool
     }
 }
 
-/// Whether the key that a command has, if any, is one of these.
+/// Whether the command has no key, or one of these.
 #[inline(always)]
 fn allows(keys: KeyRange, command: &Command) -> bool
     ensures { result ≡ is_key_in keys (key_of command.now) }
@@ -488,7 +495,7 @@ fn allows(keys: KeyRange, command: &Command) -> bool
     }
 }
 
-/// Answers a command: reads its range, replies, and makes its change.
+/// Answers a command: settles the store for its range, replies, and makes its change.
 #[inline(always)]
 fn answer(
     store: &mut Store,
@@ -527,8 +534,8 @@ fn answer(
     carry_out(store, known, next, alloc, command, common)
 }
 
-/// Reads a range, if there is one, as far as it is within the keys: if none of them is in it, nothing is cracked or
-/// merged. Returns the intersection of the range with the keys, if any.
+/// Settles the store for the intersection of a range with the keys, and returns the intersection. Cracks and merges
+/// nothing, and returns `None`, if the intersection is empty or there is no range.
 #[inline(always)]
 fn prepare(
     store: &mut Store,
@@ -562,9 +569,9 @@ fn prepare(
     }
 }
 
-/// Replies to a command if the store is settled for the intersection of its range with the keys, and makes its
-/// change, in which the next row gets this serial. Refused with 8 if no memory is found: for a list, or for a row that
-/// is placed, removed or rewritten.
+/// Replies to a command, and makes its change. The store is settled for `common`, the intersection of the command's
+/// range with the keys; an inserted row gets the serial `next`. Refused with `OutOfMemory` if no memory is found
+/// for a list, or for a row that is inserted, deleted or updated.
 #[inline(always)]
 fn carry_out(
     store: &mut Store,
@@ -620,7 +627,7 @@ fn carry_out(
     }
 }
 
-/// Counts one more command since the last checkpoint, and before that makes one if it is due.
+/// Counts one more command since the last checkpoint. If a checkpoint is due, it is made first.
 #[inline(always)]
 fn count_command(folded: &mut u64, since: &mut u64, limits: Limits)
     requires { folded.old + since.old + 1 < 2 ^ 64 }
@@ -634,7 +641,7 @@ fn count_command(folded: &mut u64, since: &mut u64, limits: Limits)
     *since += 1;
 }
 
-/// The outcome of a command, part by part: a part that isn't used isn't stored in memory.
+/// Returns the outcome, rebuilt variant by variant, so that a part that isn't used isn't stored in memory.
 #[inline(always)]
 fn handed_on(answered: Result<Reply, Refusal>) -> Result<Reply, Refusal>
     ensures { result ≡ answered }

@@ -1,27 +1,35 @@
-//! When bounds are forgotten: once they cost more than they serve.
+//! When bounds are forgotten: once they cost more than they save.
 ghost use Rattle.std.specs.Prelude.{◌≡◌, None};
-ghost use Rattle.crack_part.specs.Forgetting.{due_after, moves_of};
+ghost use Rattle.crack_part.specs.Forgetting.{are_dear, are_many, due_after, moves_of};
 
 use crack_row::Key;
 use crack_store::Store;
 
-/// Up to this many bounds none is forgotten.
+/// With at most this many bounds none is forgotten.
 const FEW_BOUNDS: usize = 64;
 
-/// A pass over the bounds is due once merges moved this many rows for each of them.
+/// A pass over the bounds is due once merges have moved this many rows for each bound.
 const MOVES_OF_A_BOUND: u64 = 64;
+
+/// With more bounds than this there may be too many. If there are, a pass is due once merges have moved any row,
+/// since one row that goes past all bounds makes a read wait.
+const MANY_BOUNDS: usize = 4096;
+
+/// Bounds are too many only if there is more than one for this many rows. A pass leaves at most half as many, so
+/// most bounds that the next pass meets are new.
+const ROWS_OF_A_BOUND: usize = 256;
 
 /// How far the passes over the bounds of a partition have come.
 #[derive(Clone, Copy)]
 pub(crate) struct Passes {
-    /// How many rows had been moved and pulled when the last pass was made.
+    /// How many rows merges had moved and pulled when the last pass was made.
     counted: u64,
-    /// The key after which the last pass goes on, if it stopped before the last bound.
+    /// The key above which the next pass continues, if the last one stopped before the last bound.
     stopped: Option<Key>,
 }
 
 impl Passes {
-    /// None was made.
+    /// No pass was made yet.
     pub(crate) fn new() -> Passes
         ensures { result ≡ record { counted = 0; stopped = None } }
     {
@@ -31,27 +39,26 @@ impl Passes {
         }
     }
 
-    /// The key after which a pass over the bounds of the store is due, if one is. O(1).
+    /// The key above which a pass over the store's bounds is due, if one is due. O(1).
     #[inline(always)]
     pub(crate) fn due(&self, store: &Store) -> Option<Key>
         ensures { result ≡ due_after self.now store.now }
     {
-        let bounds = store.bounds();
-        if bounds <= FEW_BOUNDS {
+        if store.bounds() <= FEW_BOUNDS {
             return None;
         }
         if self.stopped.is_some() {
             return self.stopped;
         }
         let moves = moves_of(store).saturating_sub(self.counted);
-        if moves / MOVES_OF_A_BOUND >= bounds as u64 {
+        if are_dear(store, moves) {
             Some(Key::from_number(0))
         } else {
             None
         }
     }
 
-    /// Notes that a pass was made, up to this key if it stopped before the last bound.
+    /// Records that a pass was made, up to this key if it stopped before the last bound.
     pub(crate) fn note(&mut self, store: &Store, stopped: Option<Key>)
         ensures { self.new ≡ record { counted = moves_of store.now; stopped = stopped } }
     {
@@ -60,7 +67,27 @@ impl Passes {
     }
 }
 
-/// How many rows merges have moved and pulled.
+/// Whether the bounds cost more than they save, after merges moved this many rows since the last pass. O(1).
+#[inline(always)]
+fn are_dear(store: &Store, moves: u64) -> bool
+    ensures { result ≡ are_dear moves store.now }
+{
+    if are_many(store) {
+        return 0 < moves;
+    }
+    moves / MOVES_OF_A_BOUND >= store.bounds() as u64
+}
+
+/// Whether there are so many bounds that a row that goes past all of them takes too long. O(1).
+#[inline(always)]
+fn are_many(store: &Store) -> bool
+    ensures { result ≡ are_many store.now }
+{
+    let bounds = store.bounds();
+    MANY_BOUNDS < bounds && store.column_len() / ROWS_OF_A_BOUND < bounds
+}
+
+/// The number of rows that merges have moved and pulled.
 #[inline(always)]
 fn moves_of(store: &Store) -> u64
     ensures { result ≡ moves_of store.now }

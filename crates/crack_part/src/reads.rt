@@ -15,11 +15,11 @@ use crack_row::{KeyRange, Refusal, Row};
 use crack_store::Store;
 use std::alloc::Global;
 
-/// The bound of sums: no sum of rows is as far from 0.
+/// 2^96. Every sum of rows is nearer to 0.
 const GREATEST_SUM: i128 = 79228162514264337593543950336;
 
-/// How many rows have their key in a range: the difference of two places of the column, which is settled for the
-/// intersection of the range and the keys.
+/// How many rows have their key in a range: the difference of two places of the column. `common` is the
+/// intersection of the range with the keys, if any, for which the store is settled.
 #[inline(never)]
 pub(crate) fn count(store: &Store, common: Option<KeyRange>) -> u64
     requires settled { IfSome common (λ r. IsSettled store.now r) }
@@ -33,8 +33,8 @@ pub(crate) fn count(store: &Store, common: Option<KeyRange>) -> u64
     }
 }
 
-/// The sum of the payloads of the rows whose key is in a range: that of the pieces in it, as far as their sums are
-/// known, and of the rows between two places of the column for the others, as for a count.
+/// The sum of the payloads of the rows whose key is in a range, with `common` as for `count`. Adds the known sums
+/// of pieces, and reads the column for the others.
 #[inline(never)]
 pub(crate) fn sum(store: &Store, known: &mut KnownSums, next: u64, common: Option<KeyRange>) -> i128
     requires filled { IfSome common (λ r. r.low < r.high) }
@@ -54,15 +54,15 @@ pub(crate) fn sum(store: &Store, known: &mut KnownSums, next: u64, common: Optio
     }
 }
 
-/// Whether a sum is one that rows can have.
+/// Whether rows can have this sum.
 fn is_small(sum: i128) -> bool
     ensures { IsTrue result ↔ (neg_ℤ (pos (2 ^ 96)) <ℤ sum) × (sum <ℤ pos (2 ^ 96)) }
 {
     -GREATEST_SUM < sum && sum < GREATEST_SUM
 }
 
-/// The rows whose key is in a range, by rising serial: those between two places of the column, as for a count.
-/// Refused with 8 if it finds no memory.
+/// The rows whose key is in a range, by rising serial: those between two places of the column, with `common` as for
+/// `count`. Refused with `OutOfMemory` if no memory is found.
 #[inline(never)]
 pub(crate) fn select(
     store: &Store,

@@ -18,7 +18,7 @@ pub struct Copies {
     pub kept: Reply,
 }
 
-/// The reply to a delete if this is the row with its serial.
+/// The reply to a delete that found this row, if any.
 pub(crate) fn gone(row: Option<Row>) -> Reply
     ensures is { result ≡ gone row }
     ensures flat { IsFlat result }
@@ -30,7 +30,7 @@ pub(crate) fn gone(row: Option<Row>) -> Reply
     }
 }
 
-/// The reply to an update if this is the row with its serial.
+/// The reply to an update that found this row, if any.
 pub(crate) fn rewritten(row: Option<Row>) -> Reply
     ensures is { result ≡ rewritten row }
     ensures flat { IsFlat result }
@@ -58,7 +58,7 @@ pub(crate) fn copied(reply: Reply, alloc: Global) -> Result<Copies, Refusal>
     })
 }
 
-/// A copy of a reply. That of a placed row, the most frequent one, is made in place.
+/// A copy of a reply. `Reply::Placed`, the most frequent one, is copied in place.
 #[inline(always)]
 fn copy_of(reply: &Reply, alloc: Global) -> Result<Reply, Refusal>
     ensures ok { IfOk result (λ copy. copy ≡ reply.now) }

@@ -1,4 +1,4 @@
-//! The preparation of the store before a range is read, by the policy.
+//! Settling the store before a range is read, by the policy.
 ghost use Rattle.std.specs.Prelude.{◌≡◌, ◌+◌, ◌*◌, ◌<◌, ◌≤◌, nat_le, length, true, IfOk, IfErr, OnErr, OnOk};
 ghost use Rattle.crack_plain.specs.Plain.{PlainState};
 ghost use Rattle.crack_state.specs.Steps.{SameButRoom};
@@ -19,9 +19,10 @@ use crack_store::{MergeReport, Store};
 use std::alloc::Global;
 use std::mem;
 
-/// Settles the store for a range. Under `Policy::Auto` all pending rows are merged first if many insertions are
-/// pending, as a count of all keys under `Policy::Complete` does, then bounds may be forgotten, the store is cracked
-/// beside ends that say little, and the range is then read under `Policy::Ripple`.
+/// Settles the store for a range: cracks the column at its ends, and merges until no row in it is pending. Under
+/// `Policy::Auto`, all pending rows are merged first if many insertions are pending, as a count of all keys does
+/// under `Policy::Complete`; then bounds may be forgotten, the store is cracked beside ends that say little, and
+/// the range is read under `Policy::Ripple`.
 #[inline(never)]
 pub(crate) fn settle(
     store: &mut Store,
@@ -104,8 +105,8 @@ pub(crate) fn crack_and_merge(
     merge_cracked(store, alloc, keys, range, policy)
 }
 
-/// Cracks the store at the ends of a range, and under `Policy::Auto` before that beside those ends that say little
-/// about the pieces into which they fall.
+/// Cracks the store at the ends of a range. Under `Policy::Auto`, cracks first beside each end that says little
+/// about its piece.
 #[inline(always)]
 fn crack(store: &mut Store, range: KeyRange, policy: Policy) -> Result<(), Refusal>
     ensures cracked { OnOk result (CracksBy policy store.old store.new range) }
@@ -121,8 +122,8 @@ fn crack(store: &mut Store, range: KeyRange, policy: Policy) -> Result<(), Refus
     }
 }
 
-/// Merges by the policy what a range needs, by whose ends the store was cracked. It is never inlined: it needs room for
-/// two stores by value, and a range for which nothing is pending doesn't.
+/// Merges by the policy what a range needs, at whose ends the store was cracked. Never inlined: it needs room for
+/// two stores by value, which a range without pending rows doesn't need.
 #[inline(never)]
 fn merge_cracked(
     store: &mut Store,
@@ -153,7 +154,7 @@ fn merge_cracked(
     }
 }
 
-/// Merges by the policy what a range needs, by whose ends the store was cracked; `Policy::Auto` merges as
+/// Merges by the policy what a range needs, at whose ends the store was cracked. `Policy::Auto` merges as
 /// `Policy::Ripple` here.
 fn merge(
     store: Store,

@@ -2,12 +2,13 @@
 ghost use Rattle.std.specs.Prelude.{◌≡◌, ◌+◌, ◌≤◌, length};
 ghost use Rattle.crack_plain.specs.Plain.{accepted_of};
 ghost use Rattle.crack_state.specs.State.{live_rows};
-ghost use Rattle.crack_part.specs.Parts.{state_of, table_of};
+ghost use Rattle.crack_part.specs.Parts.{state_of, table_of, statistics_of};
 
 use crate::partition::Partition;
+use crack_plain::Statistics;
 
 impl Partition {
-    /// How many commands it accepted since it was opened.
+    /// The number of commands accepted since the partition was opened.
     pub fn accepted(&self) -> u64
         ensures value { result ≡ accepted_of (table_of self.now) }
         ensures lived { result ≤ self.now.limits.life }
@@ -15,35 +16,35 @@ impl Partition {
         self.folded + self.since
     }
 
-    /// How many commands it accepted up to the last checkpoint.
+    /// The number of commands accepted up to the last checkpoint.
     pub fn folded(&self) -> u64
         ensures { result ≡ self.now.folded }
     {
         self.folded
     }
 
-    /// How many commands it accepted since the last checkpoint.
+    /// The number of commands accepted since the last checkpoint.
     pub fn since(&self) -> u64
         ensures { result ≡ self.now.since }
     {
         self.since
     }
 
-    /// How many rows were placed since it was opened: O(1).
+    /// The number of rows inserted since the partition was opened. O(1).
     pub fn insertions(&self) -> u64
         ensures { result ≡ self.now.next }
     {
         self.next
     }
 
-    /// How many rows were removed since it was opened: O(1).
+    /// The number of rows deleted since the partition was opened. O(1).
     pub fn deletions(&self) -> u64
         ensures { result + length (state_of self.now).rows ≡ self.now.next }
     {
         self.next - self.rows()
     }
 
-    /// How many rows it has: O(1).
+    /// The number of rows. O(1).
     pub fn rows(&self) -> u64
         ensures live { result ≡ length (live_rows self.now.store) }
         ensures plain { result ≡ length (state_of self.now).rows }
@@ -53,5 +54,22 @@ impl Partition {
         let pending_in = self.store.pending_in() as u64;
         let pending_out = self.store.pending_out() as u64;
         column - pending_out + pending_in
+    }
+
+    /// The numbers of the partition, for monitoring. O(1). Cracks and merges nothing, and isn't counted as a
+    /// command.
+    pub fn statistics(&self) -> Statistics
+        ensures { result ≡ statistics_of self.now }
+    {
+        Statistics {
+            rows: self.rows(),
+            pending_insertions: self.store.pending_in() as u64,
+            pending_deletions: self.store.pending_out() as u64,
+            pieces: (self.store.bounds() as u64).saturating_add(1),
+            cells: self.store.cells() as u64,
+            free_cells: self.store.free_cells() as u64,
+            commands_accepted: self.accepted(),
+            commands_since_checkpoint: self.since,
+        }
     }
 }

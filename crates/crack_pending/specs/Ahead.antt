@@ -1,17 +1,18 @@
 -- What private clauses alone cite.
--- Spots that a pass over codes found before they were asked for.
+-- Candidates that a pass over codes found ahead of time.
 use Rattle.std.specs.Prelude.{◌≡◌, ℕ, ◌<◌, ◌≤◌, List, length, slice_index}
 use Rattle.crack_pending.specs.declared.ahead.Ahead.{Ahead}
 use Rattle.crack_pending.specs.Inside.{Lies}
 
--- one of the candidates, from a place of the list on, is the spot
+-- the spot is a candidate, at the position `next` of the list or after it
 pub record IsAmong (candidates : List ℕ) (next spot : ℕ) : Type 0 where
   pub place : ℕ
   pub from : next ≤ place
   pub within : place < length candidates
   pub is : slice_index candidates place ≡ spot
 
--- the candidates, from a place of the list on, have each spot, from one up to another, whose code lies between the two; they rise
+-- from the position `next` on, the candidates rise, lie from `from` up to `to`, and include each spot there whose
+-- code is `first` to `last`
 pub record AreAhead (codes : List ℕ) (first last from to : ℕ) (candidates : List ℕ) (next : ℕ) : Type 0 where
   pub order : first ≤ last
   pub low : last < 65535
@@ -21,11 +22,11 @@ pub record AreAhead (codes : List ℕ) (first last from to : ℕ) (candidates : 
   pub inside : (k : ℕ) → next ≤ k → k < length candidates → (from ≤ slice_index candidates k) × (slice_index candidates k < to)
   pub rising : (j k : ℕ) → j < k → k < length candidates → slice_index candidates j < slice_index candidates k
 
--- the state of a pass that looks ahead is right
+-- the candidates that were found ahead of time are right
 abbrev pub IsAhead : List ℕ → Ahead → Type 0
 IsAhead codes ahead = AreAhead codes ahead.first ahead.last ahead.from ahead.to ahead.candidates.items ahead.next
 
--- no code lies between the two from a spot up to another
+-- from `start` up to `near` no code is `first` to `last`
 pub record IsNext (codes : List ℕ) (first last start near : ℕ) : Type 0 where
   pub after : start ≤ near
   pub within : near ≤ length codes

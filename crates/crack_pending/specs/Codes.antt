@@ -1,28 +1,28 @@
 -- What private clauses alone cite.
--- The codes of 16 bits for keys.
+-- The 16-bit codes of keys.
 use Rattle.std.specs.Prelude.{◌≡◌, ℕ, ◌/◌, ◌-◌, ◌^◌, ◌<◌, ◌≤◌, Bool, false, List, length, min, slice_index, slice_index_or}
 use Rattle.crack_row.specs.Ranges.{Range}
 use Rattle.crack_arena.specs.Rows.{unknown}
 use Rattle.crack_arena.specs.Memories.{Memory, nothing}
 use Rattle.crack_pending.specs.Keeps.{HasRow}
 
--- the codes of the first spots, and how a key is coded
+-- the codes of the first spots, and how keys are coded
 pub record Coding : Type 0 where
   pub codes : List ℕ
   pub base : ℕ
   pub shift : ℕ
 
--- the code of a key: of two keys, the higher one has a higher code or the same
+-- the code of a key; of two keys, the higher one never has the lower code
 abbrev pub code_of : ℕ → ℕ → ℕ → ℕ
 code_of base shift key = min ((key - base) / 2 ^ shift) 65534
 
--- at each spot that has a code, it is that of the row's key, or 65535 at a hole
+-- the code at a spot, if it has one, is that of the row's key, or 65535 at a hole
 pub record AreCoded (remembered : List Memory) (stands : List Bool) (coding : Coding) : Type 0 where
   pub few : length coding.codes ≤ length remembered
   pub right : (spot : ℕ) → spot < length coding.codes → HasRow stands spot → slice_index coding.codes spot ≡ code_of coding.base coding.shift ((slice_index_or remembered spot nothing).key)
   pub holes : (spot : ℕ) → spot < length coding.codes → slice_index_or stands spot false ≡ false → slice_index coding.codes spot ≡ 65535
 
--- these are the codes of the range's first key, of its last and of a key that isn't known
+-- these are the codes of the range's least key, of its greatest key, and of an unknown key; the range isn't empty
 pub record IsWindow (base shift : ℕ) (range : Range) (first last beyond : ℕ) : Type 0 where
   pub first_is : first ≡ code_of base shift range.low
   pub last_is : last ≡ code_of base shift (range.high - 1)

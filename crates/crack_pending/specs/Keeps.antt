@@ -1,5 +1,5 @@
 -- What private clauses alone cite.
--- The invariants of a pending list about its spots, and of a set about its bits.
+-- The invariants of a pending list's spots, and of a set's bits.
 use Rattle.std.specs.Prelude.{◌≡◌, ℕ, ◌/◌, ◌%◌, ◌*◌, ◌<◌, ◌≤◌, ◌↔◌, List, length, slice_index, zero, suc, ◌+◌, ◌^◌, Bool, true, false, cond, [], ◌∷◌, slice_index_or, map}
 use Rattle.std.specs.Int.{bit_at}
 use Rattle.crack_arena.specs.Arena.{Handle, times, slots, no_handle}
@@ -10,45 +10,45 @@ use Rattle.crack_pending.specs.Spots.{kept}
 unfoldable pub Has : List ℕ → ℕ → Type 0
 Has words number = bit_at (slice_index words (number / 64)) (number % 64) ≡ 1
 
--- there is a bit for each of this many cells, and those of the cells that have a handle in the list are set
+-- there is a bit for each of this many cells, set if the cell has a handle in the list
 pub record AreMembers (words : List ℕ) (handles : List Handle) (covered : ℕ) : Type 0 where
   pub within : covered ≤ 64 * length words
   pub right : (slot : ℕ) → Has words slot ↔ (0 < times slot (slots handles))
 
--- how many of the first spots aren't holes: the place of the row at the next one
+-- the number of rows at this many of the first spots
 abbrev pub place_at : List Bool → ℕ → ℕ
 place_at bs zero = 0
 place_at [] (suc n) = 0
 place_at (b ∷ bs) (suc n) = cond b 1 0 + place_at bs n
 
--- the keys that are remembered
+-- the remembered keys
 abbrev pub keys_of : List Memory → List ℕ
 keys_of remembered = map (λ (m : Memory). m.key) remembered
 
--- a row is at the spot
+-- the spot has a row
 abbrev pub HasRow : List Bool → ℕ → Type 0
 HasRow stands spot = slice_index_or stands spot false ≡ true
 
--- the spot of the cell with this slot is known to be this one
+-- the spot noted for the cell with this number is this one
 pub record LeadsTo (spots : List ℕ) (slot spot : ℕ) : Type 0 where
   pub covered : slot < length spots
   pub is : slice_index_or spots slot 0 ≡ spot
 
--- the cell of each row at this many of the first spots leads to its spot
+-- at the first `noted` spots, the spot of each row is noted for the row's cell
 abbrev pub LeadBack : List Handle → List Bool → List ℕ → ℕ → Type 0
 LeadBack handles stands spots noted = (spot : ℕ) → spot < noted → HasRow stands spot → LeadsTo spots (slice_index_or handles spot no_handle).slot spot
 
--- no two rows have a handle of the same cell
+-- no two rows have handles of the same cell
 abbrev pub StandApart : List Handle → List Bool → Type 0
 StandApart handles stands =
     (j k : ℕ) → HasRow stands j → HasRow stands k → (slice_index_or handles j no_handle).slot ≡ (slice_index_or handles k no_handle).slot → j ≡ k
 
--- each row has a handle of one of this many cells
+-- the handle of each row names one of the first `cells` cells
 abbrev pub AreCovered : List Handle → List Bool → ℕ → Type 0
 AreCovered handles stands cells = (spot : ℕ) → HasRow stands spot → (slice_index_or handles spot no_handle).slot < cells
 
--- beside each handle is what is remembered, and whether a row is there; the rows are counted, no two are of one cell, the cells of those at the first spots lead to
--- their spots, and this many rows are before the spot at which the last row was taken
+-- the invariants of a list: the vectors have equal lengths of at most 2^32, `rows` is the number of rows, no two
+-- rows have the same cell, the first `noted` spots are noted, and `hint_place` rows are before `hint_spot`
 pub record AreKept (handles : List Handle) (remembered : List Memory) (stands : List Bool) (spots : List ℕ) (rows noted hint_place hint_spot : ℕ) : Type 0 where
   pub remembered_beside : length remembered ≡ length handles
   pub stands_beside : length stands ≡ length handles
@@ -61,7 +61,7 @@ pub record AreKept (handles : List Handle) (remembered : List Memory) (stands : 
   pub near : hint_spot ≤ length handles
   pub hinted : hint_place ≡ place_at stands hint_spot
 
--- after holes were closed up, the lists have what was kept, in its order, and a row is at each of this many spots
+-- the lists after holes were closed up: the rows are kept in order, and `rows` spots have a row each
 pub record IsClosed (handles : List Handle) (remembered : List Memory) (stands : List Bool) (rows : ℕ) (handles' : List Handle) (remembered' : List Memory) (stands' : List Bool) : Type 0 where
   pub handles_are : handles' ≡ kept stands handles
   pub remembered_are : remembered' ≡ kept stands remembered

@@ -1,5 +1,5 @@
 -- What private clauses alone cite.
--- The effect of a pass that takes rows, up to a spot.
+-- The effect of a pass that takes rows.
 use Rattle.std.specs.Prelude.{◌≡◌, ℕ, ◌+◌, ◌≤◌, Bool, List, ◌++◌, length}
 use Rattle.crack_row.specs.Ranges.{Range}
 use Rattle.crack_row.specs.declared.Row.{Row}
@@ -12,8 +12,8 @@ use Rattle.crack_pending.specs.Keeps.{place_at, HasRow, keys_of}
 use Rattle.crack_pending.specs.Pending.{rows_inside, rows_outside}
 use Rattle.crack_pending.specs.Spots.{kept}
 
--- the rows of the range at the spots before one were moved to the list, this many of them, and all others are unchanged; the keys of this many of the
--- others aren't known
+-- the rows in the range before the spot `start`, `count` of them, were moved to the list, and the other rows are
+-- unchanged, `unknowns` of which have unknown keys
 pub record IsPassed (cells : List (Cell Row)) (range : Range) (handles : List Handle) (remembered : List Memory) (before after : List Bool) (codes : Coding) (came taken : List Handle) (gone : List Memory) (start count unknowns : ℕ) : Type 0 where
   pub within : start ≤ length handles
   pub missed : IsMissed range cells handles after 0 start

@@ -1,11 +1,11 @@
--- What contracts see of a list of pending rows, which keeps its handles at spots; a removed row leaves a hole.
+-- How contracts see a list of pending rows, whose handles are at spots; a removed row leaves a hole.
 use Rattle.std.specs.Prelude.{ℕ, ◌-◌, ◌^◌, Bool, cond, List, [], ◌∷◌, min}
 
--- the elements at the spots that aren't holes, in order
+-- the elements at the spots that have a row, in order
 abbrev pub kept : {X : Type 0} → List Bool → List X → List X
 kept (b ∷ bs) (x ∷ xs) = cond b (x ∷ kept bs xs) (kept bs xs)
 kept _ _ = []
 
--- how many more spots need no memory, of 2^32 that there can be
+-- the number of further spots that need no memory, of at most 2^32 spots in total
 abbrev pub spot_room : ℕ → ℕ → ℕ → ℕ → ℕ
 spot_room spots handle_capacity remembered_capacity stand_capacity = min (2 ^ 32) (min handle_capacity (min remembered_capacity stand_capacity)) - spots

@@ -1,4 +1,4 @@
-//! Rows that a pass over codes found ahead of the one that was searched for, so that the next is ready.
+//! Candidates that a pass over codes finds ahead of time, so that the next search finds them ready.
 ghost use Rattle.std.specs.Prelude.{◌≡◌, ◌+◌, ◌-◌, ◌<◌, ◌≤◌, ℕ, length, List, [], slice_index};
 ghost use Rattle.std.specs.Prelude.{vec_len, vec_capacity};
 ghost use Rattle.crack_pending.specs.Inside.{Lies};
@@ -9,14 +9,14 @@ use crack_arena::{Arena, Handle};
 use crack_row::Row;
 use std::alloc::Global;
 
-/// Read at once, without a branch for each.
+/// How many codes are read at once, without a branch for each.
 const BLOCK: usize = 32;
 
-/// For how many candidates there is room.
+/// The greatest number of candidates in the list.
 pub(crate) const MOST_AHEAD: usize = 1024;
 
-/// The candidates from one spot up to another: the spots whose codes lie between the two searched for. Those of the
-/// list before `next` were passed; a row that goes leaves its spot there.
+/// The candidates at the spots `from..to`: the spots whose codes are `first` to `last`. Those before `next` in the
+/// list were passed. The spot of a removed row stays in the list.
 #[derive(Drop)]
 pub(crate) struct Ahead {
     first: u16,
@@ -25,14 +25,15 @@ pub(crate) struct Ahead {
     to: usize,
     candidates: Vec<usize>,
     next: usize,
-    /// Whether the cells of the candidates were read, and how many of them have a row. The number isn't used: the cells
-    /// are read together so that taking the rows doesn't wait for the memory of one cell after the other.
+    /// Whether the cells of the candidates were read, and the number of candidates whose cells have a row. The
+    /// number isn't used: all cells are read together, so that taking the rows doesn't wait for the memory of one
+    /// cell after another.
     is_warm: bool,
     live: usize,
 }
 
 impl Ahead {
-    /// No candidates. It takes no memory.
+    /// Makes an empty list. Takes no memory.
     pub(crate) fn new(alloc: Global) -> Ahead
         ensures { (codes : List ℕ) → IsAhead codes result }
     {
@@ -60,7 +61,7 @@ impl Ahead {
         self.next = 0;
     }
 
-    /// Drops all candidates and their memory.
+    /// Drops all candidates, and frees their memory.
     pub(crate) fn give_back(&mut self)
         ensures { (codes : List ℕ) → IsAhead codes self.new }
     {
@@ -73,8 +74,8 @@ impl Ahead {
         self.candidates.shrink_to(0);
     }
 
-    /// The first candidate from a spot on; if there is none up to another spot, that spot. Without memory it looks no
-    /// further.
+    /// The first candidate at or after `start`, or the spot where the search ended without one. Without memory it
+    /// searches no further.
     pub(crate) fn seek(&mut self, codes: &[u16], first: u16, last: u16, start: usize) -> usize
         requires order { first ≤ last }
         requires low { last < 65535 }
@@ -89,7 +90,7 @@ impl Ahead {
         self.near()
     }
 
-    /// Starts again at a spot if the codes that are searched for, or the place, have changed.
+    /// Starts again at `start` if other codes are searched for, or if `start` lies outside the searched spots.
     fn turn_to(&mut self, first: u16, last: u16, start: usize)
         requires order { first ≤ last }
         requires low { last < 65535 }
@@ -110,7 +111,7 @@ impl Ahead {
         self.next = 0;
     }
 
-    /// Passes the candidates before a spot.
+    /// Passes the candidates before `start`.
     fn pass(&mut self, start: usize)
         requires from { self.old.from ≤ start }
         requires to { start ≤ self.old.to }
@@ -123,7 +124,7 @@ impl Ahead {
         self.next = first_behind(&self.candidates, self.next, start);
     }
 
-    /// Finds the next candidates if all were passed; none without memory.
+    /// Finds the next candidates if all were passed; finds none without memory.
     fn look_on(&mut self, codes: &[u16])
         requires ahead { IsAhead codes.now self.old }
         ensures ahead { IsAhead codes.now self.new }
@@ -152,7 +153,7 @@ impl Ahead {
         );
     }
 
-    /// Reads the cells of all candidates, once.
+    /// Reads the cells of all candidates, if they weren't read yet.
     #[inline]
     pub(crate) fn warm(&mut self, handles: &[Handle<Row>], arena: &Arena<Row>)
         ensures { (codes : List ℕ) → IsAhead codes self.old → IsAhead codes self.new }
@@ -164,7 +165,7 @@ impl Ahead {
         self.is_warm = true;
     }
 
-    /// The next candidate; if there is none, the spot up to which there is none.
+    /// The next candidate, or the spot where the search ended if there is none.
     fn near(&self) -> usize
         ensures { (codes : List ℕ) → IsAhead codes self.now → IsNext codes self.now.first self.now.last
             self.now.from result }
@@ -176,7 +177,7 @@ impl Ahead {
     }
 }
 
-/// The first place of the list, from one on, whose candidate isn't before a spot.
+/// The first position in the list, from `next` on, whose candidate isn't before `start`.
 fn first_behind(candidates: &[usize], next: usize, start: usize) -> usize
     ensures after { next ≤ result }
     ensures passed { (k : ℕ) → next ≤ k → k < result → slice_index candidates.now k < start }
@@ -189,7 +190,7 @@ fn first_behind(candidates: &[usize], next: usize, start: usize) -> usize
     place
 }
 
-/// How many of the candidates' cells have a row.
+/// The number of candidates whose cells have a row.
 #[inline(never)]
 fn live_cells(candidates: &[usize], handles: &[Handle<Row>], arena: &Arena<Row>) -> usize {
     let mut live = 0;
@@ -202,7 +203,7 @@ fn live_cells(candidates: &[usize], handles: &[Handle<Row>], arena: &Arena<Row>)
     live
 }
 
-/// Puts the candidates from one spot up to another after the others.
+/// Appends the candidates at the spots `from..to`.
 fn gather_between(
     candidates: &mut Vec<usize>,
     codes: &[u16],
@@ -228,8 +229,8 @@ fn gather_between(
     }
 }
 
-/// Puts the candidates from a spot on into the list, as many as it has room for, and returns the spot up to which they
-/// are found.
+/// Fills the list with candidates from `from` on, as many as it has room for, and returns the spot up to which all
+/// were found.
 pub(crate) fn gather(
     candidates: &mut Vec<usize>,
     codes: &[u16],

@@ -1,4 +1,4 @@
-//! A set of numbers, a bit for each: that of half a million cells fits into the first caches.
+//! A set of numbers with one bit for each. The set of half a million cells fits into the first caches.
 ghost use Rattle.std.specs.Prelude.{◌≡◌, ◌≢◌, ◌*◌, ◌<◌, ◌≤◌, ◌↔◌, [], ℕ, length, vec_len, slice_index, IsTrue, IfErr};
 ghost use Rattle.std.specs.Prelude.{OnOk};
 ghost use Rattle.crack_pending.specs.Keeps.{Has};
@@ -7,13 +7,13 @@ use crack_row::Refusal;
 use std::alloc::Global;
 use std::marker::Model;
 
-/// How many numbers have their bits in one word.
+/// The number of bits in a word.
 const WORD: usize = 64;
 
-/// The least number of words that a set has room for when it grows.
+/// The least number of words by which a set grows.
 const MORE_WORDS: usize = 32;
 
-/// Numbers up to an end that `make_places` moves, each in the set or not.
+/// A set of numbers below an end that `make_places` moves up.
 #[derive(Drop)]
 pub(crate) struct BitSet {
     words: Vec<u64>,
@@ -28,7 +28,7 @@ impl Model for BitSet {
 }
 
 impl BitSet {
-    /// An empty set, with bits for no number. It takes no memory.
+    /// Makes an empty set without bits. Takes no memory.
     pub(crate) fn new(alloc: Global) -> BitSet
         ensures { result ≡ [] }
     {
@@ -37,8 +37,8 @@ impl BitSet {
         }
     }
 
-    /// Makes room for the bits of this many numbers, counted from 0; amortised O(1) for each 64 that are new. Refused
-    /// only with 8.
+    /// Makes room for the bits of this many numbers, counted from 0. Amortised O(1) for each 64 new numbers.
+    /// Refused with `OutOfMemory` if no memory is found.
     pub(crate) fn make_places(&mut self, numbers: usize) -> Result<(), Refusal>
         ensures same { (number : ℕ) → Has self.new number ↔ Has self.old number }
         ensures covered { OnOk result (numbers ≤ 64 * length self.new) }
@@ -64,7 +64,7 @@ impl BitSet {
         (self.words[place] >> (number as usize % WORD)) & 1 == 1
     }
 
-    /// Puts the number into the set. O(1).
+    /// Adds the number to the set. O(1).
     #[inline]
     pub(crate) fn put(&mut self, number: u32)
         requires { number < 64 * length self.old }
@@ -87,7 +87,7 @@ impl BitSet {
     }
 }
 
-/// Puts words without bits at the end until there are this many, and as many more as their memory holds.
+/// Appends words without bits until there are at least `wanted` and the vector's memory is full.
 #[inline(never)]
 fn lengthen_words(words: &mut Vec<u64>, wanted: usize) -> Result<(), Refusal>
     requires { vec_len words.old < wanted }

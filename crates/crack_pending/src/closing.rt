@@ -1,4 +1,4 @@
-//! Closing holes up.
+//! Closing up of holes.
 ghost use Rattle.std.specs.Prelude.{◌≡◌, ◌≤◌, length, vec_len, vec_capacity};
 ghost use Rattle.crack_pending.specs.Keeps.{place_at, IsClosed};
 ghost use Rattle.crack_pending.specs.Spots.{kept};
@@ -6,8 +6,8 @@ ghost use Rattle.crack_pending.specs.Spots.{kept};
 use crack_arena::{Handle, Remembered};
 use crack_row::Row;
 
-/// Closes all holes up: the rows are in their order without any. No cell leads to the new spots until they are noted.
-/// O(spots), and O(1) if there are no holes.
+/// Closes up all holes, and keeps the order of the rows. The spots must be noted anew afterwards. O(spots), and
+/// O(1) if there are no holes.
 pub(crate) fn close_up(
     handles: &mut Vec<Handle<Row>>,
     remembered: &mut Vec<Remembered>,

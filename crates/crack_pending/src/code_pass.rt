@@ -1,4 +1,4 @@
-//! The pass over the codes of pending rows.
+//! Passes over the codes of pending rows.
 ghost use Rattle.std.specs.Prelude.{◌≡◌, ◌+◌, ◌-◌, ◌<◌, ◌≤◌, ◌↔◌, ℕ, length, slice_index, slice_index_or, MatchOption};
 ghost use Rattle.std.specs.Prelude.{IsTrue, IsFalse};
 ghost use Rattle.std.specs.Bool.{OnFalse};
@@ -14,13 +14,13 @@ use crate::pass::Wanted;
 use crack_arena::{Arena, Handle, Remembered, UNKNOWN_KEY};
 use crack_row::{KeyRange, Row};
 
-/// Read at once, without a branch for each.
+/// How many codes are read at once, without a branch for each.
 const BLOCK: usize = 32;
 
-/// The number of codes that are read at once as long as a pass meets none that it looks for.
+/// The number of codes that are read at a time while a pass finds no match.
 const MANY: usize = 128;
 
-/// The codes of a pass's ends, and of a key that isn't known.
+/// The codes of a range's first and last key, and of an unknown key.
 #[derive(Clone, Copy)]
 pub(crate) struct Window {
     pub(crate) first: u16,
@@ -30,7 +30,7 @@ pub(crate) struct Window {
 }
 
 impl Window {
-    /// What a pass looks for, by codes.
+    /// The codes for what a pass looks for.
     pub(crate) fn of(wanted: Wanted, codes: &Codes, range: KeyRange) -> Window
         requires low { range.low ≡ wanted.low }
         requires last { range.high ≡ wanted.last + 1 }
@@ -59,7 +59,7 @@ impl Window {
             || (self.some_unknown && code == self.beyond)
     }
 
-    /// Whether each row with this code has its key in the range.
+    /// Whether the code proves that a row's key is in the range.
     fn is_inside(self, code: u16) -> bool
         ensures { IsTrue result ↔ ((self.first < code) × (code < self.last)) }
     {
@@ -67,7 +67,7 @@ impl Window {
     }
 }
 
-/// Whether one of a block's codes lies between the two. Determined by one comparison for each code, without a branch.
+/// Whether a code of a block lies between `low` and `last`. Compares each code once, without a branch.
 #[inline(always)]
 pub(crate) fn any_lies(codes: &[u16], low: u16, last: u16) -> bool
     requires block { length codes.now ≡ 32 }
@@ -82,7 +82,7 @@ pub(crate) fn any_lies(codes: &[u16], low: u16, last: u16) -> bool
     any != 0
 }
 
-/// Whether one of many codes lies between the two, as `any_lies`.
+/// Does what `any_lies` does for 128 codes.
 #[inline(always)]
 fn any_of_many_lies(codes: &[u16], low: u16, last: u16) -> bool
     requires block { length codes.now ≡ 128 }
@@ -97,7 +97,7 @@ fn any_of_many_lies(codes: &[u16], low: u16, last: u16) -> bool
     any != 0
 }
 
-/// Whether a row of a block may have its key in the range, by the codes alone.
+/// Whether a row of a block may have its key in the range, judged by the codes alone.
 fn may_hit(codes: &[u16], window: Window) -> bool
     requires block { length codes.now ≡ 32 }
     requires order { window.first ≤ window.last }
@@ -111,7 +111,7 @@ fn may_hit(codes: &[u16], window: Window) -> bool
     window.some_unknown && any_lies(codes, window.beyond, window.beyond)
 }
 
-/// Whether one of many rows may have its key in the range, by the codes alone, as `may_hit`.
+/// Does what `may_hit` does for 128 codes.
 #[inline(always)]
 fn many_may_hit(codes: &[u16], window: Window) -> bool
     requires block { length codes.now ≡ 128 }
@@ -126,8 +126,8 @@ fn many_may_hit(codes: &[u16], window: Window) -> bool
     window.some_unknown && any_of_many_lies(codes, window.beyond, window.beyond)
 }
 
-/// Whether a row is at the spot and has its key in the range. Reads its key only if the code is that of one of
-/// the range's ends, or of keys that aren't known.
+/// Whether the spot has a row whose key is in the range. Reads the key only if the code is that of an end of the
+/// range, or that of unknown keys.
 #[inline(always)]
 pub(crate) fn is_hit(
     handles: &[Handle<Row>],
@@ -161,7 +161,7 @@ pub(crate) fn is_hit(
     range.contains(remembered[spot].key_of(handles[spot], arena))
 }
 
-/// The first spot, from one up to another, whose row has its key in the range. Looks at the code of each.
+/// The first spot in `from..to` whose row has its key in the range. Looks at the code of each spot.
 fn hit_between(
     handles: &[Handle<Row>],
     remembered: &[Remembered],
@@ -194,8 +194,8 @@ fn hit_between(
     None
 }
 
-/// The first spot of a block, from the given one on, whose row has its key in the range.
-/// Looks at each only if one may have it, by the codes alone.
+/// The first spot of the block at `from` whose row has its key in the range. Looks at each spot only if the codes
+/// don't rule out the whole block.
 fn hit_in_block(
     handles: &[Handle<Row>],
     remembered: &[Remembered],
@@ -233,7 +233,7 @@ fn hit_in_block(
     )
 }
 
-/// The first spot, from one up to another, whose row has its key in the range. Passes over blocks of codes.
+/// The first spot in `from..to` whose row has its key in the range. Passes over blocks of codes.
 fn hit_in_blocks(
     handles: &[Handle<Row>],
     remembered: &[Remembered],
@@ -271,7 +271,7 @@ fn hit_in_blocks(
     )
 }
 
-/// The first spot at or after `from`, among those that have a code, whose row has its key in a non-empty range.
+/// The first spot at or after `from`, of those that have a code, whose row has its key in a range that isn't empty.
 pub(crate) fn hit_in_codes(
     handles: &[Handle<Row>],
     remembered: &[Remembered],

@@ -1,4 +1,4 @@
-//! A code of 16 bits for each key: a pass reads codes, a quarter of what it would read of keys.
+//! A 16-bit code for each key. A pass over codes reads a quarter of what a pass over keys would read.
 ghost use Rattle.std.specs.Prelude.{◌≡◌, ◌+◌, ◌<◌, ◌≤◌, [], length, take, vec_capacity, slice_set};
 ghost use Rattle.crack_pending.specs.Ahead.{IsNext};
 ghost use Rattle.crack_pending.specs.Codes.{AreCoded, code_of};
@@ -9,22 +9,22 @@ use crack_row::{KeyNumber, Row};
 use std::alloc::Global;
 use std::marker::Model;
 
-/// What a pass looks for.
+/// A key as passes compare it.
 pub(crate) type StoredKey = KeyNumber;
 
-/// The code of a spot without a row. It is above all codes.
+/// The code of a hole. It is above all codes of keys.
 pub(crate) const HOLE: u16 = 65535;
 
-/// The code of all keys that are too high for one of their own.
+/// The code of all keys that are too high for a code of their own.
 const GREATEST_CODE: u64 = 65534;
 
-/// For up to this many spots a pass reads keys, since making codes for so few gains nothing.
+/// The greatest number of spots whose keys a pass reads instead of codes. Making codes for so few gains nothing.
 const MOST_UNCODED: usize = 64;
 
-/// How many bits a code has.
+/// The number of bits of a code.
 const CODE_BITS: u32 = 16;
 
-/// How keys are coded: the key less the base, without this many low bits.
+/// The rule by which keys are coded: subtract the base, and drop the low `shift` bits.
 #[derive(Clone, Copy)]
 struct Scale {
     base: StoredKey,
@@ -41,7 +41,7 @@ impl Scale {
     }
 }
 
-/// The codes of the rows at the first spots, and the candidates that a pass found ahead. Codes rise with the keys,
+/// The codes of the first spots, and the candidates that a pass found ahead. A higher key never has a lower code,
 /// whatever the scale is. The scale is chosen by the keys that exist when the first row is coded.
 #[derive(Drop)]
 pub(crate) struct Codes {
@@ -63,7 +63,7 @@ impl Model for Codes {
 }
 
 impl Codes {
-    /// No codes. It takes no memory.
+    /// Makes an empty list. Takes no memory.
     pub(crate) fn new(alloc: Global) -> Codes
         ensures { result.codes ≡ [] }
     {
@@ -74,14 +74,14 @@ impl Codes {
         }
     }
 
-    /// How many spots have a code.
+    /// The number of spots that have a code.
     pub(crate) fn len(&self) -> usize
         ensures { result ≡ length self.now.codes }
     {
         self.codes.len()
     }
 
-    /// The codes, in the order of the spots.
+    /// The codes, by spot.
     pub(crate) fn list(&self) -> &[u16]
         ensures { result.now ≡ self.now.codes }
     {
@@ -103,7 +103,7 @@ impl Codes {
         self.ahead.forget();
     }
 
-    /// Drops all codes and their memory.
+    /// Drops all codes, and frees their memory.
     pub(crate) fn give_back(&mut self)
         ensures { self.new.codes ≡ [] }
     {
@@ -112,7 +112,7 @@ impl Codes {
         self.ahead.give_back();
     }
 
-    /// Leaves a hole in place of the code of a row that was removed.
+    /// Replaces the code of a removed row by that of a hole.
     pub(crate) fn leave_hole(&mut self, spot: usize)
         ensures { self.new ≡ record self.old { codes = slice_set self.old.codes spot 65535 } }
     {
@@ -121,7 +121,7 @@ impl Codes {
         }
     }
 
-    /// Codes the row at the spot again, since it has another key.
+    /// Codes the row at the spot anew, since its key has changed.
     pub(crate) fn recode(&mut self, spot: usize, key: StoredKey)
         ensures { self.new ≡ record self.old {
           codes = slice_set self.old.codes spot (code_of self.old.base
@@ -134,8 +134,9 @@ impl Codes {
         }
     }
 
-    /// The first spot, from one on, whose code lies between two; if there is none up to another spot, that spot.
-    /// Searches in order pass over the codes once and look ahead; without memory for that they don't look ahead.
+    /// The first spot at or after `start` whose code is `first` to `last`, or the spot where the search ended
+    /// without one. Searches in order pass over the codes once and look ahead; without memory they don't look
+    /// ahead.
     pub(crate) fn seek(&mut self, first: u16, last: u16, start: usize) -> usize
         requires order { first ≤ last }
         requires low { last < 65535 }
@@ -153,7 +154,7 @@ impl Codes {
         self.ahead.warm(handles, arena);
     }
 
-    /// As `catch_up` if many spots have no code yet; else it does nothing. Amortised O(1) for each spot.
+    /// Does what `catch_up` does if many spots have no code; otherwise does nothing. Amortised O(1) for each spot.
     #[inline]
     pub(crate) fn catch_up_if_many(&mut self, remembered: &[Remembered], stands: &[bool])
         requires beside { length stands.now ≡ length remembered.now }
@@ -166,7 +167,7 @@ impl Codes {
         self.catch_up(remembered, stands);
     }
 
-    /// Codes the rows at all spots that have no code yet. O(1) for each of them. Without memory it codes none.
+    /// Codes the rows at all spots that have no code. O(1) for each spot. Codes none if no memory is found.
     #[inline(never)]
     fn catch_up(&mut self, remembered: &[Remembered], stands: &[bool])
         requires beside { length stands.now ≡ length remembered.now }
@@ -187,7 +188,7 @@ impl Codes {
     }
 }
 
-/// Codes the rows at all spots that have no code yet, after room was made for them.
+/// Codes the rows at all spots that have no code. There must be room.
 fn append_codes(codes: &mut Vec<u16>, scale: Scale, remembered: &[Remembered], stands: &[bool])
     requires beside { length stands.now ≡ length remembered.now }
     requires room { length remembered.now ≤ vec_capacity codes.old }
@@ -214,7 +215,7 @@ fn append_codes(codes: &mut Vec<u16>, scale: Scale, remembered: &[Remembered], s
     }
 }
 
-/// How keys are coded, so that the highest of these has one of the highest codes.
+/// A scale by which the greatest of these keys gets one of the greatest codes.
 fn scale_of(remembered: &[Remembered]) -> Scale
     ensures { result.shift < 64 }
 {
@@ -226,7 +227,7 @@ fn scale_of(remembered: &[Remembered]) -> Scale
     }
 }
 
-/// The least of some keys, and the greatest of those that are known.
+/// The least of these keys, and the greatest of those that are known.
 fn least_and_greatest(remembered: &[Remembered]) -> (StoredKey, StoredKey) {
     let mut least = UNKNOWN_KEY;
     let mut greatest = 0;

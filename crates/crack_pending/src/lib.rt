@@ -1,4 +1,4 @@
-//! The pending insertions and the pending deletions of a partition: handles in order of arrival.
+//! The pending insertions and pending deletions of a partition: handles in order of arrival.
 #![tactic(auto)]
 
 mod ahead;

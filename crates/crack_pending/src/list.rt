@@ -15,45 +15,44 @@ use crack_row::Row;
 use std::alloc::Global;
 use std::marker::{Model, PhantomData};
 
-/// The kind of a list whose rows are to be inserted.
+/// The kind of a list of pending insertions.
 #[derive(Drop)]
 pub struct Insertions;
 
-/// The kind of a list whose rows are to be deleted.
+/// The kind of a list of pending deletions.
 #[derive(Drop)]
 pub struct Deletions;
 
-/// The rows that wait for a command to merge them into the cracker column.
+/// The pending insertions: rows that wait until a command merges them into the cracker column.
 pub type PendingIn = PendingList<Insertions>;
 
-/// The rows that wait for a command to take them out of the cracker column.
+/// The pending deletions: rows that wait until a command removes them from the cracker column.
 pub type PendingOut = PendingList<Deletions>;
 
-/// The handles of pending rows in order of arrival (the pending columns of "Updating a Cracked Database",
-/// SIGMOD 2007), each beside the key and the payload of its row if these are remembered. No cell has two handles in a
-/// list.
-/// Each row is at a spot of its own, and a row that goes leaves a hole there; holes are closed up once there are as
-/// many as rows. Places count rows, never holes.
+/// The handles of pending rows in order of arrival (the pending columns of "Updating a Cracked Database", SIGMOD
+/// 2007), each with the key and the payload of its row if these are remembered. No cell has two handles in a list.
+/// Each row has a spot, and a removed row leaves a hole there. Holes are closed up once there are as many as rows.
+/// A place, unlike a spot, counts only rows, never holes.
 #[derive(Drop)]
 pub struct PendingList<Kind> {
-    /// By spot. A hole keeps its handle and what is remembered beside it, which aren't read.
+    /// By spot. A hole keeps its handle and what was remembered of its row; neither is read.
     pub(crate) handles: Vec<Handle<Row>>,
     pub(crate) remembered: Vec<Remembered>,
     pub(crate) codes: Codes,
-    /// Whether a row is at the spot.
+    /// Whether there is a row, by spot.
     pub(crate) stands: Vec<bool>,
-    /// How many rows there are.
+    /// The number of rows.
     pub(crate) rows: usize,
-    /// How many of them have no known key.
+    /// The number of rows whose keys are unknown.
     pub(crate) unknowns: usize,
-    /// By cell number: the spot of its handle, if that was noted.
+    /// The spot of a cell's handle, by cell number, if it was noted.
     pub(crate) spots: Vec<u32>,
-    /// How many of the first spots are noted. A push notes none; what needs the spot of a cell first notes all.
+    /// How many of the first spots are noted. A push notes none; a look-up of a cell's spot first notes all.
     pub(crate) noted: usize,
-    /// How many rows are before `hint_spot`, from which the next look-up of a place starts.
+    /// The number of rows before `hint_spot`, where the next look-up of a place starts.
     pub(crate) hint_place: usize,
     pub(crate) hint_spot: usize,
-    /// The numbers of the cells that have a handle here.
+    /// The numbers of the cells that have a handle in the list.
     pub(crate) members: BitSet,
     kind: PhantomData<Kind>,
 }
@@ -85,7 +84,7 @@ impl<Kind> Model for PendingList<Kind> {
 }
 
 impl<Kind> PendingList<Kind> {
-    /// An empty list. It takes no memory.
+    /// Makes an empty list. Takes no memory.
     pub fn new(alloc: Global) -> Self
         ensures after { result ≡ record { handles = []; remembered = []; room = 0; covered = 0 } }
         ensures remembered { (cells : List (Cell Row)) → Remembers cells result.handles result.remembered }
@@ -106,7 +105,7 @@ impl<Kind> PendingList<Kind> {
         }
     }
 
-    /// States the invariants of every list, and does nothing.
+    /// States the invariants of every list. Does nothing at run time.
     pub fn facts(&self)
         ensures once { (slot : ℕ) → times slot (slots self.now.handles) ≤ 1 }
         ensures covered { All (λ h. h.slot < self.now.covered) self.now.handles }
@@ -115,7 +114,7 @@ impl<Kind> PendingList<Kind> {
         let _ = &self.handles;
     }
 
-    /// Puts the handle after all others; its row isn't remembered. It takes no memory. O(1).
+    /// Appends the handle, whose row is unknown. There must be room. Takes no memory. O(1).
     pub fn push(&mut self, handle: Handle<Row>)
         requires room { 0 < self.old.room }
         requires covered { handle.slot < self.old.covered }
@@ -130,7 +129,7 @@ impl<Kind> PendingList<Kind> {
         self.push_remembered(handle, Remembered::nothing());
     }
 
-    /// Puts the handle after all others, with what is to be remembered of its row. It takes no memory. O(1).
+    /// Appends the handle, with what is remembered of its row. There must be room. Takes no memory. O(1).
     #[inline(always)]
     pub fn push_remembered(&mut self, handle: Handle<Row>, remembered: Remembered)
         requires room { 0 < self.old.room }
@@ -151,8 +150,8 @@ impl<Kind> PendingList<Kind> {
         self.unknowns += (remembered.key() == UNKNOWN_KEY) as usize;
     }
 
-    /// The handle at the place, counted from the first arrival. O(1) if there are no holes, and else one pass over
-    /// the spots from where the last row was taken.
+    /// The handle at the place, counted from the first arrival. O(1) if there are no holes, otherwise a pass over
+    /// the spots from the hint on, or from the first one if the place is before the hint.
     pub fn at(&self, place: usize) -> Handle<Row>
         requires { place < length self.now.handles }
         ensures { StandsAt self.now.handles place result }
@@ -166,8 +165,8 @@ impl<Kind> PendingList<Kind> {
         )]
     }
 
-    /// The next look-up of a place starts from this one, so that taking k of i rows at rising places costs O(i + k) in
-    /// total. Contracts see no change.
+    /// Makes the next look-up of a place start from this place. So taking k of i rows at rising places takes O(i +
+    /// k) in total. Contracts see no change.
     pub fn seek(&mut self, place: usize)
         requires { place < length self.old.handles }
         ensures { self.new ≡ self.old }
@@ -182,7 +181,8 @@ impl<Kind> PendingList<Kind> {
         self.hint_place = place;
     }
 
-    /// Changes what is remembered of the row whose cell this handle names. O(1).
+    /// Replaces what is remembered of the row whose handle names this handle's cell. O(1), and O(1) for each spot
+    /// that isn't noted yet.
     pub fn remember(&mut self, handle: Handle<Row>, remembered: Remembered)
         requires { 0 < times handle.slot (slots self.old.handles) }
         ensures after { self.new ≡ record self.old {
@@ -204,7 +204,7 @@ impl<Kind> PendingList<Kind> {
         }
     }
 
-    /// Whether a handle of the cell with this number is in the list. O(1): it reads only the cell's bit.
+    /// Whether the list has a handle of the cell with this number. O(1): reads only the cell's bit.
     #[inline]
     pub fn contains(&self, slot: u32) -> bool
         ensures { IsTrue result ↔ (0 < times slot (slots self.now.handles)) }
@@ -212,7 +212,7 @@ impl<Kind> PendingList<Kind> {
         self.members.has(slot)
     }
 
-    /// How many handles. O(1).
+    /// The number of handles. O(1).
     pub fn len(&self) -> usize
         ensures { result ≡ length self.now.handles }
     {

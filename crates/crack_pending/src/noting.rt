@@ -1,4 +1,4 @@
-//! The spot of a cell's handle, which is noted when a row is struck, and not as rows are pushed.
+//! The spots of cells' handles, which are noted when a row's spot is first needed, and not at each push.
 ghost use Rattle.std.specs.Prelude.{◌≡◌, ◌≤◌, ◌^◌, length, vec_len, MatchOption};
 ghost use Rattle.crack_pending.specs.Keeps.{LeadBack, StandApart, AreCovered};
 ghost use Rattle.crack_pending.specs.Inside.{IsNowhere, IsNotBehind, IsSpotWith, IsUnnoted};
@@ -6,8 +6,8 @@ ghost use Rattle.crack_pending.specs.Inside.{IsNowhere, IsNotBehind, IsSpotWith,
 use crack_arena::Handle;
 use crack_row::Row;
 
-/// Notes the spot of each row, by the number of its cell, from the first spot that isn't noted yet. O(1) for each spot
-/// from there on.
+/// Notes the spot of each row by its cell's number, from the first spot that isn't noted. O(1) for each spot from
+/// there on.
 fn note_spots(spots: &mut Vec<u32>, handles: &[Handle<Row>], stands: &[bool], noted: usize)
     requires beside { length stands.now ≡ length handles.now }
     requires few { length handles.now ≤ 2 ^ 32 }
@@ -25,7 +25,7 @@ fn note_spots(spots: &mut Vec<u32>, handles: &[Handle<Row>], stands: &[bool], no
     }
 }
 
-/// The noted spot of the row whose handle names the cell with this number; none if no such row is there.
+/// The noted spot of the row whose handle names the cell with this number, or `None` if there is no such row there.
 fn spot_with(handles: &[Handle<Row>], stands: &[bool], spots: &[u32], slot: u32) -> Option<usize>
     requires beside { length stands.now ≡ length handles.now }
     ensures { MatchOption result (IsUnnoted handles.now stands.now spots.now slot) (λ spot. IsSpotWith handles.now
@@ -42,8 +42,8 @@ fn spot_with(handles: &[Handle<Row>], stands: &[bool], spots: &[u32], slot: u32)
     }
 }
 
-/// The spot of the row whose handle names the cell with this number. It first notes the spots that aren't noted yet, so
-/// that n rows struck after m pushes cost O(n + m) in total.
+/// The spot of the row whose handle names the cell with this number. First notes the spots that aren't noted, so n
+/// rows struck after m pushes take O(n + m) in total.
 pub(crate) fn spot_noted(
     spots: &mut Vec<u32>,
     noted: &mut usize,
@@ -68,7 +68,8 @@ pub(crate) fn spot_noted(
     spot_with(handles, stands, spots, slot)
 }
 
-/// The spot, from one on, of the row whose handle names the cell with this number. O(1) for each spot from there on.
+/// The spot, at or after `from`, of the row whose handle names the cell with this number. O(1) for each spot from
+/// `from` on.
 fn spot_behind(handles: &[Handle<Row>], stands: &[bool], from: usize, slot: u32) -> Option<usize>
     requires beside { length stands.now ≡ length handles.now }
     ensures { MatchOption result (IsNotBehind handles.now stands.now slot from) (λ spot. IsSpotWith handles.now
@@ -82,8 +83,8 @@ fn spot_behind(handles: &[Handle<Row>], stands: &[bool], from: usize, slot: u32)
     None
 }
 
-/// The spot of the row whose handle names the cell with this number, if this many spots are noted. O(1) for each
-/// that isn't.
+/// The spot of the row whose handle names the cell with this number, if the first `noted` spots are noted. O(1) for
+/// each spot that isn't.
 pub(crate) fn spot_sought(
     handles: &[Handle<Row>],
     stands: &[bool],

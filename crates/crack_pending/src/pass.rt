@@ -1,4 +1,4 @@
-//! The pass over the keys of pending rows.
+//! Passes over the keys of pending rows.
 ghost use Rattle.std.specs.Prelude.{◌≡◌, ◌≢◌, ◌+◌, ◌<◌, ◌≤◌, ℕ, length, slice_index_or, MatchOption, IsTrue, IsFalse};
 ghost use Rattle.std.specs.Bool.{OnFalse};
 ghost use Rattle.crack_arena.specs.Rows.{unknown};
@@ -11,10 +11,11 @@ use crate::codes::{Codes, StoredKey};
 use crack_arena::{Arena, Handle, Remembered, UNKNOWN_KEY};
 use crack_row::{KeyRange, Row};
 
-/// Read at once, without a branch for each.
+/// How many keys are read at once, without a branch for each.
 const BLOCK: usize = 16;
 
-/// What a pass looks for: a key between the two; and whether it must ask for keys that aren't known.
+/// What a pass looks for: a key from `low` to `last`; and whether some keys are unknown, so that the arena must be
+/// asked.
 #[derive(Clone, Copy)]
 pub(crate) struct Wanted {
     pub(crate) low: StoredKey,
@@ -22,7 +23,7 @@ pub(crate) struct Wanted {
     pub(crate) some_unknown: bool,
 }
 
-/// Whether one of a block's keys lies between the two. Determined by one comparison for each key, without a branch.
+/// Whether a key of a block lies between `low` and `last`. Compares each key once, without a branch.
 fn any_lies(remembered: &[Remembered], low: StoredKey, last: StoredKey) -> bool
     requires block { length remembered.now ≡ 16 }
     requires order { low ≤ last }
@@ -36,7 +37,7 @@ fn any_lies(remembered: &[Remembered], low: StoredKey, last: StoredKey) -> bool
     any != 0
 }
 
-/// Whether one of a block's keys isn't known.
+/// Whether a key of a block is unknown.
 fn any_unknown(remembered: &[Remembered]) -> bool
     requires { length remembered.now ≡ 16 }
     ensures { OnFalse result ((k : ℕ) → k < 16 → (slice_index_or remembered.now k nothing).key ≢ unknown) }
@@ -48,7 +49,7 @@ fn any_unknown(remembered: &[Remembered]) -> bool
     any != 0
 }
 
-/// Whether a row of a block may have its key between the two, by the keys alone.
+/// Whether a row of a block may have its key in the range, judged by the remembered keys alone.
 fn may_hit(remembered: &[Remembered], wanted: Wanted) -> bool
     requires block { length remembered.now ≡ 16 }
     requires order { wanted.low ≤ wanted.last }
@@ -63,7 +64,7 @@ fn may_hit(remembered: &[Remembered], wanted: Wanted) -> bool
     wanted.some_unknown && any_unknown(remembered)
 }
 
-/// The first spot, from one up to another, whose row has its key in the range. Looks at each.
+/// The first spot in `from..to` whose row has its key in the range. Looks at each spot.
 fn hit_between(
     handles: &[Handle<Row>],
     remembered: &[Remembered],
@@ -89,8 +90,8 @@ fn hit_between(
     None
 }
 
-/// The first spot of a block, from the given one on, whose row has its key in the range.
-/// Looks at each only if one may have it, by the keys alone.
+/// The first spot of the block at `from` whose row has its key in the range. Looks at each spot only if the
+/// remembered keys don't rule out the whole block.
 fn hit_in_block(
     handles: &[Handle<Row>],
     remembered: &[Remembered],
@@ -126,7 +127,7 @@ fn hit_in_block(
     )
 }
 
-/// The first spot at or after `from` whose row has its key in a non-empty range.
+/// The first spot at or after `from` whose row has its key in a range that isn't empty.
 fn hit_in_blocks(
     handles: &[Handle<Row>],
     remembered: &[Remembered],
@@ -166,8 +167,8 @@ fn hit_in_blocks(
     )
 }
 
-/// The first spot at or after `from` whose row has its key in the range; it tests whether a key isn't known only if
-/// some aren't. Reads the codes of the spots that have one, and the keys at the others.
+/// The first spot at or after `from` whose row has its key in the range. Reads codes at the spots that have one,
+/// and keys at the others. Tests keys for being unknown only if `some_unknown`.
 pub(crate) fn first_hit(
     handles: &[Handle<Row>],
     remembered: &[Remembered],
@@ -209,8 +210,8 @@ pub(crate) fn first_hit(
     }
 }
 
-/// Like `first_hit`. If all keys are known it looks ahead in the codes, so that hits that are searched for one after
-/// the other cost one pass.
+/// Does what `first_hit` does, but looks ahead in the codes if all keys are known. So hits that are searched for
+/// one after another take one pass.
 pub(crate) fn next_hit(
     handles: &[Handle<Row>],
     remembered: &[Remembered],

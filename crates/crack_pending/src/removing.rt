@@ -1,4 +1,4 @@
-//! Taking pending rows out.
+//! Removal of pending rows.
 ghost use Rattle.std.specs.Prelude.{◌≡◌, ◌+◌, ◌<◌, ◌≤◌, ◌↔◌, [], ◌++◌, ℕ, length, drop, vec_len, vec_capacity};
 ghost use Rattle.std.specs.List.{remove};
 ghost use Rattle.crack_arena.specs.Arena.{StandsAt, times, slots, place_in};
@@ -16,8 +16,8 @@ use crack_arena::{Arena, Handle, Remembered};
 use crack_row::{KeyRange, Row};
 
 impl<Kind> PendingList<Kind> {
-    /// Takes the handle at the place. It takes no memory; the room stays.
-    /// Taking k of i rows at rising places costs O(i + k) in total, and at the first place amortised O(1) each.
+    /// Removes the handle at the place, and returns it. Takes no memory, and keeps the room. Taking k of i rows at
+    /// rising places takes O(i + k) in total, and taking the first row amortised O(1).
     pub fn take(&mut self, place: usize) -> Handle<Row>
         requires { place < length self.old.handles }
         ensures value { StandsAt self.old.handles place result }
@@ -46,8 +46,8 @@ impl<Kind> PendingList<Kind> {
         handle
     }
 
-    /// Takes out the handle of the cell that this one names, wherever it is. It takes no memory; the room
-    /// stays. Amortised O(1), however many rows there are.
+    /// Removes the handle of the cell that this handle names, wherever it is. Takes no memory, and keeps the room.
+    /// Amortised O(1), however many rows there are.
     pub fn strike(&mut self, handle: Handle<Row>)
         requires { 0 < times handle.slot (slots self.old.handles) }
         ensures handles { self.new.handles ≡ remove self.old.handles (place_in self.old.handles handle.slot) }
@@ -75,10 +75,9 @@ impl<Kind> PendingList<Kind> {
         self.close_up_if_sparse();
     }
 
-    /// Takes all rows of a range out, in order of arrival, and puts their handles after the others of a list that
-    /// has room for them, and what is remembered of each after what another list has. It takes memory only for codes
-    /// and candidates; the room stays. One pass over the codes or keys, and O(1) for each row that it takes: no row's
-    /// place is counted.
+    /// Removes all rows in a range, in order of arrival. Appends their handles to `taken`, and what is remembered
+    /// of them to `known`; both must have room. Takes memory only for codes and candidates, and keeps the list's
+    /// room. One pass over the codes or keys, and O(1) for each removed row: no row's place is counted.
     pub fn take_in(
         &mut self,
         range: KeyRange,
@@ -120,7 +119,7 @@ impl<Kind> PendingList<Kind> {
         self.close_up_if_sparse();
     }
 
-    /// Takes all handles out. It takes no memory; the room stays. O(rows and holes).
+    /// Removes all handles. Takes no memory, and keeps the room. O(rows + holes).
     pub fn clear(&mut self)
         ensures handles { self.new.handles ≡ [] }
         ensures keys { self.new.remembered ≡ [] }
@@ -146,7 +145,7 @@ impl<Kind> PendingList<Kind> {
     }
 }
 
-/// Takes the cells of some handles out of the set: of those from a place of the list on. O(1) for each.
+/// Removes from the set the cells of the handles at places from `from` on. O(1) for each.
 fn strike_from(members: &mut BitSet, handles: &[Handle<Row>], from: usize)
     requires { (slot : ℕ) → 0 < times slot (slots (drop from handles.now)) → Has members.old slot }
     ensures struck { (slot : ℕ) → Has members.new slot ↔ (Has members.old slot ×

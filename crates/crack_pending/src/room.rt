@@ -1,4 +1,4 @@
-//! Memory for pending rows: it grows by half, holes are closed up, and what isn't needed is freed.
+//! Memory for pending rows: growth by half, closing up of holes, and freeing of memory that isn't needed.
 ghost use Rattle.std.specs.Prelude.{◌≡◌, ◌+◌, ◌*◌, ◌<◌, ◌≤◌, ◌^◌, ◌↔◌, ℕ, length, IfErr, OnOk, OnErr, slice_index};
 ghost use Rattle.std.specs.Prelude.{vec_len, vec_capacity};
 ghost use Rattle.crack_pending.specs.Keeps.{Has};
@@ -10,18 +10,18 @@ use crate::list::PendingList;
 use crack_arena::{Handle, Remembered};
 use crack_row::{Refusal, Row};
 
-/// A spot is numbered by 32 bits.
+/// A spot's number has 32 bits.
 const MOST_SPOTS: usize = 4294967296;
 
-/// For how many rows there is room at first, and at least each time that it grows: a block of memory of this size is
-/// mapped separately, so that it grows without being copied, and its unused part takes no memory.
+/// The number of rows for which there is room at first, and the least by which the room grows. The allocator maps a
+/// block of this size separately: the block grows without being copied, and its unused part takes no memory.
 const FIRST_SPOTS: usize = 8192;
 
-/// For how many more cells there is room at least, each time that it grows.
+/// The least number of cells by which the places grow.
 const MORE_PLACES: usize = 2048;
 
 impl<Kind> PendingList<Kind> {
-    /// How many more spots need no memory.
+    /// The number of further spots that need no memory.
     fn room(&self) -> usize
         ensures { result ≡ self.now.room }
     {
@@ -34,7 +34,8 @@ impl<Kind> PendingList<Kind> {
             .saturating_sub(self.handles.len())
     }
 
-    /// Makes room for as many pushes; amortised O(1) for each of them. Refused only with 8.
+    /// Makes room for this many pushes. Amortised O(1) for each push. Refused with `OutOfMemory` if no memory is
+    /// found.
     #[inline(always)]
     pub fn reserve(&mut self, additional: usize) -> Result<(), Refusal>
         requires { length self.old.handles + additional ≤ 2 ^ 32 }
@@ -51,8 +52,8 @@ impl<Kind> PendingList<Kind> {
         self.make_room(additional)
     }
 
-    /// Closes all holes up before it grows; then it makes room for half as many more, and for `FIRST_SPOTS` at least,
-    /// so that n pushes cost O(n) however many rows are removed between them.
+    /// Closes up all holes, and then makes room for half as many rows as there are, and at least for `additional`
+    /// and `FIRST_SPOTS`. So n pushes take O(n), however many rows are removed between them.
     #[inline(never)]
     fn make_room(&mut self, additional: usize) -> Result<(), Refusal>
         requires { length self.old.handles + additional ≤ 2 ^ 32 }
@@ -81,9 +82,9 @@ impl<Kind> PendingList<Kind> {
         )
     }
 
-    /// Frees memory that holds no row: what is kept is room for half as many rows again as there are, for at least
-    /// 8,192, and for `room` pushes. O(1) if there are no holes, else O(len). It can't fail: memory that the allocator
-    /// doesn't take back remains as room.
+    /// Closes up all holes, and frees memory that holds no row, except room for half as many rows as there are, and
+    /// at least for 8,192 and for `room` pushes. O(1) if there are no holes, otherwise O(len). Can't fail: memory
+    /// that the allocator doesn't take back stays as room.
     #[inline(never)]
     pub fn shrink(&mut self, room: usize)
         requires { room ≤ self.old.room }
@@ -108,7 +109,7 @@ impl<Kind> PendingList<Kind> {
         self.stands.shrink_to(spots);
     }
 
-    /// As `shrink` if there is no handle, so that a list that was emptied frees its memory; else it does
+    /// Does what `shrink` does if the list has no handles, so that an emptied list frees its memory; otherwise does
     /// nothing. O(1).
     #[inline(always)]
     pub fn shrink_if_empty(&mut self, room: usize)
@@ -122,8 +123,8 @@ impl<Kind> PendingList<Kind> {
         }
     }
 
-    /// Makes room for the handles of as many cells, counted from the first; amortised O(1) for each that is new.
-    /// Refused only with 8.
+    /// Makes room for handles of this many cells, counted from the first. Amortised O(1) for each new cell. Refused
+    /// with `OutOfMemory` if no memory is found.
     #[inline(always)]
     pub fn make_places(&mut self, cells: usize) -> Result<(), Refusal>
         ensures same { self.new ≡ record self.old { covered = self.new.covered } }
@@ -140,7 +141,7 @@ impl<Kind> PendingList<Kind> {
         lengthen(&mut self.spots, &mut self.members, cells)
     }
 
-    /// Closes all holes up, so that `at` is O(1) at each place. O(rows and holes); O(1) if there are no holes.
+    /// Closes up all holes, so that `at` takes O(1) at each place. O(rows + holes), and O(1) if there are no holes.
     pub fn close_up(&mut self)
         ensures same { self.new ≡ record self.old { room = self.new.room } }
         ensures kept { self.old.room ≤ self.new.room }
@@ -161,7 +162,7 @@ impl<Kind> PendingList<Kind> {
         self.hint_spot = 0;
     }
 
-    /// Closes holes up once there are as many as rows.
+    /// Closes up all holes if there are at least as many as rows.
     pub(crate) fn close_up_if_sparse(&mut self)
         ensures same { self.new ≡ record self.old { room = self.new.room } }
         ensures kept { self.old.room ≤ self.new.room }
@@ -197,8 +198,8 @@ fn grow(
     Ok(())
 }
 
-/// Puts zeros at the end until there are this many numbers, and as many more as their memory holds; makes room for a
-/// bit of each before.
+/// Appends zeros until `spots` has at least `cells` numbers and its memory is full. Before that makes room for a
+/// bit for each number.
 #[inline(never)]
 fn lengthen(spots: &mut Vec<u32>, members: &mut BitSet, cells: usize) -> Result<(), Refusal>
     requires more { vec_len spots.old < cells }

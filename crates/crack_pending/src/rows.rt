@@ -1,4 +1,4 @@
-//! Counts of rows at spots: the place of a row is the number of rows before it.
+//! Counts of rows at spots. The place of a row is the number of rows before it.
 ghost use Rattle.std.specs.Prelude.{◌≡◌, ◌+◌, ◌<◌, ◌≤◌, ◌∷◌, [], length, false, slice_set, slice_index_or};
 ghost use Rattle.crack_arena.specs.Arena.{times};
 ghost use Rattle.crack_arena.specs.Rows.{unknown};
@@ -7,10 +7,10 @@ ghost use Rattle.crack_pending.specs.Keeps.{place_at, HasRow};
 
 use crack_arena::{Remembered, UNKNOWN_KEY};
 
-/// How many are counted at once, in 8 bits.
+/// The number of spots counted at a time, in 8 bits.
 const BLOCK: usize = 64;
 
-/// How many rows are at a few spots.
+/// The number of rows at a few spots.
 fn rows_in_block(stands: &[bool]) -> u8
     requires { length stands.now < 256 }
     ensures { result ≡ place_at stands.now (length stands.now) }
@@ -22,7 +22,7 @@ fn rows_in_block(stands: &[bool]) -> u8
     rows
 }
 
-/// How many rows are from one spot up to another.
+/// The number of rows at the spots `from..to`.
 pub(crate) fn rows_between(stands: &[bool], from: usize, to: usize) -> usize
     requires order { from ≤ to }
     requires within { to ≤ length stands.now }
@@ -37,8 +37,8 @@ pub(crate) fn rows_between(stands: &[bool], from: usize, to: usize) -> usize
     rows + rows_in_block(&stands[spot..to]) as usize
 }
 
-/// A spot with this many rows before it, from which it is less than a block to the row at the place; and how many these
-/// are.
+/// A spot less than a block before the row at the place, and the number of rows before it. The search starts at the
+/// spot `from`, after `before` rows.
 fn skip_blocks(stands: &[bool], before: usize, from: usize, place: usize) -> (usize, usize)
     requires before { before ≡ place_at stands.now from }
     requires order { before ≤ place }
@@ -59,7 +59,7 @@ fn skip_blocks(stands: &[bool], before: usize, from: usize, place: usize) -> (us
     (spot, rows)
 }
 
-/// The spot of the row at the place, from a spot on that has this many rows before it.
+/// The spot of the row at the place. The search starts at the spot `from`, after `before` rows.
 fn spot_from(stands: &[bool], before: usize, from: usize, place: usize) -> usize
     requires before { before ≡ place_at stands.now from }
     requires order { before ≤ place }
@@ -80,8 +80,8 @@ fn spot_from(stands: &[bool], before: usize, from: usize, place: usize) -> usize
     }
 }
 
-/// The spot of the row at the place. O(1) if there are no holes; else the rows are counted, from the given spot
-/// on if the place isn't before it.
+/// The spot of the row at the place. O(1) if there are no holes; otherwise rows are counted from the spot `from`,
+/// or from the first spot if the place is before `from`.
 pub(crate) fn spot_of(
     stands: &[bool],
     rows: usize,
@@ -106,8 +106,8 @@ pub(crate) fn spot_of(
     }
 }
 
-/// A spot with as many rows before it as the place: the one after the given spot, or that spot, if
-/// this many are before it; else that of the row itself.
+/// A spot with `place` rows before it: the given spot or the one after it if that has so many, otherwise the spot
+/// of the row at the place.
 pub(crate) fn spot_before(
     stands: &[bool],
     rows: usize,
@@ -144,7 +144,7 @@ pub(crate) fn place_of_spot(stands: &[bool], rows: usize, spot: usize) -> usize
     }
 }
 
-/// How many rows are before the hint after the row at the spot is removed.
+/// The number of rows before the hint, after the row at the spot is removed.
 pub(crate) fn hint_without(
     stands: &[bool],
     hint_place: usize,
@@ -162,7 +162,7 @@ pub(crate) fn hint_without(
     }
 }
 
-/// How many rows have no known key after the row at the spot is removed. If all are known, no key is read.
+/// The number of unknown rows, after the row at the spot is removed. If no row is unknown, no key is read.
 pub(crate) fn unknowns_without(remembered: &[Remembered], unknowns: usize, spot: usize) -> usize
     requires within { spot < length remembered.now }
     requires counted { (slice_index_or remembered.now spot nothing).key ≡ unknown → 0 < unknowns }

@@ -1,4 +1,4 @@
-//! Finding pending rows: by key in a range, or by handle.
+//! Searches for pending rows, by key in a range or by handle.
 ghost use Rattle.std.specs.Prelude.{◌≡◌, MatchOption};
 ghost use Rattle.crack_arena.specs.Rows.{keys_at};
 ghost use Rattle.crack_arena.specs.Arena.{IsFirstAt, IsAbsent};
@@ -21,8 +21,8 @@ impl<Kind> PendingList<Kind> {
         self.next_in(range, 0, arena)
     }
 
-    /// The first place at or after `from` whose row has its key in the range; O(1) for each place that it passes,
-    /// without a branch for each key. It looks at a handle only if a key lies in the range, or isn't remembered. A
+    /// The first place at or after `from` whose row has its key in the range. O(1) for each place that it passes,
+    /// without a branch for each key. Looks at a handle only if a key may lie in the range, or isn't remembered. A
     /// command that takes rows continues where it took the last one, and so passes over the list once.
     pub fn next_in(&self, range: KeyRange, from: usize, arena: &Arena<Row>) -> Option<usize>
         requires { Remembers arena.now.cells self.now.handles self.now.remembered }
@@ -54,8 +54,8 @@ impl<Kind> PendingList<Kind> {
         }
     }
 
-    /// Like `next_in`, but the next look-up of a place starts from the one that it finds: finding a row and then taking
-    /// it is one pass.
+    /// Like `next_in`, but the next look-up of a place starts from the place that it finds: finding a row and then
+    /// taking it is one pass.
     pub fn seek_in(&mut self, range: KeyRange, from: usize, arena: &Arena<Row>) -> Option<usize>
         requires { Remembers arena.now.cells self.old.handles self.old.remembered }
         ensures finds { Finds range (keys_at arena.now.cells self.old.handles) from result }
@@ -93,8 +93,8 @@ impl<Kind> PendingList<Kind> {
         }
     }
 
-    /// Codes the keys that have no code yet, if these are many, so that the next passes read 16 bits for each.
-    /// Amortised O(1) for each push. It can't fail: without memory for codes, passes read keys. Contracts see no
+    /// Makes the missing codes of keys if many are missing, so that later passes read 16 bits for each key.
+    /// Amortised O(1) for each push. Can't fail: without memory for codes, passes read keys. Contracts see no
     /// change.
     #[inline]
     pub fn code_keys(&mut self)
@@ -103,7 +103,8 @@ impl<Kind> PendingList<Kind> {
         self.codes.catch_up_if_many(&self.remembered, &self.stands);
     }
 
-    /// The first place of the handle; none if it isn't in the list. O(1) if there are no holes, else O(len).
+    /// The first place of the handle, or `None` if it isn't in the list. O(1) if there are no holes and the spots
+    /// are noted, otherwise O(len).
     pub fn place_of(&self, handle: Handle<Row>) -> Option<usize>
         ensures { MatchOption result (IsAbsent self.now.handles handle) (IsFirstAt self.now.handles handle) }
     {

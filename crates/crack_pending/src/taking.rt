@@ -1,4 +1,4 @@
-//! Taking all rows of a range out.
+//! Removal of all rows in a range.
 ghost use Rattle.std.specs.Prelude.{◌≡◌, ◌+◌, ◌≤◌, ◌^◌, ◌++◌, ℕ, length, vec_len, vec_capacity};
 ghost use Rattle.crack_arena.specs.Arena.{times};
 ghost use Rattle.crack_arena.specs.Rows.{unknown};
@@ -19,17 +19,17 @@ use crate::rows::unknowns_without;
 use crack_arena::{Arena, Handle, Remembered};
 use crack_row::{KeyRange, Row};
 
-/// The counts of a list after the rows of a range were taken.
+/// The counts of a list after the rows in a range were taken.
 #[derive(Clone, Copy)]
 pub(crate) struct Left {
-    /// How many rows were taken.
+    /// The number of rows taken.
     pub(crate) taken: usize,
-    /// How many of the others have no known key.
+    /// The number of remaining rows whose keys are unknown.
     pub(crate) unknowns: usize,
 }
 
-/// Leaves a hole at the spot of each row of a range, and puts their handles after the others of a list, in order. One
-/// pass: no row's place is looked up.
+/// Leaves a hole at the spot of each row in a range, and appends the handles to `taken`, and what is remembered of
+/// them to `known`, in order. One pass: no row's place is looked up.
 pub(crate) fn take_hits(
     handles: &[Handle<Row>],
     remembered: &[Remembered],
@@ -96,9 +96,9 @@ pub(crate) fn take_hits(
     left
 }
 
-/// Takes the rows of a range at the spots that have a code, as `take_hits` does, if all keys are known; returns the
-/// spot up to which it did so, and how many it took. It finds the candidates of many rows before it takes the first of
-/// them, so that no row waits for the memory of another. Without memory for the candidates it takes none.
+/// Takes the rows in a range at the spots that have a code, as `take_hits` does, if all keys are known. Returns the
+/// spot up to which it did so, and how many rows it took. It finds many candidates before it takes the first row,
+/// so that no row waits for the memory of another. Takes no rows if no memory is found for candidates.
 fn take_coded(
     handles: &[Handle<Row>],
     remembered: &[Remembered],
@@ -157,8 +157,8 @@ fn take_coded(
     )
 }
 
-/// Takes the rows of a range at the spots that have a code, a batch of candidates at a time, for which a list has room;
-/// returns the spot up to which it did so, and how many it took.
+/// Takes the rows in a range at the spots that have a code, one batch of candidates at a time. Returns the spot up
+/// to which it did so, and how many rows it took.
 fn take_blocks(
     handles: &[Handle<Row>],
     remembered: &[Remembered],
@@ -208,8 +208,8 @@ fn take_blocks(
     (spot, count)
 }
 
-/// Takes those of the candidates that are in a range, which are all of its rows from one spot up to another; returns
-/// how many.
+/// Takes the candidates that are rows in a range, which include all its rows at the spots `from..to`. Returns how
+/// many rows it took.
 fn take_candidates(
     handles: &[Handle<Row>],
     remembered: &[Remembered],

@@ -6,14 +6,14 @@ use Rattle.crack_row.specs.declared.Row.{Row}
 use Rattle.crack_row.specs.declared.command.Reply.{Reply}
 use Rattle.crack_row.specs.declared.command.Reply.TheVariants.{Gone, Changed, NoRow}
 
--- the reply to a delete if this is the row with its serial: the row as it was
+-- the reply to a delete that found this row, or `NoRow` if it found none
 abbrev pub gone : Option Row → Reply
 gone row = unwrap_or (option_map Gone row) NoRow
 
--- the reply to an update if this is the row with its serial
+-- the reply to an update that found this row, or `NoRow` if it found none
 abbrev pub rewritten : Option Row → Reply
 rewritten row = unwrap_or (option_map (λ r. Changed) row) NoRow
 
--- what a row adds to the sum of a range: its payload, if its key is in the range
+-- what a row adds to the sum of a range: its payload if its key is in the range, otherwise 0
 abbrev pub amount_in : Range → Row → ℤ
 amount_in range row = cond (in_range range row) (amount row.payload) (pos 0)

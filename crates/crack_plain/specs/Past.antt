@@ -1,4 +1,4 @@
--- A partition's past: the base that it begins with, and the commands that it answered since.
+-- A partition's past: its base, and the commands that it answered since.
 use Rattle.std.specs.Prelude.{◌≡◌, ℕ, ◌+◌, ◌≤◌, List, [], ◌∷◌, ◌++◌, length, fold, All, IfSome}
 use Rattle.crack_row.specs.Commands.{key_of}
 use Rattle.crack_row.specs.Ranges.{Range, IsIn}
@@ -9,14 +9,16 @@ use Rattle.crack_row.specs.declared.limit.Limits.{Limits}
 use Rattle.crack_plain.specs.Plain.{PlainState, no_rows, IsNumbered, after, AreReplies}
 use Rattle.crack_plain.specs.Totals.{inserted, deleted}
 
--- the effect of commands that are no longer kept: the plain rows, how many commands there were, and how many rows they placed and removed
+-- the effect of commands that are no longer kept: the plain state after them, how many there were, and how many
+-- rows they inserted and deleted
 pub record Base : Type 0 where
   pub state : PlainState
   pub folded : ℕ
   pub placed : ℕ
   pub gone : ℕ
 
--- a possible base: its next serial is the number of rows placed, and it has as many rows as were placed, minus those removed
+-- a possible base: its next serial is the number of rows inserted, and its rows are the inserted ones minus the
+-- deleted ones
 pub record IsBase (base : Base) : Type 0 where
   pub numbered : IsNumbered base.state
   pub serial : base.state.next ≡ base.placed
@@ -27,7 +29,7 @@ pub record IsBase (base : Base) : Type 0 where
 abbrev pub no_base : Base
 no_base = record { state = no_rows; folded = 0; placed = 0; gone = 0 }
 
--- its base, and its history: the entries since, in order
+-- the base, and the history: the entries since the base, in order
 pub record Past : Type 0 where
   pub base : Base
   pub tail : List Entry
@@ -40,7 +42,7 @@ no_past = record { base = no_base; tail = [] }
 abbrev pub with_entry : Past → Entry → Past
 with_entry past entry = record past { tail = past.tail ++ entry ∷ [] }
 
--- the plain rows after a past: its base's, after the commands of the history in order
+-- the plain state after a past: the base's state after the commands of the history, in order
 abbrev pub state_after : Past → PlainState
 state_after past = fold (λ (s : PlainState) (e : Entry). after s e.command) past.base.state past.tail
 
@@ -48,24 +50,24 @@ state_after past = fold (λ (s : PlainState) (e : Entry). after s e.command) pas
 abbrev pub accepted_in : Past → ℕ
 accepted_in past = past.base.folded + length past.tail
 
--- how many rows were placed since the opening
+-- how many rows were inserted since the opening
 abbrev pub inserted_in : Past → ℕ
 inserted_in past = past.base.placed + inserted past.tail
 
--- how many rows were removed since the opening
+-- how many rows were deleted since the opening
 abbrev pub deleted_in : Past → ℕ
 deleted_in past = past.base.gone + deleted past.tail
 
--- the base that a checkpoint makes of a past: the plain rows after it, and its totals
+-- the base that a checkpoint makes of a past: the plain state after the past, and the past's totals
 abbrev pub base_after : Past → Base
 base_after past = record { state = state_after past; folded = accepted_in past; placed = inserted_in past; gone = deleted_in past }
 
--- the past with its history moved into its base
+-- the past after a checkpoint: its history is merged into its base
 abbrev pub folded : Past → Past
 folded past = record { base = base_after past; tail = [] }
 
--- a possible past of a partition with these keys and limits: the key of each row of the base and each key of a command is one of these keys; the
--- history's limit bounds the entries since the base, and the life's bounds base and history
+-- a possible past of a partition with these keys and limits: each key in the base and in a command is one of these
+-- keys, the replies are right, and the limits bound the history and the accepted commands
 pub record IsLegal (keys : Range) (limits : Limits) (past : Past) : Type 0 where
   pub base : IsBase past.base
   pub stand : All (λ (row : Row). IsIn keys row.key.0) past.base.state.rows

@@ -1,4 +1,5 @@
--- The plain table: rows changed by commands and filtered by ranges, without pieces, handles, pending rows, policies or locks.
+-- The plain table: rows that commands change and ranges filter, without pieces, handles, pending rows, policies or
+-- locks.
 use Rattle.std.specs.Prelude.{◌≡◌, ℕ, pos, neg_ℤ, ◌<ℤ◌, ◌+◌, ◌<◌, ◌^◌, nat_lt, if◌then◌else◌, List, [], ◌∷◌, ◌++◌, length, map, filter, find, count_by, unwrap_or, option_map, All, AllPairs, Option, Some, None, Bool, true, false}
 use Rattle.crack_row.specs.Ranges.{Range, in_range}
 use Rattle.crack_row.specs.Commands.{change_of}
@@ -21,7 +22,7 @@ pub record PlainState : Type 0 where
   pub rows : List Row
   pub next : ℕ
 
--- the start: no rows
+-- the initial state: no rows
 abbrev pub no_rows : PlainState
 no_rows = record { rows = []; next = 0 }
 
@@ -30,12 +31,12 @@ pub record IsNumbered (s : PlainState) : Type 0 where
   pub rising : AllPairs (λ (earlier later : Row). earlier.serial.0 < later.serial.0) s.rows
   pub below : All (λ (row : Row). row.serial.0 < s.next) s.rows
 
--- rows by rising serial, with one more row at its place
+-- inserts a row into rows that are in order of their serials
 abbrev pub put_by_serial : Row → List Row → List Row
 put_by_serial row [] = row ∷ []
 put_by_serial row (r ∷ rows) = if nat_lt row.serial.0 r.serial.0 then row ∷ r ∷ rows else r ∷ put_by_serial row rows
 
--- rows, by rising serial
+-- the rows, sorted by serial
 abbrev pub by_serial : List Row → List Row
 by_serial [] = []
 by_serial (row ∷ rows) = put_by_serial row (by_serial rows)
@@ -57,15 +58,15 @@ reply_to s (Count range) = Counted (count_by (in_range range) s.rows)
 reply_to s (Sum range) = Summed (sum_of (rows_in range s.rows))
 reply_to s (Select range) = Rows (rows_in range s.rows)
 
--- a count is below 2^32, a sum between -2^96 and 2^96, and a list has fewer rows than 2^32
+-- a count is below 2^32, a sum is between -2^96 and 2^96, and a list has fewer than 2^32 rows
 abbrev pub IsSmall : Reply → Type 0
 IsSmall (Counted count) = count < 2 ^ 32
 IsSmall (Summed sum) = (neg_ℤ (pos (2 ^ 96)) <ℤ sum) × (sum <ℤ pos (2 ^ 96))
 IsSmall (Rows rows) = length rows < 2 ^ 32
 IsSmall _ = Unit {0}
 
--- the state after a change: a new row gets the next serial; the row with a serial is removed, or keeps its serial and its place and gets another key
--- and another payload
+-- the state after a change: a new row comes last and gets the next serial; the row with a serial is removed, or
+-- keeps its serial and its place and gets another key and payload
 abbrev pub changed : PlainState → Option Change → PlainState
 changed s None = s
 changed s (Some (Place key payload)) = record { rows = s.rows ++ record { serial = record { 0 = s.next }; key = key; payload = payload } ∷ []; next = s.next + 1 }
@@ -76,32 +77,32 @@ changed s (Some (Rewrite serial key payload)) = record s { rows = map (replaced 
 abbrev pub after : PlainState → Command → PlainState
 after s command = changed s (change_of command)
 
--- whether a change places a row
+-- whether a change inserts a row
 abbrev pub places_row : Option Change → Bool
 places_row (Some (Place key payload)) = true
 places_row _ = false
 
--- the command takes no memory: no row is placed, and the reply has no list
+-- the command takes no memory: it inserts no row, and its reply has no list
 pub record TakesNoMemory (s : PlainState) (command : Command) : Type 0 where
   pub places : places_row (change_of command) ≡ false
   pub flat : IsFlat (reply_to s command)
 
--- the reply, and the state afterwards; the policy isn't an argument
+-- the reply, and the state after the command; neither depends on a policy
 abbrev pub answer : PlainState → Command → Reply × PlainState
 answer s command = (reply_to s command, after s command)
 
--- each entry has the reply of the state after the entries before it
+-- each entry's reply is the reply in the state after the entries before it
 abbrev pub AreReplies : PlainState → List Entry → Type 0
 AreReplies s [] = Unit {0}
 AreReplies s (e ∷ es) = (e.reply ≡ reply_to s e.command) × AreReplies (after s e.command) es
 
--- a plain table: its state, how many commands it accepted up to its last checkpoint, and how many since
+-- a plain table: its state, how many commands it accepted before its last checkpoint, and how many since
 pub record PlainView : Type 0 where
   pub state : PlainState
   pub folded : ℕ
   pub since : ℕ
 
--- how many commands it accepted
+-- how many commands the table accepted
 abbrev pub accepted_of : PlainView → ℕ
 accepted_of table = table.folded + table.since
 
@@ -113,6 +114,6 @@ checkpointed table = record { state = table.state; folded = accepted_of table; s
 abbrev pub all_keys : Range
 all_keys = record { low = 0; high = GREATEST_BOUND }
 
--- the layout of the rows as a column of one piece: each has a cell, and nothing is pending or free
+-- the layout of the rows as a column of one piece: each row has a cell, and nothing is pending or free
 abbrev pub whole_layout : PlainState → Layout
 whole_layout s = record { rows = length s.rows; column = length s.rows; pending_out = 0; pending_in = 0; cells = length s.rows; free = 0; pieces = record { low = record { 0 = 0 }; high = record { 0 = GREATEST_BOUND }; size = length s.rows } ∷ [] }

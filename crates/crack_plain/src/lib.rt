@@ -1,9 +1,11 @@
-//! The plain table: what commands mean, defined by one list of rows, and a slow table that is this list.
+//! The plain table: a slow table that is one list of rows, and the definition of what commands mean.
 #![tactic(auto)]
 
 mod list;
+pub mod statistics;
 pub mod table;
 
+pub use statistics::Statistics;
 pub use table::PlainTable;
 
 /// The greatest number of commands that a plain table accepts.

@@ -1,4 +1,4 @@
-//! Look-ups in a list of rows, and changes of it, row by row.
+//! Look-ups in a list of rows, and changes to it, row by row.
 ghost use Rattle.std.specs.Prelude.{◌≡◌, ◌≤◌, ◌*◌, pos, neg_ℤ, ◌≤ℤ◌, length, map, filter, count_by, IfOk, IfErr};
 ghost use Rattle.crack_row.specs.Ranges.{in_range};
 ghost use Rattle.crack_row.specs.Rows.{is_other, replaced, sum_of, farthest_amount};
@@ -27,7 +27,7 @@ pub(crate) fn take_out(rows: &mut Vec<Row>, serial: Serial)
     rows.retain(|row| row.serial != serial);
 }
 
-/// Replaces the row with the same serial, if there is one, by this row: O(rows).
+/// Replaces the row that has the new row's serial, if there is one: O(rows).
 pub(crate) fn replace(rows: &mut [Row], new: Row)
     ensures { rows.new ≡ map (replaced new) rows.old }
 {
@@ -36,14 +36,14 @@ pub(crate) fn replace(rows: &mut [Row], new: Row)
     }
 }
 
-/// A row, or the new one if both have the same serial.
+/// The new row if both have the same serial, otherwise the old row.
 fn replaced(new: Row, row: Row) -> Row
     ensures { result ≡ replaced new row }
 {
     if row.serial == new.serial { new } else { row }
 }
 
-/// How many rows have their key in the range: O(rows).
+/// The number of rows whose key is in the range: O(rows).
 pub(crate) fn count_in(rows: &[Row], range: KeyRange) -> u64
     ensures is { result ≡ count_by (in_range range) rows.now }
     ensures small { result ≤ length rows.now }
@@ -64,7 +64,7 @@ pub(crate) fn sum_in(rows: &[Row], range: KeyRange) -> i128
     sum
 }
 
-/// What a row adds to the sum of a range: its payload, if its key is in the range.
+/// What a row adds to the sum of a range: its payload if its key is in the range, otherwise 0.
 fn amount_in(range: KeyRange, row: Row) -> i128
     ensures value { result ≡ amount_in range row }
     ensures least { neg_ℤ (pos farthest_amount) ≤ℤ result }
@@ -77,7 +77,7 @@ fn amount_in(range: KeyRange, row: Row) -> i128
     }
 }
 
-/// The rows whose key is in the range: O(rows). Refused with 8 if it finds no memory.
+/// The rows whose key is in the range: O(rows). Refused with `OutOfMemory` if no memory is found.
 pub(crate) fn rows_in(alloc: Global, rows: &[Row], range: KeyRange) -> Result<Vec<Row>, Refusal>
     ensures ok { IfOk result (λ listed. listed.items ≡ rows_in range rows.now) }
     ensures small { IfOk result (λ listed. length listed.items ≤ length rows.now) }

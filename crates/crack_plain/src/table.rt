@@ -4,9 +4,11 @@ ghost use Rattle.crack_row.specs.Layouts.{IsLayout};
 ghost use Rattle.crack_row.specs.Replies.{IsFlat};
 ghost use Rattle.crack_plain.specs.Plain.{PlainState, accepted_of, checkpointed, no_rows, answer, reply_to, changed};
 ghost use Rattle.crack_plain.specs.Plain.{places_row, all_keys, whole_layout, IsNumbered, IsSmall, TakesNoMemory};
+ghost use Rattle.crack_plain.specs.Watching.{plain_statistics};
 
 use crate::MOST_ACCEPTED;
 use crate::list::{count_in, replace, row_in, rows_in, sum_in, take_out};
+use crate::statistics::Statistics;
 use crack_row::{
     Bound, Change, Command, GREATEST_BOUND, Layout, PieceList, PieceSize, Refusal, Reply, Row,
     RowList, Serial,
@@ -14,7 +16,7 @@ use crack_row::{
 use std::alloc::Global;
 use std::marker::Model;
 
-/// A table that is only a list of rows, and slow. Contracts see its plain state, how many commands it accepted up to
+/// A slow table that is only a list of rows. Contracts see its plain state, how many commands it accepted before
 /// its last checkpoint, and how many since.
 #[derive(Drop)]
 pub struct PlainTable {
@@ -65,7 +67,7 @@ impl PlainTable {
         self.rows.as_slice()
     }
 
-    /// How many commands it accepted since it was made, whatever checkpoints were made in between.
+    /// The number of commands accepted since the table was made. Checkpoints don't reset it.
     pub fn accepted(&self) -> u64
         ensures value { result ≡ accepted_of self.now }
         ensures bounded { accepted_of self.now ≤ 4294967295 }
@@ -73,7 +75,7 @@ impl PlainTable {
         self.folded + self.since
     }
 
-    /// How many commands it accepted since its last checkpoint. The next count starts here. O(1); no row changes.
+    /// Makes a checkpoint, and returns how many commands were accepted since the one before. O(1). No row changes.
     pub fn checkpoint(&mut self) -> u64
         ensures since { result ≡ self.old.since }
         ensures folded { self.new ≡ checkpointed self.old }
@@ -84,8 +86,7 @@ impl PlainTable {
         since
     }
 
-    /// The layout of a column of one piece that has these rows: O(1). Refused with 8 if it finds no
-    /// memory.
+    /// The layout of these rows as a column of one piece. O(1). Refused with `OutOfMemory` if no memory is found.
     pub fn whole_layout(&self) -> Result<Layout, Refusal>
         ensures ok { IfOk result (λ layout. layout ≡ whole_layout self.now.state) }
         ensures equations { IfOk result (λ layout. IsLayout all_keys layout) }
@@ -109,9 +110,25 @@ impl PlainTable {
         })
     }
 
-    /// Answers one command. An insert is O(1), all else O(rows).
-    /// Refused with 8 if an insert or a select finds no memory, and with 6 once `MOST_ACCEPTED` commands were
-    /// accepted.
+    /// The statistics of a column of one piece with these rows. O(1).
+    pub fn statistics(&self) -> Statistics
+        ensures { result ≡ plain_statistics self.now }
+    {
+        let count = self.rows().len() as u64;
+        Statistics {
+            rows: count,
+            pending_insertions: 0,
+            pending_deletions: 0,
+            pieces: 1,
+            cells: count,
+            free_cells: 0,
+            commands_accepted: self.accepted(),
+            commands_since_checkpoint: self.since,
+        }
+    }
+
+    /// Answers one command. An insert takes O(1), any other command O(rows). Refused with `HistoryFull` once
+    /// `MOST_ACCEPTED` commands were accepted, and with `OutOfMemory` if an insert or a select finds no memory.
     pub fn apply(&mut self, command: &Command) -> Result<Reply, Refusal>
         ensures reply { IfOk result (λ reply. reply ≡ (answer self.old.state command.now).0) }
         ensures small { IfOk result IsSmall }
@@ -133,7 +150,7 @@ impl PlainTable {
         Ok(reply)
     }
 
-    /// The reply to the command: O(rows). Refused with 8 if a list finds no memory.
+    /// The reply to the command: O(rows). Refused with `OutOfMemory` if a select finds no memory.
     fn reply_to(&self, command: &Command) -> Result<Reply, Refusal>
         ensures reply { IfOk result (λ reply. reply ≡ reply_to self.now.state command.now) }
         ensures small { IfOk result IsSmall }
@@ -161,8 +178,8 @@ impl PlainTable {
     }
 }
 
-/// Makes a change of the rows, if there is one: O(rows), and O(1) for one more row. Refused with 8 if one more row
-/// finds no memory.
+/// Makes a change to the rows, if there is one: O(1) for an insertion, otherwise O(rows). Refused with
+/// `OutOfMemory` if an insertion finds no memory.
 fn change_rows(rows: &mut Vec<Row>, next: &mut u64, change: Option<Change>) -> Result<(), Refusal>
     requires small { next.old + 1 < 2 ^ 64 }
     ensures changed { OnOk result (let old : PlainState = record { rows = rows.old.items; next = next.old } in

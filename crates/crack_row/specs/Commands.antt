@@ -1,4 +1,4 @@
--- What a command does, apart from its reply: the change that it makes, and the range that it reads.
+-- The effects of a command other than its reply: the change that it makes, and the range that it reads.
 use Rattle.std.specs.Prelude.{Option, Some, None, option_and_then}
 use Rattle.crack_row.specs.Ranges.{Range}
 use Rattle.crack_row.specs.declared.Key.{Key}
@@ -21,12 +21,12 @@ range_of (Sum range) = Some range
 range_of (Select range) = Some range
 range_of _ = None
 
--- the key that a change has, if any
+-- the key in a change, if any
 abbrev pub brought_key : Change → Option Key
 brought_key (Place key payload) = Some key
 brought_key (Remove serial) = None
 brought_key (Rewrite serial key payload) = Some key
 
--- the key that a command has, if any
+-- the key in a command, if any
 abbrev pub key_of : Command → Option Key
 key_of command = option_and_then brought_key (change_of command)

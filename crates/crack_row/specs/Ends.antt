@@ -4,7 +4,7 @@ use Rattle.std.proofs.Common.{refl, ap, sym}
 use Rattle.std.proofs.lemmas.Bool.{lt-leb}
 use Rattle.crack_row.specs.declared.TheConstants.{GREATEST_BOUND}
 
--- whether an end of a range is the one past all keys
+-- whether an end of a range is the end above all keys
 abbrev pub past_all : ℕ → Bool
 past_all end = nat_le GREATEST_BOUND end
 

@@ -1,15 +1,16 @@
--- What every layout of a partition satisfies.
+-- What holds in every layout of a partition.
 use Rattle.std.specs.Prelude.{◌≡◌, ℕ, ◌+◌, ◌≤◌, List, [], ◌∷◌, sum_by}
 use Rattle.crack_row.specs.Ranges.{Range}
 use Rattle.crack_row.specs.declared.layout.PieceSize.{PieceSize}
 use Rattle.crack_row.specs.declared.layout.Layout.{Layout}
 
--- the pieces, if there are any, lead from one end to the other: each begins where the previous one ends, and none ends before it begins
+-- the pieces, if any, lead from one bound to the other: each begins where the previous one ends, and none ends
+-- before it begins
 abbrev pub LeadTo : ℕ → ℕ → List PieceSize → Type 0
 LeadTo low high [] = low ≡ high
 LeadTo low high (p ∷ ps) = (p.low.0 ≡ low) × (p.low.0 ≤ p.high.0) × LeadTo p.high.0 high ps
 
--- there are pieces, and they lead from one end to the other
+-- there are pieces, and they lead from one bound to the other
 abbrev pub AreJoined : ℕ → ℕ → List PieceSize → Type 0
 AreJoined low high [] = ⊥
 AreJoined low high (p ∷ ps) = LeadTo low high (p ∷ ps)

@@ -10,7 +10,7 @@ pub record AreLimits (limits : Limits) : Type 0 where
   pub cells : (1 ≤ limits.cells) × (limits.cells ≤ GREATEST_CELLS)
   pub life : (1 ≤ limits.life) × (limits.life ≤ GREATEST_LIFE)
 
--- whether a limit is 1 to this maximum
+-- whether a limit is at least 1 and at most `greatest`
 abbrev pub is_limit : ℕ → ℕ → Bool
 is_limit greatest limit = nat_le 1 limit && nat_le limit greatest
 
@@ -18,6 +18,6 @@ is_limit greatest limit = nat_le 1 limit && nat_le limit greatest
 abbrev pub are_limits : Limits → Bool
 are_limits limits = is_limit GREATEST_LIMIT limits.history && (is_limit GREATEST_CELLS limits.cells && is_limit GREATEST_LIFE limits.life)
 
--- the limits with this history limit and the greatest values of the others, and upkeep on request
+-- the limits with this history limit, the greatest values of the other limits, and upkeep on request
 abbrev pub of_history : ℕ → Limits
 of_history history = record { history = history; cells = GREATEST_CELLS; life = GREATEST_LIFE; upkeep = OnRequest }

@@ -1,8 +1,8 @@
--- A half open range of keys.
+-- Half-open ranges of keys.
 use Rattle.std.specs.Prelude.{ℕ, ◌<◌, ◌≤◌, Bool, ◌&&◌, nat_lt, nat_le, min, max, cond}
 use Rattle.crack_row.specs.declared.Row.{Row}
 
--- from `low` on, up to but not including `high`
+-- the keys from `low` up to but not including `high`
 pub record Range : Type 0 where
   pub low : ℕ
   pub high : ℕ

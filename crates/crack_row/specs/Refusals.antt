@@ -3,7 +3,7 @@ use Rattle.std.specs.Prelude.{ℕ}
 use Rattle.crack_row.specs.declared.refusal.Refusal.{Refusal}
 use Rattle.crack_row.specs.declared.refusal.Refusal.TheVariants.{BadStatement, BadRange, KeyOutside, NoSuchPartition, HistoryFull, GateGaveUp, OutOfMemory, NoCell, LifeOver, BadSplits, TooManyPartitions, BadWorkerCount, BadLimit, WorkersMissing, StrangeReceipt, ReadFault, WriteFault, BadRecord}
 
--- the number of a refusal in texts and tables
+-- the number of a refusal
 abbrev pub code_of : Refusal → ℕ
 code_of BadStatement = 1
 code_of BadRange = 2

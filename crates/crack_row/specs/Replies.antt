@@ -1,8 +1,8 @@
--- What replies are made of.
+-- Which replies can be copied without memory.
 use Rattle.crack_row.specs.declared.command.Reply.{Reply}
 use Rattle.crack_row.specs.declared.command.Reply.TheVariants.{Rows}
 
--- the reply has no list, so a copy of it takes no memory
+-- the reply has no list, so a copy of the reply takes no memory
 abbrev pub IsFlat : Reply → Type 0
 IsFlat (Rows rows) = ⊥
 IsFlat _ = Unit {0}

@@ -1,4 +1,4 @@
--- Rows with one serial, and sums of payloads.
+-- Rows with a given serial, and sums of payloads.
 use Rattle.std.specs.Prelude.{ℕ, ℤ, pos, ◌+ℤ◌, ◌^◌, ◌==◌, Bool, not, List, fold, if◌then◌else◌}
 use Rattle.crack_row.specs.declared.Key.{Key}
 use Rattle.crack_row.specs.declared.Payload.{Payload}
@@ -17,15 +17,15 @@ has_serial serial row = row.serial.0 == serial
 abbrev pub is_other : ℕ → Row → Bool
 is_other serial row = not (row.serial.0 == serial)
 
--- a row, or the first one if both have the same serial
+-- the new row if both rows have the same serial, otherwise the old row
 abbrev pub replaced : Row → Row → Row
 replaced new row = if row.serial.0 == new.serial.0 then new else row
 
--- what a payload adds to a sum
+-- the amount that a payload adds to a sum
 abbrev pub amount : Payload → ℤ
 amount payload = payload.0
 
--- the greatest distance of an amount from 0
+-- the greatest absolute value of an amount
 abbrev pub farthest_amount : ℕ
 farthest_amount = 2 ^ 63
 

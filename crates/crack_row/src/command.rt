@@ -6,19 +6,19 @@ ghost use Rattle.crack_row.specs.Replies.{IsFlat};
 use crate::{Key, KeyRange, Payload, Refusal, Row, RowList, Serial};
 use std::alloc::Global;
 
-/// A command of a worker to a partition.
+/// A worker's command to a partition.
 #[derive(Clone, Copy, PartialEq, Eq, Debug)]
 pub enum Command {
-    /// Places a row.
+    /// Inserts a row.
     Insert {
         key: Key,
         payload: Payload,
     },
-    /// Removes a row.
+    /// Deletes a row.
     Delete {
         serial: Serial,
     },
-    /// Replaces the key and the payload of a row, which keeps its serial.
+    /// Replaces the key and the payload of a row. The row keeps its serial.
     Update {
         serial: Serial,
         key: Key,
@@ -32,19 +32,19 @@ pub enum Command {
     Select(KeyRange),
 }
 
-/// What a command changes in the rows.
+/// The change that a command makes to the rows.
 #[derive(Clone, Copy, Debug)]
 pub enum Change {
-    /// A new row, which gets the next serial.
+    /// Inserts a row, which gets the next serial.
     Place {
         key: Key,
         payload: Payload,
     },
-    /// The row with this serial is removed, if there is one.
+    /// Deletes the row with this serial, if there is one.
     Remove {
         serial: Serial,
     },
-    /// The row with this serial gets another key and payload, if there is one.
+    /// Replaces the key and the payload of the row with this serial, if there is one.
     Rewrite {
         serial: Serial,
         key: Key,
@@ -53,7 +53,7 @@ pub enum Change {
 }
 
 impl Command {
-    /// The change that it makes to the rows, if any.
+    /// The change that the command makes to the rows, if any.
     pub fn change(&self) -> Option<Change>
         ensures { result ≡ change_of self.now }
     {
@@ -73,7 +73,7 @@ impl Command {
         }
     }
 
-    /// The range that it reads, if any.
+    /// The range that the command reads, if any.
     pub fn range(&self) -> Option<KeyRange>
         ensures { result ≡ range_of self.now }
     {
@@ -83,7 +83,7 @@ impl Command {
         }
     }
 
-    /// The key that it has, if any.
+    /// The key in the command, if any.
     pub fn key(&self) -> Option<Key>
         ensures { result ≡ key_of self.now }
     {
@@ -97,26 +97,26 @@ impl Command {
 /// Which pending rows a range command merges into the column ("Updating a Cracked Database", SIGMOD 2007).
 #[derive(Clone, Copy, PartialEq, Eq, Debug)]
 pub enum Policy {
-    /// All of them, once the range needs one.
+    /// All of them, if at least one lies in the range.
     Complete,
     /// Only those whose key is in the range.
     Gradual,
     /// Only those whose key is in the range, with room made near it: a row that is in the way after the range is
     /// evicted, and becomes a pending insertion again.
     Ripple,
-    /// `Complete` if many insertions are pending compared with the rows of the column, else `Ripple`; chosen for each
-    /// range command.
+    /// `Complete` if many insertions are pending compared with the rows of the column, otherwise `Ripple`; chosen
+    /// for each range command.
     Auto,
 }
 
 /// The reply to a command.
 #[derive(Drop, Debug)]
 pub enum Reply {
-    /// The serial of the row that was placed.
+    /// The serial of the inserted row.
     Placed(Serial),
-    /// The row that was removed, as it was.
+    /// The deleted row, as it was.
     Gone(Row),
-    /// The row was changed.
+    /// The row was updated.
     Changed,
     /// There is no row with this serial.
     NoRow,
@@ -129,8 +129,8 @@ pub enum Reply {
 }
 
 impl Reply {
-    /// A copy, for example for a receipt: O(rows of its list). Refused with 8 if it finds no memory; a reply without a
-    /// list needs none.
+    /// Copies the reply, for example for a receipt: O(rows in its list). Refused with `OutOfMemory` if no memory is
+    /// found; a reply without a list takes none.
     pub fn copy(&self, alloc: Global) -> Result<Reply, Refusal>
         ensures ok { IfOk result (λ r. r ≡ self.now) }
         ensures err { IfErr result (λ e. e ≡ Refusal.OutOfMemory) }
@@ -150,7 +150,7 @@ impl Reply {
         }
     }
 
-    /// Whether two replies are the same: O(rows of their lists).
+    /// Whether two replies are equal: O(rows in their lists).
     pub fn is_same(&self, other: &Reply) -> bool
         ensures { IsTrue result ↔ (self.now ≡ other.now) }
     {
@@ -167,14 +167,14 @@ impl Reply {
     }
 }
 
-/// Whether two lists of rows are the same: O(rows).
+/// Whether two lists of rows are equal: O(rows).
 fn same_rows(one: &[Row], two: &[Row]) -> bool
     ensures { IsTrue result ↔ (one.now ≡ two.now) }
 {
     one == two
 }
 
-/// An entry of a history: a worker, its command and the reply.
+/// An entry of a history: a worker's number, its command, and the reply.
 #[derive(Drop, Debug)]
 pub struct Entry {
     pub worker: u32,

@@ -1,10 +1,10 @@
-//! The layout of a partition, as numbers.
+//! The layout of a partition in numbers.
 ghost use Rattle.std.specs.Prelude.{◌≡◌};
 
 use crate::Bound;
 use std::marker::Model;
 
-/// A piece of the column: its bounds, and how many rows are in it.
+/// A piece of the cracker column: its bounds, and its number of rows.
 #[derive(Clone, Copy, PartialEq, Eq, Debug)]
 pub struct PieceSize {
     pub low: Bound,
@@ -12,7 +12,7 @@ pub struct PieceSize {
     pub size: u64,
 }
 
-/// The pieces of a column, in rising order. Contracts see a list.
+/// The pieces of a cracker column, in rising order. Contracts see a list.
 #[derive(Drop, Debug)]
 pub struct PieceList {
     pieces: Vec<PieceSize>,
@@ -28,21 +28,21 @@ impl Model for PieceList {
 }
 
 impl PieceList {
-    /// The pieces of a vector. Takes no memory.
+    /// Wraps a vector of pieces. Takes no memory.
     pub fn from_vec(pieces: Vec<PieceSize>) -> PieceList
         ensures { result ≡ pieces.items }
     {
         PieceList { pieces }
     }
 
-    /// The vector of the pieces. Takes no memory.
+    /// The pieces as a vector. Takes no memory.
     pub fn into_vec(self) -> Vec<PieceSize>
         ensures { result.items ≡ self }
     {
         self.pieces
     }
 
-    /// The pieces, to read.
+    /// The pieces as a slice.
     pub fn as_slice(&self) -> &[PieceSize]
         ensures { result.now ≡ self.now }
     {
@@ -50,8 +50,8 @@ impl PieceList {
     }
 }
 
-/// How many rows, column places, pending deletions, pending insertions, cells and free cells a partition has, and its
-/// pieces.
+/// How many live rows, places in the cracker column, pending deletions, pending insertions, cells and free cells a
+/// partition has, and its pieces.
 #[derive(Drop, Debug)]
 pub struct Layout {
     pub rows: u64,

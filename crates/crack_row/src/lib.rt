@@ -31,16 +31,16 @@ pub const LEAST_PAYLOAD: PayloadNumber = -9223372036854775808;
 /// The greatest payload.
 pub const GREATEST_PAYLOAD: PayloadNumber = 9223372036854775807;
 
-/// The greatest number of entries that a partition's history may be limited to.
+/// The greatest limit on the number of entries in a partition's history.
 pub const GREATEST_LIMIT: u64 = 1000000;
 
-/// The greatest number of cells that a partition's rows may be limited to.
+/// The greatest limit on the number of cells for a partition's rows.
 pub const GREATEST_CELLS: u64 = 16777215;
 
-/// The greatest number of commands that a partition may be limited to accept in total.
+/// The greatest limit on the number of commands that a partition accepts in total.
 pub const GREATEST_LIFE: u64 = 1099511627776;
 
-/// What rows are looked up by: 0 to `GREATEST_KEY`.
+/// A row's key, by which it is looked up: 0 to `GREATEST_KEY`.
 #[derive(Clone, Copy, PartialEq, Eq, Debug)]
 pub struct Key(KeyNumber);
 
@@ -48,16 +48,15 @@ pub struct Key(KeyNumber);
 #[derive(Clone, Copy, PartialEq, Eq, Debug)]
 pub struct Payload(PayloadNumber);
 
-/// The number of insertions that a partition accepted before a row. It is never reused.
+/// The number of insertions that the partition accepted before the row's own. It is never reused.
 #[derive(Clone, Copy, PartialEq, Eq, Debug)]
 pub struct Serial(pub u64);
 
-/// An end of a range: it lies between the keys below it and the keys at or above it.
+/// An end of a range. Keys with lesser numbers are below it, all others above it.
 #[derive(Clone, Copy, PartialEq, Eq, PartialOrd, Ord, Debug)]
 pub struct Bound(BoundNumber);
 
-/// A bound between two keys: 1 to `GREATEST_KEY`. It is as wide as a key, and a cracker index has no other
-/// bounds.
+/// A bound between two keys: 1 to `GREATEST_KEY`. It is as wide as a key. A cracker index has only such bounds.
 #[derive(Clone, Copy, PartialEq, Eq, Debug)]
 pub struct InnerBound(KeyNumber);
 

@@ -4,18 +4,18 @@ ghost use Rattle.crack_row.specs.Limits.{AreLimits, are_limits, is_limit, of_his
 
 use crate::{GREATEST_CELLS, GREATEST_LIFE, GREATEST_LIMIT};
 
-/// What a partition does at its limits.
+/// What a partition does once it reaches a limit.
 #[derive(Clone, Copy, PartialEq, Eq, Debug)]
 pub enum Upkeep {
-    /// It refuses the command: checkpoints are made on request.
+    /// It refuses the command. Checkpoints are made only on request.
     OnRequest,
-    /// If its history is full it makes a checkpoint, and then answers the command.
+    /// If its history is full, it makes a checkpoint and then answers the command.
     Automatic,
 }
 
-/// The limits of a partition: how many entries its history may have (1 to `GREATEST_LIMIT`), how many cells its rows
-/// may take (1 to `GREATEST_CELLS`), and how many commands it may accept in total (1 to `GREATEST_LIFE`); and what it
-/// does at these limits.
+/// The limits of a partition: how many entries its history may have (1 to `GREATEST_LIMIT`), how many cells its
+/// rows may take (1 to `GREATEST_CELLS`), and how many commands it may accept in total (1 to `GREATEST_LIFE`); and
+/// what it does once it reaches them.
 #[derive(Clone, Copy, PartialEq, Eq, Debug)]
 pub struct Limits {
     pub history: u64,
@@ -25,7 +25,7 @@ pub struct Limits {
 }
 
 impl Limits {
-    /// The limits with this history limit, which isn't checked, and the greatest values of the others. Upkeep is on
+    /// The limits with this history limit, which isn't checked, the greatest cell and life limits, and upkeep on
     /// request.
     pub fn of_history(history: u64) -> Limits
         ensures { result ≡ of_history history }
@@ -49,7 +49,7 @@ impl Limits {
     }
 }
 
-/// Whether a limit is 1 to this maximum.
+/// Whether a limit is at least 1 and at most `greatest`.
 fn is_limit(greatest: u64, limit: u64) -> bool
     ensures { result ≡ is_limit greatest limit }
 {

@@ -1,17 +1,17 @@
-//! The widths of keys, payloads and bounds, which are defined only here, and how they are compared.
+//! The widths of keys, payloads and bounds, defined only here, and the comparisons between them.
 ghost use Rattle.std.specs.Prelude.{pos, neg_ℤ, ◌≤ℤ◌, ◌≡◌, ◌<◌, ◌≤◌, ◌+◌, ◌↔◌, IsTrue, IsSome, IfSome, MatchOption};
 ghost use Rattle.crack_row.specs.Rows.{amount, farthest_amount};
 ghost use Rattle.crack_row.specs.declared.TheConstants.{GREATEST_KEY};
 
 use crate::{Bound, GREATEST_KEY, InnerBound, Key, Payload};
 
-/// The number of a key.
+/// A key as a number.
 pub type KeyNumber = u64;
 
-/// The number of a payload.
+/// A payload as a number.
 pub type PayloadNumber = i64;
 
-/// The number of a bound, which has one more value than a key.
+/// A bound as a number. There is one more bound than there are keys.
 pub type BoundNumber = u128;
 
 impl Key {
@@ -23,7 +23,7 @@ impl Key {
         Key(number)
     }
 
-    /// Its number.
+    /// The key's number.
     #[inline]
     pub fn number(self) -> KeyNumber
         ensures { result ≡ self.0 }
@@ -49,7 +49,7 @@ impl Payload {
         Payload(number)
     }
 
-    /// Its number.
+    /// The payload's number.
     #[inline]
     pub fn number(self) -> PayloadNumber
         ensures { result ≡ self.0 }
@@ -57,7 +57,7 @@ impl Payload {
         self.0
     }
 
-    /// What it adds to a sum.
+    /// The amount that the payload adds to a sum.
     #[inline]
     pub fn amount(self) -> i128
         ensures value { result ≡ amount self }
@@ -77,7 +77,7 @@ impl Bound {
         Bound(number)
     }
 
-    /// Its number.
+    /// The bound's number.
     #[inline]
     pub fn number(self) -> BoundNumber
         ensures { result ≡ self.0 }
@@ -85,7 +85,7 @@ impl Bound {
         self.0
     }
 
-    /// Whether the key is below it.
+    /// Whether the key is below the bound.
     #[inline]
     pub fn is_above(self, key: Key) -> bool
         ensures { IsTrue result ↔ (key.0 < self.0) }
@@ -93,7 +93,7 @@ impl Bound {
         (key.0 as BoundNumber) < self.0
     }
 
-    /// The least key that isn't below it, if there is one.
+    /// The least key that isn't below the bound, if there is one.
     #[inline]
     pub fn least_key(self) -> Option<Key>
         ensures { MatchOption result (GREATEST_KEY < self.0) (λ key. key.0 ≡ self.0) }
@@ -125,7 +125,7 @@ impl InnerBound {
         InnerBound(1)
     }
 
-    /// Its number.
+    /// The bound's number.
     #[inline]
     pub fn number(self) -> KeyNumber
         ensures { result ≡ self.0 }
@@ -133,7 +133,7 @@ impl InnerBound {
         self.0
     }
 
-    /// The same bound, as the end of a range.
+    /// The same bound as an end of a range.
     #[inline]
     pub fn bound(self) -> Bound
         ensures { result.0 ≡ self.0 }
@@ -141,7 +141,7 @@ impl InnerBound {
         Bound(self.0 as BoundNumber)
     }
 
-    /// The least key that isn't below it.
+    /// The least key that isn't below the bound.
     #[inline]
     pub fn key(self) -> Key
         ensures { result.0 ≡ self.0 }
@@ -149,7 +149,7 @@ impl InnerBound {
         Key(self.0)
     }
 
-    /// Whether the key is below it.
+    /// Whether the key is below the bound.
     #[inline]
     pub fn is_above(self, key: Key) -> bool
         ensures { IsTrue result ↔ (key.0 < self.0) }

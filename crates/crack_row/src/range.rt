@@ -7,8 +7,8 @@ ghost use Rattle.crack_row.specs.Ranges.{IsIn, clipped};
 use crate::{Bound, BoundNumber, GREATEST_BOUND, GREATEST_KEY, Key, KeyNumber, Refusal};
 use std::marker::Model;
 
-/// A half open range of keys: from its low end on, up to but not including its high end.
-/// Its ends are in order and at most `GREATEST_BOUND`.
+/// A half-open range of keys, from its low end up to but not including its high end. Its ends are in order and at
+/// most `GREATEST_BOUND`.
 #[derive(Clone, Copy, PartialEq, Eq, Debug)]
 pub struct KeyRange {
     low: End,
@@ -45,7 +45,8 @@ impl Default for KeyRange {
 }
 
 impl KeyRange {
-    /// The range between two numbers; refused with 2 if they aren't the ends of one.
+    /// The range between two numbers. Refused with `BadRange` if `low` is above `high`, or `high` above
+    /// `GREATEST_BOUND`.
     pub fn new(low: BoundNumber, high: BoundNumber) -> Result<KeyRange, Refusal>
         ensures ok { IfOk result (λ r. (r.low ≡ low) × (r.high ≡ high) × (low ≤ high) × (high ≤ GREATEST_BOUND)) }
         ensures err { IfErr result (λ e. (e ≡ Refusal.BadRange) × ((low ≤ high) × (high ≤ GREATEST_BOUND) → ⊥)) }
@@ -57,7 +58,8 @@ impl KeyRange {
         }
     }
 
-    /// The range between two bounds; refused with 2 if they aren't the ends of one.
+    /// The range between two bounds. Refused with `BadRange` if `low` is above `high`, or `high` above
+    /// `GREATEST_BOUND`.
     pub fn between(low: Bound, high: Bound) -> Result<KeyRange, Refusal>
         ensures ok { IfOk result (λ r. (r.low ≡ low.0) × (r.high ≡ high.0) × (low.0 ≤ high.0) ×
             (high.0 ≤ GREATEST_BOUND)) }
@@ -97,7 +99,7 @@ impl KeyRange {
         self.high() <= self.low()
     }
 
-    /// The least and the greatest key in the range; none if it has no key.
+    /// The least and the greatest key in the range, or `None` if the range is empty.
     #[inline]
     pub fn first_and_last(&self) -> Option<(Key, Key)>
         ensures value { MatchOption result (self.now.high ≤ self.now.low) (λ ends. (ends.0.0 ≡ self.now.low) ×
@@ -117,7 +119,7 @@ impl KeyRange {
         !self.low().is_above(key) && self.high().is_above(key)
     }
 
-    /// The intersection of two ranges; if there is none, the empty range at the low end of `other`.
+    /// The intersection of two ranges. If they share no key, the empty range at the low end of `other`.
     pub fn clip(&self, other: KeyRange) -> KeyRange
         ensures value { result ≡ clipped self.now other }
         ensures keys { (k : ℕ) → IsIn result k ↔ (IsIn self.now k × IsIn other k) }
@@ -132,7 +134,7 @@ impl KeyRange {
         }
     }
 
-    /// The range between two ends.
+    /// The range between two bounds.
     fn of(low: Bound, high: Bound) -> KeyRange
         requires ordered { low.0 ≤ high.0 }
         requires bounded { high.0 ≤ GREATEST_BOUND }
@@ -145,8 +147,8 @@ impl KeyRange {
     }
 }
 
-/// An end of a range: its number, or 0 for the end past all keys, and whether it is that end. It is aligned like a
-/// number of 64 bits, so values that hold ranges are smaller than with one of 128.
+/// An end of a range: its number and `false`, or 0 and `true` for the end above all keys. Its alignment is that of
+/// a 64-bit number, so values that contain ranges are smaller than with 128-bit ends.
 #[derive(Clone, Copy, Debug)]
 struct End {
     number: KeyNumber,
@@ -203,7 +205,7 @@ impl End {
         }
     }
 
-    /// Its position.
+    /// The end as a bound.
     #[inline]
     fn bound(self) -> Bound
         ensures value { result.0 ≡ self }
@@ -216,7 +218,7 @@ impl End {
         }
     }
 
-    /// The number of the greatest key below it.
+    /// The number of the greatest key below the end.
     #[inline]
     fn number_below(self) -> KeyNumber
         requires { 0 < self }

@@ -6,7 +6,7 @@ use std::alloc::{AllocError, AllocFailed};
 use std::fmt;
 use thiserror::Error;
 
-/// Why a call was refused, with the numbers that it carries. Its text is the reply line, without the line feed.
+/// Why a call was refused, with the numbers for that cause. Its text is the reply line without the line feed.
 #[derive(Clone, Copy, PartialEq, Eq, Debug, Drop, Error)]
 pub enum Refusal {
     /// The line isn't a statement.
@@ -15,7 +15,7 @@ pub enum Refusal {
     /// The ends of a range are out of order, or the high end is above `GREATEST_BOUND`.
     #[error("refused 2")]
     BadRange,
-    /// An insert or an update names a key outside the partition.
+    /// The key of an insert or an update lies outside the partition.
     #[error("refused 4")]
     KeyOutside,
     /// There is no partition with this number.
@@ -24,49 +24,49 @@ pub enum Refusal {
     /// The history has as many entries as its limit.
     #[error("refused 6 {length}")]
     HistoryFull { length: u64 },
-    /// A gate refused each time that it was asked in one call.
+    /// A gate refused at each attempt of one call.
     #[error("refused 7")]
     GateGaveUp,
-    /// An allocation was refused.
+    /// An allocation was refused, or a thread couldn't be started.
     #[error("refused 8")]
     OutOfMemory,
-    /// No cell is free for a row, and there are as many cells as the limit allows.
+    /// No cell is free for a row, and the number of cells has reached its limit.
     #[error("refused 9")]
     NoCell,
-    /// As many commands were accepted in total as the limit allows.
+    /// The number of commands that were accepted in total has reached its limit.
     #[error("refused 10")]
     LifeOver,
-    /// The splits don't rise strictly, or one isn't 1 to `GREATEST_KEY`.
+    /// The splits aren't in strictly rising order, or one isn't between 1 and `GREATEST_KEY`.
     #[error("refused 11")]
     BadSplits,
-    /// There are more splits than partitions may have.
+    /// There are more splits than a table may have.
     #[error("refused 12")]
     TooManyPartitions,
-    /// The number of workers isn't 1 to the greatest number that a table may have.
+    /// The number of workers isn't between 1 and the greatest that a table may have.
     #[error("refused 13")]
     BadWorkerCount,
-    /// A limit isn't 1 to the greatest of its kind.
+    /// A limit isn't between 1 and the greatest of its kind.
     #[error("refused 14")]
     BadLimit,
-    /// Workers of the table are missing from a gathering: one bit for each missing number.
+    /// Workers of the table are missing from a gathering: `missing` has a bit for each missing number.
     #[error("refused 15{}", Numbers(*missing))]
     WorkersMissing { missing: u64 },
-    /// Receipts and histories don't cover each other at this place, or a partition isn't the table's.
+    /// Receipts and histories don't match at this position, or a partition isn't the table's.
     #[error("refused 16 {part} {position}")]
     StrangeReceipt { part: u32, position: u64 },
-    /// The reader failed, or exceeded its stated bound.
+    /// The reader failed or exceeded its stated bound, or the port isn't available.
     #[error("refused 17")]
     ReadFault,
     /// The writer failed.
     #[error("refused 18")]
     WriteFault,
-    /// A CSV record doesn't have exactly two fields, or one of them isn't a number in range: the record's number from
-    /// 1, with a header counted.
+    /// A CSV record doesn't have exactly two fields, or one of them isn't a number in range. `number` counts
+    /// records from 1, including a header.
     #[error("refused 19 {number}")]
     BadRecord { number: u64 },
 }
 
-/// The numbers of the bits that are set, in rising order, each after a space.
+/// Displays the numbers of the set bits in rising order, each after a space.
 #[derive(Clone, Copy)]
 struct Numbers(u64);
 
@@ -113,7 +113,7 @@ impl Refusal {
 }
 
 impl Refusal {
-    /// The cause in words, for a terminal or a log: one clause without a full stop or a line feed.
+    /// The cause in words for a terminal or a log: one clause without a full stop or a line feed.
     pub fn cause(&self) -> &'static str {
         match self {
             Refusal::BadStatement => "the line is not a statement",

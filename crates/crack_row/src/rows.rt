@@ -5,13 +5,13 @@ use crate::{Refusal, Row};
 use std::alloc::Global;
 use std::marker::Model;
 
-/// The rows of a reply. Contracts see a list.
+/// The rows that a reply lists. Contracts see a list.
 #[derive(Debug)]
 pub struct RowList {
     rows: Vec<Row>,
 }
 
-// (Written out, so that the crates above call this function, and prove nothing about the fields.)
+// Written out so that the crates that use the type call this function and prove nothing about its fields.
 impl Drop for RowList {
     fn drop(self) {
         let Self { rows } = self;
@@ -29,14 +29,14 @@ impl Model for RowList {
 }
 
 impl RowList {
-    /// The rows of a vector. Takes no memory.
+    /// Wraps a vector of rows. Takes no memory.
     pub fn from_vec(rows: Vec<Row>) -> RowList
         ensures { result ≡ rows.items }
     {
         RowList { rows }
     }
 
-    /// The vector of the rows. Takes no memory.
+    /// The rows as a vector. Takes no memory.
     pub fn into_vec(self) -> Vec<Row>
         ensures { result.items ≡ self }
     {
@@ -44,14 +44,14 @@ impl RowList {
         rows
     }
 
-    /// The rows, to read.
+    /// The rows as a slice.
     pub fn as_slice(&self) -> &[Row]
         ensures { result.now ≡ self.now }
     {
         self.rows.as_slice()
     }
 
-    /// A copy: O(rows). Refused with 8 if it finds no memory.
+    /// Copies the list: O(rows). Refused with `OutOfMemory` if no memory is found.
     pub fn copy(&self, alloc: Global) -> Result<RowList, Refusal>
         ensures ok { IfOk result (λ copy. copy ≡ self.now) }
         ensures err { IfErr result (λ e. e ≡ Refusal.OutOfMemory) }

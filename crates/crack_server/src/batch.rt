@@ -1,47 +1,50 @@
-//! A batch: the lines of one input, each worker's on a thread of its own.
+//! A batch: the lines of one input, divided among workers, each on a thread of its own.
 ghost use Rattle.std.specs.Prelude.{◌≡◌, ◌<◌, List, IfNone, map, vec_len};
 ghost use Rattle.std.specs.List.{concat};
 ghost use Rattle.crack_session.specs.Answers.{answer_text};
 ghost use Rattle.crack_session.specs.Calls.{AreAnswersOf};
 ghost use Rattle.crack_session.specs.Readings.{statements};
 ghost use Rattle.crack_session.specs.declared.answer.Answer.{Answer};
-ghost use Rattle.crack_table.specs.Tables.{AsksTable};
-ghost use Rattle.crack_worker_desk.specs.Leads.{table_leads};
+ghost use Rattle.crack_witness.specs.Witnesses.{AreNames};
 
 use crate::totals::totals_of;
 use crack_row::{Bound, Limits, Policy, Refusal, Watched};
 use crack_service::{divide, read_input};
-use crack_session::serve;
-use crack_table::{Gate, Table, Worker};
+use crack_session::{Desk, serve};
+use crack_table::{Gate, Table, UnnamedTable};
+use crack_witness::{Naming, Worker};
 use crack_worker_desk::WorkerDesk;
 use std::alloc::Global;
 use std::io::{Read, Write};
+use std::marker::Brand;
 use std::sync::Wait;
 use std::thread;
 use std::thread::Threads;
 
-/// A worker that has served its lines, and the output of its session.
+/// A desk that has served a worker's lines, the session's output, and its refusal if it was cut off.
 #[derive(Drop)]
-struct Served {
-    worker: Worker,
+struct Served<D> {
+    desk: D,
     output: Vec<u8>,
     fault: Option<Refusal>,
 }
 
-/// The workers that have served, and the output of their sessions.
+/// The workers after their sessions, and the outputs of the sessions.
 #[derive(Drop)]
-struct Crew {
-    workers: Vec<Worker>,
+struct Crew<J: Naming> {
+    workers: Vec<Worker<J>>,
     outputs: Vec<Vec<u8>>,
 }
 
-/// Answers the lines of an input over a table of its own. Each line that isn't blank is a number, one space and a
-/// statement for the worker with that number, modulo the number of workers; each worker serves its own lines as a
-/// session, in parallel with the others. Then `writer` gets the line `worker w` and the session's output for each
-/// worker, and finally the totals. Refused, in this order: as `Table::open_with` is; with 17 if the reader fails or
-/// gives more than `MOST_INPUT_BYTES`; with 1 if a line has no number; as the session of the lowest worker whose
-/// session is cut off; as `gather` is; with 18 if the writer fails. It is refused with 8 at any point if no memory is
-/// found for the batch's own buffers, or a thread can't be started. Nothing is written before the workers are gathered.
+/// Answers the lines of an input over a new table. Each line that isn't blank is a number, one space and a statement
+/// for the worker with that number, modulo the number of workers. Each worker serves its lines as a session, in
+/// parallel with the others. Then `writer` gets, for each worker `w`, the line `worker w` and the output of its
+/// session, and finally the totals. The workers are gathered by counts, and with an audit also by receipts, which
+/// take memory for each command until then. Refused, in this order: as `UnnamedTable::open` is; with `ReadFault` if
+/// the reader fails or has more than `MOST_INPUT_BYTES`; with `BadStatement` if a line has no number; as the first
+/// session that is cut off, by worker number; as `gather` is; with `WriteFault` if the writer fails. Refused with
+/// `OutOfMemory` at any point if no memory is found for the batch's own buffers or a thread can't be started.
+/// Nothing is written before the workers are gathered.
 pub fn run_batch<Rt: Threads + Wait + Sync, G: Gate + Sync, R: Read, W: Write>(
     rt: &Rt,
     alloc: Global,
@@ -49,53 +52,88 @@ pub fn run_batch<Rt: Threads + Wait + Sync, G: Gate + Sync, R: Read, W: Write>(
     limits: Limits,
     policy: Policy,
     workers: u64,
+    is_audited: bool,
     gate: &G,
     reader: &mut R,
     writer: &mut W,
 ) -> Result<(), Refusal> {
-    let (table, workers) = Table::open_with(alloc, splits, limits, workers)?;
-    match serve_input(rt, alloc, &table, workers, policy, gate, reader) {
-        Ok(crew) => report(alloc, table, crew, writer),
-        Err(refusal) => Err(refusal),
-    }
+    let table = UnnamedTable::open(alloc, splits, limits, workers, is_audited)?;
+    run_named::<Rt, G, R, W, Brand>(rt, alloc, table, policy, gate, reader, writer)
 }
 
-/// Reads an input, and has the workers serve it.
-fn serve_input<Rt: Threads + Wait + Sync, G: Gate + Sync, R: Read>(
+/// Answers the lines of an input over a table, once its book has its name `J`.
+fn run_named<Rt: Threads + Wait + Sync, G: Gate + Sync, R: Read, W: Write, J: Naming + Send + Sync>(
     rt: &Rt,
     alloc: Global,
-    table: &Table,
-    workers: Vec<Worker>,
+    table: UnnamedTable,
     policy: Policy,
     gate: &G,
     reader: &mut R,
-) -> Result<Crew, Refusal>
+    writer: &mut W,
+) -> Result<(), Refusal>
+    requires names { AreNames J.book J.owner table.opened }
+    requires some { 0 < table.table.workers }
+{
+    let (table, workers) = table.named::<J>(alloc)?;
+    match serve_input(rt, alloc, &table, workers, policy, gate, reader) {
+        Ok(crew) => report(alloc, table, crew, writer),
+        Err(refusal) => {
+            drop(table);
+            Err(refusal)
+        }
+    }
+}
+
+/// Reads an input, and lets the workers serve it.
+fn serve_input<Rt: Threads + Wait + Sync, G: Gate + Sync, R: Read, J: Naming + Send + Sync>(
+    rt: &Rt,
+    alloc: Global,
+    table: &Table<J>,
+    workers: Vec<Worker<J>>,
+    policy: Policy,
+    gate: &G,
+    reader: &mut R,
+) -> Result<Crew<J>, Refusal>
     requires { 0 < vec_len workers }
 {
     let input = read_input(alloc, reader)?;
     let shares = divide(alloc, input.as_slice(), workers.len())?;
     drop(input);
-    let served = serve_all(rt, alloc, table, workers, shares, policy, gate)?;
+    let desks = desks_of(rt, alloc, table, gate, workers)?;
+    let served = serve_all(rt, alloc, desks, shares, policy)?;
     crew_of(alloc, served)
 }
 
-/// Has each worker serve its share on a thread of its own. Refused with 8 if a thread can't be started, once the others
-/// have ended.
-fn serve_all<Rt: Threads + Wait + Sync, G: Gate + Sync>(
+/// Makes a desk for each worker.
+fn desks_of<'a, Rt: Wait, G: Gate, J: Naming>(
+    rt: &'a Rt,
+    alloc: Global,
+    table: &'a Table<J>,
+    gate: &'a G,
+    workers: Vec<Worker<J>>,
+) -> Result<Vec<WorkerDesk<'a, Rt, G, J>>, Refusal> {
+    let mut desks = Vec::with_capacity(alloc, workers.len())?;
+    'workers: for worker in workers {
+        desks.push(WorkerDesk::new(rt, table, gate, worker))?;
+    }
+    Ok(desks)
+}
+
+/// Serves each share at a desk, on a thread of its own. Refused with `OutOfMemory` if a thread can't be started,
+/// once the others have ended.
+fn serve_all<Rt: Threads + Wait, D: Desk + Send + Drop>(
     rt: &Rt,
     alloc: Global,
-    table: &Table,
-    workers: Vec<Worker>,
+    desks: Vec<D>,
     shares: Vec<Vec<u8>>,
     policy: Policy,
-    gate: &G,
-) -> Result<Vec<Served>, Refusal> {
-    let mut threads = Vec::with_capacity(alloc, workers.len())?;
-    let mut served = Vec::with_capacity(alloc, workers.len())?;
+) -> Result<Vec<Served<D>>, Refusal> {
+    let mut threads = Vec::with_capacity(alloc, desks.len())?;
+    let mut served = Vec::with_capacity(alloc, desks.len())?;
     let all = thread::scope(thread::scope_env(), rt, move |scope| {
         let mut started = true;
-        'starts: for (worker, share) in workers.into_iter().zip(shares) {
-            match scope.spawn(move || serve_share(rt, alloc, table, worker, share, policy, gate)) {
+        'starts: for (desk, share) in desks.into_iter().zip(shares) {
+            match scope.spawn(move || serve_share(alloc, desk, share, policy)) {
                 Ok(thread) => started = threads.push(thread).is_ok() && started,
                 Err(_) => started = false,
             }
@@ -108,23 +146,16 @@ fn serve_all<Rt: Threads + Wait + Sync, G: Gate + Sync>(
     all.ok_or(Refusal::OutOfMemory)
 }
 
-/// Serves a worker's lines. Its output is in memory, so its writer fails only if no memory is found.
-fn serve_share<Rt: Wait, G: Gate>(
-    rt: &Rt,
-    alloc: Global,
-    table: &Table,
-    worker: Worker,
-    share: Vec<u8>,
-    policy: Policy,
-    gate: &G,
-) -> Served
-    // If the session wasn't cut off, its part of the output is the texts of answers to all statements of its share,
-    // made of exactly the calls that these require, by the current policy; they led the worker to its present state.
-    ensures { IfNone result.fault ((answers : List Answer) × AreAnswersOf (table_leads table.now (λ part. AsksTable
-        table.now (G.may_refuse gate.now part) part)) table.now.splits policy worker result.worker (statements
-        share.items) answers × (result.output.items ≡ concat (map answer_text answers))) }
+/// Serves a worker's lines at its desk. The output is in memory, so the writer fails only if no memory is found.
+fn serve_share<D: Desk + Drop>(alloc: Global, desk: D, share: Vec<u8>, policy: Policy) -> Served<D>
+    // If the session wasn't cut off, its output is the texts of the answers to all statements of its share, made of
+    // exactly the calls that the statements require, under the policy then in force; the calls led the desk to its
+    // present state. The calls of a `WorkerDesk` are its worker's, and each reply is in the history of its
+    // partition.
+    ensures { IfNone result.fault ((answers : List Answer) × AreAnswersOf D.leads (D.splits desk) policy desk
+        result.desk (statements share.items) answers × (result.output.items ≡ concat (map answer_text answers))) }
 {
-    let mut desk = WorkerDesk::new(rt, table, gate, worker);
+    let mut desk = desk;
     let mut reader = Watched::new(share.as_slice());
     let mut writer = Watched::new(Vec::new(alloc));
     let fault = match serve(alloc, &mut desk, policy, &mut reader, &mut writer) {
@@ -135,14 +166,17 @@ fn serve_share<Rt: Wait, G: Gate>(
         }),
     };
     Served {
-        worker: desk.into_worker(),
+        desk,
         output: writer.into_inner(),
         fault,
     }
 }
 
-/// The workers and their output, if none was cut off. Refused as the first that was.
-fn crew_of(alloc: Global, served: Vec<Served>) -> Result<Crew, Refusal> {
+/// The workers and their outputs. Refused as the first session that was cut off.
+fn crew_of<Rt: Wait, G: Gate, J: Naming>(
+    alloc: Global,
+    served: Vec<Served<WorkerDesk<'_, Rt, G, J>>>,
+) -> Result<Crew<J>, Refusal> {
     let mut crew = Crew {
         workers: Vec::new(alloc),
         outputs: Vec::new(alloc),
@@ -151,17 +185,17 @@ fn crew_of(alloc: Global, served: Vec<Served>) -> Result<Crew, Refusal> {
         if let Some(refusal) = one.fault {
             return Err(refusal);
         }
-        crew.workers.push(one.worker)?;
+        crew.workers.push(one.desk.into_worker())?;
         crew.outputs.push(one.output)?;
     }
     Ok(crew)
 }
 
-/// Gathers the workers, and writes their output and the totals.
-fn report<W: Write>(
+/// Gathers the workers, and writes their outputs and the totals.
+fn report<W: Write, J: Naming>(
     alloc: Global,
-    table: Table,
-    crew: Crew,
+    table: Table<J>,
+    crew: Crew<J>,
     writer: &mut W,
 ) -> Result<(), Refusal> {
     let Crew { workers, outputs } = crew;
@@ -170,7 +204,7 @@ fn report<W: Write>(
     totals.write(writer)
 }
 
-/// Writes the output of each worker's session, after a line with its number.
+/// Writes the output of each worker's session, after a line with the worker's number.
 fn write_outputs<W: Write>(outputs: &Vec<Vec<u8>>, writer: &mut W) -> Result<(), Refusal> {
     'workers: for (worker, output) in outputs.iter().enumerate() {
         let head = writeln!(writer, "worker {worker}");

@@ -1,22 +1,22 @@
-//! A gate that reports checkpoints that were due to a server's host.
+//! A gate that reports automatic checkpoints to a server's host.
 use crate::ENTRIES_PER_NOTICE;
 use crack_service::{Host, Notice};
 use crack_table::Gate;
 use std::sync::atomic::{AtomicU64, Ordering};
 
-/// The gate of all workers of a server, with what hasn't been reported yet.
+/// The gate of all workers of a server, and the counts for the next notice.
 #[derive(Drop)]
 pub(crate) struct Reporting<'a, G: Gate, H: Host> {
     gate: &'a G,
     host: &'a H,
     /// How many checkpoints were made since the last notice.
     count: AtomicU64,
-    /// How many entries must be checkpointed before the next one.
+    /// How many entries must still be checkpointed before the next notice.
     entries_left: AtomicU64,
 }
 
 impl<'a, G: Gate, H: Host> Reporting<'a, G, H> {
-    /// A gate that consents when this one does.
+    /// A gate that consents if `gate` does.
     pub(crate) fn new(gate: &'a G, host: &'a H) -> Reporting<'a, G, H> {
         Reporting {
             gate,
@@ -26,7 +26,7 @@ impl<'a, G: Gate, H: Host> Reporting<'a, G, H> {
         }
     }
 
-    /// Whether a checkpoint of this many entries gets a notice.
+    /// Whether a checkpoint of this many entries causes a notice.
     fn is_notice_due(&self, entries: u64) -> bool {
         let left = self.entries_left.load(Ordering::SeqCst);
         let is_due = entries >= left;

@@ -1,16 +1,14 @@
 //! The end of a run: its workers are gathered, and its totals written.
-ghost use Rattle.std.specs.Prelude.{◌≡◌, List, map, IfOk};
-ghost use Rattle.crack_kept.specs.Parts.{Part};
-ghost use Rattle.crack_table.specs.Cover.{Covers, kept_of};
-ghost use Rattle.crack_table.specs.Gather.{AreTotals, receipts_of};
-ghost use Rattle.crack_table.specs.Parts.{AreParts};
+ghost use Rattle.std.specs.Prelude.{◌≡◌, true, List, map, IfOk};
+ghost use Rattle.crack_witness.specs.Receipts.{AreShares};
 ghost use Rattle.crack_witness.specs.Witnesses.{WitnessedState};
-ghost use Rattle.crack_witness_table.specs.Gather.{AreGathered, AreHistoryTotals};
+ghost use Rattle.crack_table.specs.Audits.{histories_of, receipts_of};
+ghost use Rattle.crack_table.specs.Cover.{Covers};
+ghost use Rattle.crack_table.specs.Gather.{AreGathered, AreHistoryTotals};
 
 use crack_row::Refusal;
-use crack_table::{Closed, Table, Worker, gather};
-use crack_witness::{Asker, Naming};
-use crack_witness_table::{Gathered, WitnessedTable, gather as gather_witnessed};
+use crack_table::{Gathered, Table, gather};
+use crack_witness::{Naming, Worker};
 use std::alloc::Global;
 use std::io::Write;
 
@@ -23,69 +21,41 @@ pub(crate) struct Totals {
     held: u64,
 }
 
-/// Gathers the workers of a table. Refused as `gather` is.
-pub(crate) fn totals_of(
+/// Gathers the workers of a table, and returns the totals. Refused as `gather` is.
+pub(crate) fn totals_of<J: Naming>(
     alloc: Global,
-    table: Table,
-    workers: Vec<Worker>,
+    table: Table<J>,
+    workers: Vec<Worker<J>>,
 ) -> Result<Totals, Refusal>
-    // The totals are those of the table's partitions, whose pasts the receipts of all workers cover.
-    ensures audited { IfOk result (λ totals. (parts : List Part) × AreParts table.splits table.limits parts ×
-        AreTotals parts totals.accepted totals.inserted totals.deleted totals.held ×
-        Covers (map kept_of parts) (receipts_of workers.items)) }
-{
-    match gather(alloc, table, workers) {
-        Ok(closed) => {
-            let Closed {
-                accepted,
-                inserted,
-                deleted,
-                held,
-                parts,
-            } = closed;
-            drop(parts);
-            Ok(Totals {
-                accepted,
-                inserted,
-                deleted,
-                held,
-            })
-        }
-        Err(refused) => {
-            let refusal = refused.refusal;
-            drop(refused);
-            Err(refusal)
-        }
-    }
-}
-
-/// Gathers the workers of a table that witnesses its replies. Refused as its `gather` is.
-pub(crate) fn witnessed_totals_of<J: Naming>(
-    alloc: Global,
-    table: WitnessedTable<J>,
-    askers: Vec<Asker<J>>,
-) -> Result<Totals, Refusal>
+    // The totals are those of the histories of partitions that agree with all workers. With an audit the receipts of
+    // all workers also cover these histories, and the totals are those of the receipts.
     ensures gathered { IfOk result (λ totals. (parts : List WitnessedState) ×
-        AreGathered J.owner table.splits table.limits table.workers askers.items parts ×
-        AreHistoryTotals J.owner parts totals.accepted totals.inserted totals.deleted totals.held) }
+        AreGathered J.owner table.splits table.limits table.workers workers.items parts ×
+        AreHistoryTotals J.owner parts totals.accepted totals.inserted totals.deleted totals.held ×
+        (table.audited ≡ true → Covers (histories_of J.owner parts) (receipts_of workers.items) ×
+        AreShares (receipts_of workers.items) totals.accepted totals.inserted totals.deleted)) }
 {
-    let gathered = gathered(alloc, table, askers)?;
+    let gathered = gathered(alloc, table, workers)?;
     let totals = totals_in(&gathered);
     drop(gathered);
     Ok(totals)
 }
 
-/// The gathered workers of a table. What a refusal hands back is dropped.
+/// Gathers the workers of a table, and drops what a refusal hands back.
 fn gathered<J: Naming>(
     alloc: Global,
-    table: WitnessedTable<J>,
-    askers: Vec<Asker<J>>,
+    table: Table<J>,
+    workers: Vec<Worker<J>>,
 ) -> Result<Gathered<J>, Refusal>
-    ensures gathered { IfOk result (λ s. AreGathered J.owner table.splits table.limits table.workers askers.items
+    ensures gathered { IfOk result (λ s. AreGathered J.owner table.splits table.limits table.workers workers.items
         s.parts.items) }
     ensures totals { IfOk result (λ s. AreHistoryTotals J.owner s.parts.items s.accepted s.inserted s.deleted s.held) }
+    ensures covered { IfOk result (λ s. table.audited ≡ true → Covers (histories_of J.owner s.parts.items)
+        (receipts_of workers.items)) }
+    ensures shares { IfOk result (λ s. table.audited ≡ true → AreShares (receipts_of workers.items) s.accepted
+        s.inserted s.deleted) }
 {
-    match gather_witnessed(alloc, table, askers) {
+    match gather(alloc, table, workers) {
         Ok(gathered) => Ok(gathered),
         Err(refused) => {
             let refusal = refused.refusal;
@@ -113,7 +83,7 @@ fn totals_in<J: Naming>(gathered: &Gathered<J>) -> Totals
 }
 
 impl Totals {
-    /// Writes the last line of a run, and flushes the output.
+    /// Writes the totals as the last line of a run, and flushes the output.
     pub(crate) fn write<W: Write>(&self, writer: &mut W) -> Result<(), Refusal> {
         let Totals {
             accepted,

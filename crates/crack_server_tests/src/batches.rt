@@ -12,7 +12,7 @@ use std::sync::atomic::{AtomicBool, Ordering};
 use std::thread::Threads;
 use std::{io, thread};
 
-/// The input of a batch, how it ends, and its output.
+/// The input of a batch, its result, and its output.
 #[derive(Clone, Copy)]
 struct Case {
     input: &'static [u8],
@@ -21,7 +21,7 @@ struct Case {
 }
 
 const CASES: &[Case] = &[
-    // lines go to the workers of their numbers
+    // each line goes to the worker with its number
     Case {
         input: b"0 insert 50 5\n1 insert 150 6\n3 count 100 200\n",
         ended: Ok(()),
@@ -41,11 +41,12 @@ const CASES: &[Case] = &[
     },
 ];
 
-/// How a batch of two workers over the partitions below and from 100 ends.
+/// Runs a batch with two workers and a split at 100.
 fn run_two<H: Threads + Wait + Sync, G: Gate + Sync, W: Write>(
     rt: &H,
     alloc: Global,
     gate: &G,
+    is_audited: bool,
     input: &[u8],
     writer: &mut W,
 ) -> Result<(), Refusal> {
@@ -59,43 +60,46 @@ fn run_two<H: Threads + Wait + Sync, G: Gate + Sync, W: Write>(
         limits,
         Policy::Ripple,
         2,
+        is_audited,
         gate,
         &mut reader,
         writer,
     )
 }
 
-/// Asserts how such a batch ends, and its output.
+/// Asserts the result and the output of such a batch.
 fn assert_batch<H: Threads + Wait + Sync + Abort, G: Gate + Sync>(
     rt: &H,
     alloc: Global,
     gate: &G,
+    is_audited: bool,
     case: Case,
 ) {
     let mut output = Vec::new(alloc);
-    let ended = run_two(rt, alloc, gate, case.input, &mut output);
+    let ended = run_two(rt, alloc, gate, is_audited, case.input, &mut output);
     assert!(rt; ended == case.ended && output.as_slice() == case.output);
 }
 
 #[test]
 fn batches_end_and_write(rt: HostRuntime) {
     'cases: for place in 0..CASES.len() {
-        assert_batch(&rt, rt.alloc(), &OpenGate, CASES[place]);
+        assert_batch(&rt, rt.alloc(), &OpenGate, false, CASES[place]);
+        assert_batch(&rt, rt.alloc(), &OpenGate, true, CASES[place]);
     }
 }
 
-/// A writer into memory of whose calls one fails.
+/// A writer to memory, one of whose calls fails.
 #[derive(Drop)]
 struct FailsOnce {
     bytes: Vec<u8>,
-    /// How many of these bytes were flushed.
+    /// How many of the bytes were flushed.
     flushed: usize,
-    /// How many calls there are before the one that fails.
+    /// How many calls succeed before the one that fails.
     before: u64,
 }
 
 impl FailsOnce {
-    /// Counts a call, and fails if it is the one that does.
+    /// Counts a call, and fails if its turn has come.
     fn call(&mut self) -> io::Result<()> {
         let fails = self.before == 0;
         self.before = self.before.wrapping_sub(1);
@@ -119,8 +123,8 @@ impl Write for FailsOnce {
     }
 }
 
-/// A batch in which the second worker's session has no output is refused whichever of its writes fails, or its flush,
-/// and writes nothing after it.
+/// Whichever write or flush of a batch fails, the batch is refused, and writes nothing after that. The second
+/// worker's session has no output.
 #[test]
 fn a_batch_is_refused_where_a_write_fails(rt: HostRuntime) {
     const OUTPUT: &[u8] = b"worker 0\nrow 0.0\nworker 1\naccepted 1 inserted 1 deleted 0 held 1\n";
@@ -131,7 +135,8 @@ fn a_batch_is_refused_where_a_write_fails(rt: HostRuntime) {
             flushed: 0,
             before,
         };
-        let ended = run_two(&rt, rt.alloc(), &OpenGate, b"0 insert 50 5\n", &mut writer);
+        let input = b"0 insert 50 5\n";
+        let ended = run_two(&rt, rt.alloc(), &OpenGate, true, input, &mut writer);
         whole = ended.is_ok();
         if whole {
             assert!(rt; writer.bytes.as_slice() == OUTPUT && writer.flushed == OUTPUT.len());
@@ -144,8 +149,8 @@ fn a_batch_is_refused_where_a_write_fails(rt: HostRuntime) {
     assert!(rt; whole);
 }
 
-/// A gate that refuses each of two partitions until the other has been inside. It yields before each refusal, long
-/// enough for another thread to arrive.
+/// A gate that refuses each of two partitions until the other one has been asked for. Before each refusal it yields
+/// long enough for another thread to arrive.
 #[derive(Drop)]
 struct Meeting {
     arrived: [AtomicBool; 2],
@@ -169,7 +174,7 @@ impl Gate for Meeting {
     }
 }
 
-/// Workers that run one after the other, or under one lock, never meet: they are refused with 7.
+/// Workers that run one after the other, or under one lock, would be refused with `GateGaveUp`.
 #[test]
 fn two_workers_are_at_two_partitions_at_once(rt: HostRuntime) {
     const CASE: Case = Case {
@@ -180,5 +185,5 @@ fn two_workers_are_at_two_partitions_at_once(rt: HostRuntime) {
     let gate = Meeting {
         arrived: [AtomicBool::new(false), AtomicBool::new(false)],
     };
-    assert_batch(&rt, rt.alloc(), &gate, CASE);
+    assert_batch(&rt, rt.alloc(), &gate, true, CASE);
 }

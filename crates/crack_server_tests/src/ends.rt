@@ -1,9 +1,9 @@
 //! Servers whose input ends.
+use crate::tables::{of_workers, serve};
 use crack_loop::{Ending, Terms};
 use crack_row::{Policy, Refusal};
-use crack_server::run_service;
 use crack_service::Alone;
-use crack_table::{OpenGate, Table};
+use crack_table::OpenGate;
 use std::alloc::Global;
 use std::io;
 use std::io::Read;
@@ -28,7 +28,7 @@ impl<'a> Read for Interrupted<'a> {
     }
 }
 
-/// The output of a server of three workers, to which nobody comes until its input ends.
+/// The output of a server with three workers, without clients, until its input ends.
 fn output_at_end<H: Threads + Wait + Net + Sync, I: Read>(
     rt: &H,
     alloc: Global,
@@ -43,14 +43,12 @@ fn output_at_end<H: Threads + Wait + Net + Sync, I: Read>(
         drain: 10,
         notes_checkpoints: false,
     };
-    let (table, workers) = Table::open(alloc, &[], 10, 3)?;
     let mut output = Vec::new(alloc);
-    match run_service(
+    match serve(
         rt,
         alloc,
         listener,
-        table,
-        workers,
+        of_workers(3, true),
         terms,
         &OpenGate,
         &Alone,

@@ -1,4 +1,4 @@
-//! Tests that run batches and a server: what no clause says.
+//! Tests of batches and servers, for what no contract says.
 #![tactic(auto)]
 
 #[cfg(test)]
@@ -9,5 +9,9 @@ mod ends;
 mod servers;
 #[cfg(test)]
 mod services;
+#[cfg(test)]
+mod sizes;
+#[cfg(test)]
+mod tables;
 #[cfg(test)]
 mod totals;

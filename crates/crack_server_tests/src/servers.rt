@@ -1,7 +1,8 @@
 //! A server over loopback.
+use crate::tables::{of_workers, serve, terms_of};
 use crack_row::{Policy, Refusal};
-use crack_server::run_server;
-use crack_table::{OpenGate, Table};
+use crack_service::Alone;
+use crack_table::OpenGate;
 use std::alloc::Global;
 use std::io::{Read, Write};
 use std::net::{Net, Shutdown, TcpListener, TcpStream};
@@ -11,25 +12,26 @@ use std::thread::Threads;
 use std::time::Duration;
 use std::{io, thread};
 
-/// The output of a server of this many workers and sessions.
+/// The output of a server with this many workers and sessions.
 fn server<H: Threads + Wait + Net + Sync>(
     rt: &H,
     alloc: Global,
     listener: &TcpListener,
     workers: u64,
     sessions: u64,
+    is_audited: bool,
 ) -> Result<Vec<u8>, Refusal> {
-    let (table, workers) = Table::open(alloc, &[], 10, workers)?;
+    let mut input: &[u8] = b"";
     let mut output = Vec::new(alloc);
-    match run_server(
+    match serve(
         rt,
         alloc,
         listener,
-        table,
-        workers,
-        Policy::Ripple,
-        sessions,
+        of_workers(workers, is_audited),
+        terms_of(Policy::Ripple, sessions),
         &OpenGate,
+        &Alone,
+        &mut input,
         &mut output,
     ) {
         Ok(()) => Ok(output),
@@ -43,7 +45,7 @@ pub(crate) fn port_of(rt: &impl Abort, listener: &TcpListener) -> u16 {
     address.expect(rt, "an address").port()
 }
 
-/// A client that sent these bytes. A read of it fails if nothing comes for ten seconds, as from a server that
+/// A client that has sent these bytes. Its reads fail after ten seconds without a byte, as from a server that
 /// accepts no connection.
 fn sender<N: Net<Listener = TcpListener, Stream = TcpStream>>(
     rt: &N,
@@ -56,14 +58,14 @@ fn sender<N: Net<Listener = TcpListener, Stream = TcpStream>>(
     Ok(stream)
 }
 
-/// The answers that a client gets until the server ends its session.
+/// Reads replies until the server ends the session.
 fn answers_of(alloc: Global, mut stream: TcpStream) -> io::Result<Vec<u8>> {
     let mut answers = Vec::new(alloc);
     stream.read_to_end(&mut answers)?;
     Ok(answers)
 }
 
-/// The answers to a client that sends these bytes.
+/// Sends bytes as a client, and returns the replies.
 pub(crate) fn client<N: Net<Listener = TcpListener, Stream = TcpStream>>(
     rt: &N,
     alloc: Global,
@@ -73,7 +75,7 @@ pub(crate) fn client<N: Net<Listener = TcpListener, Stream = TcpStream>>(
     answers_of(alloc, sender(rt, port, bytes)?)
 }
 
-/// The answers to two clients, one after the other.
+/// The replies to two clients, one after the other.
 fn two_clients<N: Net<Listener = TcpListener, Stream = TcpStream>>(
     rt: &N,
     alloc: Global,
@@ -84,7 +86,7 @@ fn two_clients<N: Net<Listener = TcpListener, Stream = TcpStream>>(
     Ok((first, second))
 }
 
-/// A client that sends these bytes, and ends its writing there.
+/// A client that has sent these bytes and ended its sending.
 fn ended<N: Net<Listener = TcpListener, Stream = TcpStream>>(
     rt: &N,
     port: u16,
@@ -95,8 +97,8 @@ fn ended<N: Net<Listener = TcpListener, Stream = TcpStream>>(
     Ok(stream)
 }
 
-/// The answers that a client gets that breaks off in a line, and one that ends without a line feed; between them one
-/// comes that says nothing, and goes.
+/// The replies to a client whose last line is cut short, and to one whose last line has no line feed. Between them a
+/// client connects, sends nothing and leaves.
 fn clients_who_break_off<N: Net<Listener = TcpListener, Stream = TcpStream>>(
     rt: &N,
     alloc: Global,
@@ -110,8 +112,8 @@ fn clients_who_break_off<N: Net<Listener = TcpListener, Stream = TcpStream>>(
     Ok((first, last))
 }
 
-/// No answers of a client that reads a byte of its reply and goes, and those that a client gets after it: what is left
-/// of the reply resets the connection, which cuts the first one's session off.
+/// The replies to a client after another one read a byte of its reply and left. The unread rest of the reply resets
+/// the other's connection, which cuts its session off; its replies are empty here.
 fn behind_one_cut_off<N: Net<Listener = TcpListener, Stream = TcpStream>>(
     rt: &N,
     alloc: Global,
@@ -124,26 +126,26 @@ fn behind_one_cut_off<N: Net<Listener = TcpListener, Stream = TcpStream>>(
     Ok((Vec::new(alloc), last))
 }
 
-/// What the clients of a server do.
+/// How the clients of a server behave.
 #[derive(Clone, Copy)]
 enum Clients {
-    /// Two have a session, one after the other.
+    /// Two have sessions, one after the other.
     TakeTurns,
-    /// One breaks off in a line, one says nothing, and one ends without a line feed.
+    /// One cuts its last line short, one sends nothing, and one ends without a line feed.
     BreakOff,
-    /// One goes before it reads its reply, and another has a session then.
+    /// One leaves before it has read its reply, and then another has a session.
     CutOff,
 }
 
-/// A server of this many workers and sessions, what its clients do, and what they and its owner read then.
+/// A server with this many workers and sessions, its clients, and their replies.
 #[derive(Clone, Copy)]
 struct Case {
     workers: u64,
     sessions: u64,
     clients: Clients,
-    /// The answers to the first client.
+    /// The replies to the first client.
     first: &'static [u8],
-    /// The answers to the last client: either of these.
+    /// The replies to the last client, either of two.
     last: [&'static [u8]; 2],
 }
 
@@ -156,7 +158,7 @@ const CASES: &[Case] = &[
         first: b"row 0.0\nbye\n",
         last: [b"count 1\nbye\n", b"count 1\nbye\n"],
     },
-    // clients who break off harm nobody
+    // clients that break off don't affect others
     Case {
         workers: 2,
         sessions: 3,
@@ -164,7 +166,7 @@ const CASES: &[Case] = &[
         first: b"row 0.0\nrefused 1\n",
         last: [b"count 0\n", b"count 1\n"],
     },
-    // a session that is cut off ends no other
+    // a session that is cut off doesn't end others
     Case {
         workers: 1,
         sessions: 2,
@@ -174,10 +176,10 @@ const CASES: &[Case] = &[
     },
 ];
 
-/// The output of each of these servers.
+/// The output of each of the servers.
 const WRITTEN: &[u8] = b"accepted 2 inserted 1 deleted 0 held 1\n";
 
-/// The answers that the first and the last of some clients get.
+/// The replies to the first and the last of these clients.
 fn answers<N: Net<Listener = TcpListener, Stream = TcpStream>>(
     rt: &N,
     alloc: Global,
@@ -191,24 +193,42 @@ fn answers<N: Net<Listener = TcpListener, Stream = TcpStream>>(
     }
 }
 
+/// Runs a server and its clients, and asserts the replies and the server's output.
+fn assert_case<H: Threads + Wait + Net<Listener = TcpListener, Stream = TcpStream> + Sync + Abort>(
+    rt: &H,
+    alloc: Global,
+    place: usize,
+    is_audited: bool,
+) {
+    assert!(rt; place < CASES.len(), "case {place}");
+    let case = CASES[place];
+    let bound = TcpListener::bind(rt, "127.0.0.1:0");
+    let listener = bound.ok().expect(rt, "a listener");
+    let port = port_of(rt, &listener);
+    let (written, answered) = thread::join(
+        rt,
+        || server(
+            rt,
+            alloc,
+            &listener,
+            case.workers,
+            case.sessions,
+            is_audited,
+        ),
+        || answers(rt, alloc, port, case.clients),
+    );
+    let written = written.expect(rt, "an output");
+    let (first, last) = answered.ok().expect(rt, "answers");
+    let [one, other] = case.last;
+    let is_last = last.as_slice() == one || last.as_slice() == other;
+    assert!(rt; is_last && first.as_slice() == case.first, "case {place}");
+    assert!(rt; written.as_slice() == WRITTEN, "case {place}");
+}
+
 #[test]
 fn servers_answer_whatever_other_clients_do(rt: HostRuntime) {
-    let alloc: Global = rt.alloc();
     'cases: for place in 0..CASES.len() {
-        let case = CASES[place];
-        let bound = TcpListener::bind(&rt, "127.0.0.1:0");
-        let listener = bound.ok().expect(&rt, "a listener");
-        let port = port_of(&rt, &listener);
-        let (written, answered) = thread::join(
-            &rt,
-            || server(&rt, alloc, &listener, case.workers, case.sessions),
-            || answers(&rt, alloc, port, case.clients),
-        );
-        let written = written.expect(&rt, "an output");
-        let (first, last) = answered.ok().expect(&rt, "answers");
-        let [one, other] = case.last;
-        let is_last = last.as_slice() == one || last.as_slice() == other;
-        assert!(rt; is_last && first.as_slice() == case.first, "case {place}");
-        assert!(rt; written.as_slice() == WRITTEN, "case {place}");
+        assert_case(&rt, rt.alloc(), place, false);
+        assert_case(&rt, rt.alloc(), place, true);
     }
 }

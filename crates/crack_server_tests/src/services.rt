@@ -1,18 +1,11 @@
 //! Servers whose gate refuses at first, and whose host is notified.
-ghost use Rattle.crack_witness.specs.Witnesses.{AreNames};
-
 use crate::servers::{client, port_of};
+use crate::tables::{Opening, serve, terms_of};
 use crack_loop::{Ending, Terms};
-use crack_row::{
-    Command, GREATEST_CELLS, GREATEST_LIFE, Key, Limits, Payload, Policy, Refusal, Upkeep,
-};
-use crack_server::{run_server, run_service, run_witnessed_service};
-use crack_service::{Host, Notice};
-use crack_table::{Gate, Table};
-use crack_witness::Naming;
-use crack_witness_table::UnnamedTable;
+use crack_row::{GREATEST_CELLS, GREATEST_LIFE, Limits, Policy, Refusal, Upkeep};
+use crack_service::{Alone, Host, Notice};
+use crack_table::Gate;
 use std::alloc::Global;
-use std::marker::Brand;
 use std::net::{Net, TcpListener, TcpStream};
 use std::process::Abort;
 use std::sync::Wait;
@@ -20,8 +13,7 @@ use std::sync::atomic::{AtomicU64, Ordering};
 use std::thread;
 use std::thread::Threads;
 
-/// A gate that consents when it is asked again, and counts how often it is asked, and how many entries were
-/// checkpointed.
+/// A gate that consents when it is asked again. It counts its calls, and the entries that were checkpointed.
 #[derive(Drop)]
 struct Second {
     asked: AtomicU64,
@@ -29,7 +21,7 @@ struct Second {
 }
 
 impl Second {
-    /// A gate that has counted nothing.
+    /// A gate with counts of 0.
     fn new() -> Second {
         Second {
             asked: AtomicU64::new(0),
@@ -51,7 +43,7 @@ impl Gate for Second {
     }
 }
 
-/// A host that counts the checkpoints, the sessions and those cut off that it is notified of.
+/// A host that counts checkpoints, sessions, and sessions that were cut off, by its notices.
 #[derive(Drop)]
 struct Notes {
     checkpoints: AtomicU64,
@@ -60,7 +52,7 @@ struct Notes {
 }
 
 impl Notes {
-    /// A host that was notified of nothing.
+    /// A host with counts of 0.
     fn new() -> Notes {
         Notes {
             checkpoints: AtomicU64::new(0),
@@ -87,15 +79,14 @@ impl Host for Notes {
     fn pause(&self) {}
 }
 
-/// How a server of one session is run.
+/// The options of a server with one session.
 #[derive(Clone, Copy)]
 enum Way {
+    /// The host isn't notified, and sessions are the only limit.
     Alone,
     NotingCheckpoints,
     NotingNone,
-    Witnessed,
-    WitnessedNotingNone,
-    /// Another table's worker asked before, and there is no session.
+    /// Two workers insert before, one of them isn't gathered, and there is no session.
     Late,
 }
 
@@ -107,11 +98,11 @@ fn terms(way: Way) -> Terms {
         idle: Some(60),
         clients: 1,
         drain: 0,
-        notes_checkpoints: matches!(way, Way::NotingCheckpoints | Way::Witnessed),
+        notes_checkpoints: matches!(way, Way::NotingCheckpoints),
     }
 }
 
-/// Histories have four entries, and checkpoints are automatic.
+/// A history has at most four entries, and checkpoints are automatic.
 const LIMITS: Limits = Limits {
     history: 4,
     cells: GREATEST_CELLS,
@@ -119,107 +110,18 @@ const LIMITS: Limits = Limits {
     upkeep: Upkeep::Automatic,
 };
 
-/// Runs a server of one worker over a table.
-fn serve_plain<H: Threads + Wait + Net + Sync>(
-    rt: &H,
-    alloc: Global,
-    listener: &TcpListener,
-    way: Way,
-    gate: &Second,
-    host: &Notes,
-    output: &mut Vec<u8>,
-) -> Result<(), Refusal> {
-    let (table, workers) = Table::open_with(alloc, &[], LIMITS, 1)?;
-    let mut input: &[u8] = b"";
-    if matches!(way, Way::Late) {
-        ask_early(rt, alloc, &table, gate)?;
-    }
-    if matches!(way, Way::Alone) {
-        run_server(
-            rt,
-            alloc,
-            listener,
-            table,
-            workers,
-            Policy::Gradual,
-            1,
-            gate,
-            output,
-        )
-    } else {
-        run_service(
-            rt,
-            alloc,
-            listener,
-            table,
-            workers,
-            terms(way),
-            gate,
-            host,
-            &mut input,
-            output,
-        )
+/// The table of a server: with two workers for `Late`, and with one otherwise.
+fn table_of(way: Way, is_audited: bool) -> Opening {
+    let is_late = matches!(way, Way::Late);
+    Opening {
+        limits: LIMITS,
+        workers: if is_late { 2 } else { 1 },
+        is_audited,
+        is_late,
     }
 }
 
-/// Runs a server of one worker over a table that witnesses its replies.
-fn serve_witnessed<H: Threads + Wait + Net + Sync>(
-    rt: &H,
-    alloc: Global,
-    listener: &TcpListener,
-    way: Way,
-    gate: &Second,
-    host: &Notes,
-    output: &mut Vec<u8>,
-) -> Result<(), Refusal> {
-    let table = UnnamedTable::open(alloc, &[], LIMITS, 1, false)?;
-    serve_named::<Brand, H>(rt, alloc, listener, way, table, gate, host, output)
-}
-
-/// Runs such a server, once its table's book has its name.
-fn serve_named<J: Naming + Send + Sync, H: Threads + Wait + Net + Sync>(
-    rt: &H,
-    alloc: Global,
-    listener: &TcpListener,
-    way: Way,
-    table: UnnamedTable,
-    gate: &Second,
-    host: &Notes,
-    output: &mut Vec<u8>,
-) -> Result<(), Refusal>
-    requires { AreNames J.book J.owner table.opened }
-{
-    let (table, askers) = table.named::<J>(alloc)?;
-    let mut input: &[u8] = b"";
-    run_witnessed_service(
-        rt,
-        alloc,
-        listener,
-        table,
-        askers,
-        terms(way),
-        gate,
-        host,
-        &mut input,
-        output,
-    )
-}
-
-/// An insert of another table's worker, which alone keeps the receipt.
-fn ask_early<H: Wait>(rt: &H, alloc: Global, table: &Table, gate: &Second) -> Result<(), Refusal> {
-    let (_other, mut strangers) = Table::open_with(alloc, &[], LIMITS, 1)?;
-    let Some(stranger) = strangers.first_mut() else {
-        return Err(Refusal::WorkersMissing { missing: 1 });
-    };
-    let insert = Command::Insert {
-        key: Key::from_number(10),
-        payload: Payload::from_number(1),
-    };
-    stranger.ask(rt, table, gate, 0, insert, Policy::Gradual)?;
-    Ok(())
-}
-
-/// Seven commands, and a layout that shows by which policy they were answered.
+/// Seven commands, and a layout that shows their policy.
 const ASKED: &[u8] = b"insert 10 1\ninsert 40 4\ncount 0 18446744073709551616\ncount 20 30\n\
     insert 15 5\ninsert 50 6\nsum 10 20\nlayout 0\nquit\n";
 
@@ -227,41 +129,62 @@ const ANSWERED: &[u8] = b"row 0.0\nrow 0.1\ncount 2\ncount 0\nrow 0.2\nrow 0.3\n
     layout 0 rows 4 column 3 out 0 in 1 cells 4 free 0 pieces 4\n\
     piece 0 10 0\npiece 10 20 2\npiece 20 30 0\npiece 30 18446744073709551616 1\nbye\n";
 
-/// How a server is run, and what is counted then: how often its gate was asked, and how many checkpointed entries the
-/// gate was notified of; then the numbers of checkpoints, sessions and sessions cut off that the host was notified of.
+/// How a server is run, and the expected counts: calls of its gate, checkpointed entries reported to the gate, and
+/// checkpoints, sessions and sessions cut off reported to the host.
 const WAYS: &[(Way, [u64; 5])] = &[
     (Way::NotingCheckpoints, [14, 4, 1, 1, 0]),
     (Way::NotingNone, [14, 4, 0, 1, 0]),
     (Way::Alone, [14, 4, 0, 0, 0]),
-    // over a table that witnesses its replies
-    (Way::Witnessed, [14, 4, 1, 1, 0]),
-    (Way::WitnessedNotingNone, [14, 4, 0, 1, 0]),
 ];
 
-/// The output of a server, and how it ends.
+/// Runs a server, and returns its output and its result.
 fn service<H: Threads + Wait + Net + Sync>(
     rt: &H,
     alloc: Global,
     listener: &TcpListener,
     way: Way,
+    is_audited: bool,
     gate: &Second,
     host: &Notes,
 ) -> (Vec<u8>, Result<(), Refusal>) {
+    let opening = table_of(way, is_audited);
+    let mut input: &[u8] = b"";
     let mut output = Vec::new(alloc);
-    let ended = match way {
-        Way::Alone | Way::NotingCheckpoints | Way::NotingNone | Way::Late => {
-            serve_plain(rt, alloc, listener, way, gate, host, &mut output)
-        }
-        _ => serve_witnessed(rt, alloc, listener, way, gate, host, &mut output),
+    let ended = if matches!(way, Way::Alone) {
+        let terms = terms_of(Policy::Gradual, 1);
+        serve(
+            rt,
+            alloc,
+            listener,
+            opening,
+            terms,
+            gate,
+            &Alone,
+            &mut input,
+            &mut output,
+        )
+    } else {
+        serve(
+            rt,
+            alloc,
+            listener,
+            opening,
+            terms(way),
+            gate,
+            host,
+            &mut input,
+            &mut output,
+        )
     };
     (output, ended)
 }
 
-/// Runs a server, with one client, and asserts what both read and what is counted.
+/// Runs a server with one client, and asserts the replies, the output and the counts.
 fn assert_way<H: Threads + Wait + Net<Listener = TcpListener, Stream = TcpStream> + Sync + Abort>(
     rt: &H,
     alloc: Global,
     way: Way,
+    is_audited: bool,
     wanted: [u64; 5],
 ) {
     let (gate, host) = (Second::new(), Notes::new());
@@ -270,7 +193,7 @@ fn assert_way<H: Threads + Wait + Net<Listener = TcpListener, Stream = TcpStream
     let port = port_of(rt, &listener);
     let ((written, ended), answered) = thread::join(
         rt,
-        || service(rt, alloc, &listener, way, &gate, &host),
+        || service(rt, alloc, &listener, way, is_audited, &gate, &host),
         || client(rt, alloc, port, ASKED),
     );
     let answered = answered.ok().expect(rt, "answers");
@@ -286,26 +209,37 @@ fn assert_way<H: Threads + Wait + Net<Listener = TcpListener, Stream = TcpStream
     assert!(rt; counts == wanted);
 }
 
-/// Each command asks the server's own gate twice, its policy is the server's, and the one checkpoint that was due is
-/// reported to the gate, and to a host that asks for it.
+/// With and without an audit, each command calls the server's own gate twice and uses the server's policy, and the
+/// one automatic checkpoint is reported to the gate, and to a host that asks for it.
 #[test]
 fn a_server_asks_its_gate_and_notifies_its_host(rt: HostRuntime) {
     'ways: for place in 0..WAYS.len() {
         let (way, wanted) = WAYS[place];
-        assert_way(&rt, rt.alloc(), way, wanted);
+        assert_way(&rt, rt.alloc(), way, false, wanted);
+        assert_way(&rt, rt.alloc(), way, true, wanted);
     }
 }
 
-/// An entry that no receipt of its workers names is found by the audit at a server's end, whose totals aren't written.
+/// Asserts that a server is refused with `StrangeReceipt` at a position if a worker isn't gathered, and writes nothing.
+fn assert_late<H: Threads + Wait + Net<Listener = TcpListener, Stream = TcpStream> + Sync + Abort>(
+    rt: &H,
+    alloc: Global,
+    is_audited: bool,
+    position: u64,
+) {
+    let (gate, host) = (Second::new(), Notes::new());
+    let bound = TcpListener::bind(rt, "127.0.0.1:0");
+    let listener = bound.ok().expect(rt, "a listener");
+    let way = Way::Late;
+    let (written, ended) = service(rt, alloc, &listener, way, is_audited, &gate, &host);
+    let strange = Refusal::StrangeReceipt { part: 0, position };
+    assert!(rt; ended == Err(strange) && written.is_empty());
+}
+
+/// The audit at a server's end finds the second of two entries, which no receipt names, and the totals aren't
+/// written. Without an audit the comparison of counts finds a worker that counted none.
 #[test]
 fn an_entry_without_a_receipt_refuses_an_audited_server(rt: HostRuntime) {
-    let (gate, host) = (Second::new(), Notes::new());
-    let bound = TcpListener::bind(&rt, "127.0.0.1:0");
-    let listener = bound.ok().expect(&rt, "a listener");
-    let (written, ended) = service(&rt, rt.alloc(), &listener, Way::Late, &gate, &host);
-    let strange = Refusal::StrangeReceipt {
-        part: 0,
-        position: 0,
-    };
-    assert!(rt; ended == Err(strange) && written.is_empty());
+    assert_late(&rt, rt.alloc(), true, 1);
+    assert_late(&rt, rt.alloc(), false, 0);
 }

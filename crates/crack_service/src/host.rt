@@ -4,7 +4,7 @@ use std::fmt;
 use std::fmt::{Display, Formatter, Write};
 use std::net::SocketAddr;
 
-/// What cut a session off.
+/// Why a session was cut off.
 #[derive(Clone, Copy, PartialEq, Eq, Debug, Drop)]
 pub enum Cause {
     /// A read or a write of its connection failed, or no memory was found.
@@ -15,34 +15,40 @@ pub enum Cause {
     Stop,
 }
 
-/// An event of a server. Its text is a line without its end.
+/// An event of a server. Its text is a line, without the line feed.
 #[derive(Clone, Copy, Drop)]
 pub enum Notice {
     /// The server listens on this port of 127.0.0.1.
     Listening {
         port: u16,
     },
-    /// Partitions made checkpoints by themselves, since their histories were full: how many since the last such notice,
-    /// at least 1, and for the last one its partition, and how many entries its history had.
+    /// Automatic checkpoints were made, since histories were full: how many since the last such notice, at least 1,
+    /// and the partition of the last one and the number of entries in its history.
     Checkpoints {
         count: u64,
         part: u32,
         entries: u64,
     },
-    /// The session of a client was cut off. The refusal is 17 if it was to be read from, 18 if it was to be written to.
+    /// The session of a client was cut off: with `WriteFault` if texts were to be written, with `OutOfMemory` if no
+    /// memory was found, and with `ReadFault` otherwise.
     CutOff {
         client: SocketAddr,
         refusal: Refusal,
         cause: Cause,
     },
-    /// Clients were refused, since this many were connected: how many since the last such notice, at least 1, and the
-    /// last one.
+    /// Clients were turned away, since this many were connected: how many since the last such notice, at least 1,
+    /// and the last of them.
     TurnedAway {
         count: u64,
         client: SocketAddr,
         clients: u64,
     },
-    /// The server has served its last session: how many there were, including those that were cut off.
+    /// Accepts failed, for example since no descriptor was free: how many since the last such notice, at least 1.
+    /// They are tried again.
+    NotAccepted {
+        count: u64,
+    },
+    /// The server has served its last session: how many sessions there were, and how many of them were cut off.
     Ended {
         sessions: u64,
         cut_off: u64,
@@ -90,6 +96,10 @@ impl Display for Notice {
                 f,
                 "{count} clients, the last {client}: refused 20 {clients}: too many clients are connected"
             ),
+            Notice::NotAccepted { count } => write!(
+                f,
+                "accepts that failed: {count}: descriptors may have run out"
+            ),
             Notice::Ended { sessions, cut_off } => {
                 write!(f, "ended: sessions {sessions}, cut off {cut_off}")
             }
@@ -114,20 +124,25 @@ fn words_of(refusal: Refusal, cause: Cause) -> &'static str {
 
 /// The calls that a server makes of the program that runs it, on any of its threads.
 pub trait Host {
-    /// Notes an event.
+    /// Reports an event.
     fn note(&self, notice: Notice);
 
-    /// Waits for a moment, after a system call that failed and is to be repeated.
+    /// Waits for a moment, after a failed system call that is to be repeated.
     fn pause(&self);
 
-    /// The time since some moment, in milliseconds. A host without a clock has the same time forever, at which nothing
-    /// has waited too long.
+    /// The time since some moment, in milliseconds. A host without a clock always returns the same time, so nothing
+    /// ever waits too long.
     fn millis(&self) -> u64 {
         0
     }
+
+    /// The time since the same moment, in microseconds.
+    fn micros(&self) -> u64 {
+        self.millis().saturating_mul(1000)
+    }
 }
 
-/// A host that notes nothing and never waits, for servers that end after a number of sessions.
+/// A host that reports nothing and never waits, for servers that end after a number of sessions.
 #[derive(Clone, Copy, Drop)]
 pub struct Alone;
 

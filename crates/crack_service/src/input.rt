@@ -1,4 +1,4 @@
-//! The input of a batch: read whole, checked, and divided among its workers.
+//! The input of a batch: read whole, checked, and divided among the workers.
 ghost use Rattle.std.specs.Prelude.{◌≡◌, ◌<◌, length, vec_len, IfOk};
 
 use crate::MOST_INPUT_BYTES;
@@ -8,8 +8,8 @@ use memchr::memchr;
 use std::alloc::{AllocError, Global};
 use std::io::Read;
 
-/// The whole input. Refused with 17 if the reader fails, or gives more than `MOST_INPUT_BYTES`, and with 8 if it
-/// finds no memory.
+/// Reads the whole input. Refused with `ReadFault` if the reader fails or has more than `MOST_INPUT_BYTES`, and with
+/// `OutOfMemory` if no memory is found.
 pub fn read_input<R: Read>(alloc: Global, reader: &mut R) -> Result<Vec<u8>, Refusal> {
     let mut bytes = Vec::new(alloc);
     let mut watched = Watched::new(reader);
@@ -23,8 +23,9 @@ pub fn read_input<R: Read>(alloc: Global, reader: &mut R) -> Result<Vec<u8>, Ref
     }
 }
 
-/// Each worker's statements, in order, each with a line feed. The number in front of a line that isn't blank names its
-/// worker, modulo the number of workers. Refused with 1 if a line has none, and with 8 if it finds no memory.
+/// Divides an input into the statements of each worker, in order, each with a line feed. The number before a
+/// statement, modulo the number of workers, names its worker; blank lines are skipped. Refused with `BadStatement`
+/// if a line has no number, and with `OutOfMemory` if no memory is found.
 pub fn divide(alloc: Global, input: &[u8], workers: usize) -> Result<Vec<Vec<u8>>, Refusal>
     requires { 0 < workers }
 {
@@ -40,7 +41,7 @@ pub fn divide(alloc: Global, input: &[u8], workers: usize) -> Result<Vec<Vec<u8>
     Ok(shares)
 }
 
-/// Empty shares, this many.
+/// Makes this many empty shares.
 fn empty_shares(alloc: Global, workers: usize) -> Result<Vec<Vec<u8>>, AllocError>
     ensures { IfOk result (λ shares. vec_len shares ≡ workers) }
 {
@@ -51,7 +52,7 @@ fn empty_shares(alloc: Global, workers: usize) -> Result<Vec<Vec<u8>>, AllocErro
     Ok(shares)
 }
 
-/// The first line, without its line feed, and what follows that.
+/// The first line, without its line feed, and the bytes after the line feed.
 fn first_line(bytes: &[u8]) -> (&[u8], &[u8])
     requires { 0 < length bytes.now }
     ensures { length result.1.now < length bytes.now }
@@ -62,7 +63,7 @@ fn first_line(bytes: &[u8]) -> (&[u8], &[u8])
     }
 }
 
-/// Whether a line has only spaces, and one carriage return at its end.
+/// Whether a line has only spaces, apart from one carriage return at its end.
 fn is_blank(line: &[u8]) -> bool {
     line.strip_suffix(b"\r")
         .unwrap_or(line)
@@ -85,7 +86,7 @@ fn deal(shares: &mut Vec<Vec<u8>>, line: &[u8]) -> Result<(), Refusal>
     Ok(())
 }
 
-/// The number at the front of a line, and what follows it and one space.
+/// The number at the beginning of a line, and the bytes after it and one space.
 fn numbered(line: &[u8]) -> Option<(u32, &[u8])> {
     let space = memchr(b' ', line)?;
     let number = read_number_up_to(u32::MAX, &line[..space])?;

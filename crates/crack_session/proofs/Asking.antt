@@ -14,9 +14,9 @@ use Rattle.crack_core.specs.Asking.{InTurn, asking}
 use Rattle.crack_core.proofs.TurnLaws.{turns-along}
 use Rattle.crack_core.specs.declared.asking.Query.{Query}
 use Rattle.crack_core.specs.Steps.{Bounds, IsOutcomeAt, tables_after}
-use Rattle.crack_session.specs.Answers.{AsksInTurn, AsksParts, answer_from}
+use Rattle.crack_session.specs.Answers.{QueriesInTurn, AsksParts, answer_from}
 use Rattle.crack_session.specs.Calls.{Call, Asked, Calls, AreSeveralAsked}
-use Rattle.crack_session.specs.Queries.{joined}
+use Rattle.crack_session.specs.Queries.{joint_answer}
 use Rattle.crack_session.specs.Telling.{AsksDesk, AsksSeveral, AsksOnce}
 use Rattle.crack_session.proofs.Calling.{Calls-push}
 
@@ -27,7 +27,7 @@ module _ {S D N : Type 0} (bounds : D → Bounds) (splits : D → List Bound) (t
   AsksLent part outcome old new = (name new ≡ name old) × AsksOnce bounds splits tables leads part.0 (asking query part.1) policy outcome (desk old) (desk new)
 
   -- the rows afterwards, if those before are known
-  lent-tables : (old : S) (known : List PlainView) (parts : List (ℕ × Range)) (result : Result (List PartReply) Refusal) (new : S) → tables (desk old) ≡ Some known → InTurn AsksLent old parts result new → (next : List PlainView) × AsksInTurn (bounds (desk old)) (splits (desk old)) query known parts result next × (tables (desk new) ≡ Some next)
+  lent-tables : (old : S) (known : List PlainView) (parts : List (ℕ × Range)) (result : Result (List PartReply) Refusal) (new : S) → tables (desk old) ≡ Some known → InTurn AsksLent old parts result new → (next : List PlainView) × QueriesInTurn (bounds (desk old)) (splits (desk old)) query known parts result next × (tables (desk new) ≡ Some next)
   lent-tables old known parts result new is asked =
       let all = turns-along AsksLent AsksPart Meets along old known parts result new (is, refl, refl) asked in
       (all.0, all.1, all.2.0)
@@ -49,11 +49,11 @@ module _ {S D N : Type 0} (bounds : D → Bounds) (splits : D → List Bound) (t
   -- it was asked several partitions, and the name has stayed
   abbrev AreLent : List (ℕ × Range) → Answer → S → S → Type 0
   AreLent parts answer old new =
-      AsksDesk bounds splits tables leads (λ bounds splits tables. AsksSeveral bounds splits tables query parts answer) (λ splits calls. AreSeveralAsked policy (λ range. asking query range) (λ replies. joined query replies) parts answer calls) (desk old) (desk new)
+      AsksDesk bounds splits tables leads (λ bounds splits tables. AsksSeveral bounds splits tables query parts answer) (λ splits calls. AreSeveralAsked policy (λ range. asking query range) (λ replies. joint_answer query replies) parts answer calls) (desk old) (desk new)
       × (name new ≡ name old)
 
   -- in turn
-  pub lent-asked : (old : S) (parts : List (ℕ × Range)) (outcome : Result (List PartReply) Refusal) (answer : Answer) (new : S) → InTurn AsksLent old parts outcome new → answer ≡ answer_from (joined query) outcome → AreLent parts answer old new
+  pub lent-asked : (old : S) (parts : List (ℕ × Range)) (outcome : Result (List PartReply) Refusal) (answer : Answer) (new : S) → InTurn AsksLent old parts outcome new → answer ≡ answer_from (joint_answer query) outcome → AreLent parts answer old new
   lent-asked old parts outcome answer new asked is =
       let all = turns-along AsksLent AsksPart Meets along old [] parts outcome new (refl, refl, refl, refl) asked in (
         record {

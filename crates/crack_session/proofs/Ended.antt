@@ -12,9 +12,9 @@ use Rattle.crack_session.specs.declared.answer.Answer.{Answer}
 use Rattle.crack_session.specs.declared.session.Progress.{Progress}
 use Rattle.crack_session.specs.Answers.{is_short_answer}
 use Rattle.crack_session.specs.Calls.{Call, AreMadeOf}
-use Rattle.crack_session.specs.Feeding.{finished, unfinished, fed, noted, all_noted, first_noted, ended_by, ended_by_any}
+use Rattle.crack_session.specs.Feeding.{finished_lines, unfinished, fed, progress_after, all_noted, first_noted, ending_after, ended_by_any}
 use Rattle.crack_session.specs.Input.{has_feed}
-use Rattle.crack_session.specs.Lines.{kept_of}
+use Rattle.crack_session.specs.Lines.{cut_line}
 use Rattle.crack_session.specs.Readings.{reading_of, statements, until_last, is_last}
 use Rattle.crack_session.specs.Sessions.{first_short, whole_lines}
 use Rattle.crack_session.specs.Telling.{of_option}
@@ -69,7 +69,7 @@ none_last (x ∷ xs) whole said = ⊎_elim
     (λ (e : is_last x ≡ true).
     let none : xs ≡ [] = (let h : x ∷ [] ≡ x ∷ xs = rw e at whole in cc) in
     let noted = last_noted None x e in
-    let over : ended_by_any None (x ∷ xs) ≡ Some noted.0 = ap (ended_by_any (ended_by None x)) none ∙ noted.1 in
+    let over : ended_by_any None (x ∷ xs) ≡ Some noted.0 = ap (ended_by_any (ending_after None x)) none ∙ noted.1 in
     absurd (let both : ◌≡◌ {A = Option Ending} None (Some noted.0) = sym said ∙ over in cc))
     (λ (e : is_last x ≡ false).
     let more : until_last xs ≡ xs = (let h : x ∷ until_last xs ≡ x ∷ xs = rw e at whole in cc) in
@@ -84,11 +84,11 @@ AreMadeOf-count splits policy [] (a ∷ answers) calls made = absurd made
 AreMadeOf-count splits policy (r ∷ readings) [] calls made = absurd made
 AreMadeOf-count splits policy (r ∷ readings) (a ∷ answers) calls made = ap suc (AreMadeOf-count splits _ readings answers made.1 made.4)
 
-few_finished : (begun bytes : List ℕ) → length (finished begun bytes) ≤ length bytes
+few_finished : (begun bytes : List ℕ) → length (finished_lines begun bytes) ≤ length bytes
 few_finished begun [] = omega arith
 few_finished begun (b ∷ bs) = ⊎_elim
     (λ (e : eqb b 10 ≡ true). rw e (let few = few_finished [] bs in omega (arith, few)))
-    (λ (e : eqb b 10 ≡ false). rw e (let few = few_finished (kept_of (begun ++ b ∷ [])) bs in omega (arith, few)))
+    (λ (e : eqb b 10 ≡ false). rw e (let few = few_finished (cut_line (begun ++ b ∷ [])) bs in omega (arith, few)))
     (cases_Bool (eqb b 10))
 
 at_most_one : (r : Option Reading) → length (of_option r) ≤ 1
@@ -105,19 +105,19 @@ few_read (l ∷ ls) =
     omega (arith, both, one, most, few)
 
 pub few_fed : (begun bytes : List ℕ) → length (fed begun bytes) ≤ length bytes
-few_fed begun bytes = let read = few_read (finished begun bytes) in let few = few_finished begun bytes in omega (arith, read, few)
+few_fed begun bytes = let read = few_read (finished_lines begun bytes) in let few = few_finished begun bytes in omega (arith, read, few)
 
 -- the counts of a session that hasn't as many statements as its numbers can count
 pub all_noted-count : (p : Progress) (answers : List Answer) → p.statements + length answers ≤ 2 ^ 64 - 1 → (all_noted p answers).statements ≡ p.statements + length answers
 all_noted-count p [] few = omega arith
 all_noted-count p (a ∷ answers) few =
-    let next : (noted p a).statements ≡ p.statements + 1 = omega (arith, few) in
-    let rest = all_noted-count (noted p a) answers (omega (arith, few, next)) in
+    let next : (progress_after p a).statements ≡ p.statements + 1 = omega (arith, few) in
+    let rest = all_noted-count (progress_after p a) answers (omega (arith, few, next)) in
     omega (arith, rest, next)
 
 short_stays : (p : Progress) (answers : List Answer) (k : ℕ) → p.first_short ≡ Some k → (all_noted p answers).first_short ≡ Some k
 short_stays p [] k is = is
-short_stays p (a ∷ answers) k is = short_stays (noted p a) answers k (ap (λ (s : Option ℕ). first_noted s (min (p.statements + 1) (2 ^ 64 - 1)) a) is)
+short_stays p (a ∷ answers) k is = short_stays (progress_after p a) answers k (ap (λ (s : Option ℕ). first_noted s (min (p.statements + 1) (2 ^ 64 - 1)) a) is)
 
 later_short : (m n : ℕ) (short : Option ℕ) → m ≡ n + 1 → option_map (λ k. k + m) short ≡ option_map (λ k. k + n) (option_map (λ k. k + 1) short)
 later_short m n None is = refl
@@ -128,14 +128,14 @@ all_noted-short p [] is few = is
 all_noted-short p (a ∷ answers) is few =
     let n = min (p.statements + 1) (2 ^ 64 - 1) in
     let next : n ≡ p.statements + 1 = omega (arith, few) in
-    let first : (noted p a).first_short ≡ first_noted None n a = ap (λ (s : Option ℕ). first_noted s n a) is in
+    let first : (progress_after p a).first_short ≡ first_noted None n a = ap (λ (s : Option ℕ). first_noted s n a) is in
     ⊎_elim
     (λ (e : is_short_answer a ≡ true).
-    let here : (noted p a).first_short ≡ Some n = first ∙ rw e refl in
-    short_stays (noted p a) answers n here ∙ rw e (ap Some (omega (arith, next))))
+    let here : (progress_after p a).first_short ≡ Some n = first ∙ rw e refl in
+    short_stays (progress_after p a) answers n here ∙ rw e (ap Some (omega (arith, next))))
     (λ (e : is_short_answer a ≡ false).
-    let here : (noted p a).first_short ≡ None = first ∙ rw e refl in
-    let rest = all_noted-short (noted p a) answers here (omega (arith, few, next)) in
+    let here : (progress_after p a).first_short ≡ None = first ∙ rw e refl in
+    let rest = all_noted-short (progress_after p a) answers here (omega (arith, few, next)) in
     rest ∙ later_short n p.statements (first_short answers) next ∙ rw e refl)
     (cases_Bool (is_short_answer a))
 
@@ -148,14 +148,14 @@ none_whole : (bytes : List ℕ) → has_feed bytes ≡ false → whole_lines byt
 none_whole [] h = refl
 none_whole (b ∷ bs) h = rw h refl
 
-finished_whole : (begun bytes : List ℕ) → finished begun (whole_lines bytes) ≡ finished begun bytes
+finished_whole : (begun bytes : List ℕ) → finished_lines begun (whole_lines bytes) ≡ finished_lines begun bytes
 finished_whole begun [] = refl
 finished_whole begun (b ∷ bs) = ⊎_elim
     (λ (h : has_feed (b ∷ bs) ≡ true). ⊎_elim
     (λ (e : eqb b 10 ≡ true). rw (h, e) (ap (λ ls. begun ∷ ls) (finished_whole [] bs)))
-    (λ (e : eqb b 10 ≡ false). rw (h, e) (finished_whole (kept_of (begun ++ b ∷ [])) bs))
+    (λ (e : eqb b 10 ≡ false). rw (h, e) (finished_whole (cut_line (begun ++ b ∷ [])) bs))
     (cases_Bool (eqb b 10)))
-    (λ (h : has_feed (b ∷ bs) ≡ false). ap (finished begun) (none_whole (b ∷ bs) h) ∙ sym (none_finished begun (b ∷ bs) h))
+    (λ (h : has_feed (b ∷ bs) ≡ false). ap (finished_lines begun) (none_whole (b ∷ bs) h) ∙ sym (none_finished begun (b ∷ bs) h))
     (cases_Bool (has_feed (b ∷ bs)))
 
 none_unfinished : (begun bytes : List ℕ) → has_feed bytes ≡ true → unfinished begun (whole_lines bytes) ≡ []
@@ -165,7 +165,7 @@ none_unfinished begun (b ∷ bs) h = ⊎_elim
     (λ (more : has_feed bs ≡ true). rw (h, e) (none_unfinished [] bs more))
     (λ (more : has_feed bs ≡ false). rw (h, e) (ap (unfinished []) (none_whole bs more)))
     (cases_Bool (has_feed bs)))
-    (λ (e : eqb b 10 ≡ false). let more : has_feed bs ≡ true = rw e at h in rw (h, e) (none_unfinished (kept_of (begun ++ b ∷ [])) bs more))
+    (λ (e : eqb b 10 ≡ false). let more : has_feed bs ≡ true = rw e at h in rw (h, e) (none_unfinished (cut_line (begun ++ b ∷ [])) bs more))
     (cases_Bool (eqb b 10))
 
 pub whole_unfinished : (bytes : List ℕ) → unfinished [] (whole_lines bytes) ≡ []

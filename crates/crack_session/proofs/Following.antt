@@ -3,7 +3,7 @@ use Rattle.std.proofs.Common.{◌≡◌, ℕ, ◌+◌, ◌-◌, ◌<◌, ◌≤�
 use Rattle.std.proofs.lemmas.Bool.{cond_both, lt-ltb, cases_lt}
 use Rattle.std.proofs.lemmas.List.{take_all, take-take}
 use Rattle.std.specs.List.{filter_map}
-use Rattle.crack_session.specs.Lines.{without_return, kept_of}
+use Rattle.crack_session.specs.Lines.{without_return, cut_line}
 use Rattle.crack_session.specs.Input.{first_line, after_line}
 use Rattle.crack_session.specs.Readings.{statements, until_last, reading_of, is_last}
 use Rattle.crack_commands.specs.Grammar.{Reading, long_of}
@@ -22,7 +22,7 @@ too_long : (xs : List ℕ) → 201 < length xs → reading_of xs ≡ Some (long_
 unfolding reading_of
 too_long xs l = let more = shorter_by_one xs in let test : ltb 200 (length (without_return xs)) ≡ true = lt-ltb _ _ (omega (arith, more)) in rw (test, same_front xs l) refl
 
-pub reading_kept : (raw : List ℕ) → reading_of (kept_of raw) ≡ reading_of raw
+pub reading_kept : (raw : List ℕ) → reading_of (cut_line raw) ≡ reading_of raw
 reading_kept raw = ⊎_elim
     (λ (l : length raw ≤ 202). ap reading_of (take_all 202 raw l))
     (λ (l : 202 < length raw). let cut = length-take 202 raw in too_long (take 202 raw) (omega (arith, cut)) ∙ ap (λ front. Some (long_of front)) (take-take 200 202 raw (omega arith)) ∙ sym (too_long raw (omega arith)))
@@ -40,15 +40,15 @@ cond_cons true r rs = refl
 cond_cons false r rs = refl
 
 -- a line has the meaning of its kept bytes, even if only its beginning is kept
-same_reading : (u line : List ℕ) → kept_of line ≡ kept_of (first_line u) → reading_of (first_line u) ≡ reading_of line
+same_reading : (u line : List ℕ) → cut_line line ≡ cut_line (first_line u) → reading_of (first_line u) ≡ reading_of line
 same_reading u line k = sym (reading_kept (first_line u)) ∙ ap reading_of (sym k) ∙ reading_kept line
 
 -- after a blank line
-pub next_blank : (u line : List ℕ) → 0 < length u → kept_of line ≡ kept_of (first_line u) → reading_of line ≡ None → statements u ≡ statements (after_line u)
+pub next_blank : (u line : List ℕ) → 0 < length u → cut_line line ≡ cut_line (first_line u) → reading_of line ≡ None → statements u ≡ statements (after_line u)
 next_blank [] line l k e = absurd (omega arith)
 next_blank (b ∷ bs) line l k e = statements-blank b bs (same_reading (b ∷ bs) line k ∙ e)
 
 -- after a line that is answered
-pub next_some : (u line : List ℕ) (r : Reading) → 0 < length u → kept_of line ≡ kept_of (first_line u) → reading_of line ≡ Some r → statements u ≡ r ∷ cond (is_last r) [] (statements (after_line u))
+pub next_some : (u line : List ℕ) (r : Reading) → 0 < length u → cut_line line ≡ cut_line (first_line u) → reading_of line ≡ Some r → statements u ≡ r ∷ cond (is_last r) [] (statements (after_line u))
 next_some [] line r l k e = absurd (omega arith)
 next_some (b ∷ bs) line r l k e = statements-some b bs r (same_reading (b ∷ bs) line k ∙ e) ∙ cond_cons (is_last r) r (statements (after_line (b ∷ bs)))

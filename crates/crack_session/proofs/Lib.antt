@@ -1,15 +1,14 @@
+pub mod Adding
 pub mod Appending
 pub mod Asking
 pub mod Calling
 pub mod Ended
 pub mod Feeds
 pub mod Following
-pub mod Joining
 pub mod Known
 pub mod Leaving
 pub mod Passing
 pub mod Pieces
-pub mod Plainly
 pub mod Running
 pub mod Serves
 pub mod Turns

@@ -10,56 +10,56 @@ use Rattle.crack_row.specs.declared.Bound.{Bound}
 use Rattle.crack_plain.specs.Plain.{PlainView}
 use Rattle.crack_commands.specs.Grammar.{Reading}
 use Rattle.crack_commands.specs.declared.statement.Ending.{Ending}
-use Rattle.crack_commands.specs.declared.statement.Statement.TheVariants.{Insert, Delete, Update, Count, Sum, Select, Layout, Checkpoint, Policy, Ping, End}
+use Rattle.crack_commands.specs.declared.statement.Statement.TheVariants.{Insert, Delete, Update, Count, Sum, Select, Layout, Checkpoint, Watch, WatchPart, Policy, Ping, End}
 use Rattle.crack_core.specs.Steps.{Bounds}
 use Rattle.crack_session.specs.declared.answer.Answer.{Answer}
 use Rattle.crack_session.specs.declared.session.Progress.{Progress}
 use Rattle.crack_session.specs.Answers.{IsAnswer, answer_text}
 use Rattle.crack_session.specs.Calls.{Call, IsReadingMadeOf, AreMadeOf, AreAnswersOf}
 use Rattle.crack_session.specs.Input.{has_feed}
-use Rattle.crack_session.specs.Lines.{kept_of}
+use Rattle.crack_session.specs.Lines.{cut_line}
 use Rattle.crack_session.specs.Readings.{reading_of, until_last, is_last}
 use Rattle.crack_session.specs.Sessions.{AreAnswers}
 use Rattle.crack_session.specs.Telling.{AsksDesk, of_option}
-use Rattle.crack_session.specs.Feeding.{finished, unfinished, fed, noted, all_noted, ended_by, ended_by_any, SessionState, IsLeftOf, AnswersAll, Feeds}
+use Rattle.crack_session.specs.Feeding.{finished_lines, unfinished, fed, progress_after, all_noted, ending_after, ended_by_any, SessionState, IsLeftOf, AnswersAll, Feeds}
 use Rattle.crack_session.proofs.Appending.{next_part}
 use Rattle.crack_session.proofs.Calling.{Calls-then}
 use Rattle.crack_session.proofs.Feeds.{take-take-append}
 use Rattle.crack_session.proofs.Following.{reading_kept}
 
 -- the lines of some bytes, and then of others
-finished-append : (begun xs ys : List ℕ) → finished begun (xs ++ ys) ≡ finished begun xs ++ finished (unfinished begun xs) ys
+finished-append : (begun xs ys : List ℕ) → finished_lines begun (xs ++ ys) ≡ finished_lines begun xs ++ finished_lines (unfinished begun xs) ys
 finished-append begun [] ys = refl
 finished-append begun (b ∷ bs) ys = ⊎_elim
     (λ (e : eqb b 10 ≡ true). rw e (ap (λ ls. begun ∷ ls) (finished-append [] bs ys)))
-    (λ (e : eqb b 10 ≡ false). rw e (finished-append (kept_of (begun ++ b ∷ [])) bs ys))
+    (λ (e : eqb b 10 ≡ false). rw e (finished-append (cut_line (begun ++ b ∷ [])) bs ys))
     (cases_Bool (eqb b 10))
 
 unfinished-append : (begun xs ys : List ℕ) → unfinished begun (xs ++ ys) ≡ unfinished (unfinished begun xs) ys
 unfinished-append begun [] ys = refl
 unfinished-append begun (b ∷ bs) ys = ⊎_elim
     (λ (e : eqb b 10 ≡ true). rw e (unfinished-append [] bs ys))
-    (λ (e : eqb b 10 ≡ false). rw e (unfinished-append (kept_of (begun ++ b ∷ [])) bs ys))
+    (λ (e : eqb b 10 ≡ false). rw e (unfinished-append (cut_line (begun ++ b ∷ [])) bs ys))
     (cases_Bool (eqb b 10))
 
 pub fed-append : (begun xs ys : List ℕ) → fed begun (xs ++ ys) ≡ fed begun xs ++ fed (unfinished begun xs) ys
-fed-append begun xs ys = ap (filter_map reading_of) (finished-append begun xs ys) ∙ filter_map-append reading_of (finished begun xs) (finished (unfinished begun xs) ys)
+fed-append begun xs ys = ap (filter_map reading_of) (finished-append begun xs ys) ∙ filter_map-append reading_of (finished_lines begun xs) (finished_lines (unfinished begun xs) ys)
 
 -- bytes without a line feed
-pub none_finished : (begun xs : List ℕ) → has_feed xs ≡ false → finished begun xs ≡ []
+pub none_finished : (begun xs : List ℕ) → has_feed xs ≡ false → finished_lines begun xs ≡ []
 none_finished begun [] h = refl
 none_finished begun (b ∷ bs) h =
     let each = or_parts (eqb b 10) (has_feed bs) h in
     let other : eqb b 10 ≡ false = each.0 in
-    rw other (none_finished (kept_of (begun ++ b ∷ [])) bs each.1)
+    rw other (none_finished (cut_line (begun ++ b ∷ [])) bs each.1)
 
-all_unfinished : (begun xs : List ℕ) → has_feed xs ≡ false → kept_of begun ≡ begun → unfinished begun xs ≡ kept_of (begun ++ xs)
-all_unfinished begun [] h few = sym few ∙ ap kept_of (sym (append-nil begun))
+all_unfinished : (begun xs : List ℕ) → has_feed xs ≡ false → cut_line begun ≡ begun → unfinished begun xs ≡ cut_line (begun ++ xs)
+all_unfinished begun [] h few = sym few ∙ ap cut_line (sym (append-nil begun))
 all_unfinished begun (b ∷ bs) h few =
     let each = or_parts (eqb b 10) (has_feed bs) h in
     let other : eqb b 10 ≡ false = each.0 in
-    let twice : kept_of (kept_of (begun ++ b ∷ [])) ≡ kept_of (begun ++ b ∷ []) = ap kept_of (sym (append-nil (kept_of (begun ++ b ∷ [])))) ∙ take-take-append 202 (begun ++ b ∷ []) [] ∙ ap kept_of (append-nil (begun ++ b ∷ [])) in
-    rw other (all_unfinished (kept_of (begun ++ b ∷ [])) bs each.1 twice ∙ take-take-append 202 (begun ++ b ∷ []) bs ∙ ap kept_of (append_assoc begun (b ∷ []) bs))
+    let twice : cut_line (cut_line (begun ++ b ∷ [])) ≡ cut_line (begun ++ b ∷ []) = ap cut_line (sym (append-nil (cut_line (begun ++ b ∷ [])))) ∙ take-take-append 202 (begun ++ b ∷ []) [] ∙ ap cut_line (append-nil (begun ++ b ∷ [])) in
+    rw other (all_unfinished (cut_line (begun ++ b ∷ [])) bs each.1 twice ∙ take-take-append 202 (begun ++ b ∷ []) bs ∙ ap cut_line (append_assoc begun (b ∷ []) bs))
 
 -- a whole line
 pub meaning : (line : List ℕ) → filter_map reading_of (line ∷ []) ≡ of_option (reading_of line)
@@ -69,23 +69,23 @@ meaning line = by_case (reading_of line)
     by_case None = refl
     by_case (Some r) = refl
 
-one_fed : (begun line : List ℕ) → has_feed line ≡ false → kept_of begun ≡ begun → fed begun (line ++ 10 ∷ []) ≡ of_option (reading_of (begun ++ line))
+one_fed : (begun line : List ℕ) → has_feed line ≡ false → cut_line begun ≡ begun → fed begun (line ++ 10 ∷ []) ≡ of_option (reading_of (begun ++ line))
 one_fed begun line none few =
-    let lines : finished begun (line ++ 10 ∷ []) ≡ kept_of (begun ++ line) ∷ [] =
+    let lines : finished_lines begun (line ++ 10 ∷ []) ≡ cut_line (begun ++ line) ∷ [] =
     finished-append begun line (10 ∷ []) ∙ ap (λ ls. ls ++ unfinished begun line ∷ []) (none_finished begun line none) ∙ ap (λ l. l ∷ []) (all_unfinished begun line none few) in
-    ap (filter_map reading_of) lines ∙ meaning (kept_of (begun ++ line)) ∙ ap of_option (reading_kept (begun ++ line))
+    ap (filter_map reading_of) lines ∙ meaning (cut_line (begun ++ line)) ∙ ap of_option (reading_kept (begun ++ line))
 
 -- counts and policies after some answers, and then others
 all_noted-append : (p : Progress) (us bs : List Answer) → all_noted p (us ++ bs) ≡ all_noted (all_noted p us) bs
 all_noted-append p [] bs = refl
-all_noted-append p (a ∷ us) bs = all_noted-append (noted p a) us bs
+all_noted-append p (a ∷ us) bs = all_noted-append (progress_after p a) us bs
 
 pub ended_by_any-append : (ending : Option Ending) (rs qs : List Reading) → ended_by_any ending (rs ++ qs) ≡ ended_by_any (ended_by_any ending rs) qs
 ended_by_any-append ending [] qs = refl
-ended_by_any-append ending (r ∷ rs) qs = ended_by_any-append (ended_by ending r) rs qs
+ended_by_any-append ending (r ∷ rs) qs = ended_by_any-append (ending_after ending r) rs qs
 
 -- a statement that ends the session is noted
-pub last_noted : (ending : Option Ending) (r : Reading) → is_last r ≡ true → (last : Ending) × (ended_by ending r ≡ Some last)
+pub last_noted : (ending : Option Ending) (r : Reading) → is_last r ≡ true → (last : Ending) × (ending_after ending r ≡ Some last)
 last_noted ending (Err e) h = absurd (false≢true h)
 last_noted ending (Ok (Insert k p)) h = absurd (false≢true h)
 last_noted ending (Ok (Delete r)) h = absurd (false≢true h)
@@ -95,11 +95,13 @@ last_noted ending (Ok (Sum r)) h = absurd (false≢true h)
 last_noted ending (Ok (Select r)) h = absurd (false≢true h)
 last_noted ending (Ok (Layout p)) h = absurd (false≢true h)
 last_noted ending (Ok (Checkpoint p)) h = absurd (false≢true h)
+last_noted ending (Ok Watch) h = absurd (false≢true h)
+last_noted ending (Ok (WatchPart p)) h = absurd (false≢true h)
 last_noted ending (Ok (Policy p)) h = absurd (false≢true h)
 last_noted ending (Ok Ping) h = absurd (false≢true h)
 last_noted ending (Ok (End last)) h = (last, refl)
 
-pub not_last_noted : (ending : Option Ending) (r : Reading) → is_last r ≡ false → ended_by ending r ≡ ending
+pub not_last_noted : (ending : Option Ending) (r : Reading) → is_last r ≡ false → ending_after ending r ≡ ending
 not_last_noted ending (Err e) h = refl
 not_last_noted ending (Ok (Insert k p)) h = refl
 not_last_noted ending (Ok (Delete r)) h = refl
@@ -109,6 +111,8 @@ not_last_noted ending (Ok (Sum r)) h = refl
 not_last_noted ending (Ok (Select r)) h = refl
 not_last_noted ending (Ok (Layout p)) h = refl
 not_last_noted ending (Ok (Checkpoint p)) h = refl
+not_last_noted ending (Ok Watch) h = refl
+not_last_noted ending (Ok (WatchPart p)) h = refl
 not_last_noted ending (Ok (Policy p)) h = refl
 not_last_noted ending (Ok Ping) h = refl
 not_last_noted ending (Ok (End last)) h = absurd (false≢true (sym h))
@@ -120,11 +124,11 @@ until_last-then ending (r ∷ rs) qs first second over = ⊎_elim
     (λ (e : is_last r ≡ true).
     let none : rs ≡ [] = (let h : r ∷ [] ≡ r ∷ rs = rw e at first in cc) in
     let said = last_noted ending r e in
-    let nothing : qs ≡ [] = over said.0 (ap (ended_by_any (ended_by ending r)) none ∙ said.1) in
+    let nothing : qs ≡ [] = over said.0 (ap (ended_by_any (ending_after ending r)) none ∙ said.1) in
     rw e (ap (λ t. r ∷ t) (sym (ap (λ t. t ++ qs) none ∙ nothing))))
     (λ (e : is_last r ≡ false).
     let more : until_last rs ≡ rs = (let h : r ∷ until_last rs ≡ r ∷ rs = rw e at first in cc) in
-    rw e (ap (λ t. r ∷ t) (until_last-then (ended_by ending r) rs qs more second over)))
+    rw e (ap (λ t. r ∷ t) (until_last-then (ending_after ending r) rs qs more second over)))
     (cases_Bool (is_last r))
 
 pub until_last-one : (r : Option Reading) → until_last (of_option r) ≡ of_option r
@@ -141,7 +145,7 @@ AreMadeOf-then splits p [] [] cs qs bs ds made more = subst (λ (c : List Call).
 AreMadeOf-then splits p [] (a ∷ us) cs qs bs ds made more = absurd made
 AreMadeOf-then splits p (r ∷ rs) [] cs qs bs ds made more = absurd made
 AreMadeOf-then splits p (r ∷ rs) (a ∷ us) cs qs bs ds made more =
-    (made.0, made.1 ++ ds, ap (λ (l : List Call). l ++ ds) made.2 ∙ append_assoc made.0 made.1 ds, made.3, AreMadeOf-then splits (noted p a) rs us made.1 qs bs ds made.4 more)
+    (made.0, made.1 ++ ds, ap (λ (l : List Call). l ++ ds) made.2 ∙ append_assoc made.0 made.1 ds, made.3, AreMadeOf-then splits (progress_after p a) rs us made.1 qs bs ds made.4 more)
 
 AreAnswers-then : (bounds : Bounds) (splits : List Bound) (tables : List PlainView) (rs : List Reading) (us : List Answer) (between : List PlainView) (qs : List Reading) (bs : List Answer) (new : List PlainView) → AreAnswers bounds splits tables rs us between → AreAnswers bounds splits between qs bs new → AreAnswers bounds splits tables (rs ++ qs) (us ++ bs) new
 AreAnswers-then bounds splits tables [] [] between qs bs new are more = subst (λ (t : List PlainView). AreAnswers bounds splits t qs bs new) are more
@@ -256,7 +260,7 @@ module _ {D : Type 0} (bounds : D → Bounds) (splits : D → List Bound) (table
       }
 
   -- one statement is answered
-  pub AnswersAll-one : (s t : SessionState) (r : Reading) (a : Answer) (d e : D) (o p : List ℕ) → AsksDesk bounds splits tables leads (λ bounds splits tables. IsAnswer bounds splits tables r a) (λ splits calls. IsReadingMadeOf splits s.progress.policy r a calls) d e → s.unwritten ≡ [] → p ++ t.unwritten ≡ o ++ answer_text a → length o ≤ length p → t.progress ≡ noted s.progress a → t.ending ≡ ended_by s.ending r → AnswersAll bounds splits tables leads s (r ∷ []) d e o p t
+  pub AnswersAll-one : (s t : SessionState) (r : Reading) (a : Answer) (d e : D) (o p : List ℕ) → AsksDesk bounds splits tables leads (λ bounds splits tables. IsAnswer bounds splits tables r a) (λ splits calls. IsReadingMadeOf splits s.progress.policy r a calls) d e → s.unwritten ≡ [] → p ++ t.unwritten ≡ o ++ answer_text a → length o ≤ length p → t.progress ≡ progress_after s.progress a → t.ending ≡ ending_after s.ending r → AnswersAll bounds splits tables leads s (r ∷ []) d e o p t
   AnswersAll-one s t r a d e o p asks written text grows counted ended =
       let more = next_part o p (answer_text a) t.unwritten text grows in
       record {
@@ -302,7 +306,7 @@ module _ {D : Type 0} (bounds : D → Bounds) (splits : D → List Bound) (table
       }
 
   -- no line is finished
-  pub Feeds-begun : (s t : SessionState) (xs : List ℕ) (d : D) (o : List ℕ) → t ≡ record s { begun = kept_of (s.begun ++ xs) } → has_feed xs ≡ false → length s.begun ≤ 202 → s.ending ≡ None → Feeds bounds splits tables leads s xs d d o o t
+  pub Feeds-begun : (s t : SessionState) (xs : List ℕ) (d : D) (o : List ℕ) → t ≡ record s { begun = cut_line (s.begun ++ xs) } → has_feed xs ≡ false → length s.begun ≤ 202 → s.ending ≡ None → Feeds bounds splits tables leads s xs d d o o t
   Feeds-begun s t xs d o same none few goes_on =
       let nothing : fed s.begun xs ≡ [] = ap (filter_map reading_of) (none_finished s.begun xs none) in
       record {
@@ -329,7 +333,7 @@ abbrev pub state_with : Progress → List ℕ → Option Ending → List ℕ →
 state_with progress unwritten ending begun = record { begun = begun; progress = progress; unwritten = unwritten; ending = ending }
 
 -- us many bytes are kept us there is room for
-pub kept_more : (begun bytes : List ℕ) (count : ℕ) → length begun ≤ 202 → count ≡ min (length bytes) (202 - length begun) → begun ++ take count bytes ≡ kept_of (begun ++ bytes)
+pub kept_more : (begun bytes : List ℕ) (count : ℕ) → length begun ≤ 202 → count ≡ min (length bytes) (202 - length begun) → begun ++ take count bytes ≡ cut_line (begun ++ bytes)
 kept_more begun bytes count few is =
     let room : 202 ≡ length begun + (202 - length begun) = omega (arith, few) in
     let same : take count bytes ≡ take (202 - length begun) bytes = ⊎_elim

@@ -4,9 +4,9 @@ use Rattle.std.proofs.lemmas.Bool.{cases_Bool, eqb-true}
 use Rattle.std.proofs.lemmas.List.Elements.{filter_map-append}
 use Rattle.std.specs.List.{filter_map}
 use Rattle.crack_session.specs.Telling.{of_option}
-use Rattle.crack_session.specs.Feeding.{finished, unfinished, fed}
+use Rattle.crack_session.specs.Feeding.{finished_lines, unfinished, fed}
 use Rattle.crack_session.specs.Input.{has_feed, first_line, after_line}
-use Rattle.crack_session.specs.Lines.{lines, kept_of}
+use Rattle.crack_session.specs.Lines.{lines, cut_line}
 use Rattle.crack_session.specs.Readings.{reading_of, statements, until_last}
 use Rattle.crack_session.proofs.Feeds.{lines-first, first_line-append, after_line-append, has_feed-append, all_first_line, none_after, take-take-append}
 use Rattle.crack_session.proofs.Following.{reading_kept}
@@ -38,17 +38,17 @@ next_line begun bs none =
     ∙ filter_map-append reading_of (begun ∷ []) (lines bs)
     ∙ ap (λ rs. rs ++ filter_map reading_of (lines bs)) (meaning begun)
 
-all_lines : (begun bytes : List ℕ) → has_feed begun ≡ false → filter_map reading_of (lines (begun ++ bytes)) ≡ fed (kept_of begun) (bytes ++ 10 ∷ [])
+all_lines : (begun bytes : List ℕ) → has_feed begun ≡ false → filter_map reading_of (lines (begun ++ bytes)) ≡ fed (cut_line begun) (bytes ++ 10 ∷ [])
 all_lines begun [] none =
-    ap (λ u. filter_map reading_of (lines u)) (append-nil begun) ∙ last_line begun none ∙ ap of_option (sym (reading_kept begun)) ∙ sym (meaning (kept_of begun))
+    ap (λ u. filter_map reading_of (lines u)) (append-nil begun) ∙ last_line begun none ∙ ap of_option (sym (reading_kept begun)) ∙ sym (meaning (cut_line begun))
 all_lines begun (b ∷ bs) none = ⊎_elim
     (λ (e : eqb b 10 ≡ true).
     let ten : b ≡ 10 = eqb-true b 10 e in
     ap (λ (c : ℕ). filter_map reading_of (lines (begun ++ c ∷ bs))) ten
     ∙ next_line begun bs none
-    ∙ ap (λ rs. rs ++ filter_map reading_of (lines bs)) (ap of_option (sym (reading_kept begun)) ∙ sym (meaning (kept_of begun)))
-    ∙ ap (λ rs. filter_map reading_of (kept_of begun ∷ []) ++ rs) (all_lines [] bs refl)
-    ∙ sym (filter_map-append reading_of (kept_of begun ∷ []) (finished [] (bs ++ 10 ∷ [])))
+    ∙ ap (λ rs. rs ++ filter_map reading_of (lines bs)) (ap of_option (sym (reading_kept begun)) ∙ sym (meaning (cut_line begun)))
+    ∙ ap (λ rs. filter_map reading_of (cut_line begun ∷ []) ++ rs) (all_lines [] bs refl)
+    ∙ sym (filter_map-append reading_of (cut_line begun ∷ []) (finished_lines [] (bs ++ 10 ∷ [])))
     ∙ rw e refl)
     (λ (e : eqb b 10 ≡ false).
     let more : has_feed (begun ++ b ∷ []) ≡ false = has_feed-append begun (b ∷ []) none ∙ rw e refl in

@@ -1,7 +1,7 @@
--- What a session answers to a statement, and how it writes that.
+-- What a session answers to a statement, and the text of the answer.
 use Rattle.std.specs.Fmt.{signed_decimal}
 use Rattle.std.specs.List.{flat_map, list_any}
-use Rattle.std.specs.Prelude.{◌≡◌, ℕ, Bool, false, List, [], ◌∷◌, ◌++◌, ◌⊎◌, Result, Ok, Err, codes, decimal, slice_get, ◌==◌}
+use Rattle.std.specs.Prelude.{◌≡◌, ℕ, Bool, false, List, [], ◌∷◌, ◌++◌, ◌⊎◌, Option, None, Result, Ok, Err, codes, decimal, slice_get, ◌==◌}
 use Rattle.crack_row.specs.Ranges.{Range}
 use Rattle.crack_row.specs.Refusals.{code_of}
 use Rattle.crack_row.specs.declared.Bound.{Bound}
@@ -12,70 +12,103 @@ use Rattle.crack_row.specs.declared.layout.Layout.{Layout as PartLayout}
 use Rattle.crack_row.specs.declared.refusal.Refusal.{Refusal}
 use Rattle.crack_row.specs.declared.refusal.Refusal.TheVariants.{OutOfMemory, BadStatement}
 use Rattle.crack_plain.specs.Plain.{PlainView, checkpointed}
+use Rattle.crack_plain.specs.Watching.{AreNumbersOf, no_statistics, together}
+use Rattle.crack_plain.specs.declared.statistics.Statistics.{Statistics}
 use Rattle.crack_commands.specs.Grammar.{Reading}
+use Rattle.crack_commands.specs.Watching.{numbers_text}
+use Rattle.crack_commands.specs.declared.watching.Traffic.{Traffic}
 use Rattle.crack_commands.specs.Texts.{line_text, reply_text, row_text, layout_text, policy_text, refusal_text}
 use Rattle.crack_commands.specs.declared.statement.Statement.{Statement}
-use Rattle.crack_commands.specs.declared.statement.Statement.TheVariants.{Insert, Delete, Update, Count, Sum, Select, Layout, Checkpoint, Policy, Ping, End}
+use Rattle.crack_commands.specs.declared.statement.Statement.TheVariants.{Insert, Delete, Update, Count, Sum, Select, Layout, Checkpoint, Watch, WatchPart, Policy, Ping, End}
 use Rattle.crack_commands.specs.declared.statement.Ending.{Ending}
 use Rattle.crack_commands.specs.declared.statement.Ending.TheVariants.{Quit, Http}
 use Rattle.crack_session.specs.declared.answer.Answer.{Answer}
-use Rattle.crack_session.specs.declared.answer.Answer.TheVariants.{Replied, Counted, Summed, Listed, Laid, Folded, Set, Pong, Refused, Bye}
+use Rattle.crack_session.specs.declared.answer.Answer.TheVariants.{Replied, Counted, Summed, Listed, Laid, Folded, Numbers, Set, Pong, Refused, Bye}
 use Rattle.crack_core.specs.declared.turns.PartReply.{PartReply}
 use Rattle.crack_core.specs.Asking.{InTurn, asking}
-use Rattle.crack_core.specs.Listing.{listed}
+use Rattle.crack_core.specs.Listing.{rows_listed}
 use Rattle.crack_core.specs.declared.asking.Query.{Query}
 use Rattle.crack_core.specs.declared.asking.Query.TheVariants.{CountRows, SumPayloads, SelectRows}
-use Rattle.crack_session.specs.Queries.{joined}
+use Rattle.crack_session.specs.Queries.{joint_answer}
 use Rattle.crack_core.specs.Routes.{keys_of_part, route, parts_of}
-use Rattle.crack_core.specs.Steps.{Bounds, IsOutcomeAt, IsLayoutOutcome, IsFoldOutcome, tables_after, changed_at}
+use Rattle.crack_core.specs.Steps.{Bounds, IsOutcomeAt, IsLayoutOutcome, IsStatisticsOutcome, IsFoldOutcome, tables_after, changed_at}
 
--- the answer if there is an outcome, or why there is none
+-- the answer made of an outcome, or its refusal
 abbrev pub answer_from : {X : Type 0} → (X → Answer) → Result X Refusal → Answer
 answer_from answer (Ok x) = answer x
 answer_from answer (Err e) = Refused e
 
--- One partition is asked: the answer is the outcome, and the partitions are new afterwards.
+-- One partition executes a command: the answer is made of the outcome, and `new` are the partitions afterwards.
 pub record IsAsked (bounds : Bounds) (splits : List Bound) (tables : List PlainView) (part : ℕ) (command : Command) (answer : Answer) (new : List PlainView) : Type 0 where
   pub outcome : Result Reply Refusal
   pub comes_out : IsOutcomeAt bounds splits tables part command outcome
   pub answer_is : answer ≡ answer_from (Replied part) outcome
   pub new_is : new ≡ tables_after bounds tables part command outcome
 
--- several partitions are asked in turn, each for its part of a range: their replies, or the first refusal, and the partitions afterwards
-abbrev pub AsksInTurn : Bounds → List Bound → Query → List PlainView → List (ℕ × Range) → Result (List PartReply) Refusal → List PlainView → Type 0
-AsksInTurn bounds splits query tables parts outcome new = InTurn (λ (part : ℕ × Range) (reply : Result Reply Refusal) (before after : List PlainView). IsOutcomeAt bounds splits before part.0 (asking query part.1) reply × (after ≡ tables_after bounds before part.0 (asking query part.1) reply)) tables parts outcome new
+-- several partitions execute a query in turn, each over its part of the range: their replies, or the first refusal,
+-- and the partitions afterwards
+abbrev pub QueriesInTurn : Bounds → List Bound → Query → List PlainView → List (ℕ × Range) → Result (List PartReply) Refusal → List PlainView → Type 0
+QueriesInTurn bounds splits query tables parts outcome new = InTurn (λ (part : ℕ × Range) (reply : Result Reply Refusal) (before after : List PlainView). IsOutcomeAt bounds splits before part.0 (asking query part.1) reply × (after ≡ tables_after bounds before part.0 (asking query part.1) reply)) tables parts outcome new
 
--- Several partitions are asked in turn, and their replies are joined.
+-- Several partitions execute a query in turn, and their replies are joined.
 pub record IsJoined (bounds : Bounds) (splits : List Bound) (tables : List PlainView) (query : Query) (parts : List (ℕ × Range)) (answer : Answer) (new : List PlainView) : Type 0 where
   pub outcome : Result (List PartReply) Refusal
-  pub asked : AsksInTurn bounds splits query tables parts outcome new
-  pub answer_is : answer ≡ answer_from (joined query) outcome
+  pub asked : QueriesInTurn bounds splits query tables parts outcome new
+  pub answer_is : answer ≡ answer_from (joint_answer query) outcome
 
--- These parts of a range are asked: a single one as for any command; several in turn, or none of them, if no memory is found for their replies.
+-- These parts of a range are queried: a single one like any command, and several in turn, or none of them if no
+-- memory is found for their replies.
 abbrev pub AsksParts : Bounds → List Bound → List PlainView → Query → List (ℕ × Range) → Answer → List PlainView → Type 0
 AsksParts bounds splits tables query (part ∷ []) answer new = IsAsked bounds splits tables part.0 (asking query part.1) answer new
 AsksParts bounds splits tables query parts answer new = IsJoined bounds splits tables query parts answer new ⊎ ((answer ≡ Refused OutOfMemory) × (new ≡ tables))
 
--- The layout of one partition is asked for: the answer is any layout that it may have.
+-- The layout of one partition is requested: the answer is any layout that it may have, or a refusal.
 pub record IsLaidOut (splits : List Bound) (tables : List PlainView) (part : ℕ) (answer : Answer) : Type 0 where
   pub outcome : Result PartLayout Refusal
   pub comes_out : IsLayoutOutcome (keys_of_part splits part) (slice_get tables part) outcome
   pub answer_is : answer ≡ answer_from (Laid part) outcome
 
--- A checkpoint of one partition is made: the answer says how many commands it accepted since its last checkpoint, and the partitions are new afterwards.
+-- The statistics of one partition are requested: the answer has statistics that are right for its plain rows, or is
+-- a refusal.
+pub record IsWatched (tables : List PlainView) (part : ℕ) (answer : Answer) : Type 0 where
+  pub outcome : Result Statistics Refusal
+  pub comes_out : IsStatisticsOutcome (slice_get tables part) outcome
+  pub answer_is : answer ≡ answer_from (λ statistics. Numbers statistics None) outcome
+
+-- each of the statistics is right for the partition at the same place
+abbrev pub AreNumbersOfEach : List PlainView → List Statistics → Type 0
+AreNumbersOfEach [] [] = Unit {0}
+AreNumbersOfEach (table ∷ tables) (one ∷ each) = AreNumbersOf table one × AreNumbersOfEach tables each
+AreNumbersOfEach tables each = ⊥
+
+-- a sum of statistics, with those of each partition added
+abbrev pub added_up : Statistics → List Statistics → Statistics
+added_up sum [] = sum
+added_up sum (one ∷ each) = added_up (together sum one) each
+
+-- The statistics of all partitions are requested: the answer has the sum of statistics that are right for each
+-- partition.
+pub record AreWatched (tables : List PlainView) (answer : Answer) : Type 0 where
+  pub each : List Statistics
+  pub right : AreNumbersOfEach tables each
+  pub traffic : Option Traffic
+  pub answer_is : answer ≡ Numbers (added_up no_statistics each) traffic
+
+-- A checkpoint of one partition is made: the answer has the number of commands accepted since the last checkpoint,
+-- or is a refusal, and `new` are the partitions afterwards.
 pub record IsFolded (tables : List PlainView) (part : ℕ) (answer : Answer) (new : List PlainView) : Type 0 where
   pub outcome : Result ℕ Refusal
   pub comes_out : IsFoldOutcome (slice_get tables part) outcome
   pub answer_is : answer ≡ answer_from Folded outcome
   pub new_is : new ≡ changed_at checkpointed tables part outcome
 
--- the last answer of a session that is ended by a line: a line of an HTTP request is no statement
+-- the last answer of a session that a line ends: a line of an HTTP request is refused with `BadStatement`
 abbrev pub farewell : Ending → Answer
 farewell Quit = Bye
 farewell Http = Refused BadStatement
 
--- an answer to a statement, and the partitions afterwards: the partition that holds a row's key or that its number names is asked, and for
--- a range those that hold a part of it
+-- an answer to a statement, and the partitions afterwards: an insert goes to the partition of its key, a delete or
+-- an update to the partition in its row number, and a query to each partition that holds a part of the range
 abbrev pub IsAnswerTo : Bounds → List Bound → List PlainView → Statement → Answer → List PlainView → Type 0
 IsAnswerTo bounds splits tables (Insert key payload) answer new = IsAsked bounds splits tables (route splits key.0) (AskInsert key payload) answer new
 IsAnswerTo bounds splits tables (Delete row) answer new = IsAsked bounds splits tables row.part (AskDelete row.serial) answer new
@@ -85,21 +118,23 @@ IsAnswerTo bounds splits tables (Sum range) answer new = AsksParts bounds splits
 IsAnswerTo bounds splits tables (Select range) answer new = AsksParts bounds splits tables SelectRows (parts_of splits range) answer new
 IsAnswerTo bounds splits tables (Layout part) answer new = IsLaidOut splits tables part answer × (new ≡ tables)
 IsAnswerTo bounds splits tables (Checkpoint part) answer new = IsFolded tables part answer new
+IsAnswerTo bounds splits tables Watch answer new = AreWatched tables answer × (new ≡ tables)
+IsAnswerTo bounds splits tables (WatchPart part) answer new = IsWatched tables part answer × (new ≡ tables)
 IsAnswerTo bounds splits tables (Policy policy) answer new = (answer ≡ Set policy) × (new ≡ tables)
 IsAnswerTo bounds splits tables Ping answer new = (answer ≡ Pong) × (new ≡ tables)
 IsAnswerTo bounds splits tables (End ending) answer new = (answer ≡ farewell ending) × (new ≡ tables)
 
--- an answer to the reading of a line, and the partitions afterwards
+-- an answer to a parsed line, and the partitions afterwards
 abbrev pub IsAnswer : Bounds → List Bound → List PlainView → Reading → Answer → List PlainView → Type 0
 IsAnswer bounds splits tables (Err e) answer new = (answer ≡ Refused e) × (new ≡ tables)
 IsAnswer bounds splits tables (Ok statement) answer new = IsAnswerTo bounds splits tables statement answer new
 
--- a refusal for lack of room: the history is full (6), no memory (8) or no cell (9) was found, or as many commands were accepted as there may be in
--- total (10)
+-- whether a refusal is for lack of room: the history is full (6), no memory (8) or no cell (9) was found, or the
+-- partition accepts no more commands (10)
 abbrev pub is_short : Refusal → Bool
 is_short refusal = list_any (λ code. code == code_of refusal) (6 ∷ 8 ∷ 9 ∷ 10 ∷ [])
 
--- whether it is a refusal for lack of room
+-- whether an answer is a refusal for lack of room
 abbrev pub is_short_answer : Answer → Bool
 is_short_answer (Refused e) = is_short e
 is_short_answer _ = false
@@ -109,9 +144,10 @@ unfoldable pub answer_text : Answer → List ℕ
 answer_text (Replied part reply) = reply_text part reply
 answer_text (Counted total) = line_text (codes "count ") (decimal total)
 answer_text (Summed total) = line_text (codes "sum ") (signed_decimal total)
-answer_text (Listed total lists) = line_text (codes "rows ") (decimal total) ++ flat_map (λ (r : PartReply). flat_map (row_text r.part) (listed r.reply)) lists
+answer_text (Listed total lists) = line_text (codes "rows ") (decimal total) ++ flat_map (λ (r : PartReply). flat_map (row_text r.part) (rows_listed r.reply)) lists
 answer_text (Laid part layout) = layout_text part layout
 answer_text (Folded count) = line_text (codes "folded ") (decimal count)
+answer_text (Numbers statistics traffic) = numbers_text statistics traffic
 answer_text (Set policy) = policy_text policy
 answer_text Pong = codes "pong\n"
 answer_text (Refused e) = refusal_text e

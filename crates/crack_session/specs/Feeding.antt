@@ -1,4 +1,4 @@
--- A session to which bytes are fed: its state, and what feeding does to it, its desk and its output.
+-- A session that is fed bytes: its state, and what feeding does to it, its desk and its output.
 use Rattle.std.specs.Prelude.{◌≡◌, ℕ, ◌+◌, ◌-◌, ◌^◌, ◌<◌, min, Bool, true, false, List, [], ◌∷◌, ◌++◌, length, map, drop, Option, None, Some, Ok, ◌==◌, if◌then◌else◌}
 use Rattle.std.specs.List.{concat, filter_map, flat_map}
 use Rattle.crack_row.specs.declared.Bound.{Bound}
@@ -8,7 +8,7 @@ use Rattle.crack_commands.specs.Texts.{row_text, piece_text}
 use Rattle.crack_commands.specs.declared.statement.Ending.{Ending}
 use Rattle.crack_commands.specs.declared.statement.Ending.TheVariants.{Quit, Http}
 use Rattle.crack_commands.specs.declared.statement.Statement.TheVariants.{End}
-use Rattle.crack_core.specs.Listing.{listed}
+use Rattle.crack_core.specs.Listing.{rows_listed}
 use Rattle.crack_core.specs.Steps.{Bounds}
 use Rattle.crack_session.specs.declared.TheConstants.{OUTPUT_BYTES}
 use Rattle.crack_session.specs.declared.answer.Answer.{Answer}
@@ -21,66 +21,66 @@ use Rattle.crack_session.specs.declared.rest.Rest.{Rest}
 use Rattle.crack_session.specs.declared.rest.Rest.TheVariants.{Nothing, Rows, Lists, Pieces}
 use Rattle.crack_session.specs.Answers.{is_short_answer, answer_text}
 use Rattle.crack_session.specs.Calls.{Call, policy_after, AreAnswersOf}
-use Rattle.crack_session.specs.Lines.{kept_of}
+use Rattle.crack_session.specs.Lines.{cut_line}
 use Rattle.crack_session.specs.Readings.{reading_of, until_last}
 use Rattle.crack_session.specs.Sessions.{AreAnswers}
 
--- the lines that are finished by bytes, the first of which has begun before; each as far as a session keeps it
-abbrev pub finished : List ℕ → List ℕ → List (List ℕ)
-finished begun [] = []
-finished begun (b ∷ bs) = if b == 10 then begun ∷ finished [] bs else finished (kept_of (begun ++ b ∷ [])) bs
+-- the lines that bytes finish, each cut to the bytes that a session keeps; the first line begins with `begun`
+abbrev pub finished_lines : List ℕ → List ℕ → List (List ℕ)
+finished_lines begun [] = []
+finished_lines begun (b ∷ bs) = if b == 10 then begun ∷ finished_lines [] bs else finished_lines (cut_line (begun ++ b ∷ [])) bs
 
--- the line that these bytes leave unfinished, as far as a session keeps it
+-- the line that bytes leave unfinished, cut to the bytes that a session keeps
 abbrev pub unfinished : List ℕ → List ℕ → List ℕ
 unfinished begun [] = begun
-unfinished begun (b ∷ bs) = if b == 10 then unfinished [] bs else unfinished (kept_of (begun ++ b ∷ [])) bs
+unfinished begun (b ∷ bs) = if b == 10 then unfinished [] bs else unfinished (cut_line (begun ++ b ∷ [])) bs
 
--- the statements in the lines that are finished by bytes
+-- the statements in the lines that bytes finish
 abbrev pub fed : List ℕ → List ℕ → List Reading
-fed begun bytes = filter_map reading_of (finished begun bytes)
+fed begun bytes = filter_map reading_of (finished_lines begun bytes)
 
--- the first lack of room, if this is the answer to the statement with this number
+-- the number of the first refusal for lack of room, after the answer to statement `n`
 abbrev pub first_noted : Option ℕ → ℕ → Answer → Option ℕ
 first_noted (Some k) n answer = Some k
 first_noted None n answer = if is_short_answer answer then Some n else None
 
--- a session's counts and policy after an answer; its count of statements stops at the greatest number
-abbrev pub noted : Progress → Answer → Progress
-noted p answer = record {
+-- a session's counts and policy after an answer; the count of statements saturates at 2^64 - 1
+abbrev pub progress_after : Progress → Answer → Progress
+progress_after p answer = record {
   statements = min (p.statements + 1) (2 ^ 64 - 1);
   first_short = first_noted p.first_short (min (p.statements + 1) (2 ^ 64 - 1)) answer;
   policy = policy_after p.policy answer;
 }
 
--- and after several
+-- a session's counts and policy after several answers
 abbrev pub all_noted : Progress → List Answer → Progress
 all_noted p [] = p
-all_noted p (answer ∷ answers) = all_noted (noted p answer) answers
+all_noted p (answer ∷ answers) = all_noted (progress_after p answer) answers
 
--- how a session was ended by a statement, if it was
-abbrev pub ended_by : Option Ending → Reading → Option Ending
-ended_by ending (Ok (End last)) = Some last
-ended_by ending _ = ending
+-- how a session has ended after a statement, if it has
+abbrev pub ending_after : Option Ending → Reading → Option Ending
+ending_after ending (Ok (End last)) = Some last
+ending_after ending _ = ending
 
--- or by one of several
+-- how a session has ended after several statements, if it has
 abbrev pub ended_by_any : Option Ending → List Reading → Option Ending
 ended_by_any ending [] = ending
-ended_by_any ending (reading ∷ readings) = ended_by_any (ended_by ending reading) readings
+ended_by_any ending (reading ∷ readings) = ended_by_any (ending_after ending reading) readings
 
--- the rows of several partitions from one of them on, of which the first rows are left out
+-- the text of the rows of several partitions, without the first `at` rows of the first partition
 abbrev pub lists_from : List PartReply → ℕ → List ℕ
 lists_from [] at = []
-lists_from (r ∷ rs) at = flat_map (row_text r.part) (drop at (listed r.reply)) ++ flat_map (λ (r : PartReply). flat_map (row_text r.part) (listed r.reply)) rs
+lists_from (r ∷ rs) at = flat_map (row_text r.part) (drop at (rows_listed r.reply)) ++ flat_map (λ (r : PartReply). flat_map (row_text r.part) (rows_listed r.reply)) rs
 
--- the text that is left of an answer
+-- the rest of an answer's text
 abbrev pub rest_text : Rest → List ℕ
 rest_text Nothing = []
 rest_text (Rows part rows at) = flat_map (row_text part) (drop at rows)
 rest_text (Lists lists list at) = lists_from (drop list lists) at
 rest_text (Pieces layout at) = flat_map piece_text (drop at layout.pieces)
 
--- what contracts see of a session: the line that is unfinished, as far as it is kept; its counts and policy; the texts that aren't appended to
--- output yet; and how it was ended, if a line has done so
+-- what contracts see of a session: the unfinished line, cut to the bytes that are kept; its counts and policy; the
+-- text that isn't appended to the output yet; and how a line ended the session, if one did
 pub record SessionState : Type 0 where
   pub begun : List ℕ
   pub progress : Progress
@@ -92,14 +92,14 @@ abbrev pub is_nothing : Rest → Bool
 is_nothing Nothing = true
 is_nothing _ = false
 
--- what is left of a text after these answers: it ends that of the last of them, or what was left before
+-- what is left of a text after these answers: the end of the last answer's text, or of the text that was left before
 abbrev pub IsLeftOf : List ℕ → List Answer → List ℕ → Type 0
 IsLeftOf text [] left = (front : List ℕ) × (text ≡ front ++ left)
 IsLeftOf text (answer ∷ answers) left = IsLeftOf (answer_text answer) answers left
 
--- A session answers these statements in order: each answer is made of exactly the calls that its statement requires, by the policy in force, and no call
--- is left over. If the rows are known, these are their answers. What is appended to output is the next part of the texts of all answers, and what
--- isn't is left of one text.
+-- A session answers statements in order: the answers are made of exactly the calls of its desk, each under the
+-- policy then in force. If the rows are known, the answers are right for them. What is appended to the output is the
+-- beginning of the texts of all answers, and what isn't appended yet is the rest of a single text.
 pub record AnswersAll {D : Type 0} (bounds : D → Bounds) (splits : D → List Bound) (tables : D → Option (List PlainView)) (leads : D → Call → D → Type 0) (old : SessionState) (readings : List Reading) (desk desk' : D) (out out' : List ℕ) (new : SessionState) : Type 0 where
   pub answers : List Answer
   pub made : AreAnswersOf leads (splits desk) old.progress.policy desk desk' readings answers
@@ -114,15 +114,16 @@ pub record AnswersAll {D : Type 0} (bounds : D → Bounds) (splits : D → List 
   pub left_is : IsLeftOf old.unwritten answers new.unwritten
   pub ending_is : new.ending ≡ ended_by_any old.ending readings
 
--- Bytes are fed to a session: the statements in the lines that they finish are answered. Nothing is taken after a line that ended the session.
+-- Bytes are fed to a session: it answers the statements in the lines that they finish, and takes nothing after a
+-- line that ends it.
 pub record Feeds {D : Type 0} (bounds : D → Bounds) (splits : D → List Bound) (tables : D → Option (List PlainView)) (leads : D → Call → D → Type 0) (old : SessionState) (bytes : List ℕ) (desk desk' : D) (out out' : List ℕ) (new : SessionState) : Type 0 where
   pub answered : AnswersAll bounds splits tables leads old (fed old.begun bytes) desk desk' out out' new
   pub begun_is : new.begun ≡ unfinished old.begun bytes
   pub last : until_last (fed old.begun bytes) ≡ fed old.begun bytes
   pub none_after : (ending : Ending) → old.ending ≡ Some ending → bytes ≡ []
 
--- why a session stopped with this many bytes left: it wants more, since none is left and all texts are appended; output has too little room for the next
--- text; or a line has ended it, and all texts are appended
+-- why a session stopped with this many bytes left: it wants more, since none is left and all texts are appended; the
+-- output has too little room for the next text; or a line has ended it, and all texts are appended
 abbrev pub StoppedFor : Why → ℕ → List ℕ → SessionState → Type 0
 StoppedFor Wants left out s = (left ≡ 0) × (s.unwritten ≡ []) × (s.ending ≡ None)
 StoppedFor Full left out s = OUTPUT_BYTES < length out + LONGEST_TEXT

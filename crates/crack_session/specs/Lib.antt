@@ -4,7 +4,6 @@ pub mod Feeding
 pub mod Input
 pub mod Leads
 pub mod Lines
-pub mod Plains
 pub mod Queries
 pub mod Readings
 pub mod Rounds

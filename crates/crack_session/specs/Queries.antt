@@ -1,4 +1,4 @@
--- What several partitions reply together to a question about a range.
+-- The joint reply of several partitions to a query over a range.
 use Rattle.std.specs.Prelude.{List}
 use Rattle.crack_core.specs.Asking.{rows_told, sum_told}
 use Rattle.crack_core.specs.declared.asking.Query.{Query}
@@ -8,7 +8,7 @@ use Rattle.crack_session.specs.declared.answer.Answer.TheVariants.{Counted, Summ
 use Rattle.crack_core.specs.declared.turns.PartReply.{PartReply}
 
 -- the joint reply of several partitions: counts and sums are added, and rows are listed one partition after another
-abbrev pub joined : Query → List PartReply → Answer
-joined CountRows replies = Counted (rows_told replies)
-joined SumPayloads replies = Summed (sum_told replies)
-joined SelectRows replies = Listed (rows_told replies) replies
+abbrev pub joint_answer : Query → List PartReply → Answer
+joint_answer CountRows replies = Counted (rows_told replies)
+joint_answer SumPayloads replies = Summed (sum_told replies)
+joint_answer SelectRows replies = Listed (rows_told replies) replies

@@ -21,12 +21,12 @@ pub record IsRound {D W : Type 0} (bounds : D → Bounds) (splits : D → List B
   pub few : length texts ≤ OUTPUT_BYTES
   pub writes : Writes contents texts result writer writer'
 
--- whether a session stopped for another reason than output without room
+-- whether a session stopped for another reason than a full output
 abbrev pub has_stopped : Why → Bool
 has_stopped Full = false
 has_stopped _ = true
 
--- a session that begins
+-- The state of a new session.
 pub record Begins (s : SessionState) : Type 0 where
   pub statements_are : s.progress.statements ≡ 0
   pub short_is : s.progress.first_short ≡ None

@@ -1,4 +1,4 @@
--- What `serve` leaves, whatever its devices are.
+-- The state that `serve` leaves, whatever its devices do.
 use Rattle.std.specs.Prelude.{◌≡◌, ℕ, ◌+◌, ◌-◌, ◌^◌, ◌≤◌, ◌⊎◌, min, Bool, true, List, [], ◌++◌, length, map, take, Option, Some, if◌then◌else◌}
 use Rattle.std.specs.List.{concat, list_any}
 use Rattle.std.specs.Io.KnownBytes.{Appends}
@@ -20,13 +20,14 @@ use Rattle.crack_session.specs.Feeding.{IsLeftOf}
 use Rattle.crack_session.specs.Readings.{statements, is_last}
 use Rattle.crack_session.specs.Sessions.{AreAnswers, first_short, whole_lines}
 
--- These statements are answered in order: each answer is made of just the calls that its statement requires, by the policy in force, and no call is left
--- over. If the rows are known, these are their answers.
+-- These statements are answered in order: the answers are made of exactly the calls of the desk, each under the
+-- policy then in force. If the rows are known, the answers are right for them.
 pub record AreAllAnswered {D : Type 0} (bounds : D → Bounds) (splits : D → List Bound) (tables : D → Option (List PlainView)) (leads : D → Call → D → Type 0) (policy : Policy) (old new : D) (readings : List Reading) (answers : List Answer) : Type 0 where
   pub made : AreAnswersOf leads (splits old) policy old new readings answers
   pub told : (known : List PlainView) → tables old ≡ Some known → (next : List PlainView) × AreAnswers (bounds old) (splits old) known readings answers next × (tables new ≡ Some next)
 
--- A session ended: it read some bytes, which are the reader's if those are known, answered all their statements, and wrote the texts of the answers.
+-- A session ended: it answered all statements of the bytes that it read, which are the reader's if those are known,
+-- and wrote the texts of the answers.
 pub record IsServed {D : Type 0} (bounds : D → Bounds) (splits : D → List Bound) (tables : D → Option (List PlainView)) (leads : D → Call → D → Type 0) (policy : Policy) (old new : D) (known out written : Option (List ℕ)) (end : End) : Type 0 where
   pub bytes : List ℕ
   pub bytes_are : (all : List ℕ) → known ≡ Some all → bytes ≡ all
@@ -37,9 +38,10 @@ pub record IsServed {D : Type 0} (bounds : D → Bounds) (splits : D → List Bo
   pub short_is : end.first_short ≡ first_short answers
   pub written_is : Appends out written (concat (map answer_text answers))
 
--- A session was cut off: it answered the first of the statements of some bytes, which are the reader's if those are known. If the reader failed, these are
--- just the statements in the whole lines of the bytes that were read. The texts of the answers were written up to a place: all if the reader failed. If
--- the writer did, what isn't written is no more than output holds, and what was left of the text of the last answer.
+-- A session was cut off: it answered the first statements of some bytes, which are the reader's if those are known.
+-- If the reader failed, it answered exactly the statements in the whole lines that were read, and wrote all texts of
+-- the answers. If the writer failed, it wrote a prefix of the texts: what is missing is at most what the output
+-- holds, and the rest of the last answer's text.
 pub record IsCutOff {D : Type 0} (bounds : D → Bounds) (splits : D → List Bound) (tables : D → Option (List PlainView)) (leads : D → Call → D → Type 0) (policy : Policy) (old new : D) (known left out written : Option (List ℕ)) (fault : Fault) : Type 0 where
   pub bytes : List ℕ
   pub bytes_are : (all : List ℕ) → known ≡ Some all → bytes ≡ all
@@ -60,7 +62,8 @@ pub record IsCutOff {D : Type 0} (bounds : D → Bounds) (splits : D → List Bo
   pub left_is : IsLeftOf [] answers unwritten
   pub all_sent : fault.refusal ≡ ReadFault → (unsent ≡ []) × (unwritten ≡ [])
 
--- why a session was cut off: its writer failed, or its reader did, or it made the last read that it may, each of which brought a byte
+-- why a session was cut off: its writer failed, its reader failed, or it made as many reads as it may, each of which
+-- brought a byte
 abbrev pub IsCause : Refusal → Bool → Bool → ℕ → ℕ → Option (List ℕ) → Type 0
 IsCause refusal reader_failed writer_failed reads reads' known = ((refusal ≡ WriteFault) × (writer_failed ≡ true))
     ⊎ ((refusal ≡ ReadFault) × ((reader_failed ≡ true)

@@ -19,7 +19,7 @@ abbrev pub first_short : List Answer → Option ℕ
 first_short [] = None
 first_short (answer ∷ answers) = if is_short_answer answer then Some 1 else option_map (λ k. k + 1) (first_short answers)
 
--- the lines that end in a line feed: the bytes up to and including the last one
+-- the whole lines: the bytes up to and including the last line feed
 abbrev pub whole_lines : List ℕ → List ℕ
 whole_lines [] = []
 whole_lines (b ∷ bs) = if list_any (λ c. c == 10) (b ∷ bs) then b ∷ whole_lines bs else []

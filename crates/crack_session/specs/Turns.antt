@@ -1,4 +1,4 @@
--- One read of a session over a reader and a writer, whatever these are.
+-- One read of a session, whatever its reader and writer do.
 use Rattle.std.specs.Prelude.{◌≡◌, ℕ, ◌+◌, ◌-◌, ◌^◌, ◌<◌, ◌≤◌, ◌⊎◌, min, true, List, [], ◌∷◌, length, take, Option, None, Some, Result, Err, OnOk, IfOk, IfErr}
 use Rattle.std.specs.Io.KnownBytes.{Appends, Consumes, IsAtEnd, Keeps}
 use Rattle.crack_row.specs.Devices.{device, has_failed, reads_of}
@@ -16,16 +16,17 @@ use Rattle.crack_session.specs.declared.session.How.TheVariants.{Quit, InputEnde
 use Rattle.crack_session.specs.Calls.{Call}
 use Rattle.crack_session.specs.Feeding.{SessionState, Feeds}
 
--- what a session takes for the bytes of a read: a line feed for none, with which the input has ended
+-- the bytes that a session is fed for a read: a line feed if the read brought none, since the input has ended
 abbrev pub fed_by : List ℕ → List ℕ
 fed_by [] = 10 ∷ []
 fed_by (b ∷ bs) = b ∷ bs
 
--- texts are sent up to a place, and after that no more are lost than fit into output
+-- a prefix of the texts is written, and the rest is no longer than the output
 abbrev pub IsSentFirst : Option (List ℕ) → Option (List ℕ) → List ℕ → Type 0
 IsSentFirst out written texts = (count : ℕ) × Appends out written (take count texts) × (length texts ≤ count + OUTPUT_BYTES)
 
--- A session is fed some of these bytes, and the texts are written; if the writer doesn't fail, it stops so, with so many left.
+-- A session is fed some of these bytes, and the texts are written. If the writer doesn't fail, `Stops` holds of the
+-- result, the number of bytes left and the state.
 pub record Sends {D W X : Type 0} (bounds : D → Bounds) (splits : D → List Bound) (tables : D → Option (List PlainView)) (leads : D → Call → D → Type 0) (contents : W → Option (List ℕ)) (Stops : X → ℕ → SessionState → Type 0) (old : SessionState) (bytes : List ℕ) (result : Result X Refusal) (desk desk' : D) (writer writer' : Watched W) (new : SessionState) : Type 0 where
   pub taken : ℕ
   pub within : taken ≤ length bytes
@@ -36,7 +37,8 @@ pub record Sends {D W X : Type 0} (bounds : D → Bounds) (splits : D → List B
   pub unfailed : OnOk result (has_failed writer' ≡ has_failed writer)
   pub err : IfErr result (λ e. (e ≡ WriteFault) × (has_failed writer' ≡ true) × IsSentFirst (contents (device writer)) (contents (device writer')) texts)
 
--- how a session stopped after a read of these bytes, with this many of those that it is fed left: not yet, with its input, or by a line
+-- how a session stands after a read: it goes on, its input has ended, or a line has ended it; only after such a line
+-- are bytes left
 abbrev pub StopsAs : Option How → List ℕ → ℕ → SessionState → Type 0
 StopsAs None bytes left s = (left ≡ 0) × (s.unwritten ≡ []) × (s.ending ≡ None) × (0 < length bytes)
 StopsAs (Some InputEnded) bytes left s = (left ≡ 0) × (s.unwritten ≡ []) × (s.ending ≡ None) × (bytes ≡ [])
@@ -49,7 +51,7 @@ pub record ReadsOnce {R : Type 0} (remaining : R → Option (List ℕ)) (old new
   pub at_end : bytes ≡ [] → IsAtEnd (remaining (device new))
   pub unfailed : has_failed new ≡ has_failed old
 
--- A session makes one read, and answers what that brings: or the read fails, and nothing is answered.
+-- A session reads once, and answers what the read brings; or the read fails, and nothing is answered.
 pub record IsTurn {D R W : Type 0} (bounds : D → Bounds) (splits : D → List Bound) (tables : D → Option (List PlainView)) (leads : D → Call → D → Type 0) (remaining : R → Option (List ℕ)) (contents : W → Option (List ℕ)) (old : SessionState) (result : Result (Option How) Refusal) (desk desk' : D) (reader reader' : Watched R) (writer writer' : Watched W) (new : SessionState) : Type 0 where
   pub counted : reads_of reader' ≡ min (reads_of reader + 1) (2 ^ 64 - 1)
   pub is : ((bytes : List ℕ) × ReadsOnce remaining reader reader' bytes × Sends bounds splits tables leads contents (λ how left s. StopsAs how bytes left s) old (fed_by bytes) result desk desk' writer writer' new)

@@ -1,4 +1,4 @@
-//! A core as a desk, asked by worker 0.
+//! `Desk` for a core, which executes commands as worker 0.
 ghost use Rattle.std.specs.Prelude.{◌≡◌, ◌+◌, is_ok, IfOk, OnOk, slice_get, if◌then◌else◌};
 ghost use Rattle.crack_plain.specs.Plain.{IsSmall, checkpointed};
 ghost use Rattle.crack_core.specs.Steps.{bounds_of, IsOutcomeAt, IsFoldOutcome, tables_of, tables_after, changed_at};
@@ -8,7 +8,9 @@ ghost use Rattle.crack_session.specs.Calls.{Asked, Checkpointed};
 ghost use Rattle.crack_session.specs.Leads.{core_leads};
 
 use crate::desk::Desk;
+use crack_commands::Traffic;
 use crack_core::{Core, Step};
+use crack_plain::Statistics;
 use crack_row::{Bound, Command, Layout, Policy, Refusal, Reply};
 
 impl Desk for Core {
@@ -47,10 +49,10 @@ impl Desk for Core {
 
     fn checkpoint(&mut self, part: u32) -> Result<u64, Refusal>
         ensures outcome { IsFoldOutcome (slice_get (tables_of self.old.parts) part) result }
-        // It takes no memory, so it is refused with 5 alone.
+        // It takes no memory, so `NoSuchPartition` is the only refusal.
         ensures expected { result ≡ expected_fold (slice_get (tables_of self.old.parts) part) }
         ensures after { tables_of self.new.parts ≡ changed_at checkpointed (tables_of self.old.parts) part result }
-        // A checkpoint of the named partition is made, and nothing else is changed.
+        // The named partition is checkpointed, and nothing else is changed.
         ensures folds { OnOk result (IsFoldedAt part self.old.parts self.new.parts) }
         ensures opened { (self.new.splits ≡ self.old.splits) × (self.new.limits ≡ self.old.limits) }
         ensures accepted { accepted_by self.new.parts ≡ accepted_by self.old.parts }
@@ -61,6 +63,14 @@ impl Desk for Core {
 
     fn layout(&self, part: u32) -> Result<Layout, Refusal> {
         Core::layout(self, part)
+    }
+
+    fn statistics(&self, part: u32) -> Result<Statistics, Refusal> {
+        Core::statistics(self, part)
+    }
+
+    fn service(&self) -> Option<Traffic> {
+        None
     }
 
     fn splits(&self) -> &[Bound] {

@@ -1,12 +1,13 @@
-//! Sessions to which bytes are fed, wherever these come from.
+//! Sessions that are fed bytes, whatever the source of the bytes.
 ghost use Rattle.std.specs.Prelude.{◌≡◌, ℕ, List, ◌+◌, ◌-◌, ◌<◌, ◌≤◌, ◌++◌, [], ◌∷◌, None, Some, Ok, IfSome, IfNone};
 ghost use Rattle.std.specs.Prelude.{IsTrue, false, length, take};
 ghost use Rattle.crack_session.specs.Answers.{IsAnswer, answer_text};
 ghost use Rattle.crack_session.specs.Calls.{IsReadingMadeOf};
 ghost use Rattle.crack_session.specs.Telling.{AsksDesk, of_option};
-ghost use Rattle.crack_session.specs.Lines.{kept_of};
+ghost use Rattle.crack_session.specs.Lines.{cut_line};
 ghost use Rattle.crack_session.specs.Readings.{reading_of, statements, until_last};
-ghost use Rattle.crack_session.specs.Feeding.{AnswersAll, Feeds, StoppedFor, ended_by, fed, noted, unfinished};
+ghost use Rattle.crack_session.specs.Feeding.{AnswersAll, Feeds, StoppedFor, ending_after, fed};
+ghost use Rattle.crack_session.specs.Feeding.{progress_after, unfinished};
 ghost use Rattle.crack_commands.specs.declared.statement.Statement.TheVariants.{Insert};
 ghost use Rattle.crack_commands.specs.Texts.{reply_text};
 ghost use Rattle.crack_session.specs.declared.answer.Answer.TheVariants.{Replied};
@@ -25,8 +26,8 @@ use std::alloc::Global;
 use std::marker::Model;
 use std::mem;
 
-/// A session between two calls that feed it: the line that is unfinished, its policy and counts, and what is left of
-/// a text that didn't fit into output. It takes no memory.
+/// The state of a session between two calls of `feed`: the unfinished line, the policy and counts, and the rest of a
+/// text that didn't fit into the output. It takes no memory.
 #[derive(Drop)]
 pub struct Session {
     begun: ArrayVec<u8, KEPT_BYTES>,
@@ -38,17 +39,17 @@ pub struct Session {
 /// Why a session stopped taking bytes.
 #[derive(Clone, Copy, PartialEq, Eq, Debug)]
 pub enum Why {
-    /// All bytes are taken, and all texts appended: it goes on with more bytes.
+    /// All bytes were taken and all texts appended. The session continues with more bytes.
     Wants,
-    /// Output has too little room: it goes on once output is cleared.
+    /// The output has too little room. The session continues once the output is cleared.
     Full,
-    /// A line was `quit`: it takes no more bytes.
+    /// A line was `quit`. The session takes no more bytes.
     Quit,
-    /// A line was one of an HTTP request, which is refused with 1: it takes no more bytes.
+    /// A line belonged to an HTTP request, and was refused with `BadStatement`. The session takes no more bytes.
     Refused,
 }
 
-/// What feeding did.
+/// The result of `feed`.
 #[derive(Clone, Copy, PartialEq, Eq, Debug)]
 pub struct Fed {
     /// How many of the bytes were taken.
@@ -70,7 +71,7 @@ impl Model for Session {
 }
 
 impl Session {
-    /// A session that begins, with this policy.
+    /// A new session with this policy.
     pub fn new(policy: Policy) -> Session
         ensures progress { result.progress ≡ record { statements = 0; first_short = None; policy = policy } }
         ensures begun { result.begun ≡ [] }
@@ -89,23 +90,24 @@ impl Session {
         }
     }
 
-    /// How many statements were answered; stops at the greatest number.
+    /// How many statements were answered. The count saturates at `u64::MAX`.
     pub fn statements(&self) -> u64
         ensures { result ≡ self.now.progress.statements }
     {
         self.progress.statements
     }
 
-    /// The number, from 1, of the first statement that was refused for lack of room (6, 8, 9 or 10).
+    /// The number, from 1, of the first statement that was refused with `HistoryFull`, `OutOfMemory`, `NoCell` or
+    /// `LifeOver`.
     pub fn first_short(&self) -> Option<u64>
         ensures { result ≡ self.now.progress.first_short }
     {
         self.progress.first_short
     }
 
-    /// Takes bytes as the next ones of its input, answers the statements in the lines that they finish, and appends the
-    /// texts to output. It stops when all are taken, when output has too little room for the next text or for the rest
-    /// of one, or after a line that ends it. An insert, a count or a sum takes no memory but the desk's.
+    /// Takes the next bytes of the input, answers the statements in the lines that they finish, and appends the texts
+    /// to the output. Stops when all bytes are taken, when the output has too little room for the next text or for the
+    /// rest of one, or after a line that ends the session. An insert, a count or a sum takes no memory but the desk's.
     pub fn feed<D: Desk>(
         &mut self,
         alloc: Global,
@@ -113,7 +115,7 @@ impl Session {
         bytes: &[u8],
         out: &mut Output,
     ) -> Fed
-        // The bytes that are taken are fed to it, and to nothing else.
+        // The session is fed the bytes that are taken, and no others.
         ensures feeds { Feeds D.bounds D.splits D.tables D.leads self.old (take result.taken bytes.now) desk.old
             desk.new out.old.items out.new.items self.new }
         ensures within { result.taken ≤ length bytes.now }
@@ -128,7 +130,7 @@ impl Session {
         }
     }
 
-    /// Takes the end of its input: an unfinished line is answered, as if a line feed followed.
+    /// Takes the end of the input: an unfinished line is answered as if a line feed followed.
     pub fn end<D: Desk>(&mut self, alloc: Global, desk: &mut D, out: &mut Output) -> Fed
         ensures feeds { Feeds D.bounds D.splits D.tables D.leads self.old (take result.taken (10 ∷ [])) desk.old
             desk.new out.old.items out.new.items self.new }
@@ -141,7 +143,8 @@ impl Session {
         self.feed(alloc, desk, b"\n", out)
     }
 
-    /// Appends what is left of a text, and returns why no more bytes are taken, if so. This many are left.
+    /// Appends the rest of a text, and returns why the session takes none of the `left` bytes, or `None` if it takes
+    /// some.
     #[inline(always)]
     fn stops(&mut self, left: usize, out: &mut Output) -> Option<Why>
         ensures text { out.new.items ++ self.new.unwritten ≡ out.old.items ++ self.old.unwritten }
@@ -160,7 +163,7 @@ impl Session {
         }
     }
 
-    /// The same where something is left of a text.
+    /// Implements `stops` if there is a rest of a text.
     #[inline(never)]
     fn stops_within(&mut self, left: usize, out: &mut Output) -> Option<Why>
         ensures text { out.new.items ++ self.new.unwritten ≡ out.old.items ++ self.old.unwritten }
@@ -179,7 +182,7 @@ impl Session {
         }
     }
 
-    /// Why no more bytes are taken, if so, where nothing is left of a text.
+    /// Implements `stops` if there is no rest of a text.
     #[inline(always)]
     fn stops_between(&self, left: usize, out: &Output) -> Option<Why>
         requires { self.now.unwritten ≡ [] }
@@ -203,7 +206,7 @@ impl Session {
         }
     }
 
-    /// Appends what is left of a text as far as there is room, and returns whether nothing is left then.
+    /// Appends as much of the rest of a text as there is room for, and returns whether nothing is left.
     fn append_rest(&mut self, out: &mut Output) -> bool
         ensures text { out.new.items ++ self.new.unwritten ≡ out.old.items ++ self.old.unwritten }
         ensures grows { length out.old.items ≤ length out.new.items }
@@ -216,8 +219,8 @@ impl Session {
         self.rest.is_nothing()
     }
 
-    /// Takes the bytes of the next line, or all bytes if they don't finish one, and returns how many. An insert in the
-    /// usual form is read before the end of its line is searched for.
+    /// Takes the bytes of the next line, or all bytes if they don't finish a line, and returns how many it took. An
+    /// insert in the usual form is parsed before the end of its line is searched for.
     #[inline(always)]
     fn take_line<D: Desk>(
         &mut self,
@@ -243,7 +246,7 @@ impl Session {
         self.take_any_line(alloc, desk, bytes, out)
     }
 
-    /// The same for any line.
+    /// Implements `take_line` for any line.
     #[inline(never)]
     fn take_any_line<D: Desk>(
         &mut self,
@@ -270,16 +273,16 @@ impl Session {
         place + 1
     }
 
-    /// Adds bytes to the line that is unfinished, as far as it is kept.
+    /// Appends bytes to the unfinished line, up to `KEPT_BYTES` in total.
     fn keep(&mut self, bytes: &[u8])
         ensures few { length self.old.begun ≤ KEPT_BYTES }
-        ensures kept { self.new ≡ record self.old { begun = kept_of (self.old.begun ++ bytes.now) } }
+        ensures kept { self.new ≡ record self.old { begun = cut_line (self.old.begun ++ bytes.now) } }
     {
         let room = KEPT_BYTES - self.begun.len();
         push(&mut self.begun, &bytes[..bytes.len().min(room)]);
     }
 
-    /// The meaning of the line that is unfinished, with this rest.
+    /// Finishes the unfinished line with these bytes, and parses it.
     fn finish(&mut self, rest: &[u8]) -> Option<Result<Statement, Refusal>>
         ensures few { length self.old.begun ≤ KEPT_BYTES }
         ensures reading { result ≡ reading_of (self.old.begun ++ rest.now) }
@@ -294,7 +297,7 @@ impl Session {
         reading
     }
 
-    /// Answers the meaning of a line, unless it is blank.
+    /// Answers a parsed line, unless it is blank.
     fn respond<D: Desk>(
         &mut self,
         alloc: Global,
@@ -318,8 +321,8 @@ impl Session {
         }
     }
 
-    /// Answers an insert, the most frequent statement: the desk is asked in place, with a command that is known to be
-    /// an insert, and the reply is appended without becoming an `Answer`.
+    /// Answers an insert, the most frequent statement. The call of the desk is inlined with a command that is known
+    /// to be an insert, and the reply is appended without becoming an `Answer`.
     #[inline(always)]
     fn answer_insert<D: Desk>(&mut self, desk: &mut D, key: Key, payload: Payload, out: &mut Output)
         requires written { self.old.unwritten ≡ [] }
@@ -335,38 +338,38 @@ impl Session {
         }
     }
 
-    /// Notes a reply, which is no lack of room and sets no policy, and appends its text.
+    /// Counts a reply, which is no lack of room and sets no policy, and appends its text.
     #[inline(always)]
     fn tell_reply(&mut self, part: u32, reply: Reply, out: &mut Output)
         requires { length out.old.items + LONGEST_TEXT ≤ OUTPUT_BYTES }
         ensures text { out.new.items ++ self.new.unwritten ≡ out.old.items ++ reply_text part reply }
         ensures grows { length out.old.items ≤ length out.new.items }
-        ensures noted { self.new.progress ≡ noted self.old.progress (Replied part reply) }
+        ensures noted { self.new.progress ≡ progress_after self.old.progress (Replied part reply) }
         ensures same { (self.new.begun ≡ self.old.begun) × (self.new.ending ≡ self.old.ending) }
     {
         self.progress.statements = self.progress.statements.saturating_add(1);
         self.rest = append_reply(part, reply, out);
     }
 
-    /// Notes a refusal, and appends its text. It is a separate function, so that no room for an answer is cleared when
+    /// Counts a refusal, and appends its text. A separate function, so that no space for an `Answer` is cleared when
     /// a reply is appended.
     #[inline(never)]
     fn tell_refusal(&mut self, refusal: Refusal, out: &mut Output)
         requires { length out.old.items + LONGEST_TEXT ≤ OUTPUT_BYTES }
         ensures text { out.new.items ++ self.new.unwritten ≡ out.old.items ++ answer_text (Answer.Refused refusal) }
         ensures grows { length out.old.items ≤ length out.new.items }
-        ensures noted { self.new.progress ≡ noted self.old.progress (Answer.Refused refusal) }
+        ensures noted { self.new.progress ≡ progress_after self.old.progress (Answer.Refused refusal) }
         ensures same { (self.new.begun ≡ self.old.begun) × (self.new.ending ≡ self.old.ending) }
     {
         self.tell(Answer::Refused(refusal), out);
     }
 
-    /// Notes an answer, and appends the beginning of its text.
+    /// Records an answer in the session's progress, and appends the beginning of its text.
     fn tell(&mut self, answer: Answer, out: &mut Output)
         requires { length out.old.items + LONGEST_TEXT ≤ OUTPUT_BYTES }
         ensures text { out.new.items ++ self.new.unwritten ≡ out.old.items ++ answer_text answer }
         ensures grows { length out.old.items ≤ length out.new.items }
-        ensures noted { self.new.progress ≡ noted self.old.progress answer }
+        ensures noted { self.new.progress ≡ progress_after self.old.progress answer }
         ensures same { (self.new.begun ≡ self.old.begun) × (self.new.ending ≡ self.old.ending) }
     {
         note(&mut self.progress, &answer);
@@ -374,9 +377,9 @@ impl Session {
     }
 }
 
-/// Notes another policy, and the first lack of room, and counts an answer.
+/// Counts an answer, and records a new policy and the first refusal for lack of room.
 fn note(progress: &mut Progress, answer: &Answer)
-    ensures { progress.new ≡ noted progress.old answer.now }
+    ensures { progress.new ≡ progress_after progress.old answer.now }
 {
     progress.statements = progress.statements.saturating_add(1);
     if let Answer::Set(policy) = answer {
@@ -387,9 +390,9 @@ fn note(progress: &mut Progress, answer: &Answer)
     }
 }
 
-/// How a session is ended by a statement, or as before.
+/// How a statement ends the session, or `ending` if it doesn't.
 fn ended_by(ending: Option<Ending>, reading: &Result<Statement, Refusal>) -> Option<Ending>
-    ensures { result ≡ ended_by ending reading.now }
+    ensures { result ≡ ending_after ending reading.now }
 {
     match reading {
         Ok(Statement::End(last)) => Some(*last),
@@ -397,7 +400,7 @@ fn ended_by(ending: Option<Ending>, reading: &Result<Statement, Refusal>) -> Opt
     }
 }
 
-/// The answer to a statement, or to a line that is none.
+/// Answers a parsed line: a statement, or the refusal of a line that is none.
 fn answer_reading<D: Desk>(
     alloc: Global,
     desk: &mut D,

@@ -4,14 +4,13 @@ ghost use Rattle.crack_session.specs.Input.{has_feed, first_line, after_line};
 
 use memchr::memchr;
 
-/// How many bytes are read at a time, at most.
+/// The greatest number of bytes in one read.
 pub const READ_BYTES: usize = 4096;
 
-/// How many bytes of a line are kept while the rest of it is read: one that has more is too long,
-/// whatever the rest is.
+/// How many bytes of an unfinished line are kept. A line with more bytes is too long, whatever follows.
 pub const KEPT_BYTES: usize = 202;
 
-/// The place of the first line feed, or the length.
+/// The index of the first line feed, or the length.
 pub fn feed_at(bytes: &[u8]) -> usize
     ensures within { result ≤ length bytes.now }
     ensures front { take result bytes.now ≡ first_line bytes.now }

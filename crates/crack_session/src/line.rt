@@ -1,4 +1,4 @@
-//! The reading of a line.
+//! Parsing a line.
 ghost use Rattle.std.specs.Prelude.{◌≡◌, ◌==◌};
 ghost use Rattle.std.specs.List.{list_all};
 ghost use Rattle.crack_session.specs.Lines.{without_return};
@@ -8,9 +8,10 @@ use crate::LINE_BYTES;
 use crack_commands::{Statement, parse_long, parse_statement};
 use crack_row::Refusal;
 
-/// The meaning of a line, unless it is blank: a statement, or why it isn't one. Refused with 2 if the ends of a range
-/// are out of order or too great, else with 1. A line that is too long is read by its front alone: it ends the session
-/// if it is one of an HTTP request. Takes no memory.
+/// Parses a line: returns its statement or why it isn't one, or `None` if it is blank. Refused with `BadRange` if
+/// the ends of a range are out of order or too great, else with `BadStatement`. Of a line that is too long only the
+/// first `LINE_BYTES` bytes are parsed: it ends the session if it belongs to an HTTP request, and is no statement
+/// otherwise. Takes no memory.
 #[tactic(auto, unfolding(crate::specs::Readings::reading_of))]
 #[inline(always)]
 pub fn read_line(line: &[u8]) -> Option<Result<Statement, Refusal>>
@@ -46,7 +47,7 @@ fn without_return(line: &[u8]) -> &[u8]
     }
 }
 
-/// Whether a line has only spaces, or nothing.
+/// Whether a line is empty or has only spaces.
 fn is_blank(line: &[u8]) -> bool
     ensures { result ≡ list_all (λ b. b == 32) line.now }
 {

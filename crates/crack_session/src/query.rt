@@ -1,13 +1,13 @@
-//! What several partitions reply to a question about a range.
+//! The joint reply of several partitions to a query over a range.
 ghost use Rattle.std.specs.Prelude.{◌≡◌, ◌≤◌, All, length};
 ghost use Rattle.crack_plain.specs.Plain.{IsSmall};
-ghost use Rattle.crack_session.specs.Queries.{joined};
+ghost use Rattle.crack_session.specs.Queries.{joint_answer};
 
 use crate::answer::Answer;
 use crack_core::{PartReply, Query, rows_told, sum_told};
 use std::marker::Model;
 
-/// The replies of several partitions, in the order in which they were asked. Contracts see a list.
+/// The replies of several partitions, in the order of the queries. Contracts see a list.
 #[derive(Drop)]
 pub struct ReplyList {
     replies: Vec<PartReply>,
@@ -23,14 +23,14 @@ impl Model for ReplyList {
 }
 
 impl ReplyList {
-    /// The replies of a vector. Takes no memory.
+    /// Wraps a vector of replies. Takes no memory.
     pub fn from_vec(replies: Vec<PartReply>) -> ReplyList
         ensures { result ≡ replies.items }
     {
         ReplyList { replies }
     }
 
-    /// The replies, to read.
+    /// The replies as a slice.
     pub fn as_slice(&self) -> &[PartReply]
         ensures { result.now ≡ self.now }
     {
@@ -38,11 +38,11 @@ impl ReplyList {
     }
 }
 
-/// The joint answer of replies: counts and sums are added, and rows are listed one partition after another.
+/// Joins the replies of several partitions: counts and sums are added, and rows are listed one partition after another.
 pub fn joined(query: Query, replies: Vec<PartReply>) -> Answer
     requires small { All (λ (r : PartReply). IsSmall r.reply) replies.items }
     requires few { length replies.items ≤ 64 }
-    ensures { result ≡ joined query replies.items }
+    ensures { result ≡ joint_answer query replies.items }
 {
     match query {
         Query::CountRows => Answer::Counted(rows_told(replies.as_slice())),

@@ -1,4 +1,4 @@
-//! The texts of answers, appended to output as far as there is room.
+//! Appending the texts of answers to the output as far as there is room.
 ghost use Rattle.std.specs.Prelude.{◌≡◌, ◌+◌, ◌<◌, ◌≤◌, ◌++◌, ◌↔◌, IsTrue, false, length, drop};
 ghost use Rattle.std.specs.List.{flat_map};
 ghost use Rattle.crack_commands.specs.Texts.{row_text, piece_text, reply_text};
@@ -11,39 +11,39 @@ use crate::query::ReplyList;
 use arrayvec::ArrayVec;
 use crack_commands::{
     LONGEST_TEXT, TEXT_BYTES, policy_line, push, push_count, push_folded, push_gone, push_head,
-    push_layout_head, push_piece, push_placed, push_refusal, push_row, push_sum,
+    push_layout_head, push_numbers, push_piece, push_placed, push_refusal, push_row, push_sum,
 };
 use crack_core::PartReply;
 use crack_row::{Layout, PieceSize, Reply, Row, RowList};
 
-/// Texts on their way to a device: bytes with a bound, for which there is room from the start.
+/// A buffer of fixed size for texts that are to be written to a device.
 pub type Output = ArrayVec<u8, OUTPUT_BYTES>;
 
-/// What is left of an answer's text: the lines of rows or pieces from a place on.
+/// The rest of an answer's text: the lines of rows or pieces that aren't appended yet.
 #[derive(Drop)]
 pub enum Rest {
     /// Nothing.
     Nothing,
-    /// The rows of a partition, from one of them on.
+    /// The rows of one partition, from index `at` on.
     Rows {
         part: u32,
         rows: RowList,
         at: usize,
     },
-    /// The rows of several partitions, from one of these and one of its rows on.
+    /// The rows of several partitions, from the row `at` of the list `list` on.
     Lists {
         lists: ReplyList,
         list: usize,
         at: usize,
     },
-    /// The pieces of a layout, from one of them on.
+    /// The pieces of a layout, from index `at` on.
     Pieces {
         layout: Layout,
         at: usize,
     },
 }
 
-/// Whether there is room for this many more bytes.
+/// Whether there is room for `count` more bytes.
 #[inline(always)]
 pub fn has_room(out: &Output, count: usize) -> bool
     requires { count ≤ OUTPUT_BYTES }
@@ -61,7 +61,7 @@ impl Rest {
         matches!(self, Rest::Nothing)
     }
 
-    /// Appends as much as there is room for, and returns what is left then. Takes no memory.
+    /// Appends as much as there is room for, and returns the rest. Takes no memory.
     pub fn append(self, out: &mut Output) -> Rest
         ensures text { out.new.items ++ rest_text result ≡ out.old.items ++ rest_text self }
         ensures grows { length out.old.items ≤ length out.new.items }
@@ -76,7 +76,7 @@ impl Rest {
     }
 }
 
-/// Appends the lines of rows from one of them on.
+/// Appends the lines of rows from index `at` on, and returns the rest.
 fn append_rows(part: u32, rows: RowList, at: usize, out: &mut Output) -> Rest
     ensures text { out.new.items ++ rest_text result ≡ out.old.items ++ flat_map (row_text part) (drop at rows) }
     ensures grows { length out.old.items ≤ length out.new.items }
@@ -90,7 +90,7 @@ fn append_rows(part: u32, rows: RowList, at: usize, out: &mut Output) -> Rest
     }
 }
 
-/// Appends the lines of several partitions' rows, from one of these and one of its rows on.
+/// Appends the lines of several partitions' rows, from the row `at` of the list `list` on, and returns the rest.
 fn append_lists(lists: ReplyList, list: usize, at: usize, out: &mut Output) -> Rest
     ensures text { out.new.items ++ rest_text result ≡ out.old.items ++ lists_from (drop list lists) at }
     ensures grows { length out.old.items ≤ length out.new.items }
@@ -104,7 +104,7 @@ fn append_lists(lists: ReplyList, list: usize, at: usize, out: &mut Output) -> R
     }
 }
 
-/// Appends the lines of pieces from one of them on.
+/// Appends the lines of pieces from index `at` on, and returns the rest.
 fn append_pieces(layout: Layout, at: usize, out: &mut Output) -> Rest
     ensures text { out.new.items ++ rest_text result ≡ out.old.items ++ flat_map piece_text (drop at layout.pieces) }
     ensures grows { length out.old.items ≤ length out.new.items }
@@ -118,8 +118,8 @@ fn append_pieces(layout: Layout, at: usize, out: &mut Output) -> Rest
     }
 }
 
-/// Appends the lines of rows from one of them on, while there is room, and returns the place of the first that isn't
-/// appended.
+/// Appends the lines of rows from index `at` on while there is room, and returns the index of the first row that
+/// isn't appended.
 fn push_rows(part: u32, rows: &[Row], at: usize, out: &mut Output) -> usize
     ensures text { out.new.items ++ flat_map (row_text part) (drop result rows.now) ≡
         out.old.items ++ flat_map (row_text part) (drop at rows.now) }
@@ -134,8 +134,8 @@ fn push_rows(part: u32, rows: &[Row], at: usize, out: &mut Output) -> usize
     next
 }
 
-/// Appends the rows of several partitions, from one of these and one of its rows on, while there is room, and returns
-/// the place of the first that isn't appended.
+/// Appends the lines of several partitions' rows, from the row `at` of the list `list` on, while there is room, and
+/// returns the list and row of the first that isn't appended.
 fn push_lists(lists: &[PartReply], list: usize, at: usize, out: &mut Output) -> (usize, usize)
     ensures text { out.new.items ++ lists_from (drop result.0 lists.now) result.1 ≡
         out.old.items ++ lists_from (drop list lists.now) at }
@@ -156,8 +156,8 @@ fn push_lists(lists: &[PartReply], list: usize, at: usize, out: &mut Output) -> 
     (list, at)
 }
 
-/// Appends the lines of pieces from one of them on, while there is room, and returns the place of the first that isn't
-/// appended.
+/// Appends the lines of pieces from index `at` on while there is room, and returns the index of the first piece that
+/// isn't appended.
 fn push_pieces(pieces: &[PieceSize], at: usize, out: &mut Output) -> usize
     ensures text { out.new.items ++ flat_map piece_text (drop result pieces.now) ≡
         out.old.items ++ flat_map piece_text (drop at pieces.now) }
@@ -172,8 +172,8 @@ fn push_pieces(pieces: &[PieceSize], at: usize, out: &mut Output) -> usize
     next
 }
 
-/// Appends the beginning of an answer's text, all of it unless it has rows or pieces, and returns what is left. Takes
-/// no memory.
+/// Appends the beginning of an answer's text, and returns the rest: the lines of its rows or pieces, if it has any.
+/// Takes no memory.
 #[tactic(auto, unfolding(crate::specs::Answers::answer_text))]
 pub fn append_answer(answer: Answer, out: &mut Output) -> Rest
     requires { length out.old.items + LONGEST_TEXT ≤ OUTPUT_BYTES }
@@ -194,6 +194,10 @@ pub fn append_answer(answer: Answer, out: &mut Output) -> Rest
         Answer::Counted(total) => push_count(out, total),
         Answer::Summed(total) => push_sum(out, total),
         Answer::Folded(count) => push_folded(out, count),
+        Answer::Numbers {
+            statistics,
+            traffic,
+        } => push_numbers(out, &statistics, traffic),
         Answer::Set(policy) => {
             push(out, policy_line(policy));
             push(out, b"\n");
@@ -205,7 +209,7 @@ pub fn append_answer(answer: Answer, out: &mut Output) -> Rest
     Rest::Nothing
 }
 
-/// Appends the beginning of a reply's text, all of it unless it has rows, and returns what is left.
+/// Appends the beginning of a reply's text, and returns the rest: the lines of its rows, if it has any.
 #[inline(always)]
 pub fn append_reply(part: u32, reply: Reply, out: &mut Output) -> Rest
     requires { length out.old.items + LONGEST_TEXT ≤ OUTPUT_BYTES }

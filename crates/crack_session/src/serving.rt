@@ -19,12 +19,12 @@ use crack_row::{Policy, Refusal, Watched};
 use std::alloc::Global;
 use std::io::{Read, Write};
 
-/// Answers the statements of a reader, each whole line before it reads again, until its input ends, a statement is
-/// `quit`, or a line is one of an HTTP request, which is refused with 1; what was read beyond that is dropped. The desk
-/// is asked by `policy` until a statement names another. The texts are written once a read is answered, or output is
-/// full, and flushed before each read and at the end: if those of one read fit into output, there is one write for each
-/// read. Takes only the memory that the desk takes, and that for the replies of several partitions to one statement;
-/// none for a line, so it is never cut off by 8.
+/// Answers the statements of a reader, each whole line before the next read, until the input ends or a line ends the
+/// session: the statement `quit`, or a line of an HTTP request, which is refused with `BadStatement`. What was read
+/// beyond that line is dropped. Commands use `policy` until a statement sets another. Texts are written when a read
+/// is answered or the output is full, and flushed before each read and at the end: if the texts of one read fit into
+/// the output, there is one write for each read. Takes the memory that the desk takes, and memory for the replies of
+/// several partitions to one statement, but none for a line, so it is never cut off with `OutOfMemory`.
 pub fn serve<D: Desk, R: Read, W: Write>(
     alloc: Global,
     desk: &mut D,
@@ -32,24 +32,24 @@ pub fn serve<D: Desk, R: Read, W: Write>(
     reader: &mut Watched<R>,
     writer: &mut Watched<W>,
 ) -> Result<End, Fault>
-    // Whatever the devices do, the desk was asked just what the statements of some bytes require, and the texts of the
-    // answers were written. If the reader's bytes are known, these are they; if the writer's are, the texts follow
-    // them.
+    // Whatever the devices do, the desk executed exactly what the statements of some bytes require, and the texts of
+    // the answers were written. If the reader's bytes are known, they are these bytes; if the writer's contents are
+    // known, the texts follow them.
     ensures ends { IfOk result (λ end. IsServed D.bounds D.splits D.tables D.leads policy desk.old desk.new
         (R.remaining (device reader.old)) (W.contents (device writer.old)) (W.contents (device writer.new)) end) }
-    // If it is cut off, the first of the statements were answered, as many as it returns, and what was written is a
-    // prefix of the texts: all if the reader failed, and otherwise all but what output holds and the rest of one text.
+    // If the session is cut off, the first `done` statements were answered, and a prefix of their texts was written:
+    // all if the reader failed, and otherwise all but what the output holds and the rest of one text.
     ensures cut_off { IfErr result (λ fault. IsCutOff D.bounds D.splits D.tables D.leads policy desk.old desk.new
         (R.remaining (device reader.old)) (R.remaining (device reader.new)) (W.contents (device writer.old))
         (W.contents (device writer.new)) fault) }
-    // In any case the desk's bounds and splits are unchanged, so another session, or an export, over it continues from
-    // there.
+    // In any case the desk's bounds and splits are unchanged, so that another session or an export can continue with
+    // it.
     ensures splits { D.splits desk.new ≡ D.splits desk.old }
     ensures bounds { D.bounds desk.new ≡ D.bounds desk.old }
-    // If it isn't cut off, no device has failed.
+    // If the session isn't cut off, no device has failed.
     ensures unfailed { OnOk result ((has_failed reader.new ≡ has_failed reader.old)
         × (has_failed writer.new ≡ has_failed writer.old)) }
-    // It is cut off only if a device failed, or after the last read that it may make, each of which brought a byte.
+    // The session is cut off only if a device failed, or after `MOST_READS` reads, each of which brought a byte.
     ensures causes { IfErr result (λ fault. IsCause fault.refusal (has_failed reader.new) (has_failed writer.new)
         (reads_of reader.old) (reads_of reader.new) (R.remaining (device reader.old))) }
 {
@@ -68,7 +68,7 @@ pub fn serve<D: Desk, R: Read, W: Write>(
     }
 }
 
-/// The reads of a session that begins.
+/// Makes the reads of a new session.
 fn serve_reads<D: Desk, R: Read, W: Write>(
     alloc: Global,
     desk: &mut D,
@@ -115,10 +115,10 @@ fn serve_reads<D: Desk, R: Read, W: Write>(
     Err(Refusal::ReadFault)
 }
 
-/// Reads once, answers what that brings, writes the texts and flushes. At the end of the input an unfinished line is
-/// answered. Returns how the session ended, if it did. Output is empty before and after. Whatever the devices do, the
-/// session is fed just the bytes that were read, and the texts that it appends are written. If the writer fails, they
-/// are written up to a place, and no more are lost than fit into output.
+/// Reads once, answers the bytes, writes the texts and flushes. At the end of the input an unfinished line is
+/// answered. Returns how the session ended, if it did. The output is empty before and after. Whatever the devices
+/// do, the session is fed only bytes that were read, and the texts that it appends are written. If the writer fails,
+/// a prefix of the texts is written, and no more is lost than fits into the output.
 pub fn serve_read<D: Desk, R: Read, W: Write>(
     alloc: Global,
     desk: &mut D,
@@ -140,7 +140,7 @@ pub fn serve_read<D: Desk, R: Read, W: Write>(
     }
 }
 
-/// Reads as many bytes as there are and is room for, and returns how many: none only at the end of the input.
+/// Reads as many bytes as are available and fit, and returns how many. Returns 0 only at the end of the input.
 fn read_some<R: Read>(
     reader: &mut Watched<R>,
     room: &mut [u8; READ_BYTES],
@@ -181,7 +181,7 @@ fn serve_bytes<D: Desk, W: Write>(
     }
 }
 
-/// What a session takes for the bytes of a read: a line feed for none, with which the input has ended.
+/// The bytes that the session is fed for a read: a line feed if the read brought none, since the input has ended.
 #[inline(always)]
 fn fed_by(bytes: &[u8]) -> &[u8]
     ensures { result.now ≡ fed_by bytes.now }
@@ -189,7 +189,7 @@ fn fed_by(bytes: &[u8]) -> &[u8]
     if bytes.is_empty() { b"\n" } else { bytes }
 }
 
-/// How a session ended that stopped so after a read of these bytes, if it did.
+/// How the session ended, if it did, when it stopped for this reason after a read of these bytes.
 fn how_after(why: Why, bytes: &[u8]) -> Option<How>
     ensures { (left : ℕ) → (s : SessionState) → StoppedFor why left [] s → StopsAs result bytes.now left s }
 {
@@ -237,7 +237,7 @@ fn feed_all<D: Desk, W: Write>(
     }
 }
 
-/// Whether a session stopped for another reason than output without room.
+/// Whether a session stopped for another reason than a full output.
 #[inline(always)]
 fn has_stopped(why: Why) -> bool
     ensures { result ≡ has_stopped why }
@@ -245,7 +245,7 @@ fn has_stopped(why: Why) -> bool
     !matches!(why, Why::Full)
 }
 
-/// Writes what is left of a text.
+/// Writes the rest of a text.
 #[inline(never)]
 fn feed_rest<D: Desk, W: Write>(
     alloc: Global,
@@ -270,7 +270,7 @@ fn feed_rest<D: Desk, W: Write>(
     }
 }
 
-/// Feeds bytes to a session until output is full, it wants more bytes or has ended, and writes the texts.
+/// Feeds bytes to a session until the output is full or the session wants more or has ended, and writes the texts.
 fn feed_once<D: Desk, W: Write>(
     alloc: Global,
     desk: &mut D,

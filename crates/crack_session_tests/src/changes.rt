@@ -1,14 +1,14 @@
-//! What partitions answer and keep: refusals, rows that are deleted, changed, added up and listed, the layout after a
-//! merge, and cells that run out, for which doomed rows are taken out if upkeep is automatic.
+//! What partitions reply and count: refusals, deletes, updates, sums and lists, the layout after a merge, and cells
+//! that run out, which automatic upkeep frees.
 use crate::part::{ALL, Case, assert_case};
 use crack_row::{GREATEST_CELLS, GREATEST_LIMIT, Upkeep};
 use std::alloc::Global;
 use std::process::Abort;
 
-/// Answers that are kept, and refusals.
+/// Replies that are counted, and refusals.
 const ANSWERS: &[Case] = &[
     Case {
-        name: "partition answers and keeps",
+        name: "partition answers and counts",
         keys: ALL,
         limit: GREATEST_LIMIT,
         script: &[
@@ -17,9 +17,9 @@ const ANSWERS: &[Case] = &[
         ],
         accepted: 2,
     },
-    // A read is also kept, even one that can't find a row.
+    // A read is counted, too, even if its range has no key.
     Case {
-        name: "partition keeps a count of no key",
+        name: "partition accepts a count of no key",
         keys: ALL,
         limit: 1,
         script: &[("count 5 5", "count 0")],
@@ -49,9 +49,9 @@ const ANSWERS: &[Case] = &[
     },
 ];
 
-/// A row that is deleted or updated, and payloads.
+/// Deletes and updates of a row, and sums of payloads.
 const CHANGES: &[Case] = &[
-    // A pending row is removed immediately; a delete that finds no row is kept.
+    // A pending insertion is deleted immediately. A delete that finds no row is counted.
     Case {
         name: "a row is deleted twice",
         keys: ALL,
@@ -68,7 +68,7 @@ const CHANGES: &[Case] = &[
         ],
         accepted: 3,
     },
-    // A pending row is written in place, one of the column again: it keeps its serial.
+    // An update changes a pending insertion in place, and makes a row of the column pending, with the same serial.
     Case {
         name: "a row is updated twice",
         keys: ALL,
@@ -87,6 +87,13 @@ const CHANGES: &[Case] = &[
                 "layout 0",
                 "layout 0 rows 1 column 1 out 1 in 1 cells 2 free 0 pieces 1\npiece 0 18446744073709551616 1",
             ),
+            (
+                "stats",
+                concat!(
+                    "stats 8\nrows 1\npending_insertions 1\npending_deletions 1\npieces 1\ncells 2\n",
+                    "free_cells 0\ncommands_accepted 4\ncommands_since_checkpoint 4"
+                ),
+            ),
             ("select 0 18446744073709551616", "rows 1\n0.0 8 8"),
             (
                 "layout 0",
@@ -95,7 +102,7 @@ const CHANGES: &[Case] = &[
         ],
         accepted: 5,
     },
-    // An update's key is tested before its row is looked up; one that finds no row is kept.
+    // An update's key is tested before its row is looked up. An update that finds no row is counted.
     Case {
         name: "an update of no row",
         keys: [0, 100],
@@ -107,7 +114,7 @@ const CHANGES: &[Case] = &[
         ],
         accepted: 1,
     },
-    // The payloads of two rows of three, and of no key.
+    // The payloads of two rows of three, and of an empty range.
     Case {
         name: "payloads are added up",
         keys: ALL,
@@ -125,7 +132,7 @@ const CHANGES: &[Case] = &[
     },
 ];
 
-/// Rows that are taken out of the column.
+/// Pending deletions that are merged: rows are taken out of the column.
 const PULLS: &[Case] = &[
     Case {
         name: "a pull through two bounds",
@@ -148,7 +155,7 @@ const PULLS: &[Case] = &[
         ],
         accepted: 7,
     },
-    // The doomed row that is carried on stays doomed.
+    // A row with a pending deletion that is moved keeps the pending deletion.
     Case {
         name: "a gradual pull past a doomed row",
         keys: ALL,
@@ -196,9 +203,9 @@ const PULLS: &[Case] = &[
     },
 ];
 
-/// Rows that a gradual merge puts in.
+/// Pending insertions that a gradual merge inserts into the column.
 const MERGES: &[Case] = &[
-    // A doomed row that is in the way is buried, and its cell is used again.
+    // A row in the way that has a pending deletion is taken out, and its cell is used again.
     Case {
         name: "a doomed row in the way",
         keys: ALL,
@@ -227,7 +234,7 @@ const MERGES: &[Case] = &[
         ],
         accepted: 9,
     },
-    // The rows outside the range stay pending.
+    // Pending insertions outside the range stay pending.
     Case {
         name: "a gradual merge",
         keys: ALL,
@@ -252,7 +259,7 @@ const MERGES: &[Case] = &[
     },
 ];
 
-/// Rows are pending until a count needs one of them; then all are merged, and no row is missing on the way.
+/// Rows are pending until a count needs one of them. Then all are merged, and none is missing in between.
 const IN_TURN: &[Case] = &[Case {
     name: "partition cracks and merges",
     keys: ALL,
@@ -289,7 +296,7 @@ const IN_TURN: &[Case] = &[Case {
     accepted: 9,
 }];
 
-/// Two of three rows of the column are doomed, and each of the three cells is taken.
+/// Two of three rows of the column have pending deletions, and no cell is free.
 const DOOMED_ROWS_WAIT: Case = Case {
     name: "partition frees no cell unasked",
     keys: ALL,
@@ -311,7 +318,7 @@ const DOOMED_ROWS_WAIT: Case = Case {
     accepted: 6,
 };
 
-/// Rows are inserted after this until no cell is left: before the first one the doomed rows are taken out.
+/// Rows are inserted until no cell is left. Before the first insert, the rows with pending deletions are taken out.
 const DOOMED_ROWS_GO: Case = Case {
     name: "partition that frees cells",
     keys: ALL,
@@ -336,7 +343,7 @@ const DOOMED_ROWS_GO: Case = Case {
     accepted: 9,
 };
 
-/// Asserts the answers of partitions of as many cells as they may have, with upkeep on request.
+/// Asserts the replies of partitions with the greatest number of cells, and upkeep on request.
 fn assert_cases(rt: &impl Abort, alloc: Global, cases: &'static [Case]) {
     'cases: for place in 0..cases.len() {
         assert_case(rt, alloc, cases[place], GREATEST_CELLS, Upkeep::OnRequest);
@@ -344,7 +351,7 @@ fn assert_cases(rt: &impl Abort, alloc: Global, cases: &'static [Case]) {
 }
 
 #[test]
-fn partitions_answer_and_keep(rt: HostRuntime) {
+fn partitions_answer_and_count(rt: HostRuntime) {
     assert_cases(&rt, rt.alloc(), ANSWERS);
 }
 
@@ -368,13 +375,13 @@ fn rows_are_merged_by_policies_in_turn(rt: HostRuntime) {
     assert_cases(&rt, rt.alloc(), IN_TURN);
 }
 
-/// Without upkeep the doomed rows wait for a range.
+/// Without automatic upkeep, pending deletions wait for a range.
 #[test]
 fn partition_frees_no_cell_unasked(rt: HostRuntime) {
     assert_case(&rt, rt.alloc(), DOOMED_ROWS_WAIT, 3, Upkeep::OnRequest);
 }
 
-/// Holds whichever one of its allocations is refused, so it may be run with each of them refused in turn.
+/// Holds whichever of its allocations is refused, so it can be run with each of them refused in turn.
 #[test]
 fn sweep_partition_that_frees_cells(rt: HostRuntime) {
     assert_case(&rt, rt.alloc(), DOOMED_ROWS_GO, 3, Upkeep::Automatic);

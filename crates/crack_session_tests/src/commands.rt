@@ -1,4 +1,4 @@
-//! The texts of the greatest numbers and the least, a layout's among them, and writers that fail within one.
+//! Texts with the greatest and least numbers, also of a layout, and writers that fail within a text.
 use crack_commands::{write_head, write_layout, write_reply, write_row};
 use crack_failing::Sink;
 use crack_row::{
@@ -9,7 +9,7 @@ use std::alloc::Global;
 use std::io::Write;
 use std::process::Abort;
 
-/// The row of the greatest serial and key, with this payload.
+/// A row with the greatest serial and key, and this payload.
 fn greatest_row(payload: PayloadNumber) -> Row {
     Row {
         serial: Serial(u64::MAX),
@@ -18,7 +18,7 @@ fn greatest_row(payload: PayloadNumber) -> Row {
     }
 }
 
-/// A layout of the greatest numbers, with two pieces.
+/// A layout with the greatest numbers, and two pieces.
 fn greatest_layout(rt: &impl Abort, alloc: Global) -> Layout {
     let piece = PieceSize {
         low: Bound::from_number(GREATEST_BOUND),
@@ -38,7 +38,7 @@ fn greatest_layout(rt: &impl Abort, alloc: Global) -> Layout {
     }
 }
 
-/// Writes replies of the greatest numbers.
+/// Writes replies with the greatest numbers.
 fn write_greatest<W: Write>(writer: &mut Watched<W>) -> Result<(), Refusal> {
     write_reply(u32::MAX, &Reply::Placed(Serial(u64::MAX)), writer)?;
     write_reply(0, &Reply::Gone(greatest_row(GREATEST_PAYLOAD)), writer)?;
@@ -47,7 +47,7 @@ fn write_greatest<W: Write>(writer: &mut Watched<W>) -> Result<(), Refusal> {
     write_row(u32::MAX, &greatest_row(GREATEST_PAYLOAD), writer)
 }
 
-/// Writes replies of the least payload, of the least sum, and of sums next to 0.
+/// Writes replies with the least payload, the least sum, and sums next to 0.
 fn write_least<W: Write>(writer: &mut Watched<W>) -> Result<(), Refusal> {
     write_reply(0, &Reply::Gone(greatest_row(LEAST_PAYLOAD)), writer)?;
     write_reply(0, &Reply::Summed(i128::MIN), writer)?;
@@ -80,7 +80,7 @@ in 18446744073709551615 cells 18446744073709551615 free 18446744073709551615 pie
 piece 18446744073709551616 18446744073709551616 18446744073709551615\n\
 piece 18446744073709551616 18446744073709551616 18446744073709551615\n";
 
-/// Asserts that a writer that fails at a call has a part of the text, and one that doesn't fail all of it.
+/// Asserts that a writer has a proper prefix of the text if a call fails, and otherwise all of it.
 fn assert_front(rt: &impl Abort, alloc: Global, layout: &Layout, fails_at: u64) {
     let mut writer = Watched::new(Sink::new(Vec::new(alloc)).failing_at(fails_at));
     let fault = write_layout(u32::MAX, layout, &mut writer).err();

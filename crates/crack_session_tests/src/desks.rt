@@ -1,14 +1,16 @@
-//! Desks over a plain table, which may refuse, and over one partition. They note whether the answers go together.
+//! Desks over a plain table, which may refuse, and over one partition. They check that their replies are consistent.
 ghost use Rattle.std.specs.Prelude.{◌≡◌, IfOk};
 ghost use Rattle.crack_plain.specs.Plain.{IsSmall};
 
-use crack_kept::Kept as Partition;
-use crack_plain::PlainTable;
-use crack_row::{Bound, Command, Entry, Layout, Policy, Refusal, Reply};
+use crate::plain_desk::PlainDesk;
+use crack_commands::Traffic;
+use crack_part::Partition;
+use crack_plain::Statistics;
+use crack_row::{Bound, Command, Layout, Policy, Refusal, Reply};
 use crack_session::Desk;
 use std::alloc::Global;
 
-/// Whether a row that was given has the serial for which it was asked.
+/// Whether a deleted row has the serial in the command.
 fn is_own(command: &Command, reply: &Reply) -> bool {
     match reply {
         Reply::Gone(row) => {
@@ -19,24 +21,26 @@ fn is_own(command: &Command, reply: &Reply) -> bool {
     }
 }
 
-/// A plain table that refuses the commands of some numbers, and if there are any, all checkpoints and layouts.
+/// A plain table that refuses some commands by their numbers, and, if there are any, all checkpoints, layouts and
+/// statistics.
 #[derive(Drop)]
 pub struct Refusing {
-    pub table: PlainTable,
+    pub table: PlainDesk,
     refusal: Refusal,
     asked: u64,
     first: u64,
     last: u64,
-    /// Whether each command that was answered is accepted, a checkpoint is no command, and rows that were given have
-    /// the serials for which they were asked.
+    /// Whether each command with a reply was accepted, checkpoints weren't counted as commands, and deleted rows had
+    /// the serials in the commands.
     pub is_right: bool,
 }
 
 impl Refusing {
-    /// An empty table that refuses the commands of these numbers, from 1. If the last is 0, it refuses nothing.
+    /// An empty table that refuses the commands from number `first` to `last`, counted from 1. If `last` is 0, it
+    /// refuses nothing.
     pub fn new(alloc: Global, refusal: Refusal, first: u64, last: u64) -> Refusing {
         Refusing {
-            table: PlainTable::new(alloc),
+            table: PlainDesk::new(alloc),
             refusal,
             asked: 0,
             first,
@@ -49,7 +53,7 @@ impl Refusing {
 impl Desk for Refusing {
     ghost use Rattle.crack_plain.specs.Plain.{accepted_of};
     ghost use Rattle.std.specs.Prelude.{None, []};
-    ghost use Rattle.crack_session.specs.Plains.{plain_bounds};
+    ghost use Rattle.crack_session_tests.specs.Plains.{plain_bounds};
 
     ghost tables = { λ d. None };
 
@@ -57,7 +61,7 @@ impl Desk for Refusing {
 
     ghost splits = { λ d. [] };
 
-    ghost accepted = { λ d. accepted_of d.table };
+    ghost accepted = { λ d. accepted_of d.table.table };
 
     ghost leads = { λ d call e. Unit {0} };
 
@@ -82,7 +86,7 @@ impl Desk for Refusing {
             return Err(self.refusal);
         }
         let before = self.table.accepted();
-        let since = Desk::checkpoint(&mut self.table, part);
+        let since = self.table.checkpoint(part);
         self.is_right = self.is_right && self.table.accepted() == before;
         since
     }
@@ -94,6 +98,17 @@ impl Desk for Refusing {
         self.table.layout(part)
     }
 
+    fn statistics(&self, part: u32) -> Result<Statistics, Refusal> {
+        if self.last != 0 {
+            return Err(self.refusal);
+        }
+        self.table.statistics(part)
+    }
+
+    fn service(&self) -> Option<Traffic> {
+        None
+    }
+
     fn splits(&self) -> &[Bound] {
         &[]
     }
@@ -103,19 +118,19 @@ impl Desk for Refusing {
     }
 }
 
-/// A partition that is asked by worker 3. If no memory is found for a command at first, it is the second time.
+/// A partition. If a command finds no memory, it is executed once more.
 #[derive(Drop)]
 pub struct Asking {
     pub partition: Partition,
-    /// How many commands were answered, and how many rows there are by the answers.
+    /// How many commands were answered, and how many rows there are according to the replies.
     asked: u64,
     rows: u64,
-    /// Whether each answer has its receipt and its entry in the history, refusals change neither the history nor how
-    /// many rows there are, and rows that were given have the serials for which they were asked.
+    /// Whether each reply had two copies and was counted once, refusals changed neither the counts nor the number of
+    /// rows, and deleted rows had the serials in the commands.
     pub is_right: bool,
 }
 
-/// The layout of a partition. If no memory is found at first, it is the second time.
+/// The layout of a partition. If it finds no memory, it is requested once more.
 fn look(partition: &Partition) -> Result<Layout, Refusal> {
     match partition.layout() {
         Ok(layout) => Ok(layout),
@@ -123,21 +138,19 @@ fn look(partition: &Partition) -> Result<Layout, Refusal> {
     }
 }
 
-/// Whether a history has one entry more than it had: worker 3's command, with its reply.
-fn is_kept(history: &[Entry], before: usize, command: &Command, reply: &Reply) -> bool {
-    match history.get(before) {
-        Some(entry) => {
-            history.len() == before.saturating_add(1)
-                && entry.worker == 3
-                && entry.command == *command
-                && entry.reply.is_same(reply)
-        }
-        None => false,
-    }
+/// How many commands a partition accepted, and how many since its last checkpoint.
+pub fn counts(partition: &Partition) -> [u64; 2] {
+    [partition.accepted(), partition.since()]
+}
+
+/// Whether a partition with these counts before a command counted it once.
+fn is_counted(partition: &Partition, before: [u64; 2]) -> bool {
+    let [accepted, since] = before;
+    counts(partition) == [accepted.saturating_add(1), since.saturating_add(1)]
 }
 
 impl Asking {
-    /// A partition that has no row yet.
+    /// A partition without rows.
     pub fn new(partition: Partition) -> Asking {
         Asking {
             partition,
@@ -147,31 +160,37 @@ impl Asking {
         }
     }
 
-    /// Whether the history has this many entries, and there are as many rows as there were.
-    fn is_as_before(&self, before: usize) -> bool {
+    /// Whether the partition has these counts, and as many rows as according to the replies.
+    fn is_as_before(&self, before: [u64; 2]) -> bool {
         match look(&self.partition) {
-            Ok(layout) => layout.rows == self.rows && self.partition.history().len() == before,
+            Ok(layout) => layout.rows == self.rows && counts(&self.partition) == before,
             Err(_) => false,
         }
     }
 
-    /// The reply to worker 3, which the receipt has, too. It promises little, so that no test carries the contract of
-    /// `apply`.
+    /// Executes a command, and checks the copies of the reply. It has a small contract, so that no test carries the
+    /// contract of `apply_copied`.
     fn apply(&mut self, command: &Command, policy: Policy) -> Result<Reply, Refusal>
         ensures small { IfOk result IsSmall }
         ensures asked { self.new.asked ≡ self.old.asked }
     {
-        match self.partition.apply(3, *command, policy) {
-            Ok((reply, receipt)) => {
-                self.is_right = self.is_right && reply.is_same(&receipt);
-                Ok(reply)
+        match self.partition.apply_copied(*command, policy) {
+            Ok(copies) => {
+                let is_copied = copies.reply.is_same(&copies.receipt);
+                self.is_right = self.is_right && is_copied && copies.reply.is_same(&copies.kept);
+                Ok(copies.reply)
             }
             Err(refusal) => Err(refusal),
         }
     }
 
-    /// The reply to a command, before which the history had this many entries.
-    fn reply(&mut self, before: usize, command: &Command, policy: Policy) -> Result<Reply, Refusal>
+    /// Executes a command, before which the partition has these counts.
+    fn reply(
+        &mut self,
+        before: [u64; 2],
+        command: &Command,
+        policy: Policy,
+    ) -> Result<Reply, Refusal>
         ensures small { IfOk result IsSmall }
         ensures asked { self.new.asked ≡ self.old.asked }
     {
@@ -188,12 +207,12 @@ impl Asking {
         }
     }
 
-    /// Notes an answer to a command, before which the history had this many entries.
-    fn note(&mut self, before: usize, command: &Command, reply: &Reply)
+    /// Checks a reply to a command, before which the partition had these counts, and counts its row.
+    fn note(&mut self, before: [u64; 2], command: &Command, reply: &Reply)
         ensures asked { self.new.asked ≡ self.old.asked }
     {
-        let is_kept = is_kept(self.partition.history(), before, command, reply);
-        self.is_right = self.is_right && is_kept && is_own(command, reply);
+        let is_counted = is_counted(&self.partition, before);
+        self.is_right = self.is_right && is_counted && is_own(command, reply);
         self.rows = match reply {
             Reply::Placed(_) => self.rows.wrapping_add(1),
             Reply::Gone(_) => self.rows.wrapping_sub(1),
@@ -204,7 +223,7 @@ impl Asking {
 
 impl Desk for Asking {
     ghost use Rattle.std.specs.Prelude.{None, []};
-    ghost use Rattle.crack_session.specs.Plains.{plain_bounds};
+    ghost use Rattle.crack_session_tests.specs.Plains.{plain_bounds};
 
     ghost tables = { λ d. None };
 
@@ -220,7 +239,7 @@ impl Desk for Asking {
         let Some(asked) = self.asked.checked_add(1) else {
             return Err(Refusal::LifeOver);
         };
-        let before = self.partition.history().len();
+        let before = counts(&self.partition);
         match self.reply(before, &command, policy) {
             Ok(reply) => {
                 self.note(before, &command, &reply);
@@ -232,11 +251,19 @@ impl Desk for Asking {
     }
 
     fn checkpoint(&mut self, _part: u32) -> Result<u64, Refusal> {
-        self.partition.checkpoint()
+        Ok(self.partition.checkpoint())
     }
 
     fn layout(&self, _part: u32) -> Result<Layout, Refusal> {
         look(&self.partition)
+    }
+
+    fn statistics(&self, _part: u32) -> Result<Statistics, Refusal> {
+        Ok(self.partition.statistics())
+    }
+
+    fn service(&self) -> Option<Traffic> {
+        None
     }
 
     fn splits(&self) -> &[Bound] {

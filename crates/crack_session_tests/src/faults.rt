@@ -20,7 +20,7 @@ static LINES: [&[u8]; 10] = [
     b"sum 0 10\n",
 ];
 
-/// Their answers.
+/// The replies to these statements.
 static REPLIES: [&[u8]; 10] = [
     b"row 0.0\n",
     b"row 0.1\n",
@@ -34,7 +34,7 @@ static REPLIES: [&[u8]; 10] = [
     b"sum 90\n",
 ];
 
-/// How many of the first parts are whole in this many bytes, and how many bytes these are.
+/// How many of the first parts fit into this many bytes as a whole, and how many bytes they have.
 fn whole_parts(parts: &[&[u8]], bytes: usize) -> (u64, usize) {
     let mut left = bytes;
     let mut count = 0u64;
@@ -48,8 +48,8 @@ fn whole_parts(parts: &[&[u8]], bytes: usize) -> (u64, usize) {
     (count, bytes.saturating_sub(left))
 }
 
-/// The devices of a session: the sizes of what is read, and the most that is written at a time; the reader fails at
-/// its read of one number, from 1, and the writer at its call of another.
+/// The devices of a session: the sizes of reads, the greatest size of a write, the read at which the reader fails,
+/// from 1, and the call at which the writer fails.
 #[derive(Clone, Copy)]
 struct Devices {
     sizes: &'static [usize],
@@ -62,17 +62,17 @@ struct Devices {
 #[derive(Drop)]
 struct Seen {
     result: Result<End, Fault>,
-    /// Whether its reader or its writer failed.
+    /// Whether the reader or the writer failed.
     failed: bool,
-    /// How many bytes its reader has left, and how often that was read.
+    /// How many bytes are left in the reader, and how often it was read.
     left: usize,
     reads: u64,
-    /// What its writer took, and how often that was called.
+    /// The bytes that the writer took, and how often it was called.
     text: Vec<u8>,
     calls: u64,
 }
 
-/// Serves a session over a fresh core of this limit.
+/// Runs a session over a new core with this limit.
 fn see(rt: &impl Abort, alloc: Global, limit: u64, input: &[u8], devices: Devices) -> Seen {
     let source = Source::new(input).cut(devices.sizes);
     let sink = Sink::new(Vec::new(alloc)).taking(devices.most);
@@ -97,8 +97,8 @@ fn see(rt: &impl Abort, alloc: Global, limit: u64, input: &[u8], devices: Device
 }
 
 /// Asserts that the statements in the whole lines that were read are done, and that the output is a prefix of all
-/// replies. If the reader fails, these replies are written whole; if the writer does, those to the lines before the
-/// last read, and it isn't called again.
+/// replies. If the reader fails, the replies to these statements are whole. If the writer fails, the replies to the
+/// lines before the last read are, and the writer isn't called again.
 fn fail(
     rt: &impl Abort,
     alloc: Global,
@@ -128,7 +128,7 @@ fn fail(
     drop(seen);
 }
 
-/// Devices that fail with this refusal at each of their calls in turn, and then at none.
+/// Asserts sessions whose device fails at each of its calls in turn, and one without a fault.
 fn fail_each(
     rt: &impl Abort,
     alloc: Global,
@@ -174,7 +174,7 @@ fn a_reader_fails_at_each_read(rt: HostRuntime) {
     }
 }
 
-/// How many bytes a read gives at most where the writer fails.
+/// The greatest number of bytes in a read in sessions whose writer fails.
 const MOST_OF_A_READ: usize = 9;
 
 #[test]
@@ -193,7 +193,7 @@ fn a_writer_fails_at_each_call(rt: HostRuntime) {
     }
 }
 
-/// A session over a core of this limit that a device cuts short so, after this text.
+/// A session over a core with this limit that a device cuts short, and its text before that.
 #[derive(Clone, Copy)]
 struct Case {
     limit: u64,
@@ -221,7 +221,7 @@ const CASES: &[Case] = &[
             first_short: None,
         },
     },
-    // the writer fails after a lack of room
+    // the writer fails after a refusal for lack of room
     Case {
         limit: 1,
         input: b"insert 1 1\ninsert 2 2\nfoo\nquit\n",
@@ -238,7 +238,7 @@ const CASES: &[Case] = &[
             first_short: Some(2),
         },
     },
-    // the reader fails in a line
+    // the reader fails within a line
     Case {
         limit: GREATEST_LIMIT,
         input: b"insert 1 1\ncount 0 9",

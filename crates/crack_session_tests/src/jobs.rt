@@ -1,4 +1,4 @@
-//! Steps and checkpoints that one thread makes one after the other, under small limits: their outcome, as texts.
+//! Steps and checkpoints that one thread makes one after the other, under small limits: their results, as texts.
 use crate::scripts::{Lines, texts_of};
 use crate::session::room;
 use crack_commands::{Statement, parse_statement, write_folded, write_refusal, write_reply};
@@ -27,7 +27,7 @@ fn command_of(statement: Statement) -> Option<Command> {
     }
 }
 
-/// The job of a line: a step at partition 0 under the ripple merge, or a checkpoint.
+/// The job of a line: a step at partition 0 under the ripple policy, or a checkpoint.
 fn job_of(rt: &impl Abort, line: &str) -> Job {
     let statement = parse_statement(line.as_bytes()).expect(rt, "a statement");
     if let Statement::Checkpoint(part) = statement {
@@ -51,7 +51,7 @@ fn jobs_of(rt: &impl Abort, alloc: Global, script: Lines) -> Vec<Job> {
     jobs
 }
 
-/// The texts of the outcome of jobs.
+/// The texts of the results of jobs.
 fn text_of(rt: &impl Abort, alloc: Global, done: &[Result<Done, Refusal>]) -> Vec<u8> {
     let mut writer = Watched::new(room(rt, alloc));
     'done: for place in 0..done.len() {
@@ -65,21 +65,21 @@ fn text_of(rt: &impl Abort, alloc: Global, done: &[Result<Done, Refusal>]) -> Ve
     writer.into_inner()
 }
 
-/// The outcome of jobs. It promises nothing, so that no test carries the contract of `run_jobs`.
+/// Runs jobs. It has no contract, so that no test carries the contract of `run_jobs`.
 fn run(rt: &impl Abort, core: &mut Core, jobs: &[Job]) -> Vec<Result<Done, Refusal>> {
     core.run_jobs(jobs).expect(rt, "memory")
 }
 
-/// Jobs at a core of one partition within limits, each with its outcome.
+/// Jobs for a core with one partition and these limits, and the result of each job.
 #[derive(Clone, Copy)]
 struct Case {
     name: &'static str,
-    /// The limits of history, cells and life.
+    /// The limits of the history, the cells and the life.
     limits: [u64; 3],
     script: Lines,
 }
 
-/// Asserts the outcome of the jobs of a case.
+/// Asserts the results of the jobs of a case.
 fn assert_jobs(rt: &impl Abort, alloc: Global, case: Case) {
     let Case {
         name,

@@ -1,9 +1,7 @@
-//! Tests that run through the public calls of the plain table, a partition, a core, the texts of replies, a session and
-//! CSV: what no clause says.
+//! Tests of the public calls of plain tables, partitions, cores, reply texts, sessions and CSV, for what no contract
+//! says.
 #![tactic(auto)]
 
-#[cfg(test)]
-mod book;
 #[cfg(test)]
 mod changes;
 #[cfg(test)]
@@ -32,6 +30,8 @@ mod partitions;
 mod pieces;
 #[cfg(test)]
 mod plain;
+#[cfg(test)]
+mod plain_desk;
 #[cfg(test)]
 mod records;
 #[cfg(test)]

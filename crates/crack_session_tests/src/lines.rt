@@ -1,4 +1,4 @@
-//! Lines by themselves, each on a fresh core, however they are cut.
+//! Single lines, each for a new core, read in pieces.
 use crate::session::{assert_told, core, ended, joined};
 use crack_failing::{ONE_BYTE, Source};
 use crack_row::GREATEST_LIMIT;
@@ -6,7 +6,7 @@ use crack_session::LINE_BYTES;
 use std::alloc::Global;
 use std::process::Abort;
 
-/// A line that is to be answered so, by reads of these sizes.
+/// Asserts the reply to a line that is read in pieces of these sizes.
 fn assert_line(rt: &impl Abort, alloc: Global, line: &[u8], text: &[u8], sizes: &[usize]) {
     let statements = if text.is_empty() { 0 } else { 1 };
     let end = ended(statements, None);
@@ -16,7 +16,7 @@ fn assert_line(rt: &impl Abort, alloc: Global, line: &[u8], text: &[u8], sizes: 
     drop(desk);
 }
 
-/// Lines that are to be answered so each.
+/// Asserts the same reply to each of these lines.
 fn assert_each(rt: &impl Abort, alloc: Global, lines: &[&[u8]], text: &[u8]) {
     for line in lines {
         assert_line(rt, alloc, line, text, &[]);
@@ -90,7 +90,7 @@ fn other_bad_lines_are_refused(rt: HostRuntime) {
     assert_each(&rt, rt.alloc(), &LINES, b"refused 1\n");
 }
 
-/// Answers, each with its lines.
+/// Replies, each with lines that get it.
 const ANSWERS: &[(&[u8], &[&[u8]])] = &[
     (
         b"refused 2\n",
@@ -102,7 +102,7 @@ const ANSWERS: &[(&[u8], &[&[u8]])] = &[
             b"select 6 5",
         ],
     ),
-    // a minus sign is right before a payload's digits, which may be as many as ever
+    // a minus sign is directly before a payload's digits, which may be as many as without it
     (
         b"row 0.0\n",
         &[
@@ -114,7 +114,7 @@ const ANSWERS: &[(&[u8], &[&[u8]])] = &[
             b"  insert   007   -00000000000000000008  ",
         ],
     ),
-    // no row is there
+    // there is no such row
     (
         b"none\n",
         &[
@@ -123,7 +123,7 @@ const ANSWERS: &[(&[u8], &[&[u8]])] = &[
             b"delete 0.18446744073709551615",
         ],
     ),
-    // no such partition is there
+    // there is no such partition
     (b"refused 5\n", &[b"delete 1.0", b"layout 4294967295"]),
     (b"", &[b"\r", b"\r\n", b"   \n"]),
 ];
@@ -136,7 +136,7 @@ fn lines_are_answered(rt: HostRuntime) {
     }
 }
 
-/// A line of `insert 1 1`, filled with spaces to the greatest length, and so much more after it.
+/// The line `insert 1 1`, padded with spaces to the greatest length, and then `more`.
 fn filled(rt: &impl Abort, alloc: Global, more: &[u8]) -> Vec<u8> {
     let spaces = [b' '; LINE_BYTES - 10];
     joined(

@@ -15,12 +15,12 @@ pub struct Log {
     pub answered: Cell<usize>,
     /// How many bytes were written after the last flush.
     pub left: Cell<usize>,
-    /// Whether a read asked for 4,096 bytes each time, and once each whole line was answered.
+    /// Whether each read asked for 4,096 bytes, and came after each whole line was answered.
     pub is_orderly: Cell<bool>,
 }
 
 impl Log {
-    /// No call yet.
+    /// A log of no calls.
     pub fn new() -> Log {
         Log {
             reads: Cell::new(0),
@@ -34,7 +34,7 @@ impl Log {
     }
 }
 
-/// How many line feeds there are.
+/// The number of line feeds.
 fn count_feeds(bytes: &[u8]) -> usize {
     let mut count = 0usize;
     for byte in bytes {
@@ -45,7 +45,7 @@ fn count_feeds(bytes: &[u8]) -> usize {
     count
 }
 
-/// A device that notes its calls in a log.
+/// A device that records its calls in a log.
 #[derive(Drop)]
 pub struct Logged<'a, D> {
     pub device: D,

@@ -1,18 +1,18 @@
 //! Sessions that find no memory for a statement: a refused statement changes nothing.
 //!
-//! The tests `sweep_..` hold whichever one of their allocations is refused, so they may be run with each of them
-//! refused in turn.
+//! The tests `sweep_..` hold whichever of their allocations is refused, so they can be run with each of them refused
+//! in turn.
 use crate::desks::Refusing;
+use crate::plain_desk::PlainDesk;
 use crate::session::{assert_told, ended, joined, session, tell};
 use crack_core::Core;
 use crack_failing::Source;
-use crack_plain::PlainTable;
 use crack_row::{GREATEST_LIMIT, Layout, Policy, Refusal, Watched};
 use std::alloc::Global;
 use std::io::Write;
 use std::process::Abort;
 
-/// Statements of one command each: rows are inserted, changed, deleted and read, with pending rows in between.
+/// Statements of one command each: rows are inserted, updated, deleted and read, with pending rows in between.
 static LINES: [&[u8]; 17] = [
     b"insert 10 10\n",
     b"insert 20 20\n",
@@ -33,9 +33,9 @@ static LINES: [&[u8]; 17] = [
     b"count 0 50\n",
 ];
 
-/// The replies of a plain table that skips the line at one place, with a refusal there.
+/// The replies of a plain table that skips the line with this number, and refuses it.
 fn replies_without(rt: &impl Abort, alloc: Global, place: u64) -> Vec<u8> {
-    let mut plain = PlainTable::new(alloc);
+    let mut plain = PlainDesk::new(alloc);
     let mut writer = Watched::new(Vec::new(alloc));
     let mut at = 0u64;
     for line in LINES {
@@ -59,7 +59,7 @@ fn replies_without(rt: &impl Abort, alloc: Global, place: u64) -> Vec<u8> {
     writer.into_inner()
 }
 
-/// A desk that finds no memory for one command answers from then on as if that command had never been asked.
+/// After a command that finds no memory, a desk answers as if that command had never been sent.
 #[test]
 fn a_want_of_memory_stops_nothing(rt: HostRuntime) {
     let alloc: Global = rt.alloc();
@@ -74,8 +74,8 @@ fn a_want_of_memory_stops_nothing(rt: HostRuntime) {
     }
 }
 
-/// Asserts that each cell is in one place, that the rows are those of the column less the doomed ones and more the
-/// pending ones, and that the pieces are all of the column.
+/// Asserts that each cell is used once, that the rows are those of the column without pending deletions and with
+/// pending insertions, and that the pieces make up the column.
 fn assert_layout(rt: &impl Abort, layout: &Layout) {
     let mut column = 0u64;
     for piece in layout.pieces.as_slice() {
@@ -90,12 +90,12 @@ fn assert_layout(rt: &impl Abort, layout: &Layout) {
     );
 }
 
-/// Has one line answered by a core, and by a plain table if the core finds memory for it; returns whether it didn't.
+/// Answers one line with a core, and with a plain table unless the core finds no memory. Returns whether it finds none.
 fn answer_beside(
     rt: &impl Abort,
     alloc: Global,
     core: &mut Core,
-    plain: &mut PlainTable,
+    plain: &mut PlainDesk,
     policy: Policy,
     line: &[u8],
 ) -> bool {
@@ -115,12 +115,12 @@ fn answer_beside(
     false
 }
 
-/// Has all lines answered by a fresh core, if one is opened; at most one line is refused.
+/// Answers all lines with a new core, if it can be opened, and asserts that at most one line is refused.
 fn answer_all(rt: &impl Abort, alloc: Global, policy: Policy) {
     let Ok(mut core) = Core::open(alloc, &[], GREATEST_LIMIT) else {
         return;
     };
-    let mut plain = PlainTable::new(alloc);
+    let mut plain = PlainDesk::new(alloc);
     let mut refused = 0u64;
     for line in LINES {
         if answer_beside(rt, alloc, &mut core, &mut plain, policy, line) {

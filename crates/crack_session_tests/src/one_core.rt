@@ -1,5 +1,5 @@
-//! Two sessions over one core, and a session and an export: the second starts where the first ended, by the contract of
-//! `serve`.
+//! Two sessions over one core, and a session and an export: the second continues where the first ended, by the
+//! contract of `serve`.
 ghost use Rattle.std.specs.Prelude.{◌≡◌, ◌++◌, ℕ, List, Some, IfOk, map};
 ghost use Rattle.std.specs.List.{concat};
 ghost use Rattle.crack_row.specs.Devices.{device};
@@ -19,7 +19,7 @@ use std::alloc::Global;
 use std::io::{Read, Write};
 use std::process::Abort;
 
-/// Serves one session and then another. Both have the limit and the splits that the core had before, and the second
+/// Runs one session and then another. Both have the limit and the splits that the core had before, and the second
 /// has the rows and the bytes that the first left.
 fn serve_both<R: Read, W: Write>(
     alloc: Global,
@@ -49,8 +49,8 @@ fn serve_both<R: Read, W: Write>(
     }
 }
 
-/// Serves a session, and then exports the rows. The export has the splits that the core had before, and the rows
-/// that the session left.
+/// Runs a session, and then exports the rows. The export has the splits that the core had before, and the rows that
+/// the session left.
 fn serve_and_export<R: Read, W: Write>(
     alloc: Global,
     core: &mut Core,
@@ -75,8 +75,7 @@ fn serve_and_export<R: Read, W: Write>(
     }
 }
 
-/// The outputs of the three, one after another. It promises nothing, so that the test carries nothing of their
-/// contracts.
+/// The outputs of two sessions, and of a third with an export. It has no contract, so that the test carries none.
 fn tell_all(rt: &impl Abort, alloc: Global, core: &mut Core) -> Vec<u8> {
     let mut first = Watched::new(b"insert 150 6\nquit\ninsert 1 1\n".as_slice());
     let mut second = Watched::new(b"insert 50 5\ncount 0 200\n".as_slice());

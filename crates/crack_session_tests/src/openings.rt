@@ -1,7 +1,7 @@
-//! Openings of partitions and of cores that are refused.
+//! Refused openings of partitions and of cores.
 use crate::session::bounds_of;
 use crack_core::Core;
-use crack_kept::Kept as Partition;
+use crack_part::Partition;
 use crack_row::{
     Bound, BoundNumber, GREATEST_BOUND, GREATEST_CELLS, GREATEST_LIFE, GREATEST_LIMIT, KeyRange,
     Limits, Refusal, Upkeep,
@@ -9,8 +9,8 @@ use crack_row::{
 use std::alloc::Global;
 use std::process::Abort;
 
-/// Splits, and limits of history, cells and life; and why they are refused by a core with all the limits, by a core
-/// with that of the history alone, and by a partition with this one.
+/// Splits, limits of the history, the cells and the life, and the expected refusals: of a core with all limits, of a
+/// core with the history limit alone, and of a partition with the history limit.
 #[derive(Clone, Copy)]
 struct Case {
     splits: &'static [BoundNumber],
@@ -100,7 +100,7 @@ const CASES: &[Case] = &[
     },
 ];
 
-/// Why openings are refused, if they are.
+/// The refusals of the three openings, if they are refused.
 fn refused(alloc: Global, splits: &[Bound], limits: Limits) -> [Option<Refusal>; 3] {
     [
         Core::open_with(alloc, splits, limits).err(),
@@ -109,7 +109,7 @@ fn refused(alloc: Global, splits: &[Bound], limits: Limits) -> [Option<Refusal>;
     ]
 }
 
-/// Asserts why openings are refused.
+/// Asserts the refusals of the three openings.
 fn assert_refused(rt: &impl Abort, alloc: Global, case: Case) {
     let splits = bounds_of(rt, alloc, case.splits);
     let [history, cells, life] = case.limits;

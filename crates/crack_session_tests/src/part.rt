@@ -1,7 +1,7 @@
-//! A partition: each call once, with ample memory, and each refusal except the one for lack of memory.
-use crate::desks::Asking;
+//! A partition: each call once, with enough memory, and each refusal except `OutOfMemory`.
+use crate::desks::{Asking, counts};
 use crate::scripts::{Lines, assert_answers};
-use crack_kept::Kept as Partition;
+use crack_part::Partition;
 use crack_row::{
     BoundNumber, GREATEST_BOUND, GREATEST_CELLS, GREATEST_LIFE, GREATEST_LIMIT, KeyRange, Limits,
     Upkeep,
@@ -12,8 +12,8 @@ use std::process::Abort;
 /// All keys.
 pub const ALL: [BoundNumber; 2] = [0, GREATEST_BOUND];
 
-/// The answers of a partition of these keys and this limit, under the complete merge until a statement names another,
-/// and how many commands it accepts and keeps.
+/// The replies of a partition with these keys and this limit, under the complete policy until a statement sets
+/// another, and how many commands it accepts. No checkpoint is made.
 #[derive(Clone, Copy)]
 pub struct Case {
     pub name: &'static str,
@@ -23,7 +23,7 @@ pub struct Case {
     pub accepted: u64,
 }
 
-/// Asserts the answers of a partition of at most so many cells, with this upkeep.
+/// Asserts the replies of a partition with at most this many cells, and this upkeep.
 pub fn assert_case(rt: &impl Abort, alloc: Global, case: Case, cells: u64, upkeep: Upkeep) {
     let keys = KeyRange::new(case.keys[0], case.keys[1]).expect(rt, "keys");
     let limits = Limits {
@@ -34,18 +34,17 @@ pub fn assert_case(rt: &impl Abort, alloc: Global, case: Case, cells: u64, upkee
     let opened = Partition::open_with(alloc, keys, limits);
     let mut asking = Asking::new(opened.expect(rt, "a partition"));
     assert_answers(rt, alloc, &mut asking, case.name, case.script);
-    let kept = asking.partition.history().len() as u64;
-    let accepted = asking.partition.accepted();
+    let told = counts(&asking.partition);
     let is_right = asking.is_right;
     drop(asking);
     assert!(rt;
-        is_right && [accepted, kept] == [case.accepted, case.accepted],
+        is_right && told == [case.accepted, case.accepted],
         "{}",
         case.name
     );
 }
 
-/// A partition has all keys, the greatest limits and no history.
+/// A new partition has all keys, the greatest limits and no command.
 #[test]
 fn partition_is_opened_empty(rt: HostRuntime) {
     let opened = Partition::open(rt.alloc(), KeyRange::all(), GREATEST_LIMIT);
@@ -62,6 +61,6 @@ fn partition_is_opened_empty(rt: HostRuntime) {
         [keys.low().number(), keys.high().number()],
         [0, GREATEST_BOUND]
     );
-    assert!(rt; partition.history().is_empty());
+    assert!(rt; counts(&partition) == [0, 0]);
     drop(partition);
 }

@@ -1,5 +1,4 @@
-//! Partitions by key range that one thread asks: which of them have a key or a part of a range, and the answers to
-//! steps.
+//! Partitions by key range in one thread: which of them hold a key or a part of a range, and the replies to steps.
 use crate::session::core;
 use crack_core::{Core, Step};
 use crack_row::{
@@ -9,7 +8,7 @@ use crack_row::{
 use smallvec::SmallVec;
 use std::process::Abort;
 
-/// The parts of a range: its partitions, and the ends of its part in each.
+/// The parts of a range: the number of each partition, and its part.
 fn parts(
     core: &Core,
     low: BoundNumber,
@@ -19,7 +18,7 @@ fn parts(
     core.parts_of(range)
 }
 
-/// Asserts the parts of a range: the partition of each, and its ends.
+/// Asserts the parts of a range: the number of each partition, and the ends of its part.
 fn assert_parts(
     rt: &impl Abort,
     core: &Core,
@@ -40,8 +39,8 @@ fn assert_parts(
     }
 }
 
-/// A range over three partitions is cut at their splits. An empty one goes to the partition of its low end, and from
-/// the greatest bound to the last one.
+/// A range over three partitions is cut at their splits. An empty range goes to the partition of its low end, or to
+/// the last partition from the greatest bound on.
 #[test]
 fn ranges_are_cut_at_splits(rt: HostRuntime) {
     let core = core(&rt, rt.alloc(), &[100, 200], GREATEST_LIMIT);
@@ -64,7 +63,7 @@ fn ranges_are_cut_at_splits(rt: HostRuntime) {
     assert_eq!(rt; places, [0, 1, 2]);
 }
 
-/// A step under the gradual merge.
+/// A step under the gradual policy.
 fn step(part: u32, command: Command) -> Step {
     Step {
         part,
@@ -73,7 +72,7 @@ fn step(part: u32, command: Command) -> Step {
     }
 }
 
-/// A step at a partition that doesn't exist is refused, and the next one is made.
+/// Asserts that a step at a missing partition is refused, and the next step is made.
 fn make_three(rt: &impl Abort, core: &mut Core) {
     let insert = Command::Insert {
         key: Key::from_number(7),
@@ -101,12 +100,12 @@ fn count_refused(core: &mut Core, part: u32) -> Option<Refusal> {
     core.step(step(part, Command::Count(KeyRange::all()))).err()
 }
 
-/// A partition's layout. It promises nothing, so that no test carries the contract of `layout`.
+/// The layout of a partition. It has no contract, so that no test carries the contract of `layout`.
 fn layout_of(core: &Core, part: u32) -> Result<Layout, Refusal> {
     core.layout(part)
 }
 
-/// There are two partitions, of which each has the limit for itself, and the second is one piece.
+/// Each of two partitions has the limit for itself, and the second is one piece.
 #[test]
 fn each_partition_has_the_limit(rt: HostRuntime) {
     let mut core = core(&rt, rt.alloc(), &[100], 1);

@@ -1,4 +1,4 @@
-//! Random sessions, fed in random pieces, say what they say as a whole.
+//! Random sessions that are fed in random pieces have the same replies as whole ones.
 ghost use Rattle.std.specs.Prelude.{◌<◌, ◌≤◌, length};
 
 use crate::session::{core, tell};
@@ -8,7 +8,7 @@ use crack_session::{Desk, Fed, OUTPUT_BYTES, Output, Session, Why};
 use std::alloc::Global;
 use std::process::Abort;
 
-/// Lines of random sessions: in each form, refused, blank, with a carriage return, or too long.
+/// Lines for random sessions: of most forms, refused, blank, or with a carriage return.
 const LINES: [&[u8]; 20] = [
     b"insert 7 70",
     b"insert 107 -3",
@@ -32,10 +32,10 @@ const LINES: [&[u8]; 20] = [
     b"select",
 ];
 
-/// How many bytes a session has at most.
+/// The greatest number of bytes in a session.
 const MOST_BYTES: usize = 100000;
 
-/// The next of numbers that look random, below this one.
+/// The next pseudorandom number below `end`.
 fn below(numbers: &mut u64, end: u64) -> u64
     requires { 0 < end }
     ensures { result < end }
@@ -64,7 +64,7 @@ fn random_lines(rt: &impl Abort, alloc: Global, numbers: &mut u64, count: u64) -
     text
 }
 
-/// Feeds bytes. It promises only that no more are taken.
+/// Feeds bytes. Its contract is only that no more are taken.
 fn feed<D: Desk>(
     alloc: Global,
     desk: &mut D,
@@ -77,18 +77,18 @@ fn feed<D: Desk>(
     session.feed(alloc, desk, bytes, output)
 }
 
-/// Ends the input. It promises nothing.
+/// Ends the input. It has no contract.
 fn end<D: Desk>(alloc: Global, desk: &mut D, session: &mut Session, output: &mut Output) -> Fed {
     session.end(alloc, desk, output)
 }
 
-/// Adds output to a text, and clears it.
+/// Appends the output to a text, and clears it.
 fn take(rt: &impl Abort, text: &mut Vec<u8>, output: &mut Output) {
     assert!(rt; text.extend_from_slice(output.as_slice()).is_ok());
     output.clear();
 }
 
-/// Feeds bytes in random pieces of at most so many, clears output at each stop, and returns why the session stopped.
+/// Feeds random pieces of at most `most` bytes, clears the output at each stop, and returns why the session stopped.
 fn feed_pieces<D: Desk>(
     rt: &impl Abort,
     alloc: Global,
@@ -128,7 +128,7 @@ fn feed_pieces<D: Desk>(
     last.why
 }
 
-/// Asserts that a session that is fed in pieces says what one says that reads all of the bytes at once.
+/// Asserts that a session that is fed in pieces has the same replies as one that reads all bytes at once.
 fn assert_fed(rt: &impl Abort, alloc: Global, bytes: &[u8], most: u64, ends: Why)
     requires { 0 < most }
 {

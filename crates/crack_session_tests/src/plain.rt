@@ -1,9 +1,10 @@
-//! The plain table: each call once, with ample memory.
+//! The plain table: each call once, with enough memory.
 use crate::desks::Refusing;
 use crate::scripts::{Lines, assert_answers};
 use crack_commands::write_each_row;
 use crack_plain::PlainTable;
 use crack_row::{Refusal, Watched};
+use crack_session::Desk;
 use std::alloc::Global;
 use std::process::Abort;
 
@@ -18,7 +19,7 @@ fn rows_of(rt: &impl Abort, alloc: Global, table: &PlainTable) -> Vec<u8> {
     text
 }
 
-/// The answers of a fresh table, and then how many commands it accepted and which rows it has.
+/// The replies of a new table, and then how many commands it accepted, and its rows.
 #[derive(Clone, Copy)]
 struct Case {
     name: &'static str,
@@ -28,7 +29,7 @@ struct Case {
 }
 
 const CASES: &[Case] = &[
-    // each command, those that find no row among them: all are accepted
+    // each command is accepted, also those that find no row
     Case {
         name: "a plain table answers",
         script: &[
@@ -84,7 +85,7 @@ const CASES: &[Case] = &[
         accepted: 6,
         rows: "0.0 18446744073709551615 -9223372036854775808\n0.1 4294967296 -1\n0.2 4294967295 5",
     },
-    // a plain table lays its rows out as one piece
+    // the layout of a plain table is one piece
     Case {
         name: "a plain table is laid out",
         script: &[
@@ -101,13 +102,13 @@ const CASES: &[Case] = &[
     },
 ];
 
-/// Asserts the answers of a fresh table, which refuses nothing.
+/// Asserts the replies of a new table, which refuses nothing.
 fn assert_case(rt: &impl Abort, alloc: Global, case: Case) {
     let mut desk = Refusing::new(alloc, Refusal::OutOfMemory, 1, 0);
-    assert!(rt; desk.table.accepted() == 0 && desk.table.rows().is_empty());
+    assert!(rt; desk.accepted() == 0 && desk.table.table.rows().is_empty());
     assert_answers(rt, alloc, &mut desk, case.name, case.script);
-    let text = rows_of(rt, alloc, &desk.table);
-    let accepted = desk.table.accepted();
+    let text = rows_of(rt, alloc, &desk.table.table);
+    let accepted = desk.accepted();
     let is_right = desk.is_right;
     drop(desk);
     assert!(rt;

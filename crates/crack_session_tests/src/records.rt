@@ -10,17 +10,17 @@ use std::process::Abort;
 /// A header and two records.
 const TEXT: &[u8] = b"key,payload\n150,6\n50,5\n";
 
-/// How a load ends. It promises nothing, so that no test carries all that `load_csv` promises.
+/// Loads a text. It has no contract, so that no test carries the contract of `load_csv`.
 fn load(core: &mut Core, source: Source<'_>) -> Result<u64, LoadFault> {
     load_csv(core, Policy::Ripple, &mut Watched::new(source))
 }
 
-/// How an export ends. It promises nothing either.
+/// Exports a core. It has no contract either.
 fn export(core: &mut Core, writer: &mut Watched<Sink>) -> Result<u64, Refusal> {
     export_csv(core, Policy::Ripple, writer)
 }
 
-/// How a load of a reader's bytes into one partition ends.
+/// Loads a reader's bytes into one partition.
 fn end_of(rt: &impl Abort, alloc: Global, source: Source<'_>) -> Result<u64, LoadFault> {
     let mut desk = core(rt, alloc, &[], GREATEST_LIMIT);
     let ended = load(&mut desk, source);
@@ -28,13 +28,13 @@ fn end_of(rt: &impl Abort, alloc: Global, source: Source<'_>) -> Result<u64, Loa
     ended
 }
 
-/// A load that a record cuts short.
+/// The result of a load that a record cuts short.
 fn bad_record(number: u64, loaded: u64) -> Result<u64, LoadFault> {
     let refusal = Refusal::BadRecord { number };
     Err(LoadFault { refusal, loaded })
 }
 
-/// How the load of this many bytes of the text is to end.
+/// The expected result if the first `bytes` bytes of the text are loaded.
 fn end_of_cut(bytes: usize) -> Result<u64, LoadFault> {
     if bytes == 0 || bytes == 11 || bytes == 12 {
         Ok(0)
@@ -62,7 +62,7 @@ fn a_text_is_cut_off_anywhere(rt: HostRuntime) {
     }
 }
 
-/// Texts with a byte order mark, quotes and ends of all kinds, and one that is refused.
+/// Texts with a byte order mark, quotes and line ends of all kinds, and one that is refused.
 const MARKED: &[&[u8]] = &[
     TEXT,
     b"\xEF\xBB\xBFkey,payload\r\n\r\n\"1\",\"-2\"\r3,4",
@@ -70,7 +70,7 @@ const MARKED: &[&[u8]] = &[
     b"\xEF\xBB1,2\n",
 ];
 
-/// How a loader ends that is fed two pieces.
+/// Feeds a loader two pieces, and ends it.
 fn end_of_pieces(
     loader: &mut Loader,
     desk: &mut Core,
@@ -96,7 +96,7 @@ fn pieces_are_loaded_as_the_whole(rt: HostRuntime) {
     }
 }
 
-/// The rows whose records end with a line feed before the reader fails are inserted.
+/// Rows are inserted if the line feed of their record was read before the reader fails.
 #[test]
 fn a_reader_fails_behind_each_byte(rt: HostRuntime) {
     'cuts: for given in 0..24u64 {
@@ -111,9 +111,9 @@ fn a_reader_fails_behind_each_byte(rt: HostRuntime) {
     }
 }
 
-/// Texts that are refused, each for the record with this number, after this many rows.
+/// Texts that are refused, each with the number of the refused record, and the number of rows before it.
 const BAD: &[(&[u8], u64, u64)] = &[
-    // a header is the first record alone
+    // only the first record can be a header
     (b"1,2\nkey,payload\n", 2, 1),
     (b"key,payload\nkey,payload\n", 2, 0),
     // fields are numbers in range
@@ -122,7 +122,7 @@ const BAD: &[(&[u8], u64, u64)] = &[
     (b"18446744073709551616,6\n", 1, 0),
     (b"5,9223372036854775808\n", 1, 0),
     (b"000000000000000000005,6\n", 1, 0),
-    // a sign stands right before a payload
+    // a sign is directly before a payload's digits
     (b"-5,6\n", 1, 0),
     (b"5,6\n5,--6\n", 2, 1),
     (b"5,-\n", 1, 0),
@@ -142,8 +142,8 @@ fn bad_records_are_refused(rt: HostRuntime) {
     }
 }
 
-/// A text that is loaded into a core with these splits and this limit, by a reader that gives bytes by these sizes and
-/// fails at the read of one number, from 1, and that is then exported to a writer that fails at the call of another.
+/// A text that is loaded into a core with these splits and this limit by a reader that returns `sizes` bytes and
+/// fails at the read `read`, from 1, and is then exported to a writer that fails at the call `call`.
 #[derive(Clone, Copy)]
 struct Case {
     splits: &'static [BoundNumber],
@@ -154,12 +154,12 @@ struct Case {
     loaded: Result<u64, LoadFault>,
     call: u64,
     exported: Result<u64, Refusal>,
-    /// What the writer took.
+    /// The bytes that the writer took.
     written: &'static [u8],
 }
 
 const CASES: &[Case] = &[
-    // rows come out partition by partition
+    // rows are exported partition by partition
     Case {
         splits: &[100],
         limit: GREATEST_LIMIT,
@@ -171,7 +171,7 @@ const CASES: &[Case] = &[
         exported: Ok(2),
         written: b"key,payload\n50,5\n150,6\n",
     },
-    // nothing is exported as a header
+    // an empty table is exported as a header
     Case {
         splits: &[],
         limit: GREATEST_LIMIT,
@@ -183,7 +183,7 @@ const CASES: &[Case] = &[
         exported: Ok(0),
         written: b"key,payload\n",
     },
-    // a byte order mark, quotes, blank lines, a lone carriage return, and no end of line at the end
+    // a byte order mark, quotes, blank lines, a lone carriage return, and no line feed at the end
     Case {
         splits: &[],
         limit: GREATEST_LIMIT,
@@ -195,7 +195,7 @@ const CASES: &[Case] = &[
         exported: Ok(3),
         written: b"key,payload\n7,70\n8,80\n9,9223372036854775807\n",
     },
-    // a payload's sign is read and written; numbers above 0 have none
+    // the sign of a payload is read and written
     Case {
         splits: &[],
         limit: GREATEST_LIMIT,
@@ -218,7 +218,7 @@ const CASES: &[Case] = &[
         exported: Ok(3),
         written: b"key,payload\n18446744073709551615,-9223372036854775808\n4294967296,-1\n1,0\n",
     },
-    // a reader fails after two records, at the read that would find the end
+    // the reader fails after two records, at the read that would find the end
     Case {
         splits: &[],
         limit: GREATEST_LIMIT,
@@ -233,7 +233,7 @@ const CASES: &[Case] = &[
         exported: Ok(2),
         written: b"key,payload\n150,6\n50,5\n",
     },
-    // a writer fails after the header, and where it is to hand on what it has
+    // the writer fails after the header, and at the flush
     Case {
         splits: &[],
         limit: GREATEST_LIMIT,
@@ -256,7 +256,7 @@ const CASES: &[Case] = &[
         exported: Err(Refusal::WriteFault),
         written: b"key,payload\n",
     },
-    // a history fills up
+    // the history is full
     Case {
         splits: &[],
         limit: 1,
@@ -273,7 +273,7 @@ const CASES: &[Case] = &[
     },
 ];
 
-/// Asserts how a load and an export go.
+/// Asserts the results of a load and an export.
 fn assert_case(rt: &impl Abort, alloc: Global, case: Case) {
     let source = Source::new(case.text).cut(case.sizes);
     let sink = Sink::new(Vec::new(alloc)).failing_at(case.call);

@@ -1,7 +1,7 @@
-//! Sessions as texts: what desks are told, and what they answer.
+//! Sessions as texts: the statements, and the replies.
+use crate::plain_desk::PlainDesk;
 use crate::session::{assert_told, core, joined, room, tell};
 use crack_failing::{ONE_BYTE, Source};
-use crack_plain::PlainTable;
 use crack_row::{BoundNumber, GREATEST_LIMIT, Policy};
 use crack_session::{Desk, End, How, LINE_BYTES};
 use std::alloc::Global;
@@ -12,7 +12,7 @@ use std::process::Abort;
 pub struct Script {
     pub splits: &'static [BoundNumber],
     pub limit: u64,
-    /// Whether a plain table answers by the same bytes.
+    /// Whether a plain table has the same replies.
     pub is_plain: bool,
     pub input: &'static [&'static [u8]],
     pub replies: &'static [&'static [u8]],
@@ -21,7 +21,7 @@ pub struct Script {
     pub first_short: Option<u64>,
 }
 
-/// Asserts that a session goes so at once, and if the reader returns a byte at a time.
+/// Asserts the replies of a session that reads its input at once, and of one that reads a byte at a time.
 pub fn assert_script(rt: &impl Abort, alloc: Global, script: Script) {
     let input = joined(rt, alloc, script.input);
     let replies = joined(rt, alloc, script.replies);
@@ -38,22 +38,22 @@ pub fn assert_script(rt: &impl Abort, alloc: Global, script: Script) {
     assert_told(rt, alloc, &mut desk, dripping, &replies, end);
     drop(desk);
     if script.is_plain {
-        let mut desk = PlainTable::new(alloc);
+        let mut desk = PlainDesk::new(alloc);
         assert_told(rt, alloc, &mut desk, Source::new(&input), &replies, end);
         drop(desk);
     }
 }
 
-/// Statements, each with its answer. Neither has a line feed at its end.
+/// Statements, each with its reply. Neither has a line feed at its end.
 pub type Lines = &'static [(&'static str, &'static str)];
 
-/// Puts a line and a line feed at the end of a text.
+/// Appends a line and a line feed to a text.
 fn add_line(rt: &impl Abort, text: &mut Vec<u8>, line: &str) {
     assert!(rt; text.extend_from_slice(line.as_bytes()).is_ok());
     assert!(rt; text.push(b'\n').is_ok());
 }
 
-/// The text of the statements, and that of the answers.
+/// The text of the statements, and the text of the replies.
 pub fn texts_of(rt: &impl Abort, alloc: Global, script: Lines) -> (Vec<u8>, Vec<u8>) {
     let mut input = room(rt, alloc);
     let mut replies = room(rt, alloc);
@@ -65,7 +65,7 @@ pub fn texts_of(rt: &impl Abort, alloc: Global, script: Lines) -> (Vec<u8>, Vec<
     (input, replies)
 }
 
-/// Asserts the answers of a desk to the statements of a test, under the complete merge until a statement names another.
+/// Asserts the replies of a desk to statements, under the complete policy until a statement sets another.
 pub fn assert_answers<D: Desk>(
     rt: &impl Abort,
     alloc: Global,
@@ -83,7 +83,7 @@ pub fn assert_answers<D: Desk>(
 
 /// Sessions over one partition.
 const STATEMENTS: &[Script] = &[
-    // no input has no reply
+    // an empty input has no reply
     Script {
         splits: &[],
         limit: GREATEST_LIMIT,
@@ -131,7 +131,7 @@ const STATEMENTS: &[Script] = &[
         statements: 2,
         first_short: None,
     },
-    // the numbers are the greatest key, the greatest bound, and one more than that
+    // the greatest key, the greatest bound, and one more than that
     Script {
         splits: &[],
         limit: GREATEST_LIMIT,
@@ -145,7 +145,7 @@ insert 18446744073709551616 1\ncount 0 18446744073709551617\n",
         statements: 4,
         first_short: None,
     },
-    // the greatest key with the least payload, a sum below every payload, and numbers just past the limits
+    // the greatest key with the least payload, a sum below every payload, and numbers just above the limits
     Script {
         splits: &[],
         limit: GREATEST_LIMIT,
@@ -163,7 +163,7 @@ rows 1\n0.2 1 0\ngone 18446744073709551615 -1\n",
         statements: 10,
         first_short: None,
     },
-    // keys at both sides of 2^32, with payloads of both signs
+    // keys on both sides of 2^32, with payloads of both signs
     Script {
         splits: &[],
         limit: GREATEST_LIMIT,
@@ -181,7 +181,7 @@ changed\nsum -9223372036854775815\nrows 2\n0.0 4294967295 -7\n0.2 4294967295 -92
         statements: 11,
         first_short: None,
     },
-    // a full history is told
+    // a full history is reported
     Script {
         splits: &[],
         limit: 2,
@@ -192,7 +192,7 @@ changed\nsum -9223372036854775815\nrows 2\n0.0 4294967295 -7\n0.2 4294967295 -92
         statements: 3,
         first_short: Some(3),
     },
-    // statements after a lack of room are answered as usual
+    // statements after a refusal for lack of room are answered as usual
     Script {
         splits: &[],
         limit: 1,
@@ -203,7 +203,7 @@ changed\nsum -9223372036854775815\nrows 2\n0.0 4294967295 -7\n0.2 4294967295 -92
         statements: 5,
         first_short: Some(2),
     },
-    // spaces and zeros are passed over
+    // spaces and leading zeros are ignored
     Script {
         splits: &[],
         limit: GREATEST_LIMIT,
@@ -217,7 +217,7 @@ count 6 5\nquit now\nInsert 1 1",
         statements: 6,
         first_short: None,
     },
-    // each statement, with its texts; one that names another partition is refused, whatever it asks
+    // each statement, with its texts; a statement with the number of another partition is refused
     Script {
         splits: &[],
         limit: GREATEST_LIMIT,
@@ -245,7 +245,7 @@ fn statements_are_answered(rt: HostRuntime) {
     }
 }
 
-/// Statements after a policy, and the answers to all but the last of them.
+/// Statements after a policy, and the replies to all but the last of them.
 const ROWS: &[u8] =
     b"insert 10 10\ninsert 20 20\ninsert 30 30\ninsert 40 40\ncount 0 18446744073709551616\ncount 15 25\n\
 insert 17 0\ninsert 90 0\ncount 15 25\nlayout 0\n";
@@ -253,12 +253,12 @@ insert 17 0\ninsert 90 0\ncount 15 25\nlayout 0\n";
 const TOLD: &[u8] =
     b"row 0.0\nrow 0.1\nrow 0.2\nrow 0.3\ncount 4\ncount 1\nrow 0.4\nrow 0.5\ncount 2\n";
 
-/// Their layout if all that is pending is merged.
+/// The layout if all pending rows are merged.
 const ALL_MERGED: &[u8] =
     b"layout 0 rows 6 column 6 out 0 in 0 cells 6 free 0 pieces 3\npiece 0 15 1\npiece 15 25 2\n\
 piece 25 18446744073709551616 3\n";
 
-/// Sessions whose first line names a policy, which holds for the rest: a merge takes all that is pending, or what its
+/// Sessions whose first line sets a policy for the rest: a merge takes all pending rows, or only those that its
 /// range needs.
 const POLICIES: &[Script] = &[
     Script {
@@ -311,8 +311,8 @@ piece 25 18446744073709551616 1\n",
         statements: 11,
         first_short: None,
     },
-    // 22 rows, merged into three pieces. One pending insertion beside them is few: room for it is made near the range.
-    // Two are many: all are merged.
+    // 22 rows, merged into three pieces. One pending insertion is few, and room for it is made near the range. Two
+    // are many, and all pending rows are merged.
     Script {
         splits: &[],
         limit: GREATEST_LIMIT,

@@ -1,8 +1,8 @@
-//! Sessions over memory, and desks by themselves.
+//! Sessions over memory, and desks without a session.
 use crate::desks::Refusing;
+use crate::plain_desk::PlainDesk;
 use crack_core::Core;
 use crack_failing::Source;
-use crack_plain::PlainTable;
 use crack_row::{
     Bound, BoundNumber, Command, GREATEST_LIMIT, Key, KeyRange, Payload, Policy, Refusal, Reply,
     Serial, Watched,
@@ -12,7 +12,7 @@ use std::alloc::Global;
 use std::io::{Read, Write};
 use std::process::Abort;
 
-/// How a session ends. It promises nothing, so that no test carries the contract of `serve`.
+/// Runs a session. It has no contract, so that no test carries the contract of `serve`.
 pub fn session<D: Desk, R: Read, W: Write>(
     alloc: Global,
     desk: &mut D,
@@ -23,7 +23,7 @@ pub fn session<D: Desk, R: Read, W: Write>(
     serve(alloc, desk, policy, reader, writer)
 }
 
-/// How a session is to end with its input, after so many statements.
+/// The expected result of a session whose input ends after this many statements.
 pub fn ended(statements: u64, first_short: Option<u64>) -> End {
     End {
         how: How::InputEnded,
@@ -32,7 +32,7 @@ pub fn ended(statements: u64, first_short: Option<u64>) -> End {
     }
 }
 
-/// All parts, one after the other.
+/// Joins the parts.
 pub fn joined(rt: &impl Abort, alloc: Global, parts: &[&[u8]]) -> Vec<u8> {
     let mut all = Vec::new(alloc);
     for part in parts {
@@ -41,7 +41,7 @@ pub fn joined(rt: &impl Abort, alloc: Global, parts: &[&[u8]]) -> Vec<u8> {
     all
 }
 
-/// Room for a text. If no memory is found at first, it is the second time.
+/// A buffer for a text. If memory is refused, it is requested once more.
 pub fn room(rt: &impl Abort, alloc: Global) -> Vec<u8> {
     let mut room = Vec::with_capacity(alloc, 2048);
     if room.is_err() {
@@ -50,7 +50,7 @@ pub fn room(rt: &impl Abort, alloc: Global) -> Vec<u8> {
     room.expect(rt, "room")
 }
 
-/// How a session over memory ends, and its text.
+/// Runs a session over memory, and returns its result and its text.
 pub fn tell<D: Desk>(
     rt: &impl Abort,
     alloc: Global,
@@ -65,7 +65,7 @@ pub fn tell<D: Desk>(
     (end, writer.into_inner())
 }
 
-/// Asserts that a session over memory writes these replies and ends so.
+/// Asserts the replies and the result of a session over memory.
 pub fn assert_told<D: Desk>(
     rt: &impl Abort,
     alloc: Global,
@@ -78,7 +78,7 @@ pub fn assert_told<D: Desk>(
     assert_eq!(rt; (told, text.as_slice()), (Ok(end), replies));
 }
 
-/// The bounds of these numbers.
+/// The bounds with these numbers.
 pub fn bounds_of(rt: &impl Abort, alloc: Global, numbers: &[BoundNumber]) -> Vec<Bound> {
     let mut bounds = Vec::new(alloc);
     for number in numbers {
@@ -87,13 +87,13 @@ pub fn bounds_of(rt: &impl Abort, alloc: Global, numbers: &[BoundNumber]) -> Vec
     bounds
 }
 
-/// A core of the partitions between these splits, each of this limit.
+/// A core with these splits and this history limit.
 pub fn core(rt: &impl Abort, alloc: Global, splits: &[BoundNumber], limit: u64) -> Core {
     let bounds = bounds_of(rt, alloc, splits);
     Core::open(alloc, &bounds, limit).expect(rt, "a core")
 }
 
-/// A refusal's text as it is printed is that of its reply; it may be a lack of room.
+/// Asserts that a refusal prints as its reply, and whether it is for lack of room.
 fn assert_printed(rt: &impl Abort, alloc: Global, refusal: Refusal, first_short: Option<u64>) {
     let printed = format!(in alloc; "{refusal}\n").expect(rt, "memory");
     let mut desk = Refusing::new(alloc, refusal, 1, u64::MAX);
@@ -124,7 +124,7 @@ fn refusals_are_printed_as_they_are_replied(rt: HostRuntime) {
     }
 }
 
-/// A layout that finds no memory is a lack of room.
+/// A layout that finds no memory is a refusal for lack of room.
 #[test]
 fn a_layout_that_finds_no_memory(rt: HostRuntime) {
     let mut desk = Refusing::new(rt.alloc(), Refusal::OutOfMemory, 1, u64::MAX);
@@ -141,12 +141,12 @@ fn a_layout_that_finds_no_memory(rt: HostRuntime) {
     drop(desk);
 }
 
-/// The answer of a desk. It promises nothing, so that no test carries the contract of `ask`.
+/// Executes a command at a desk. It has no contract, so that no test carries the contract of `ask`.
 fn ask<D: Desk>(desk: &mut D, part: u32, command: Command) -> Result<Reply, Refusal> {
     desk.ask(part, command, Policy::Complete)
 }
 
-/// A desk by itself: its commands, how many it accepted, and that there is one partition.
+/// Asserts replies of a desk, how many commands it accepted, and that it has one partition.
 fn ask_it<D: Desk>(rt: &impl Abort, desk: &mut D) {
     let insert = Command::Insert {
         key: Key::from_number(7),
@@ -165,7 +165,7 @@ fn desks(rt: HostRuntime) {
     let mut desk = core(&rt, rt.alloc(), &[], GREATEST_LIMIT);
     ask_it(&rt, &mut desk);
     drop(desk);
-    let mut table = PlainTable::new(rt.alloc());
+    let mut table = PlainDesk::new(rt.alloc());
     ask_it(&rt, &mut table);
     drop(table);
 }

@@ -21,7 +21,7 @@ layout 1 rows 1 column 1 out 0 in 0 cells 1 free 0 pieces 2\npiece 100 151 1\npi
         statements: 8,
         first_short: None,
     },
-    // a key that isn't the partition's is refused before a row is looked for
+    // a key of another partition is refused before the row is looked up
     Script {
         splits: &[100],
         limit: GREATEST_LIMIT,
@@ -32,7 +32,7 @@ layout 1 rows 1 column 1 out 0 in 0 cells 1 free 0 pieces 2\npiece 100 151 1\npi
         statements: 4,
         first_short: None,
     },
-    // the first partition keeps what it answered, though the statement is refused by the second
+    // the first partition keeps its command, even if the second one refuses the statement
     Script {
         splits: &[100],
         limit: 1,
@@ -43,7 +43,7 @@ layout 1 rows 1 column 1 out 0 in 0 cells 1 free 0 pieces 2\npiece 100 151 1\npi
         statements: 3,
         first_short: Some(2),
     },
-    // ranges whose ends are splits or next to them, and empty ranges
+    // ranges whose ends are at splits or next to them, and empty ranges
     Script {
         splits: &[100, 200],
         limit: GREATEST_LIMIT,
@@ -61,7 +61,7 @@ rows 2\n1.1 199 3\n2.0 200 4\nrows 0\ncount 0\n",
         statements: 13,
         first_short: None,
     },
-    // splits past 32 bits, the greatest among them: sums of both signs are added up over the partitions
+    // splits above 32 bits, up to the greatest, and sums of payloads of both signs
     Script {
         splits: &[4294967296, 18446744073709551615],
         limit: GREATEST_LIMIT,
@@ -79,7 +79,7 @@ layout 2 rows 1 column 1 out 0 in 0 cells 1 free 0 pieces 1\npiece 1844674407370
         statements: 8,
         first_short: None,
     },
-    // more partitions than a list has room for by itself are asked in turn
+    // more partitions than a list holds without memory of its own
     Script {
         splits: &[1, 2, 3, 4, 5, 6, 7, 8, 9],
         limit: GREATEST_LIMIT,
@@ -103,8 +103,8 @@ fn partitions_are_asked_in_turn(rt: HostRuntime) {
     }
 }
 
-/// Two partitions, each with a row pending that the last range needs and with one that it doesn't; and the answers to
-/// all but the layouts.
+/// Statements for two partitions, each with one pending row that the last range needs and one that it doesn't, and
+/// the replies to all but the layouts.
 const TWO_PARTS: &[u8] =
     b"insert 10 1\ninsert 20 1\ninsert 110 1\ninsert 130 1\ncount 0 18446744073709551616\ncount 15 125\n\
 insert 5 1\ninsert 17 1\ninsert 117 1\ninsert 190 1\ncount 15 125\nlayout 0\nlayout 1\n";
@@ -112,12 +112,12 @@ insert 5 1\ninsert 17 1\ninsert 117 1\ninsert 190 1\ncount 15 125\nlayout 0\nlay
 const TOLD: &[u8] =
     b"row 0.0\nrow 0.1\nrow 1.0\nrow 1.1\ncount 4\ncount 2\nrow 0.2\nrow 0.3\nrow 1.2\nrow 1.3\ncount 4\n";
 
-/// Their layouts if all that is pending is merged.
+/// The layouts if all pending rows are merged.
 const ALL_MERGED: &[u8] =
     b"layout 0 rows 4 column 4 out 0 in 0 cells 4 free 0 pieces 2\npiece 0 15 2\npiece 15 100 2\n\
 layout 1 rows 4 column 4 out 0 in 0 cells 4 free 0 pieces 2\npiece 100 125 2\npiece 125 18446744073709551616 2\n";
 
-/// Sessions over two partitions whose first line names a policy.
+/// Sessions over two partitions whose first line sets a policy.
 const POLICIES: &[Script] = &[
     Script {
         splits: &[100],
@@ -171,7 +171,7 @@ layout 1 rows 4 column 2 out 0 in 2 cells 4 free 0 pieces 2\npiece 100 125 2\npi
     },
 ];
 
-/// A statement asks each of its partitions by the session's policy.
+/// A statement uses the session's policy at each of its partitions.
 #[test]
 fn each_partition_is_asked_by_the_policy(rt: HostRuntime) {
     'scripts: for place in 0..POLICIES.len() {

@@ -1,7 +1,7 @@
-//! Sums of the same ranges, again and again, among changes and checkpoints, compared with a plain list of rows.
+//! Sums of the same ranges, repeated between changes and checkpoints, and compared with a plain list of rows.
 ghost use Rattle.std.specs.Prelude.{◌<◌, ◌≤◌, ◌^◌, ◌-◌};
 
-use crack_kept::Kept as Partition;
+use crack_part::Partition;
 use crack_row::{
     Command, GREATEST_LIMIT, GREATEST_PAYLOAD, Key, KeyRange, LEAST_PAYLOAD, Payload,
     PayloadNumber, Policy, Refusal, Reply, Row, Serial,
@@ -27,7 +27,7 @@ const PAYLOADS: [PayloadNumber; 7] = [
     GREATEST_PAYLOAD,
 ];
 
-/// Ranges that are nested, overlap, or are next to one another; one has all keys, and one has none.
+/// Ranges that are nested, overlapping or adjacent, and one without keys.
 const RANGES: [[u64; 2]; 8] = [
     [100, 300],
     [150, 200],
@@ -42,7 +42,7 @@ const RANGES: [[u64; 2]; 8] = [
 /// Keys are below this number.
 const KEYS: u64 = 1000;
 
-/// The next of numbers that look random, below this one.
+/// The next pseudorandom number below `end`.
 fn below(numbers: &mut u64, end: u64) -> u64
     requires { 1 ≤ end }
     ensures { result < end }
@@ -53,7 +53,7 @@ fn below(numbers: &mut u64, end: u64) -> u64
     (*numbers >> 33) % end
 }
 
-/// A partition, and the row of each serial that it should have, if there is one.
+/// A partition, and the row that each serial should have, if any.
 #[derive(Drop)]
 struct Session {
     partition: Partition,
@@ -63,11 +63,11 @@ struct Session {
 
 impl Session {
     fn ask(&mut self, command: Command) -> Result<Reply, Refusal> {
-        let (reply, _receipt) = self.partition.apply(3, command, self.policy)?;
+        let reply = self.partition.apply(command, self.policy)?;
         Ok(reply)
     }
 
-    /// How many rows are in the range, and the sum of their payloads.
+    /// How many rows are in a range, and the sum of their payloads.
     fn found(&self, range: KeyRange) -> (u64, i128) {
         let mut count = 0u64;
         let mut sum = 0i128;
@@ -82,7 +82,7 @@ impl Session {
         (count, sum)
     }
 
-    /// Puts a row in the place of one that is there; returns that one.
+    /// Replaces a row, and returns the old one, or `None` if there was none.
     fn put_at(&mut self, serial: Serial, row: Option<Row>) -> Option<Row> {
         match self.rows.get_mut(serial.0 as usize) {
             Some(there) => {
@@ -96,7 +96,7 @@ impl Session {
         }
     }
 
-    /// Changes the rows as a command other than a select does; returns its reply by the rows.
+    /// Executes a command other than a select on the rows, and returns the expected reply.
     fn change(&mut self, rt: &impl Abort, command: &Command) -> Reply {
         match *command {
             Command::Insert { key, payload } => {
@@ -133,21 +133,21 @@ impl Session {
         }
     }
 
-    /// Asserts the answer to a command.
+    /// Executes a command, and asserts the reply.
     fn assert_answered(&mut self, rt: &impl Abort, command: Command) {
         let reply = self.ask(command).expect(rt, "an answer");
         let wanted = self.change(rt, &command);
         assert!(rt; reply.is_same(&wanted));
     }
 
-    /// Asserts the sum of the range, twice, and how many rows there are.
+    /// Asserts the sum of a range, twice, and its count.
     fn assert_read(&mut self, rt: &impl Abort, range: KeyRange) {
         self.assert_answered(rt, Command::Sum(range));
         self.assert_answered(rt, Command::Sum(range));
         self.assert_answered(rt, Command::Count(range));
     }
 
-    /// Makes this many changes: of three, one or two are inserts.
+    /// Makes this many random changes, half of them inserts, some with a delete before.
     fn make_changes(&mut self, rt: &impl Abort, numbers: &mut u64, changes: u64) {
         'changes: for _ in 0..changes {
             let kind = below(numbers, 6);
@@ -160,7 +160,7 @@ impl Session {
         }
     }
 
-    /// Reads each of the ranges, and all keys at times.
+    /// Reads most of the ranges, and sometimes all keys.
     fn read(&mut self, rt: &impl Abort, numbers: &mut u64) {
         'ranges: for [low, high] in RANGES {
             if below(numbers, 3) != 0 {
@@ -173,23 +173,23 @@ impl Session {
         }
     }
 
-    /// Few changes and then reads, many times; at times there are so many inserts that the known sums are forgotten, or
-    /// a checkpoint.
+    /// Repeats a few changes and then reads. Sometimes there are so many inserts that the known sums are forgotten,
+    /// or there is a checkpoint.
     fn run(&mut self, rt: &impl Abort, numbers: &mut u64) {
         'rounds: for _ in 0..60 {
             let most = if below(numbers, 8) == 0 { 1000 } else { 12 };
             let changes = below(numbers, most);
             self.make_changes(rt, numbers, changes);
             if below(numbers, 10) == 0 {
-                assert!(rt; self.partition.checkpoint().is_ok());
+                let _since = self.partition.checkpoint();
             }
             self.read(rt, numbers);
         }
     }
 }
 
-/// A command of a kind that a number names: a delete by 0, an update by 1 and 2, else an insert. Its serial is at most
-/// this one, its key and its payload, which is often at a limit, are any.
+/// A random command: a delete for kind 0, an update for 1 and 2, else an insert. Its serial is at most `last`, and
+/// its payload often at a limit.
 fn drawn(numbers: &mut u64, kind: u64, last: u64) -> Command
     requires { last < 2 ^ 64 - 1 }
 {

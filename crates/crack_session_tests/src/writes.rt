@@ -10,11 +10,11 @@ use std::process::Abort;
 /// A session whose calls are counted.
 #[derive(Clone, Copy)]
 struct Case {
-    /// A line that is read so often, and other bytes after it.
+    /// A line, how often it is read, and the bytes after that.
     line: &'static [u8],
     times: u64,
     last: &'static [u8],
-    /// How many bytes a read gives at most, and which read fails, from 1.
+    /// How many bytes a read returns at most, and which read fails, from 1.
     size: usize,
     fails_at: u64,
     how: How,
@@ -31,7 +31,7 @@ const CASES: &[Case] = &[
         how: How::InputEnded,
         statements: 1001,
     },
-    // each two bytes get ten, and output has room for the replies to a whole read
+    // two bytes get ten, and the output has room for the replies to a whole read
     Case {
         line: b"x\n",
         times: 8192,
@@ -41,7 +41,7 @@ const CASES: &[Case] = &[
         how: How::InputEnded,
         statements: 8192,
     },
-    // the reads cut the lines
+    // reads end within lines
     Case {
         line: b"insert 1 1\n",
         times: 1000,
@@ -63,7 +63,7 @@ const CASES: &[Case] = &[
     },
 ];
 
-/// A line so often, and then other bytes.
+/// A line, repeated, and other bytes after it.
 fn repeated(rt: &impl Abort, alloc: Global, line: &[u8], times: u64, last: &[u8]) -> Vec<u8> {
     let mut input = Vec::new(alloc);
     for _ in 0..times {
@@ -73,7 +73,7 @@ fn repeated(rt: &impl Abort, alloc: Global, line: &[u8], times: u64, last: &[u8]
     input
 }
 
-/// Notes the calls of a session, and asserts how it ends, and that no read fails.
+/// Logs the calls of a session, and asserts how it ends, and that no read fails.
 fn log_it(rt: &impl Abort, alloc: Global, case: Case, log: &Log) {
     let input = repeated(rt, alloc, case.line, case.times, case.last);
     let sizes = [case.size];
@@ -94,9 +94,9 @@ fn log_it(rt: &impl Abort, alloc: Global, case: Case, log: &Log) {
     assert!(rt; result == Ok(end) && !reader.failed());
 }
 
-/// Each whole line is answered before the next read, wherever the reads cut the lines, and each read asks for 4,096
-/// bytes. There is one write for each read that finishes lines, and none for others. Output is flushed before each read
-/// and at the end.
+/// Each whole line is answered before the next read, wherever reads end, and each read asks for 4,096 bytes. There
+/// is one write for each read that finishes lines, and none for others. The output is flushed before each read and
+/// at the end.
 #[test]
 fn lines_are_answered_before_the_next_read(rt: HostRuntime) {
     'cases: for place in 0..CASES.len() {

@@ -1,5 +1,5 @@
 -- A new row at the end of the pending insertions keeps a store intact, and is the only row that commands see in addition.
-use Rattle.std.proofs.Common.{◌≡◌, ◌≢◌, ℕ, ◌+◌, ◌-◌, ◌<◌, ◌≤◌, ◌^◌, Bool, true, false, eqb, ltb, List, [], ◌∷◌, ◌++◌, length, get_or, drop, add-one, cond, Some, None, refl, sym, ap, ◌∙◌, inl, inr, arith, length-set, zero-add}
+use Rattle.std.proofs.Common.{◌≡◌, ◌≢◌, ℕ, ◌+◌, ◌<◌, ◌≤◌, ◌^◌, Bool, true, false, eqb, ltb, List, [], ◌∷◌, ◌++◌, length, get_or, drop, add-one, cond, Some, None, refl, sym, ap, ◌∙◌, inl, inr, arith, length-set, zero-add}
 use Rattle.std.specs.Prelude.{◌==◌, IfSome}
 use Rattle.std.specs.List.{All, filter_map, range_with_len}
 use Rattle.std.specs.List.Sorted.{IsPermutation}
@@ -12,6 +12,7 @@ use Rattle.std.proofs.lemmas.Bool.{cases_eq, cases_lt, ne_eqb, eq-eqb, eqb-true,
 use Rattle.crack_row.proofs.Lists.{map_fixed, range_with_len-more}
 use Rattle.crack_row.specs.Ranges.{IsIn}
 use Rattle.crack_row.specs.declared.Row.{Row}
+use Rattle.crack_arena.specs.declared.TheConstants.{MOST_CELLS}
 use Rattle.crack_arena.specs.Arena.{Cell, Handle, times, read, cell_at, empty_cell, handle_for, cells_with, slots}
 use Rattle.crack_arena.proofs.Times.{times-nil, times-cons, times_one, times_head, times-append, times-map-append, times_map_at}
 use Rattle.crack_state.specs.State.{State, Reads, IsOwned, IsIntact, IsKeyed, handle_of, freed_of, live_at, live_rows}
@@ -173,7 +174,7 @@ freed_of-admitted row s (n ∷ ns) is owned =
     omega (arith, sum_by-set (λ (c : Cell Row). c.generation) s.cells n (record { generation = (cell_at s.cells n).generation; value = Some row }) empty_cell within)
 
 -- one more cell only if none was free
-length_cells-admitted : (row : Row) (s : State) (free : List ℕ) → s.free ≡ free → length s.cells < 2 ^ 32 - 1 + length s.free → length s.cells < 2 ^ 32 → length (cells_with row s.cells free) < 2 ^ 32
+length_cells-admitted : (row : Row) (s : State) (free : List ℕ) → s.free ≡ free → length s.cells < MOST_CELLS + length s.free → length s.cells < 2 ^ 32 → length (cells_with row s.cells free) < 2 ^ 32
 length_cells-admitted row s [] is room few = omega (arith, ap length is, length_push s.cells (record { generation = 0; value = Some row }))
 length_cells-admitted row s (n ∷ ns) is room few = omega (arith, length-set s.cells n (record { generation = (cell_at s.cells n).generation; value = Some row }))
 

@@ -15,7 +15,8 @@ use Rattle.crack_index.specs.declared.mark.Mark.{Mark}
 use Rattle.crack_index.specs.Marks.{bounds_of}
 use Rattle.crack_state.specs.declared.MergeReport.{MergeReport}
 use Rattle.crack_state.specs.State.{State, Carried, Reads, IsIntact}
-use Rattle.crack_state.specs.Steps.{hand_key, piece_start, IsDoomed, lifted, lifted_last, appended, pulled_back, exchanged, buried, SameButRoom, bounds_up_to}
+use Rattle.crack_state.specs.Steps.{hand_key, piece_start, IsDoomed, lifted, lifted_last, appended, pulled_back, exchanged, buried, SameButRoom}
+use Rattle.crack_state.proofs.PieceLaws.{bounds_up_to}
 use Rattle.crack_state.specs.Merge.{Follows, Tallies, SomeOf, StillReads, outside_of}
 use Rattle.crack_state.specs.Inside.{Advances}
 use Rattle.crack_state.proofs.OwnedLaws.{hand_apart}

@@ -10,9 +10,10 @@ use Rattle.std.proofs.lemmas.Bool.{cases_eq}
 use Rattle.crack_row.proofs.Lists.{All-removed}
 use Rattle.crack_row.specs.Ranges.{IsIn}
 use Rattle.crack_row.specs.declared.Row.{Row}
+use Rattle.crack_arena.specs.declared.TheConstants.{MOST_FREED}
 use Rattle.crack_arena.specs.Arena.{Cell, Handle, StandsAt, times, read, cell_at, empty_cell, slots, place_in}
 use Rattle.crack_arena.proofs.Times.{times-nil, times-cons, times_one, times_other, times_head, times-append}
-use Rattle.crack_state.specs.State.{State, Carried, Reads, IsIntact, IsKeyed, freed_of, live_at, live_rows, greatest}
+use Rattle.crack_state.specs.State.{State, Carried, Reads, IsIntact, IsKeyed, freed_of, live_at, live_rows}
 use Rattle.crack_state.proofs.Words.{IsCounted, AreEmpty}
 use Rattle.crack_state.specs.Steps.{IsDoomed, buried}
 use Rattle.crack_state.specs.Merge.{Follows}
@@ -74,7 +75,7 @@ freed_of-emptied cells h within reads =
     omega (arith, sum_by-set (λ (x : Cell Row). x.generation) cells h.slot (record { generation = h.generation + 1; value = None }) empty_cell within, generation_of_read cells h reads)
 
 -- the store after a cell is freed, if the handle was in hand or a pending insertion, and is no longer doomed
-pub IsIntact-freed : (s t : State) (h : Handle) (hand : List Handle) → t ≡ record s { cells = emptied h s.cells; free = h.slot ∷ s.free; pending_in = t.pending_in; pending_out = t.pending_out; serials = t.serials; tally = t.tally } → Reads s.cells h → ((n : ℕ) → times n (slots t.pending_in) + times n (h.slot ∷ []) ≡ times n (slots s.pending_in) + times n (slots hand)) → times h.slot (slots t.pending_out) ≡ 0 → ((n : ℕ) → times n (slots t.pending_out) ≤ times n (slots s.column)) → All (Reads s.cells) t.pending_in → All (Reads s.cells) t.pending_out → IsKeyed (emptied h s.cells) (slots t.pending_out) t.serials → freed_of s.cells + length t.pending_out < greatest → IsCounted t.tally → IsIntact s hand → IsIntact t []
+pub IsIntact-freed : (s t : State) (h : Handle) (hand : List Handle) → t ≡ record s { cells = emptied h s.cells; free = h.slot ∷ s.free; pending_in = t.pending_in; pending_out = t.pending_out; serials = t.serials; tally = t.tally } → Reads s.cells h → ((n : ℕ) → times n (slots t.pending_in) + times n (h.slot ∷ []) ≡ times n (slots s.pending_in) + times n (slots hand)) → times h.slot (slots t.pending_out) ≡ 0 → ((n : ℕ) → times n (slots t.pending_out) ≤ times n (slots s.column)) → All (Reads s.cells) t.pending_in → All (Reads s.cells) t.pending_out → IsKeyed (emptied h s.cells) (slots t.pending_out) t.serials → freed_of s.cells + length t.pending_out < MOST_FREED → IsCounted t.tally → IsIntact s hand → IsIntact t []
 IsIntact-freed s t h hand same reads counts off few pending_reads doomed_reads keyed spare counted intact =
     let owned = intact.owned in
     let c : Cell Row = record { generation = h.generation + 1; value = None } in
@@ -112,8 +113,8 @@ freed-buried c doomed intact =
     let known = doomed_hand c doomed intact in
     omega (arith, freed_of-emptied s.cells c.hand known.apart.within (intact.owned.hand_reads 0 c.hand (omega arith)), length-remove s.pending_out (place_in s.pending_out c.hand.slot) known.place)
 
--- a generation that is to be raised is below its greatest number
-pub freed-doomed : (s : State) (hand : List Handle) → 0 < length s.pending_out → IsIntact s hand → freed_of s.cells < greatest
+-- a cell that is to be freed once more was freed less often than it may be
+pub freed-doomed : (s : State) (hand : List Handle) → 0 < length s.pending_out → IsIntact s hand → freed_of s.cells < MOST_FREED
 freed-doomed s hand some intact = omega (arith, intact.few_freed)
 
 -- the hand's cell shows no row, and showed none before

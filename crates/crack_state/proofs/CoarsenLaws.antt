@@ -1,29 +1,16 @@
 -- A store that has forgotten bounds.
-use Rattle.std.proofs.Common.{◌≡◌, ℕ, ◌<◌, List, map, refl, sym, subst}
+use Rattle.std.proofs.Common.{◌<◌, List, map, refl, sym, subst}
 use Rattle.crack_arena.specs.Arena.{Handle}
 use Rattle.crack_arena.specs.Rows.{key_at}
 use Rattle.crack_column.specs.Column.{IsDividedAt}
 use Rattle.crack_index.specs.declared.mark.Mark.{Mark}
-use Rattle.crack_index.specs.Marks.{SomeMarks, removed}
-use Rattle.crack_index.proofs.RemoveLaws.{SomeMarks-all, SomeMarks-some, SomeMarks-All, SomeMarks-Rising, SomeMarks-removed}
+use Rattle.crack_index.specs.Marks.{SomeMarks}
+use Rattle.crack_index.proofs.RemoveLaws.{SomeMarks-all, SomeMarks-All, SomeMarks-Rising}
 use Rattle.crack_state.specs.State.{State, IsIntact}
 use Rattle.crack_state.specs.Merge.{Coarsens}
 
 pub Coarsens-same : (s : State) → Coarsens s s
 Coarsens-same s = record { same = refl; some = SomeMarks-all s.marks }
-
-pub Coarsens-removed : (b : ℕ) (s u : State) → u ≡ record s { marks = removed b s.marks } → Coarsens s u
-Coarsens-removed b s u is = rw is (record { same = refl; some = SomeMarks-removed b s.marks })
-
--- what remains of a store whose marks alone may change
-same-but-marks : (s t u : State) → t ≡ record s { marks = t.marks } → u ≡ record t { marks = u.marks } → u ≡ record s { marks = u.marks }
-same-but-marks s t u first second = subst (λ (x : State). u ≡ record x { marks = u.marks }) first second
-
-pub Coarsens-chain : (s t u : State) → Coarsens s t → Coarsens t u → Coarsens s u
-Coarsens-chain s t u first second = record {
-  same = same-but-marks s t u first.same second.same;
-  some = SomeMarks-some u.marks t.marks s.marks second.some first.some;
-}
 
 -- fewer bounds are obeyed as well
 IsIntact-some : (s : State) (ms : List Mark) (hand : List Handle) → SomeMarks ms s.marks → IsIntact s hand → IsIntact (record s { marks = ms }) hand

@@ -9,6 +9,7 @@ use Rattle.std.proofs.lemmas.List.Elements.{All-head, All-tail}
 use Rattle.std.proofs.lemmas.List.Sums.{sum_by-cons}
 use Rattle.crack_row.specs.declared.Row.{Row}
 use Rattle.crack_row.proofs.Lists.{All-removed}
+use Rattle.crack_arena.specs.declared.TheConstants.{MOST_FREED}
 use Rattle.crack_arena.specs.Arena.{Cell, Handle, times, slots, place_in}
 use Rattle.crack_arena.proofs.Times.{times-cons, times_head, times_other, times_map_at, times-le-length}
 use Rattle.crack_state.specs.State.{State, Reads, freed_of, greatest}
@@ -65,7 +66,7 @@ pub record AreApart (hs : List Handle) (cells : List (Cell Row)) (out : List Han
   pub doomed : All (λ h. 0 < times h.slot (slots out)) hs
   pub doomed_reads : All (Reads cells) out
   pub doomed_once : (n : ℕ) → times n (slots out) ≤ 1
-  pub few : freed_of cells + length out ≤ greatest
+  pub few : freed_of cells + length out ≤ MOST_FREED
 
 pub AreBuried-apart : (hs : List Handle) (cells : List (Cell Row)) (out : List Handle) → AreApart hs cells out → AreBuried hs cells out
 AreBuried-apart [] cells out are = tt

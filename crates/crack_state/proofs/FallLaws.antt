@@ -6,6 +6,7 @@ use Rattle.std.proofs.lemmas.List.{append_assoc, length-append, length-map, leng
 use Rattle.std.proofs.lemmas.List.Elements.{All-head, All-tail, All-filter}
 use Rattle.crack_row.specs.Ranges.{Range, is_in}
 use Rattle.crack_row.specs.declared.Row.{Row}
+use Rattle.crack_arena.specs.declared.TheConstants.{MOST_FREED}
 use Rattle.crack_arena.specs.Arena.{Cell, Handle, no_handle, times, slots, place_in}
 use Rattle.crack_arena.specs.Rows.{key_at}
 use Rattle.crack_arena.proofs.Times.{times_map_at}
@@ -39,7 +40,7 @@ fallen_by key hs m = record m { position = m.position - count_under key m.bound.
 abbrev pub AreBuried : List Handle → List (Cell Row) → List Handle → Type 0
 AreBuried [] cells out = Unit {0}
 AreBuried (h ∷ hs) cells out =
-    Reads cells h × (freed_of cells < 18446744073709551615) × (0 < times h.slot (slots out)) × AreBuried hs (set cells h.slot (record { generation = h.generation + 1; value = None })) (remove out (place_in out h.slot))
+    Reads cells h × (freed_of cells < MOST_FREED) × (0 < times h.slot (slots out)) × AreBuried hs (set cells h.slot (record { generation = h.generation + 1; value = None })) (remove out (place_in out h.slot))
 
 -- the bounds and the column's length after the pulls of these rows
 pub record AreCounted (hs : List Handle) (s t : State) : Type 0 where

@@ -1,7 +1,7 @@
 -- The bounds next to the key in hand, from step to step.
-use Rattle.std.proofs.Common.{◌≡◌, ℕ, suc, ◌-◌, ◌<◌, ◌≤◌, List, [], ◌∷◌, length, get_or, ltb, leb, Some, refl, sym, ap, ◌∙◌, inl, inr, arith}
+use Rattle.std.proofs.Common.{◌≡◌, ℕ, suc, ◌-◌, ◌<◌, ◌≤◌, List, [], ◌∷◌, length, get_or, ltb, Some, refl, sym, ap, ◌∙◌, inl, inr, arith}
 use Rattle.std.specs.List.{All}
-use Rattle.std.proofs.lemmas.Bool.{cases_lt, lt-ltb, le-ltb, lt-leb, le-leb}
+use Rattle.std.proofs.lemmas.Bool.{cases_lt, lt-ltb, le-ltb}
 use Rattle.std.proofs.lemmas.List.{length-map, get_or-map, get_or_default}
 use Rattle.crack_arena.specs.Arena.{Handle}
 use Rattle.crack_arena.specs.Rows.{key_at}
@@ -40,21 +40,13 @@ last-pulled_back c m found some intact =
     (λ k d h before. rw (← at) ((intact.obeyed k d h).above (m.position - 1) (omega arith) (omega (arith, divides.within))))
     (λ k d h from. rw (← at) ((intact.obeyed k d h).below (m.position - 1) (omega arith))))
 
--- two keys on the same side of every bound have the same bounds next to them
+-- two keys on the same side of every bound have the same bound above them
 next_mark-same : (key other : ℕ) (marks : List Mark) → All (λ (m : Mark). ltb key m.bound.0 ≡ ltb other m.bound.0) marks → next_mark key marks ≡ next_mark other marks
 next_mark-same key other [] same = refl
 next_mark-same key other (m ∷ ms) same = rw (same 0 m (omega arith), next_mark-same key other ms (λ k d h. same (suc k) d (omega (arith, h)))) refl
 
-last_mark-same : (key other : ℕ) (marks : List Mark) → All (λ (m : Mark). leb m.bound.0 key ≡ leb m.bound.0 other) marks → last_mark key marks ≡ last_mark other marks
-last_mark-same key other [] same = refl
-last_mark-same key other (m ∷ ms) same = rw (same 0 m (omega arith), last_mark-same key other ms (λ k d h. same (suc k) d (omega (arith, h)))) refl
-
 -- a row of the own piece is on the same side of every bound as the key in hand
-record SameSide (key other bound : ℕ) : Type 0 where
-  next : ltb other bound ≡ ltb key bound
-  last : leb bound other ≡ leb bound key
-
-same_side : (place : ℕ) (c : Carried) → piece_start c.store (hand_key c) ≤ place → place < piece_end c.store (hand_key c) → IsIntact c.store (c.hand ∷ []) → All (λ (m : Mark). SameSide (hand_key c) (hand_key (exchanged place c)) m.bound.0) c.store.marks
+same_side : (place : ℕ) (c : Carried) → piece_start c.store (hand_key c) ≤ place → place < piece_end c.store (hand_key c) → IsIntact c.store (c.hand ∷ []) → All (λ (m : Mark). ltb (hand_key (exchanged place c)) m.bound.0 ≡ ltb (hand_key c) m.bound.0) c.store.marks
 same_side place c above below intact =
     let s = c.store in
     let key = hand_key c in
@@ -67,19 +59,14 @@ same_side place c above below intact =
     elim (cases_lt key bound) [
       | inl l ↦
           let less : other < bound = rw (← at) ((intact.obeyed k d h).below place (omega (arith, piece_end-before s key k d intact.rising intact.obeyed h l))) in
-          record { next = lt-ltb other bound less ∙ sym (lt-ltb key bound l); last = lt-leb bound other less ∙ sym (lt-leb bound key l) }
+          lt-ltb other bound less ∙ sym (lt-ltb key bound l)
       | inr l ↦
           let more : bound ≤ other = rw (← at) ((intact.obeyed k d h).above place (omega (arith, piece_start-behind s key k d intact.rising intact.obeyed h l)) (omega arith)) in
-          record { next = le-ltb other bound more ∙ sym (le-ltb key bound l); last = le-leb bound other more ∙ sym (le-leb bound key l) }
+          le-ltb other bound more ∙ sym (le-ltb key bound l)
     ]
 
--- after an exchange the bounds next to the key in hand are as before
+-- after an exchange the bound above the key in hand is as before
 pub next-exchanged : (place : ℕ) (c : Carried) → piece_start c.store (hand_key c) ≤ place → place < piece_end c.store (hand_key c) → IsIntact c.store (c.hand ∷ []) → next_mark (hand_key (exchanged place c)) c.store.marks ≡ next_mark (hand_key c) c.store.marks
 next-exchanged place c above below intact =
     let same = same_side place c above below intact in
-    next_mark-same (hand_key (exchanged place c)) (hand_key c) c.store.marks (λ k d h. (same k d h).next)
-
-pub last-exchanged : (place : ℕ) (c : Carried) → piece_start c.store (hand_key c) ≤ place → place < piece_end c.store (hand_key c) → IsIntact c.store (c.hand ∷ []) → last_mark (hand_key (exchanged place c)) c.store.marks ≡ last_mark (hand_key c) c.store.marks
-last-exchanged place c above below intact =
-    let same = same_side place c above below intact in
-    last_mark-same (hand_key (exchanged place c)) (hand_key c) c.store.marks (λ k d h. (same k d h).last)
+    next_mark-same (hand_key (exchanged place c)) (hand_key c) c.store.marks same

@@ -1,6 +1,7 @@
 -- The own piece of a key, what its bounds are among the marks, and how a step of a carry keeps the bounds obeyed.
 use Rattle.std.proofs.Common.{◌≡◌, ℕ, ◌<◌, ◌≤◌, List, [], ◌∷◌, ◌++◌, map, length, get_or, set, ap, inl, inr, arith, zero, suc, cond, ltb, leb, Option, Some, None, refl, sym, ◌∙◌}
 use Rattle.std.specs.List.{All, Contains, sum_by}
+use Rattle.std.specs.Prelude.{count_by, nat_le}
 use Rattle.std.proofs.lemmas.Bool.{cases_lt}
 use Rattle.std.proofs.lemmas.Bool.Decides.{nat_tests}
 use Rattle.std.proofs.lemmas.List.Elements.{All-map}
@@ -15,7 +16,7 @@ use Rattle.std.proofs.lemmas.List.Sums.{sum_by-cons}
 use Rattle.crack_row.specs.Ranges.{Range}
 use Rattle.crack_arena.specs.Arena.{Handle}
 use Rattle.crack_arena.specs.Rows.{key_at}
-use Rattle.crack_state.specs.Steps.{piece_start, piece_end, raise_next, bounds_above, bounds_up_to}
+use Rattle.crack_state.specs.Steps.{piece_start, piece_end, raise_next, bounds_above}
 
 -- a bound above another is at or after it
 pub Divides-order : (keys : List ℕ) (m n : Mark) → Divides keys m → Divides keys n → m.bound.0 ≤ n.bound.0 → m.position ≤ n.position
@@ -132,6 +133,10 @@ sum_by-moved_less f after before most (n ∷ ns) m (suc k) h found less =
 pub bounds_above-less : (low place key next : ℕ) (marks : List Mark) (m : Mark) (k : ℕ) → k < length marks → get_or marks k m ≡ m → key < m.bound.0 → m.bound.0 ≤ next → bounds_above next (map (raised low place) marks) < bounds_above key marks
 bounds_above-less low place key next marks m k h found more below =
     sum_by-moved_less (raised low place) (λ (x : Mark). cond (ltb next x.bound.0) 1 0) (λ (x : Mark). cond (ltb key x.bound.0) 1 0) (λ x. grind (arith, nat_tests)) marks m k h found (grind (arith, nat_tests))
+
+-- the number of bounds at or below a key
+abbrev pub bounds_up_to : ℕ → List Mark → ℕ
+bounds_up_to key marks = count_by (λ (m : Mark). nat_le m.bound.0 key) marks
 
 -- fewer bounds are at or below a key that is below the last of them
 pub bounds_up_to-less : (high place key next : ℕ) (marks : List Mark) (m : Mark) (k : ℕ) → k < length marks → get_or marks k m ≡ m → m.bound.0 ≤ key → next < m.bound.0 → bounds_up_to next (map (lowered high place) marks) < bounds_up_to key marks

@@ -14,11 +14,11 @@ use Rattle.crack_index.proofs.MarkLaws.{last_mark-is, lowered_cases, bounds_of-l
 use Rattle.crack_column.proofs.Divisions.{IsDividedAt-set_below, IsDividedAt-set_above, IsDividedAt-lowered, IsDividedAt-take}
 use Rattle.crack_state.specs.State.{State, Carried, Reads, IsObeyed, IsIntact}
 use Rattle.crack_state.proofs.Words.{Divides, column_keys}
-use Rattle.crack_state.specs.Steps.{hand_key, piece_start, piece_end, lower_last, more, lifted_last, pulled_back, exchanged, bounds_up_to, returned}
+use Rattle.crack_state.specs.Steps.{hand_key, piece_start, piece_end, lower_last, more, lifted_last, pulled_back, exchanged, returned}
 use Rattle.crack_state.specs.Merge.{Follows}
 use Rattle.crack_state.proofs.Counters.{IsCounted-evicted, IsCounted-pulled}
 use Rattle.crack_state.proofs.OwnedLaws.{times-taken}
-use Rattle.crack_state.proofs.PieceLaws.{cases_Option, AreMarks, AreMarks-intact, AreMarks-map, Divides-order, Divides-listed, piece_end-le, piece_end-before, piece_start-behind, bounds_up_to-less}
+use Rattle.crack_state.proofs.PieceLaws.{cases_Option, AreMarks, AreMarks-intact, AreMarks-map, Divides-order, Divides-listed, piece_end-le, piece_end-before, piece_start-behind, bounds_up_to, bounds_up_to-less}
 use Rattle.crack_state.proofs.StepLaws.{IsIntact-moved, IsIntact-put_at}
 
 Divides-lowered : (keys : List ℕ) (x : ℕ) (low m : Mark) → 0 < low.position → low.bound.0 ≤ x → Divides keys low → Divides keys m → (m.bound.0 ≤ x → m.bound.0 ≤ low.bound.0) → Divides (set keys (low.position - 1) x) (lowered low.bound.0 low.position m)

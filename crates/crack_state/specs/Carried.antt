@@ -16,24 +16,24 @@ use Rattle.crack_state.specs.Queues.{Event, comes, turns, stopped, in_bulk, bulk
 abbrev pub pieces_of : State → Pieces Handle
 pieces_of s = cut 0 s.marks s.column
 
--- a key is at or above the ceiling, if there is one
+-- whether a key is at or above the ceiling, if there is one
 abbrev pub is_over : Option ℕ → ℕ → Bool
 is_over None key = false
 is_over (Some bound) key = nat_le bound key
 
--- the handle is a pending deletion
+-- whether the handle is a pending deletion
 abbrev pub is_doomed : State → Handle → Bool
 is_doomed s h = nat_lt 0 (times h.slot (slots s.pending_out))
 
--- a carry ends with this handle in hand: it is doomed, or at or above the ceiling
+-- whether a carry ends with this handle in hand: it is doomed, or at or above the ceiling
 abbrev pub ends_with : Option ℕ → State → Handle → Bool
 ends_with ceiling s h = is_doomed s h || is_over ceiling (key_at s.cells h)
 
--- this many more rows moved
+-- the tally with this many more rows moved
 abbrev pub moved_by : ℕ → MergeReport → MergeReport
 moved_by count tally = record tally { moved = min (tally.moved + count) greatest }
 
--- the store with this column, these marks and this many rows moved, and a hand
+-- the store with this column, these marks, this many more rows moved, and this handle in hand
 abbrev pub carried_with : State → List Handle → List Mark → ℕ → Handle → Carried
 carried_with s column marks moved hand =
     record {
@@ -45,8 +45,8 @@ carried_with s column marks moved hand =
       hand = hand;
     }
 
--- a store after an outcome, except its column, its marks and its room: rows moved, and the hand that ended the carry is buried if it is doomed, else
--- it is evicted
+-- the store after the outcome of a carry, except its column, its marks and its room: rows moved, and a hand that
+-- ended the carry is buried if it is doomed, otherwise evicted
 abbrev pub ended_so : Event Handle → State → State
 ended_so (comes x) s = s
 ended_so (turns moved) s = record s { tally = moved_by moved s.tally }
@@ -54,25 +54,25 @@ ended_so (stopped moved hand) s =
     let c = carried_with s s.column s.marks moved hand in
     record (cond (is_doomed s hand) (buried c) (returned c)) { in_room = s.in_room }
 
--- a store after outcomes, one after the other
+-- the store after outcomes, in order
 abbrev pub ended_by : List (Event Handle) → State → State
 ended_by [] s = s
 ended_by (e ∷ es) s = ended_by es (ended_so e s)
 
--- those of the handles whose key is in the range, in their order
+-- the handles whose key is in the range, in order
 abbrev pub inside_of : List (Cell Row) → Range → List Handle → List Handle
 inside_of cells r hs = filter (λ h. is_in r (key_at cells h)) hs
 
--- this many more rows were put in
+-- the tally with this many more rows put in
 abbrev pub put_in_by : ℕ → MergeReport → MergeReport
 put_in_by count tally = record tally { put_in = min (tally.put_in + count) greatest }
 
--- the pending insertions of a range come in, in order of arrival
+-- the arrivals of the pending insertions in a range, in order
 abbrev pub arrivals : Range → State → List (Event Handle)
 arrivals r s = map comes (inside_of s.cells r s.pending_in)
 
--- a store after all carries of a range, except its room: each piece is as the rows that reach it leave it, each bound is where its piece ends, and
--- the carries have ended one after the other with these outcomes
+-- the store after all carries of a range, except its room: each piece is as the rows that reach it leave it, each
+-- bound is at the end of its piece, and each carry has ended with its outcome, in order
 abbrev pub carried_in_bulk : Option ℕ → Range → State → State
 carried_in_bulk ceiling r s =
     let key = key_at s.cells in

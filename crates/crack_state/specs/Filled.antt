@@ -1,5 +1,5 @@
--- A store whose column is in pieces, after pulls of a range that are each by a filler: a pending insertion with a key between a bound and the next
--- one above it.
+-- A store whose column is in pieces, after pulls of a range that begin with fillers: pending insertions with keys
+-- between a bound and the next one above it.
 use Rattle.std.specs.Prelude.{◌≡◌, ℕ, zero, suc, ◌+◌, ◌-◌, ◌≤◌, cond, min, List, [], ◌∷◌, ◌++◌, length, take, drop, reverse}
 use Rattle.std.specs.List.{All}
 use Rattle.crack_row.specs.Ranges.{Range, is_in}
@@ -12,19 +12,20 @@ use Rattle.crack_state.specs.Pieces.{Pieces, column_of, marks_of, cut}
 use Rattle.crack_state.specs.Carried.{inside_of, put_in_by}
 use Rattle.crack_state.specs.Pulled.{pulled, all_drawn, itself, pulled_by, buried_all}
 
--- the handles without the first ones, this many, whose key is in the range
+-- the handles without the first `n` of those whose key is in the range
 abbrev pub lacking : List (Cell Row) → Range → ℕ → List Handle → List Handle
 lacking cells r zero hs = hs
 lacking cells r (suc n) [] = []
 lacking cells r (suc n) (h ∷ hs) = cond (is_in r (key_at cells h)) (lacking cells r n hs) (h ∷ lacking cells r (suc n) hs)
 
--- the pieces below a mark, by the marks between them
+-- the pieces below a mark, divided by the lower marks
 abbrev pub pieces_under : State → List Mark → Mark → Pieces Handle
 pieces_under s low edge = cut 0 low (take edge.position s.column)
 
--- a store after the pulls of these doomed rows, each by one of these fillers; the marks `low` are below the one where the fillers come in, `high` are
--- above it, and `left` are the other pending insertions: each piece below is as the pulls that reach it leave it, the fillers come before the rows from
--- the mark on, the last one first, and the doomed rows are buried in order of arrival
+-- the store after the pulls of these doomed rows, each with one of these fillers. The fillers come in at the mark
+-- `edge`, `low` and `high` are the marks below and above it, and `left` are the other pending insertions. Each
+-- lower piece is as the pulls that reach it leave it, the fillers precede the rows at and after the mark, the last
+-- filler first, and the doomed rows are buried in order of arrival
 abbrev pub filled_from : List Mark → Mark → List Mark → List Handle → List Handle → List Handle → State → State
 filled_from low edge high ds fs left s =
     let pieces = pulled (key_at s.cells) itself 0 ds (pieces_under s low edge) in
@@ -36,8 +37,8 @@ filled_from low edge high ds fs left s =
       tally = put_in_by (length fs) (pulled_by count s.tally);
     })
 
--- the first pulls of a range were each by a filler, in order of arrival, until all doomed rows of the range or all fillers were gone: the fillers' keys
--- begin at a bound, and no other bound is among them
+-- the first pulls of a range began with fillers, in order of arrival, until no doomed row of the range or no filler
+-- was left; the fillers' keys begin at a bound, and no other bound is among them
 pub record IsFilled (r fillers : Range) (s t : State) : Type 0 where
   pub low : List Mark
   pub edge : Mark

@@ -5,11 +5,12 @@ use Rattle.crack_row.specs.declared.command.Policy.{Policy}
 use Rattle.crack_state.specs.State.{State}
 use Rattle.crack_state.specs.Merge.{RefinesBy, Follows, Tallies, StillReads, SomeOf}
 
--- refined at one bound: it is added if it is missing, unless it is the partition's own end
+-- a refinement at one bound, which is added if it is missing and isn't an end of the partition
 abbrev pub RefinesAt : State → State → ℕ → Type 0
 RefinesAt s u bound = RefinesBy (λ b. (b ≡ bound) × (s.keys.low < b) × (b < s.keys.high)) s u
 
--- the invariant of every carry and every pull of a merge of this policy, and so of each list of them: pending deletions are only removed
+-- what holds after every carry and every pull of a merge of this policy, and so after any number of them: pending
+-- deletions are only removed
 pub record Advances (policy : Policy) (s t : State) : Type 0 where
   pub follows : Follows s t
   pub tallies : Tallies policy s t

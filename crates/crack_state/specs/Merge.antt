@@ -1,4 +1,4 @@
--- What a refinement and a merge may change of a store, and what they leave unchanged.
+-- What a refinement and a merge may change in a store, and what they leave unchanged.
 use Rattle.std.specs.Prelude.{◌≡◌, ◌⊎◌, ℕ, Bool, Option, Some, None, ◌+◌, ◌-◌, ◌*◌, ◌<◌, ◌≤◌, ◌||◌, not, nat_le, if◌then◌else◌, List, [], ◌∷◌, ◌++◌, length, take, drop, map, filter, count_by, Contains}
 use Rattle.std.specs.List.{All, filter_map, between, list_any}
 use Rattle.std.specs.List.Sorted.{IsPermutation}
@@ -13,58 +13,58 @@ use Rattle.crack_arena.specs.Rows.{key_at}
 use Rattle.crack_state.specs.declared.MergeReport.{MergeReport}
 use Rattle.crack_state.specs.State.{State, Reads, IsIntact, EachCounter, live_rows, freed_of, greatest}
 
--- the row that the handle reads has its key outside the range
+-- the key of the row that the handle reads is outside the range
 abbrev pub ReadsOutside : List (Cell Row) → Range → Handle → Type 0
 ReadsOutside cells r h = (key_at cells h < r.low) ⊎ (r.high ≤ key_at cells h)
 
--- the handles whose key is outside the range, in their order
+-- the handles whose key is outside the range, in order
 abbrev pub outside_of : List (Cell Row) → Range → List Handle → List Handle
 outside_of cells r hs = filter (λ h. not (is_in r (key_at cells h))) hs
 
--- the handles without those of the first `passed` whose key is in the range
+-- the handles without those among the first `passed` whose key is in the range
 abbrev pub without_first : List (Cell Row) → Range → ℕ → List Handle → List Handle
 without_first cells r passed hs = outside_of cells r (take passed hs) ++ drop passed hs
 
--- how many of the handles have their key in the range
+-- the number of handles whose key is in the range
 abbrev pub count_inside : List (Cell Row) → Range → List Handle → ℕ
 count_inside cells r hs = count_by (λ h. is_in r (key_at cells h)) hs
 
--- the first list is some of the second's handles, in their order
+-- the first list has some of the second's handles, in the same order
 pub data SomeOf : List Handle → List Handle → Type 0 where
-  -- the empty list of the empty list
+  -- both lists are empty
   nothing : SomeOf [] []
   -- the first handle is left out
   left_out : (h : Handle) (some all : List Handle) → SomeOf some all → SomeOf some (h ∷ all)
-  -- the first handle is one of them
+  -- both lists begin with the same handle
   kept : (h : Handle) (some all : List Handle) → SomeOf some all → SomeOf (h ∷ some) (h ∷ all)
 
--- an end of the range that isn't the partition's own
+-- an end of the range strictly between the partition's ends
 abbrev pub IsInner : Range → Range → ℕ → Type 0
 IsInner keys r bound = ((bound ≡ r.low) ⊎ (bound ≡ r.high)) × (keys.low < bound) × (bound < keys.high)
 
--- the place at which the rows at or above a bound begin: the column's front or end for the partition's ends, else where the
--- index has the bound
+-- the place where the rows at or above a bound begin: the column's front or end if the bound isn't inside the
+-- partition, otherwise the bound's place
 abbrev pub edge : State → ℕ → ℕ
 edge s bound = if nat_le bound s.keys.low then 0 else if nat_le s.keys.high bound then length s.column else position_of bound s.marks
 
--- the column's handles between the places of a range's ends
+-- the column's handles between the places of a range's two ends
 abbrev pub stretch : State → Range → List Handle
 stretch s r = between (edge s r.low) (edge s r.high) s.column
 
--- the bound is an end of the partition or lies outside, or is in the index
+-- the bound is in the index, or isn't inside the partition
 abbrev pub Stands : State → ℕ → Type 0
 Stands s bound = s.keys.low < bound → bound < s.keys.high → HasBound s.marks bound
 
--- this holds for both ends of the range
+-- the store is cracked at both ends of the range
 abbrev pub IsCracked : State → Range → Type 0
 IsCracked s r = Stands s r.low × Stands s r.high
 
--- where pieces begin and end: the column's front, the place of each bound, and the column's end
+-- the places where pieces begin and end: 0, the place of each bound, and the column's end
 abbrev pub cuts : State → List ℕ
 cuts s = 0 ∷ map (λ (m : Mark). m.position) s.marks ++ length s.column ∷ []
 
--- between any two bounds, including the ends, the column has the same handles, in some order; the marks stay, and the bounds for
--- which `IsNew` holds are added if they were missing, and no others; everything else except room is the same
+-- the new store has the same handles between any two of the old cuts, in any order; it keeps the marks, and adds
+-- exactly those missing bounds for which `IsNew` holds; all else except room is unchanged
 pub record RefinesBy (IsNew : ℕ → Type 0) (s u : State) : Type 0 where
   pub same : u ≡ record s { column = u.column; marks = u.marks; column_room = u.column_room; in_room = u.in_room }
   pub long : length u.column ≡ length s.column
@@ -73,17 +73,17 @@ pub record RefinesBy (IsNew : ℕ → Type 0) (s u : State) : Type 0 where
   pub added : (bound : ℕ) → IsNew bound → HasBound u.marks bound
   pub only : (bound : ℕ) → HasBound u.marks bound → HasBound s.marks bound ⊎ IsNew bound
 
--- refined: what a range's crack does, which adds the inner ends of the range
+-- refined: the effect of a range's crack, which adds the ends of the range that are inside the partition
 abbrev pub Refines : State → State → Range → Type 0
 Refines s u r = RefinesBy (IsInner s.keys r) s u
 
--- coarsened: bounds are forgotten. The marks that are left are some of those there were, in their order, and everything else is the same
+-- coarsened: bounds are removed. The other marks keep their order, and all else is unchanged
 pub record Coarsens (s u : State) : Type 0 where
   pub same : u ≡ record s { marks = u.marks }
   pub some : SomeMarks u.marks s.marks
 
--- settled: no row of either pending column has its key in the range, both ends of the range are in the index or lie outside, and the column
--- between the two places holds exactly the live rows of the range
+-- settled: no pending row has its key in the range, the store is cracked at both ends of the range, and the column
+-- between their places contains exactly the live rows of the range
 pub record IsSettled (t : State) (r : Range) : Type 0 where
   pub cracked : IsCracked t r
   pub pending : All (ReadsOutside t.cells r) t.pending_in
@@ -93,8 +93,8 @@ pub record IsSettled (t : State) (r : Range) : Type 0 where
   pub reads : All (Reads t.cells) (stretch t r)
   pub holds : IsPermutation (filter (in_range r) (live_rows t)) (filter_map (read t.cells) (stretch t r))
 
--- what no step of any merge changes: the partition's keys, the live rows, the bounds, the number of cells, and how often cells
--- were freed or are still to be
+-- what no step of a merge changes: the partition's keys, the live rows, the bounds, the number of cells, and the
+-- number of frees, done or still to be done
 pub record Follows (s t : State) : Type 0 where
   pub keys : t.keys ≡ s.keys
   pub live : live_rows t ≡ live_rows s
@@ -102,30 +102,30 @@ pub record Follows (s t : State) : Type 0 where
   pub cells : length t.cells ≡ length s.cells
   pub freed : freed_of t.cells + length t.pending_out ≡ freed_of s.cells + length s.pending_out
 
--- each handle that still reads a row reads what it read before
+-- each handle that still reads a row reads the same row as before
 abbrev pub StillReads : List (Cell Row) → List (Cell Row) → Type 0
 StillReads before after = (h : Handle) → Reads after h → read after h ≡ read before h
 
--- whether a row of either pending column has its key in the range
+-- whether a pending row has its key in the range
 abbrev pub is_touched : State → Range → Bool
 is_touched s r = list_any (λ h. is_in r (key_at s.cells h)) s.pending_in || list_any (λ h. is_in r (key_at s.cells h)) s.pending_out
 
--- which pending deletions remain after a merge that takes those of its range: some of those outside it, in their order; carries met the others, which
--- are at most as many as the pending insertions in the range were
+-- the pending deletions that remain after a merge of those in its range: the ones outside the range, in order,
+-- except those that carries met, at most as many as there were pending insertions in the range
 pub record LeavesOutside (s t : State) (r : Range) : Type 0 where
   pub some : SomeOf t.pending_out (outside_of s.cells r s.pending_out)
   pub few : length (outside_of s.cells r s.pending_out) ≤ length t.pending_out + count_inside s.cells r s.pending_in
 
--- the pending insertions of a store after those of a range were merged under ripple: those outside the range, in their order, and then the evicted
--- rows, which are some of the column's rows from the place of the range's end on, in their order, at most as many as the pending insertions in the
--- range
+-- the pending insertions after those in a range were merged under ripple: the ones outside the range, in order, and
+-- then the evicted rows. These are some of the column's rows from the place of the range's high end on, in order,
+-- at most as many as there were pending insertions in the range
 pub record Evicts (s : State) (r : Range) (left : List Handle) : Type 0 where
   pub evicted : List Handle
   pub pending_in : left ≡ outside_of s.cells r s.pending_in ++ evicted
   pub some : SomeOf evicted (drop (edge s r.high) s.column)
   pub few : length evicted ≤ count_inside s.cells r s.pending_in
 
--- the bound of a mark, or another if there is none
+-- the bound of a mark, or the default
 abbrev pub bound_or : ℕ → Option Mark → ℕ
 bound_or end None = end
 bound_or end (Some m) = m.bound.0
@@ -134,38 +134,40 @@ bound_or end (Some m) = m.bound.0
 abbrev pub bound_above : State → ℕ → ℕ
 bound_above s bound = bound_or s.keys.high (next_mark bound s.marks)
 
--- the keys from a range's end up to the next bound: pending insertions of these keys are fillers under ripple
+-- the keys from a range's end up to the next bound; under ripple, pending insertions with these keys are fillers
 abbrev pub beyond : State → Range → Range
 beyond s r = record { low = r.high; high = bound_above s r.high }
 
--- the handles without this many of those whose key is in the range, the first ones
+-- the handles without the first `count` of those whose key is in the range
 pub record LosesFirst (cells : List (Cell Row)) (r : Range) (count : ℕ) (hs left : List Handle) : Type 0 where
   pub passed : ℕ
   pub left_are : left ≡ without_first cells r passed hs
   pub count_is : count_inside cells r (take passed hs) ≡ count
 
--- store t has all these pending insertions except the first fillers, at most as many as the pending deletions in the range
+-- store `t` has these pending insertions except the first fillers, at most as many as the pending deletions in the
+-- range
 pub record Fills (s t : State) (r : Range) (hs : List Handle) : Type 0 where
   pub count : ℕ
   pub few : count ≤ count_inside s.cells r s.pending_out
   pub loses : LosesFirst s.cells (beyond s r) count hs t.pending_in
 
--- which pending rows remain after a merge of this policy: complete takes all or none of both, gradual and ripple those of the range; auto itself
--- merges nothing, but selects one of the others
+-- the pending rows that remain after a merge of this policy: complete merges all or none, gradual and ripple those
+-- in the range; auto merges nothing itself, but chooses another policy
 abbrev pub Leaves : Policy → State → State → Range → Type 0
 Leaves Complete s t r = (t.pending_in ≡ (if is_touched s r then [] else s.pending_in)) × (t.pending_out ≡ (if is_touched s r then [] else s.pending_out))
 Leaves Gradual s t r = (t.pending_in ≡ outside_of s.cells r s.pending_in) × LeavesOutside s t r
 Leaves Ripple s t r = (hs : List Handle) × Evicts s r hs × Fills s t r hs × LeavesOutside s t r
 Leaves Auto s t r = ⊥
 
--- merged: the range is settled, the pending rows that the policy takes are gone, and commands see the same rows as before
+-- merged: the range is settled, the pending rows that the policy merges are gone, and commands see the same rows as
+-- before
 pub record Merges (policy : Policy) (s t : State) (r : Range) : Type 0 where
   pub follows : Follows s t
   pub intact : IsIntact t []
   pub settled : IsSettled t r
   pub leaves : Leaves policy s t r
 
--- the difference of two reports, each counter of the later less that of the earlier
+-- the difference of two reports, counter by counter
 abbrev pub counted_between : MergeReport → MergeReport → MergeReport
 counted_between before after = record {
   put_in = after.put_in - before.put_in;
@@ -175,24 +177,27 @@ counted_between before after = record {
   pulled = after.pulled - before.pulled;
 }
 
--- no counter has reached its greatest number
+-- no counter has reached its greatest value
 abbrev pub IsExact : MergeReport → Type 0
 IsExact tally = EachCounter (λ n same. n < greatest) tally tally
 
--- the report from s to t if every counter is exact: with q pieces, the rows put in and not evicted are gone from the pending insertions, those taken
--- out are gone from the pending deletions, each row put in moved at most q rows, and each row taken out pulled at most q
+-- the counts from s to t if every counter is exact, with q pieces: the rows put in and not evicted have left the
+-- pending insertions, the rows taken out have left the pending deletions, each row put in moved at most q rows, and
+-- each row taken out pulled at most q
 pub record Counts (s t : State) (q : ℕ) : Type 0 where
   pub put_in : t.tally.put_in + length t.pending_in + s.tally.evicted ≡ s.tally.put_in + length s.pending_in + t.tally.evicted
   pub taken_out : t.tally.taken_out + length t.pending_out ≡ s.tally.taken_out + length s.pending_out
   pub moved : t.tally.moved + s.tally.put_in * q ≤ s.tally.moved + t.tally.put_in * q
   pub pulled : t.tally.pulled + s.tally.taken_out * q ≤ s.tally.pulled + t.tally.taken_out * q
 
--- what a policy may have evicted: complete and gradual nothing, ripple at most as many rows as it put in, if every counter is exact
+-- what a policy may have evicted: complete and gradual nothing, ripple at most as many rows as it put in, if every
+-- counter is exact
 abbrev pub MayEvict : Policy → State → State → Type 0
 MayEvict Ripple s t = IsExact t.tally → t.tally.evicted + s.tally.put_in ≤ s.tally.evicted + t.tally.put_in
 MayEvict _ s t = t.tally.evicted ≡ s.tally.evicted
 
--- what a merge of this policy counts: no counter falls, and the report is right unless one is at its greatest number
+-- what a merge of this policy counts: no counter falls, and the counts are right unless a counter has reached its
+-- greatest value
 pub record Tallies (policy : Policy) (s t : State) : Type 0 where
   pub rises : EachCounter (λ n m. n ≤ m) s.tally t.tally
   pub counts : IsExact t.tally → Counts s t (length s.marks + 1)

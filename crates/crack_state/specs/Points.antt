@@ -1,34 +1,36 @@
--- What the commands on one row do to a store. The row is found by its serial, and removed, or replaced by another with its serial.
-use Rattle.std.specs.Prelude.{◌≡◌, ℕ, ◌+◌, ◌-◌, ◌<◌, ◌^◌, Bool, true, false, nat_lt, nat_eq, if◌then◌else◌, drop, length, List, [], ◌∷◌, ◌++◌, Option, Some, None, IsSome, slice_set}
+-- What commands on one row do to a store. The row is found by its serial, and is removed, or replaced by another
+-- with the same serial.
+use Rattle.std.specs.Prelude.{◌≡◌, ℕ, ◌+◌, ◌<◌, Bool, true, false, nat_lt, nat_eq, if◌then◌else◌, drop, length, List, [], ◌∷◌, ◌++◌, Option, Some, None, IsSome, slice_set}
 use Rattle.std.specs.List.{remove}
 use Rattle.std.specs.Option.{option_map, option_and_then, unwrap_or}
 use Rattle.crack_row.specs.Ranges.{IsIn}
 use Rattle.crack_row.specs.declared.Row.{Row}
+use Rattle.crack_arena.specs.declared.TheConstants.{MOST_CELLS, MOST_FREED}
 use Rattle.crack_arena.specs.Arena.{Handle, no_handle, read, cells_with, times, slots, place_in}
-use Rattle.crack_state.specs.State.{State, handle_of, freed_of, greatest}
+use Rattle.crack_state.specs.State.{State, handle_of, freed_of}
 use Rattle.crack_state.specs.Steps.{next_handle, SameButRoom}
 
--- the row that a serial leads to, if any
+-- the row of a serial, if any
 abbrev pub row_by : State → ℕ → Option Row
 row_by s serial = option_and_then (read s.cells) (handle_of s.serials serial)
 
--- whether the row with a serial is a pending insertion; nothing if there is no such row
+-- whether the row of a serial is a pending insertion, or `None` if there is no such row
 abbrev pub pending_by : State → ℕ → Option Bool
 pending_by s serial = option_map (λ (h : Handle). nat_lt 0 (times h.slot (slots s.pending_in))) (handle_of s.serials serial)
 
--- the handle that a serial leads to
+-- the handle of a serial
 abbrev pub handle_by : State → ℕ → Handle
 handle_by s serial = unwrap_or (handle_of s.serials serial) no_handle
 
--- the second map has this handle, or none, for the serial, and for each other serial what the first has
+-- the second map has this handle, or none, for the serial, and agrees with the first map on all other serials
 abbrev pub Maps : ℕ → Option Handle → List (ℕ × Handle) → List (ℕ × Handle) → Type 0
 Maps serial o serials after = (n : ℕ) → handle_of after n ≡ (if nat_eq serial n then o else handle_of serials n)
 
 -- a cell may be freed once more, now or later
 abbrev pub MayFree : State → Type 0
-MayFree s = freed_of s.cells + length s.pending_out < greatest
+MayFree s = freed_of s.cells + length s.pending_out < MOST_FREED
 
--- a cell of a pending insertion is freed, to be used next, and its handle leaves the pending insertions: the later ones close up
+-- the cell of a pending insertion is freed, to be used next, and its handle is removed from the pending insertions
 abbrev pub struck : Handle → State → State
 struck h s =
     record s {
@@ -37,15 +39,15 @@ struck h s =
       pending_in = remove s.pending_in (place_in s.pending_in h.slot);
     }
 
--- a handle of the column goes after the last pending deletion
+-- a handle of the column is appended to the pending deletions
 abbrev pub doomed_too : Handle → State → State
 doomed_too h s = record s { pending_out = s.pending_out ++ h ∷ [] }
 
--- a cell gets another row
+-- the row in a cell is replaced
 abbrev pub overwritten : Row → Handle → State → State
 overwritten row h s = record s { cells = slice_set s.cells h.slot (record { generation = h.generation; value = Some row }) }
 
--- a handle of the column goes after the last pending deletion, and a row in a new cell after the last pending insertion
+-- a handle of the column is appended to the pending deletions, and a row in a new cell to the pending insertions
 abbrev pub renewed : Row → Handle → State → State
 renewed row h s =
     record s {
@@ -55,7 +57,7 @@ renewed row h s =
       pending_out = s.pending_out ++ h ∷ [];
     }
 
--- cancel: the pending insertion with a serial is struck, and the serial leaves the map
+-- cancel: the pending insertion with a serial is removed, and the serial leaves the map
 pub record Cancels (serial : ℕ) (s t : State) : Type 0 where
   pub after : SameButRoom (record (struck (handle_by s serial) s) { serials = t.serials }) t
   pub map : Maps serial None s.serials t.serials
@@ -65,29 +67,33 @@ pub record Dooms (serial : ℕ) (s t : State) : Type 0 where
   pub after : SameButRoom (record (doomed_too (handle_by s serial) s) { serials = t.serials }) t
   pub map : Maps serial None s.serials t.serials
 
--- remove, by whether the row with a serial is a pending insertion: it is cancelled, or doomed; if there is none nothing changes
+-- remove: the row with a serial is cancelled if it is a pending insertion, otherwise doomed; without such a row
+-- nothing changes
 abbrev pub Removes : Option Bool → ℕ → State → State → Type 0
 Removes None serial s t = t ≡ s
 Removes (Some true) serial s t = Cancels serial s t
 Removes (Some false) serial s t = Dooms serial s t
 
--- renew: the column's row with a serial becomes a pending deletion, and the map leads to the new row with that serial
+-- renew: the column's row with a serial becomes a pending deletion, and the map leads from the serial to the new
+-- row
 pub record Renews (row : Row) (s t : State) : Type 0 where
   pub after : SameButRoom (record (renewed row (handle_by s row.serial.0) s) { serials = t.serials }) t
   pub map : Maps row.serial.0 (Some (next_handle s)) s.serials t.serials
 
--- rewrite, by whether the row with a serial is a pending insertion: it is written in place, or renewed; if there is none nothing changes
+-- rewrite: the row with a serial is replaced in place if it is a pending insertion, otherwise renewed; without such
+-- a row nothing changes
 abbrev pub Rewrites : Option Bool → Row → State → State → Type 0
 Rewrites None row s t = t ≡ s
 Rewrites (Some true) row s t = t ≡ overwritten row (handle_by s row.serial.0) s
 Rewrites (Some false) row s t = Renews row s t
 
--- when a row may be renewed: a cell is free or one more may be made, and one may be freed later
+-- a row may be renewed: a cell is free or one more may be made, and one more may be freed later
 pub record IsRenewable (s : State) : Type 0 where
-  pub cell : length s.cells < 2 ^ 32 - 1 + length s.free
+  pub cell : length s.cells < MOST_CELLS + length s.free
   pub few : MayFree s
 
--- when a row may be rewritten: there is one with its serial, its key is the partition's, and one in the column may be renewed
+-- a row may be rewritten: a row with its serial exists, its key is the partition's, and the old row may be renewed
+-- if it is in the column
 pub record IsRewritable (row : Row) (s : State) : Type 0 where
   pub there : IsSome (handle_of s.serials row.serial.0)
   pub within : IsIn s.keys row.key.0

@@ -11,40 +11,40 @@ use Rattle.crack_state.specs.Steps.{buried}
 use Rattle.crack_state.specs.Pieces.{Pieces, last, below, column_of, marks_of}
 use Rattle.crack_state.specs.Carried.{pieces_of, inside_of}
 
--- `key` and handle of each doomed row
+-- `key` and `handle` of each doomed row
 module _ {D : Type 0} (key : D → ℕ) (handle : D → Handle) where
-  -- each doomed row that isn't of a lower piece is of the last one
+  -- the last piece has each doomed row that isn't in a lower piece
   abbrev pub any_doomed : D → Bool
   any_doomed d = true
 
-  -- whether a doomed row is of a piece or of one below, by the bound where the piece ends
+  -- whether a doomed row is in a piece or in a lower one, by the bound where the piece ends
   abbrev pub ends_above : InnerBound → D → Bool
   ends_above bound d = nat_lt (key d) bound.0
 
-  -- piece by piece: each piece after the pulls of all doomed rows of it and of the pieces below
+  -- the pieces after the pulls of all doomed rows: each after those of itself and of lower pieces
   abbrev pub pulled : ℕ → List D → Pieces Handle → Pieces Handle
   pulled low ds (last rows) = last (drained key handle low any_doomed ds rows)
   pulled low ds (below rows bound pieces) = below (drained key handle low (ends_above bound) ds rows) bound (pulled bound.0 ds pieces)
 
-  -- and how many rows are pulled
+  -- how often these pulls move a row
   abbrev pub all_drawn : ℕ → List D → Pieces Handle → ℕ
   all_drawn low ds (last rows) = drawn key handle low any_doomed ds rows
   all_drawn low ds (below rows bound pieces) = drawn key handle low (ends_above bound) ds rows + all_drawn bound.0 ds pieces
 
--- a handle is the doomed row's own
+-- a handle, as its own doomed row
 abbrev pub itself : Handle → Handle
 itself h = h
 
--- this many more rows were pulled
+-- the tally with this many more rows pulled
 abbrev pub pulled_by : ℕ → MergeReport → MergeReport
 pulled_by count tally = record tally { pulled = min (tally.pulled + count) greatest }
 
--- these doomed rows are buried, one after the other
+-- the store after these doomed rows were buried, in order
 abbrev pub buried_all : List Handle → State → State
 buried_all [] s = s
 buried_all (h ∷ hs) s = buried_all hs (buried (record { store = s; hand = h }))
 
--- a store after the pulls of these doomed rows
+-- the store after the pulls of these doomed rows
 abbrev pub pulled_from : List Handle → State → State
 pulled_from hs s =
     let pieces = pulled (key_at s.cells) itself 0 hs (pieces_of s) in
@@ -55,7 +55,7 @@ pulled_from hs s =
       column_room = s.column_room + length hs;
     })
 
--- a store after all pulls of a range: each piece is as the pulls that reach it leave it, each bound is where its piece ends, and the doomed rows are
--- buried in order of arrival
+-- the store after all pulls of a range: each piece is as the pulls that reach it leave it, each bound is at the end
+-- of its piece, and the doomed rows are buried in order of arrival
 abbrev pub pulled_in_bulk : Range → State → State
 pulled_in_bulk r s = pulled_from (inside_of s.cells r s.pending_out) s

@@ -1,38 +1,38 @@
--- What an incoming row does to the pieces of a column: for one piece, incoming rows are a queue.
+-- What incoming rows do to the pieces of a column: to one piece they are a queue.
 use Rattle.std.specs.Prelude.{ℕ, suc, Bool, true, cond, nat_lt, List, [], ◌∷◌, ◌++◌}
 use Rattle.crack_row.specs.declared.InnerBound.{InnerBound}
 use Rattle.crack_state.specs.Pieces.{Pieces, last, below}
 
--- how far a carry has come when it reaches a piece
+-- the state of a carry when it reaches a piece
 pub data Event (X : Type 0) : Type 0 where
-  -- the incoming row is in hand, and its own piece is this one or one above
+  -- the incoming row is in hand, and its own piece is this one or a higher one
   comes : X → Event X
-  -- the row in hand is of a lower piece; this many rows moved before
+  -- the row in hand is from a lower piece, and this many rows have moved
   turns : ℕ → Event X
-  -- the carry has ended below, with this row in hand, after this many rows moved
+  -- the carry has ended in a lower piece, with this row in hand, after this many rows moved
   stopped : ℕ → X → Event X
 
 -- `key` of each row, and whether a carry ends with it in hand: it is doomed, or at or above a ceiling
 module _ {X : Type 0} (key : X → ℕ) (stops : X → Bool) where
-  -- whether a row is of a piece or of one below, by the bound where the piece ends
+  -- whether a row is in a piece or in a lower one, by the bound where the piece ends
   abbrev pub is_below : InnerBound → X → Bool
   is_below bound x = nat_lt (key x) bound.0
 
-  -- each row is of the last piece or of one below
+  -- every row is in the last piece or in a lower one
   abbrev pub any_row : X → Bool
   any_row x = true
 
-  -- the piece after a turn: its first row moves after its last, unless a carry ends with it in hand
+  -- the piece after a turn: its first row moves to its end, or leaves it if a carry ends with it in hand
   abbrev pub after_turn : List X → List X
   after_turn [] = []
   after_turn (y ∷ ys) = cond (stops y) ys (ys ++ y ∷ [])
 
-  -- how far a carry has come after it turned a piece
+  -- the state of a carry after it turned a piece
   abbrev pub onward : ℕ → List X → Event X
   onward moved [] = turns moved
   onward moved (y ∷ ys) = cond (stops y) (stopped (suc moved) y) (turns (suc moved))
 
-  -- a piece after an event
+  -- the piece after an event
   abbrev pub after : (X → Bool) → Event X → List X → List X
   after own (comes x) rows = cond (own x) (rows ++ x ∷ []) rows
   after own (turns moved) rows = after_turn rows
@@ -44,7 +44,7 @@ module _ {X : Type 0} (key : X → ℕ) (stops : X → Bool) where
   next own (turns moved) rows = onward moved rows
   next own (stopped moved y) rows = stopped moved y
 
-  -- a piece after all events that reach it
+  -- the piece after all events that reach it
   abbrev pub left : (X → Bool) → List (Event X) → List X → List X
   left own [] rows = rows
   left own (e ∷ es) rows = left own es (after own e rows)
@@ -54,12 +54,12 @@ module _ {X : Type 0} (key : X → ℕ) (stops : X → Bool) where
   passed own [] rows = []
   passed own (e ∷ es) rows = next own e rows ∷ passed own es (after own e rows)
 
-  -- piece by piece: each piece after all events that reach it
+  -- the pieces, each after all events that reach it
   abbrev pub in_bulk : List (Event X) → Pieces X → Pieces X
   in_bulk es (last rows) = last (left any_row es rows)
   in_bulk es (below rows bound pieces) = below (left (is_below bound) es rows) bound (in_bulk (passed (is_below bound) es rows) pieces)
 
-  -- and how the events that leave the last piece have ended
+  -- the events that leave the last piece: the outcomes of the carries
   abbrev pub bulk_outcomes : List (Event X) → Pieces X → List (Event X)
   bulk_outcomes es (last rows) = passed any_row es rows
   bulk_outcomes es (below rows bound pieces) = bulk_outcomes (passed (is_below bound) es rows) pieces

@@ -1,9 +1,10 @@
--- A store as lists: its parts, and what must hold of it.
+-- A store as a record of lists, and its invariants.
 use Rattle.std.specs.Prelude.{◌≡◌, ℕ, ◌+◌, ◌<◌, ◌≤◌, ◌^◌, ◌-◌, ◌==◌, nat_lt, nat_eq, if◌then◌else◌, sum_by, List, ◌++◌, length, map, Option, Some, None, IsSome, IfSome}
 use Rattle.std.specs.List.{All, filter_map, range_with_len}
 use Rattle.std.specs.Map.{lookup}
 use Rattle.crack_row.specs.Ranges.{Range, IsIn}
 use Rattle.crack_row.specs.declared.Row.{Row}
+use Rattle.crack_arena.specs.declared.TheConstants.{MOST_FREED}
 use Rattle.crack_arena.specs.Arena.{Cell, Handle, read, cell_at, times, slots}
 use Rattle.crack_index.specs.declared.mark.Mark.{Mark}
 use Rattle.crack_index.specs.Marks.{Rising}
@@ -11,8 +12,9 @@ use Rattle.crack_arena.specs.Rows.{key_at}
 use Rattle.crack_column.specs.Column.{IsDividedAt}
 use Rattle.crack_state.specs.declared.MergeReport.{MergeReport}
 
--- the partition's keys; the cells of the arena and its free numbers; the column; the pending columns; the marks of the index; the handle of each live
--- serial; the tally; and for how many more handles column and pending insertions have room
+-- the partition's keys, the cells and the free list of the arena, the column, the pending lists, the marks of the
+-- index, the handle of each live serial, the tally, and for how many more handles the column and the pending
+-- insertions have room
 pub record State : Type 0 where
   pub keys : Range
   pub cells : List (Cell Row)
@@ -26,7 +28,7 @@ pub record State : Type 0 where
   pub column_room : ℕ
   pub in_room : ℕ
 
--- a store with a cell in hand, which is in no list
+-- a store with a handle in hand, whose cell is in none of its lists
 pub record Carried : Type 0 where
   pub store : State
   pub hand : Handle
@@ -35,8 +37,8 @@ pub record Carried : Type 0 where
 abbrev pub Reads : List (Cell Row) → Handle → Type 0
 Reads cells h = IsSome (read cells h)
 
--- each cell is in exactly one place; each handle in column, pending insertions or hand reads a row; the doomed ones are distinct, and each is in the
--- column or in hand
+-- each cell is in exactly one place: column, pending insertions, free list or hand; each handle reads a row; the
+-- doomed handles are distinct, and each is in the column or the hand
 pub record IsOwned (cells : List (Cell Row)) (free : List ℕ) (column pending_in pending_out hand : List Handle) : Type 0 where
   pub once : (n : ℕ) → times n (slots column ++ slots pending_in ++ free ++ slots hand) ≡ (if nat_lt n (length cells) then 1 else 0)
   pub column_reads : All (Reads cells) column
@@ -45,23 +47,24 @@ pub record IsOwned (cells : List (Cell Row)) (free : List ℕ) (column pending_i
   pub doomed_reads : All (Reads cells) pending_out
   pub doomed_once : (n : ℕ) → times n (slots pending_out) ≤ times n (slots column ++ slots hand)
 
--- every mark divides the keys: those below its bound are first, and its position is their number
+-- every mark divides the keys: the keys below its bound come first, and its position is their number
 abbrev pub IsObeyed : List Mark → List ℕ → Type 0
 IsObeyed marks keys = All (λ (m : Mark). IsDividedAt m.bound.0 keys m.position) marks
 
--- the row that commands see in the cell with this number: its row, unless that is doomed
+-- the row that commands see in the cell with this number: the cell's row, unless it is doomed
 abbrev pub live_at : List (Cell Row) → List ℕ → ℕ → Option Row
 live_at cells doomed n = if times n doomed == 0 then (cell_at cells n).value else None
 
--- the rows that commands see, in the order of their cells' numbers
+-- the rows that commands see, in the order of their cell numbers
 abbrev pub live_rows : State → List Row
 live_rows s = filter_map (live_at s.cells (slots s.pending_out)) (range_with_len 0 (length s.cells))
 
--- the handle that the map has for a serial
+-- the handle that the map has for a serial, if any
 abbrev pub handle_of : List (ℕ × Handle) → ℕ → Option Handle
 handle_of serials serial = lookup (nat_eq serial) serials
 
--- the map leads from a serial only to a handle that reads a row with this serial which isn't doomed, and from the serial of each such row to its handle
+-- the map leads from a serial only to a handle of a row that has this serial and isn't doomed, and from the serial
+-- of each such row to its handle
 pub record IsKeyed (cells : List (Cell Row)) (doomed : List ℕ) (serials : List (ℕ × Handle)) : Type 0 where
   pub leads : (serial : ℕ) (h : Handle) → handle_of serials serial ≡ Some h
       → (row : Row) × (read cells h ≡ Some row) × (row.serial.0 ≡ serial) × (times h.slot doomed ≡ 0)
@@ -71,11 +74,11 @@ pub record IsKeyed (cells : List (Cell Row)) (doomed : List ℕ) (serials : List
 abbrev pub freed_of : List (Cell Row) → ℕ
 freed_of cells = sum_by (λ (c : Cell Row). c.generation) cells
 
--- the greatest number that a counter or a generation reaches
+-- the greatest number of a counter
 abbrev pub greatest : ℕ
 greatest = 2 ^ 64 - 1
 
--- each counter of a report is related like this to that of another
+-- each counter of one report is related like this to the same counter of another
 pub record EachCounter (R : ℕ → ℕ → Type 0) (before after : MergeReport) : Type 0 where
   pub put_in : R before.put_in after.put_in
   pub taken_out : R before.taken_out after.taken_out
@@ -83,8 +86,9 @@ pub record EachCounter (R : ℕ → ℕ → Type 0) (before after : MergeReport)
   pub moved : R before.moved after.moved
   pub pulled : R before.pulled after.pulled
 
--- the invariant of the type of a store, with no hand or one: each cell is in one place; every bound is obeyed, and lies strictly between the
--- partition's ends; a free cell has no value; the key of every row is the partition's; and every counter fits
+-- the invariants of a store with at most one row in hand: each cell is in one place; every bound is obeyed, and is
+-- inside the partition; free cells have no value; every key is the partition's; the map of serials is right; and
+-- every counter fits
 pub record IsIntact (s : State) (hand : List Handle) : Type 0 where
   pub owned : IsOwned s.cells s.free s.column s.pending_in s.pending_out hand
   pub obeyed : IsObeyed s.marks (map (key_at s.cells) s.column)
@@ -94,5 +98,5 @@ pub record IsIntact (s : State) (hand : List Handle) : Type 0 where
   pub empty : All (λ n. (cell_at s.cells n).value ≡ None) s.free
   pub within : All (λ (c : Cell Row). IfSome c.value (λ r. IsIn s.keys r.key.0)) s.cells
   pub few_cells : length s.cells < 2 ^ 32
-  pub few_freed : freed_of s.cells + length s.pending_out ≤ greatest
+  pub few_freed : freed_of s.cells + length s.pending_out ≤ MOST_FREED
   pub counted : EachCounter (λ n same. n ≤ greatest) s.tally s.tally

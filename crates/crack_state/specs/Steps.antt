@@ -1,9 +1,10 @@
--- What each step does to a store: the row that moves, the bounds that move with it, and the counter that rises.
-use Rattle.std.specs.Prelude.{◌≡◌, ⊤, ℕ, ◌+◌, ◌-◌, ◌<◌, ◌^◌, nat_lt, nat_le, min, map, take, drop, length, count_by, List, [], ◌∷◌, ◌++◌, Option, Some, None, slice_index_or, slice_set}
+-- The effect of each step on a store: the row that moves, the bounds that move with it, and the counter that rises.
+use Rattle.std.specs.Prelude.{◌≡◌, ⊤, ℕ, ◌+◌, ◌-◌, ◌<◌, nat_lt, min, map, take, drop, length, count_by, List, [], ◌∷◌, ◌++◌, Option, Some, None, slice_index_or, slice_set}
 use Rattle.std.specs.List.{remove}
 use Rattle.crack_row.specs.Ranges.{IsIn}
 use Rattle.crack_row.specs.declared.Row.{Row}
 use Rattle.crack_row.specs.declared.Bound.{Bound}
+use Rattle.crack_arena.specs.declared.TheConstants.{MOST_CELLS}
 use Rattle.crack_arena.specs.Arena.{Handle, no_handle, times, slots, place_in, handle_for, cells_with}
 use Rattle.crack_index.specs.declared.mark.Mark.{Mark}
 use Rattle.crack_index.specs.Marks.{next_mark, last_mark, start_of, end_of, raised, lowered, lowered_at}
@@ -15,7 +16,7 @@ use Rattle.crack_state.specs.State.{State, Carried, handle_of, greatest}
 abbrev pub hand_key : Carried → ℕ
 hand_key c = key_at c.store.cells c.hand
 
--- where the own piece of a key begins: at the place of the greatest bound at or below the key, or at the column's front
+-- where the own piece of a key begins: at the place of the greatest bound at or below the key, or at 0
 abbrev pub piece_start : State → ℕ → ℕ
 piece_start s key = start_of (last_mark key s.marks)
 
@@ -23,25 +24,25 @@ piece_start s key = start_of (last_mark key s.marks)
 abbrev pub piece_end : State → ℕ → ℕ
 piece_end s key = end_of (length s.column) (next_mark key s.marks)
 
--- the bounds above a key that are where its own piece ends move up by one, and no other
+-- the marks after the lowest bound above a key, and the higher ones at its place, moved up by one
 abbrev pub raise_next : Option Mark → List Mark → List Mark
 raise_next None marks = marks
 raise_next (Some m) marks = map (raised m.bound.0 m.position) marks
 
--- the bounds at or below a key that are where its own piece begins move down by one, and no other
+-- the marks after the greatest bound at or below a key, and the lower ones at its place, moved down by one
 abbrev pub lower_last : Option Mark → List Mark → List Mark
 lower_last None marks = marks
 lower_last (Some m) marks = map (lowered m.bound.0 m.position) marks
 
--- the hand is a pending deletion
+-- the row in hand is doomed: it has a pending deletion
 abbrev pub IsDoomed : Carried → Type 0
 IsDoomed c = 0 < times c.hand.slot (slots c.store.pending_out)
 
--- one more, except at the greatest number of a counter
+-- one more, up to the greatest value of a counter
 abbrev pub more : ℕ → ℕ
 more n = min (n + 1) greatest
 
--- a handle is put at a place of the column, and the one that was there is in hand
+-- the hand takes a place of the column, and the handle that was there is in hand
 abbrev pub put_at : ℕ → List Mark → MergeReport → Carried → Carried
 put_at place marks tally c =
     record {
@@ -76,17 +77,17 @@ lifted_last s =
       hand = slice_index_or s.column (length s.column - 1) no_handle;
     }
 
--- push_on: the hand is put where its own piece ends, and the row that was there is in hand
+-- push_on: the hand takes the place where its own piece ends, and the row that was there is in hand
 abbrev pub pushed_on : Carried → Carried
 pushed_on c =
     put_at (piece_end c.store (hand_key c)) (raise_next (next_mark (hand_key c) c.store.marks) c.store.marks) (record c.store.tally { moved = more c.store.tally.moved }) c
 
--- pull_back: the hand is put at the last place before its own piece, and the row that was there is in hand
+-- pull_back: the hand takes the last place before its own piece, and the row that was there is in hand
 abbrev pub pulled_back : Carried → Carried
 pulled_back c =
     put_at (piece_start c.store (hand_key c) - 1) (lower_last (last_mark (hand_key c) c.store.marks) c.store.marks) (record c.store.tally { pulled = more c.store.tally.pulled }) c
 
--- exchange: the hand is put at a place, and the row that was there is in hand
+-- exchange: the hand takes a place, and the row that was there is in hand
 abbrev pub exchanged : ℕ → Carried → Carried
 exchanged place c = put_at place c.store.marks (record c.store.tally { pulled = more c.store.tally.pulled }) c
 
@@ -99,7 +100,7 @@ appended c =
       column_room = c.store.column_room - 1;
     }
 
--- if there is no bound, the carries of all pending insertions: in order of arrival they become the column's last rows
+-- the carries of all pending insertions, if there is no bound: they are appended to the column, in order of arrival
 abbrev pub all_appended : State → State
 all_appended s =
     record s {
@@ -108,7 +109,7 @@ all_appended s =
       tally = record s.tally { put_in = min (s.tally.put_in + length s.pending_in) greatest };
     }
 
--- bury: the hand, which is doomed, is struck from the pending deletions, and its cell is freed
+-- bury: the hand, which is doomed, is removed from the pending deletions, and its cell is freed
 abbrev pub buried : Carried → State
 buried c =
     record c.store {
@@ -122,7 +123,7 @@ buried c =
 abbrev pub next_handle : State → Handle
 next_handle s = handle_for s.cells s.free
 
--- admit: a row in a new cell, after the last pending insertion
+-- admit: a row in a new cell is appended to the pending insertions
 abbrev pub admitted : Row → State → State
 admitted row s =
     record s {
@@ -133,25 +134,22 @@ admitted row s =
       in_room = s.in_room - 1;
     }
 
--- when a row may be admitted: its serial isn't in the map, its key is the partition's, and a cell is free or one more may be made
+-- a row may be admitted: its serial isn't in the map, its key is the partition's, and a cell is free or one more
+-- may be made
 pub record IsAdmissible (row : Row) (s : State) : Type 0 where
   pub fresh : handle_of s.serials row.serial.0 ≡ None
   pub within : IsIn s.keys row.key.0
-  pub cell : length s.cells < 2 ^ 32 - 1 + length s.free
+  pub cell : length s.cells < MOST_CELLS + length s.free
 
--- the two differ only in the room for handles
+-- the two stores differ only in the room for handles
 pub record SameButRoom (s t : State) : Type 0 where
   pub same : t ≡ record s { column_room = t.column_room; in_room = t.in_room }
 
--- how many bounds are above a key
+-- the number of bounds above a key
 abbrev pub bounds_above : ℕ → List Mark → ℕ
 bounds_above key marks = count_by (λ (m : Mark). nat_lt key m.bound.0) marks
 
--- how many bounds are at or below a key
-abbrev pub bounds_up_to : ℕ → List Mark → ℕ
-bounds_up_to key marks = count_by (λ (m : Mark). nat_le m.bound.0 key) marks
-
--- put_back: the hand goes after the last pending insertion
+-- put_back: the hand is appended to the pending insertions
 abbrev pub returned : Carried → State
 returned c =
     record c.store {
@@ -165,18 +163,18 @@ abbrev pub ceiling_of : Option Bound → Option ℕ
 ceiling_of None = None
 ceiling_of (Some bound) = Some bound.0
 
--- the key is below the ceiling, if there is one
+-- the key is below the ceiling, or there is no ceiling
 abbrev pub IsBelow : Option ℕ → ℕ → Type 0
 IsBelow None key = ⊤
 IsBelow (Some bound) key = key < bound
 
--- this many times, one or none, the hand was pushed on: each time it wasn't doomed, its key was below the ceiling, and its own piece ended
--- before the column does
+-- the hand was pushed on any number of times: each time it wasn't doomed, its key was below the ceiling, and its
+-- own piece ended before the column's end
 pub data PushesOn (ceiling : Option ℕ) : Carried → Carried → Type 0 where
   stays : (c : Carried) → PushesOn ceiling c c
   pushes : (c d : Carried) → ¬ IsDoomed c → IsBelow ceiling (hand_key c) → piece_end c.store (hand_key c) < length c.store.column → PushesOn ceiling (pushed_on c) d → PushesOn ceiling c d
 
--- this many times, one or none, the hand was pulled back: each time its own piece began after the place
+-- the hand was pulled back any number of times: each time its own piece began after the place
 pub data PullsBack (place : ℕ) : Carried → Carried → Type 0 where
   stays : (c : Carried) → PullsBack place c c
   pulls : (c d : Carried) → place < piece_start c.store (hand_key c) → PullsBack place (pulled_back c) d → PullsBack place c d

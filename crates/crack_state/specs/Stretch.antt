@@ -1,4 +1,4 @@
--- What a range command reads from the column.
+-- The rows that a range command reads from the column.
 use Rattle.std.specs.Prelude.{ℕ, List}
 use Rattle.std.specs.List.{filter_map, between}
 use Rattle.crack_row.specs.Ranges.{Range}
@@ -7,11 +7,11 @@ use Rattle.crack_arena.specs.Arena.{read}
 use Rattle.crack_state.specs.State.{State}
 use Rattle.crack_state.specs.Merge.{edge}
 
--- the rows from one place of the column up to another, in their order
+-- the rows from one place of the column up to another, in order
 abbrev pub rows_within : State → ℕ → ℕ → List Row
 rows_within s from to = filter_map (read s.cells) (between from to s.column)
 
--- the rows between the places of a range's ends
+-- the rows between the places of a range's two ends
 abbrev pub stretch_rows : State → Range → List Row
 stretch_rows s r = rows_within s (edge s r.low) (edge s r.high)
 

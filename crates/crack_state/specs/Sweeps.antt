@@ -1,19 +1,20 @@
 -- What private clauses alone cite.
--- How rows that came in after the column's last row turn the pieces from the lowest up: each that turns a piece is exchanged with the row that it
--- turns, which then represents it.
+-- How rows that came in after the column's last row turn the pieces, from the lowest up: a row that turns a piece
+-- is exchanged with the row that it turns, which then stands for it.
 use Rattle.std.specs.Prelude.{ℕ, ◌+◌, Bool, true, not, ◌&&◌, cond, nat_lt, List, [], ◌∷◌, ◌++◌}
 
--- the rows of the piece, those after the column's last row, and how many rows moved
+-- the rows of the piece, the rows after the column's last one, and how many rows moved
 pub record Swept (X : Type 0) : Type 0 where
   pub piece : List X
   pub tail : List X
   pub made : ℕ
 
--- this many more rows moved
+-- the result with this many more rows moved
 abbrev pub with_more : {X : Type 0} → ℕ → Swept X → Swept X
 with_more count s = record s { made = count + s.made }
 
--- of the places after the column's last, those that were passed: those that turn no more, then the others; and how many rows moved
+-- of the places after the column's last row, those that were passed: first those that turn no more, then the
+-- others; and how many rows moved
 pub record Round (X : Type 0) : Type 0 where
   pub done : List X
   pub queue : List X
@@ -21,18 +22,18 @@ pub record Round (X : Type 0) : Type 0 where
 
 -- whether a carry ends with a row in hand
 module _ {X : Type 0} (stops : X → Bool) where
-  -- a row that passes the test goes on from a piece: no carry has ended with it
+  -- whether a row that passes the test goes on from a piece: no carry has ended with it
   abbrev pub goes_on : (X → Bool) → X → Bool
   goes_on own t = own t && not (stops t)
 
-  -- once none of the piece's first rows is left, a row takes the place of the first that has gone on from it, which goes on again at the place of
-  -- that row
+  -- once none of the piece's first rows is left, a row takes the place of the first row that went on from the
+  -- piece, which goes on again from the place of that row
   abbrev pub round : (X → Bool) → X → List X → List X → Round X
   round own t done [] = record { done = done ++ t ∷ []; queue = []; made = 0 }
   round own t done (q ∷ qs) =
       cond (goes_on own q) (record { done = done ++ t ∷ []; queue = qs ++ q ∷ []; made = 1 }) (round own t (done ++ q ∷ []) qs)
 
-  -- rows pass a piece, one after the other: `under` says which of them turn it, and `own` which are of it or of a lower one
+  -- rows pass a piece in order; `under` says which of them turn it, and `own` which are in it or in a lower piece
   abbrev pub swept : (X → Bool) → (X → Bool) → List X → List X → List X → List X → List X → Swept X
   swept under own [] front rows done queue = record { piece = front ++ rows; tail = done ++ queue; made = 0 }
   swept under own (t ∷ ts) front [] done queue =
@@ -41,16 +42,16 @@ module _ {X : Type 0} (stops : X → Bool) where
   swept under own (t ∷ ts) front (y ∷ ys) done queue =
       cond (goes_on under t) (with_more 1 (swept under own ts (front ++ t ∷ []) ys done (queue ++ y ∷ []))) (swept under own ts front (y ∷ ys) done (queue ++ t ∷ []))
 
--- `key` of each row
+-- `key` of each row, and whether a carry ends with it in hand
 module _ {X : Type 0} (key : X → ℕ) (stops : X → Bool) where
-  -- a row is below a bound
+  -- whether a row is below a bound
   abbrev pub is_lower : ℕ → X → Bool
   is_lower low x = nat_lt (key x) low
 
-  -- each row is of the last piece or of a lower one
+  -- every row is in the last piece or in a lower one
   abbrev pub any_lower : X → Bool
   any_lower x = true
 
-  -- they pass a piece that begins at this bound
+  -- the rows pass a piece that begins at this bound
   abbrev pub swept_by : ℕ → (X → Bool) → List X → List X → Swept X
   swept_by low own ts rows = swept stops (is_lower low) own ts [] rows [] []

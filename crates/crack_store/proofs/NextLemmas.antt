@@ -7,13 +7,13 @@ use Rattle.crack_index.specs.Marks.{next_mark, last_mark, first_behind, last_bef
 use Rattle.crack_index.proofs.MarkLaws.{next_mark-is, last_mark-is}
 use Rattle.crack_arena.specs.Arena.{Handle}
 use Rattle.crack_state.specs.State.{State, Carried, IsIntact}
-use Rattle.crack_state.specs.Steps.{hand_key, piece_start, piece_end, more, put_at, pushed_on, pulled_back, bounds_above, bounds_up_to}
+use Rattle.crack_state.specs.Steps.{hand_key, piece_start, piece_end, more, put_at, pushed_on, pulled_back, bounds_above}
 use Rattle.crack_state.proofs.PieceLaws.{piece_start-le}
 use Rattle.crack_state.proofs.StepLaws.{IsIntact-pushed_on, bounds_above-pushed_on}
-use Rattle.crack_state.proofs.PullLaws.{IsIntact-pulled_back, bounds_up_to-pulled_back}
+use Rattle.crack_state.proofs.PullLaws.{IsIntact-pulled_back}
 use Rattle.crack_state.proofs.NearLaws.{next-pushed_on, last-pulled_back}
 use Rattle.crack_store.specs.declared.carrying.Near.{Near}
-use Rattle.crack_store.specs.declared.carrying.Near.TheVariants.{Unsought, Above, Below}
+use Rattle.crack_store.specs.declared.carrying.Near.TheVariants.{Unsought, Above}
 use Rattle.crack_store.specs.Keeps.{IsNear}
 use Rattle.crack_store.proofs.EdgeLemmas.{positions_small}
 
@@ -50,7 +50,6 @@ pub record IsDown (c : Carried) (m : Mark) : Type 0 where
   pub after : put_at (m.position - 1) (map (lowered m.bound.0 m.position) c.store.marks) (record c.store.tally { pulled = more c.store.tally.pulled }) c ≡ pulled_back c
   pub intact : IsIntact (pulled_back c).store ((pulled_back c).hand ∷ [])
   pub next : last_mark (hand_key (pulled_back c)) (pulled_back c).store.marks ≡ last_before m.position c.store.marks
-  pub nearer : bounds_up_to (hand_key (pulled_back c)) (pulled_back c).store.marks < bounds_up_to (hand_key c) c.store.marks
 
 pub is_down : (c : Carried) (m : Mark) → last_mark (hand_key c) c.store.marks ≡ Some m → 0 < piece_start c.store (hand_key c) → IsIntact c.store (c.hand ∷ []) → IsDown c m
 is_down c m is some intact =
@@ -65,15 +64,13 @@ is_down c m is some intact =
       after = rw is refl;
       intact = IsIntact-pulled_back c some intact;
       next = last-pulled_back c m is above intact;
-      nearer = bounds_up_to-pulled_back c some intact;
     }
 
 pub next_listed : (s : State) (hand : List Handle) (key : ℕ) (found : Option Mark) → IsIntact s hand → found ≡ next_mark key s.marks → IfSome found (λ m. Contains s.marks m)
 next_listed s hand key None intact value = tt
 next_listed s hand key (Some m) intact value = (next_mark-is key s.marks m intact.rising (sym value)).listed
 
--- the bound that is kept is also the one next to a key that lies between the same bounds
-pub IsNear-same : (marks : List Mark) (key other : ℕ) (near : Near) → next_mark other marks ≡ next_mark key marks → last_mark other marks ≡ last_mark key marks → IsNear marks key near → IsNear marks other near
-IsNear-same marks key other Unsought next last is = tt
-IsNear-same marks key other (Above mark) next last is = is ∙ sym next
-IsNear-same marks key other (Below mark) next last is = is ∙ sym last
+-- the bound that is kept is also the one above a key that lies below the same bound
+pub IsNear-same : (marks : List Mark) (key other : ℕ) (near : Near) → next_mark other marks ≡ next_mark key marks → IsNear marks key near → IsNear marks other near
+IsNear-same marks key other Unsought next is = tt
+IsNear-same marks key other (Above mark) next is = is ∙ sym next

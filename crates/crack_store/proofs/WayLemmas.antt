@@ -14,7 +14,7 @@ use Rattle.crack_state.proofs.StepLaws.{IsIntact-pushed_on, bounds_above-pushed_
 use Rattle.crack_store.specs.declared.inside.Inside.{Inside}
 use Rattle.crack_store.specs.declared.ascent.Ascent.{Ascent}
 use Rattle.crack_store.specs.declared.ascent.Descent.{Descent}
-use Rattle.crack_store.specs.declared.carrying.Near.TheVariants.{Above, Below}
+use Rattle.crack_store.specs.declared.carrying.Near.TheVariants.{Unsought, Above}
 use Rattle.crack_store.specs.Inside.{lists_of}
 use Rattle.crack_store.specs.Hand.{hand_of, carried_of}
 use Rattle.crack_store.specs.Keeps.{HasHand, KeepsHand}
@@ -139,8 +139,8 @@ drawn p m marks v w has next above takes =
     let some : 0 < piece_start c.store (hand_key c) = rw next above in
     let down = is_down c m next some has.kept.intact in
     let before = last_before m.position marks in
-    let near = Below before in
-    let made : IsMade (descending p w (map (lowered m.bound.0 m.position) marks)) near (pulled_back c) = exchanged_to q w.column (record p.index { marks = map (lowered m.bound.0 m.position) marks }) w.notes (record p.tally { pulled = w.pulled }) (m.position - 1) near (pulled_back c) has takes.column takes.within (rw takes.pulled down.after) down.intact (sym down.next) in
+    let near = Unsought in
+    let made : IsMade (descending p w (map (lowered m.bound.0 m.position) marks)) near (pulled_back c) = exchanged_to q w.column (record p.index { marks = map (lowered m.bound.0 m.position) marks }) w.notes (record p.tally { pulled = w.pulled }) (m.position - 1) near (pulled_back c) has takes.column takes.within (rw takes.pulled down.after) down.intact tt in
     record {
       is = made.is;
       has = made.keeps.has;
@@ -179,7 +179,7 @@ descended p place o last marks marks' v w (Descends.goes_on m l ms ms' x y z abo
 pub record IsLowest (p : Inside) (place : ℕ) (q : Inside) (last : Option Mark) : Type 0 where
   pub pulls : PullsBack place (carried_of p) (carried_of q)
   pub ends : piece_start (lists_of q) (hand_key (carried_of q)) ≤ place
-  pub kept : KeepsHand q (Below last)
+  pub kept : HasHand q
 
 pub lowest : (p : Inside) (v w : Descent) (index : Index) (last : Option Mark) (key : ℕ) → HasHand p → v.column ≡ p.column → v.notes ≡ p.notes → v.pulled ≡ p.tally.pulled → key ≡ hand_key (carried_of p)
     → Descends Draws (last_mark key p.index.marks) p.index.marks v last index.marks w → index.room ≡ p.index.room
@@ -191,5 +191,5 @@ lowest p v w index last key has column notes pulled is_key descends room =
     rw (index_is p.index index room) (record {
       pulls = subst (λ (q : Inside). PullsBack v.place (carried_of q) (carried_of (descending p w index.marks))) start on.pulls;
       ends = rw on.next on.ends;
-      kept = record { has = on.has; is_near = sym on.next };
+      kept = on.has;
     })

@@ -1,7 +1,9 @@
 -- What private clauses alone cite.
--- What a walk over the bounds from the lowest up, which pulls doomed rows out of the pieces of a column, does at a bound.
+-- What a walk over the bounds from the lowest up, which pulls doomed rows out of a column's pieces, does at a
+-- bound.
 use Rattle.std.specs.Prelude.{◌≡◌, ⊤, ℕ, ◌+◌, ◌-◌, ◌<◌, ◌≤◌, Some, None, min, map, take, List, [], ◌∷◌, length, slice_set}
 use Rattle.std.specs.List.{All, remove}
+use Rattle.crack_arena.specs.declared.TheConstants.{MOST_FREED}
 use Rattle.crack_arena.specs.Arena.{Cell, Handle, times, slots, place_in}
 use Rattle.crack_arena.specs.Rows.{key_at}
 use Rattle.crack_row.specs.declared.Row.{Row}
@@ -24,7 +26,7 @@ pub record IsReady (v : Drain) : Type 0 where
   pub gap : v.gap ≤ v.from
   pub within : v.from ≤ length v.column.handles
 
--- the rows were pulled out of the piece below a bound, which ends at the place `end` then
+-- the rows were pulled out of the piece below a bound, which then ends at the place `end`
 pub record Passes (v : Drain) (m : Mark) (end : ℕ) (w : Drain) : Type 0 where
   pub made : ℕ
   pub drains : count_below v.low v.doomed.items ≡ v.gap → Drains v.low (Some m.bound) v.doomed.items (v.from - v.gap) v.from m.position v.column w.column end made
@@ -39,17 +41,17 @@ pub record Passes (v : Drain) (m : Mark) (end : ℕ) (w : Drain) : Type 0 where
   pub room : w.column.room ≡ v.column.room
   pub remembered : StillRemembers v.column w.column
 
--- if the bound is after the gap, the rows were pulled out of the piece below it
+-- the rows are pulled out of the piece below a bound, if the bound is after the gap
 abbrev pub Empties : Drain → Mark → ℕ → Drain → Type 0
 Empties v m end w = v.from ≤ m.position → m.position ≤ length v.column.handles → Passes v m end w
 
--- the last rows of a column are gone
+-- the last rows of a column are removed, down to `len` rows
 pub record IsShortened (len : ℕ) (old new : Column) : Type 0 where
   pub handles_are : new.handles ≡ take len old.handles
   pub remembered_are : new.remembered ≡ take len old.remembered
   pub room_is : new.room + len ≡ old.room + length old.handles
 
--- the rows were pulled out of the last piece, and those that were taken out are gone
+-- the rows were pulled out of the last piece, and all pulled rows are removed from the column
 pub record IsDrainedTo (v w : Drain) : Type 0 where
   pub made : ℕ
   pub end : ℕ
@@ -63,19 +65,21 @@ pub record IsDrainedTo (v w : Drain) : Type 0 where
   pub doomed_are : w.doomed ≡ v.doomed
   pub pulled_is : w.pulled ≡ min (v.pulled + made) greatest
 
--- each of these rows is a pending deletion and reads a row when those before it are buried, and its cell may be freed
+-- these rows can be buried in order: when those before it are buried, each is a pending deletion and reads a row,
+-- and its cell may be freed
 abbrev pub AreBuried : List Handle → List (Cell Row) → List Handle → Type 0
 AreBuried [] cells out = ⊤
 AreBuried (h ∷ hs) cells out =
-    Reads cells h × (freed_of cells < 18446744073709551615) × (0 < times h.slot (slots out)) × AreBuried hs (slice_set cells h.slot (record { generation = h.generation + 1; value = None })) (remove out (place_in out h.slot))
+    Reads cells h × (freed_of cells < MOST_FREED) × (0 < times h.slot (slots out)) × AreBuried hs (slice_set cells h.slot (record { generation = h.generation + 1; value = None })) (remove out (place_in out h.slot))
 
--- what is remembered of the keys of pending deletions stays right, and nothing else changes but the cells, the pending deletions and the tally
+-- what is remembered of the keys of pending deletions stays right, and only the cells, the pending deletions and
+-- the tally change
 pub record KeepsKeys (p q : Inside) : Type 0 where
   pub same : q ≡ record p { arena = q.arena; pending_out = q.pending_out; tally = q.tally }
   pub keys : (cells : List (Cell Row)) → Remembers cells p.pending_out.handles p.pending_out.remembered → Remembers cells q.pending_out.handles q.pending_out.remembered
 
--- these doomed rows can be pulled, one after the other: their keys are right, and the store is intact afterwards, with each bound lower by as many as
--- were below it
+-- these doomed rows can be pulled, one after the other: their keys are right, and the store is then intact, with
+-- each bound lower by the number of them below it
 pub record CanBePulled (ds : List Doomed) (s : State) : Type 0 where
   pub are : ds ≡ map (doomed_of s.cells) (map doomed_handle ds)
   pub intact : IsIntact (pulled_from (map doomed_handle ds) s) []

@@ -1,5 +1,6 @@
 -- What private clauses alone cite.
--- What the walks over the bounds under a ceiling do, and what rows that come in at its place do to the rows there.
+-- What the walks over the bounds under a ceiling do, and what rows that come in at the ceiling do to the rows
+-- there.
 use Rattle.std.specs.Prelude.{◌≡◌, ℕ, ◌+◌, ◌-◌, ◌<◌, ◌≤◌, cond, nat_lt, max, min, map, List, ◌∷◌, ◌++◌, length, take, drop, reverse}
 use Rattle.std.specs.List.{All}
 use Rattle.crack_row.specs.Ranges.{Range}
@@ -18,25 +19,26 @@ use Rattle.crack_store.specs.declared.evicting.CeilingSieve.{CeilingSieve}
 use Rattle.crack_store.specs.declared.evicting.CeilingStop.{CeilingStop}
 use Rattle.crack_store.specs.Sieves.{Rises}
 
--- a bound from the ceiling on rises by as many as rows come in; at one below it rows are sifted
+-- a bound from the ceiling on rises by the number of rows that come in; at a bound below it rows are sifted
 pub record RisesUnder (v : CeilingSieve) (m : Mark) (rise : ℕ) (w : CeilingSieve) : Type 0 where
   pub over : v.ceiling ≤ m.bound.0 → (rise ≡ v.count) × (w ≡ v)
   pub under : m.bound.0 < v.ceiling → Rises v.sieve m rise w.sieve
   pub ceiling_is : w.ceiling ≡ v.ceiling
   pub count_is : w.count ≡ v.count
 
--- the place of a bound after the bounds rose: its present one if it is below the ceiling, else the one before, but not before a place
+-- the place of a bound once the bounds have risen: its present one if it is below the ceiling, else its former one,
+-- but not before the place `least`
 abbrev pub stop_of : CeilingStop → Mark → ℕ
 stop_of v m = cond (nat_lt m.bound.0 v.ceiling) m.position (max (m.position - v.count) v.least)
 
 abbrev pub StandsUnder : CeilingStop → Mark → ℕ → CeilingStop → Type 0
 StandsUnder v m place w = (place ≡ stop_of v m) × (w ≡ v)
 
--- the bound is at this place or after it
+-- a bound, moved up to this place if it is before it
 abbrev pub not_before : ℕ → Mark → Mark
 not_before place m = record m { position = max m.position place }
 
--- rows were sifted through the pieces below a bound, and the bounds from it on are after them
+-- rows were sifted through the pieces below a bound, and the bounds from it on come after them
 pub record IsSiftedBelow (edge : Mark) (count : ℕ) (marks : List Mark) (v : Sieve) (marks' : List Mark) (w : Sieve) : Type 0 where
   pub low : List Mark
   pub low' : List Mark
@@ -46,12 +48,12 @@ pub record IsSiftedBelow (edge : Mark) (count : ℕ) (marks : List Mark) (v : Si
   pub after : marks' ≡ low' ++ map (not_before (edge.position + count)) (edge ∷ high)
   pub raises : Raises Rises count (reverse low) v (reverse low') w last
 
--- no cell has two handles in these lists, and each of the first list's cells is covered
+-- no cell has two handles in these lists, and each cell of the first list is below `covered`
 pub record AreApart (covered : ℕ) (xs ys : List Handle) : Type 0 where
   pub once : (slot : ℕ) → times slot (slots xs) + times slot (slots ys) ≤ 1
   pub inside : All (λ h. h.slot < covered) xs
 
--- a handle was put at a place, and the handle that was there, if any, after the last of a list
+-- a handle was put at a place, and the handle that was there, if any, was appended to a list
 pub record IsPut (cells : List (Cell Row)) (place : ℕ) (h : Handle) (c : Column) (p : Pending) (c' : Column) (p' : Pending) : Type 0 where
   pub handles_are : c'.handles ≡ take place c.handles ++ h ∷ drop (place + 1) c.handles
   pub remembered_are : c'.remembered ≡ take place c.remembered ++ memory_at cells h ∷ drop (place + 1) c.remembered
@@ -62,7 +64,7 @@ pub record IsPut (cells : List (Cell Row)) (place : ℕ) (h : Handle) (c : Colum
   pub in_room : p'.room + length (take 1 (drop place c.handles)) ≡ p.room
   pub covered : p'.covered ≡ p.covered
 
--- these handles were put from a place on, and those that they replaced after the last of a list
+-- these handles were put into the column from a place on, and those that they replaced were appended to a list
 pub record ArePut (cells : List (Cell Row)) (from : ℕ) (hs : List Handle) (c : Column) (p : Pending) (c' : Column) (p' : Pending) : Type 0 where
   pub handles_are : c'.handles ≡ take from c.handles ++ (hs ++ drop (length hs) (drop from c.handles))
   pub pending_are : p'.handles ≡ p.handles ++ take (length hs) (drop from c.handles)
@@ -72,7 +74,8 @@ pub record ArePut (cells : List (Cell Row)) (from : ℕ) (hs : List Handle) (c :
   pub in_room : p.room ≤ p'.room + min (length hs) (length c.handles - from)
   pub covered : p'.covered ≡ p.covered
 
--- the rows of a range were put from a place on, and those that they replaced after the last of the list
+-- the rows of a range were taken out of a list and put into the column from a place on, and those that they
+-- replaced were appended to the list
 pub record IsExchanged (cells : List (Cell Row)) (r : Range) (from : ℕ) (c : Column) (p : Pending) (c' : Column) (p' : Pending) : Type 0 where
   pub handles_are : c'.handles ≡ take from c.handles ++ (inside_of cells r p.handles ++ drop (length (inside_of cells r p.handles)) (drop from c.handles))
   pub pending_are : p'.handles ≡ outside_of cells r p.handles ++ take (length (inside_of cells r p.handles)) (drop from c.handles)

@@ -1,5 +1,6 @@
 -- What private clauses alone cite.
--- What a walk over the bounds up to one does on which doomed rows are pulled, and the column after fillers take the places before it.
+-- What a walk that pulls doomed rows does at the bounds up to a given one, and the column after fillers take the
+-- places before that bound.
 use Rattle.std.specs.Prelude.{◌≡◌, ℕ, ◌+◌, ◌-◌, ◌<◌, ◌≤◌, Contains, map, List, [], ◌∷◌, ◌++◌, length, take, drop, reverse}
 use Rattle.std.specs.List.{All}
 use Rattle.crack_row.specs.Ranges.{Range}
@@ -26,13 +27,14 @@ pub record IsNextTo (fillers : Range) (marks : List Mark) (m : Mark) : Type 0 wh
   pub same : m.bound.0 ≡ fillers.low
   pub beyond : All (λ n. fillers.low < n.bound.0 → fillers.high ≤ n.bound.0) marks
 
--- rows are pulled out of the piece below a bound, unless it is above the last one
+-- rows are pulled out of the piece below a bound, unless the bound is above `edge`
 pub record EmptiesBelow (v : DrainBelow) (m : Mark) (end : ℕ) (w : DrainBelow) : Type 0 where
   pub under : m.bound.0 ≤ v.edge → Empties v.drain m end w.drain
   pub over : v.edge < m.bound.0 → (end ≡ m.position) × (w ≡ v)
   pub edge_is : w.edge ≡ v.edge
 
--- the first rows of a range, this many, were taken out of a list and put into the column before a place, the last one first
+-- the first `count` rows of a range were taken out of a list and put into the column before a place, in reverse
+-- order
 pub record IsStocked (cells : List (Cell Row)) (fillers : Range) (place count : ℕ) (c : Column) (p : Pending) (c' : Column) (p' : Pending) : Type 0 where
   pub handles_are : c'.handles ≡ take (place - count) c.handles ++ (reverse (take count (inside_of cells fillers p.handles)) ++ drop place c.handles)
   pub pending_are : p'.handles ≡ lacking cells fillers count p.handles
@@ -42,13 +44,14 @@ pub record IsStocked (cells : List (Cell Row)) (fillers : Range) (place count : 
   pub in_room : p.room ≤ p'.room
   pub covered : p'.covered ≡ p.covered
 
--- a store after the pulls of doomed rows, each by one of the first fillers, which come in before a mark
+-- a store after the pulls of doomed rows, each by one of the first fillers, which come in before the bound `edge`
 abbrev pub filled_at : List Doomed → Range → List Mark → Mark → List Mark → State → State
 filled_at ds fillers low edge high s =
     filled_from low edge high (map doomed_handle ds) (take (length ds) (inside_of s.cells fillers s.pending_in)) (lacking s.cells fillers (length ds) s.pending_in) s
 
--- these doomed rows can be pulled, one after the other, each by a filler that comes in before a mark: their keys are right, there are fillers for all of
--- them, and the store is intact afterwards, with each bound below lower by as many as were below it
+-- these doomed rows can be pulled, one after the other, each by a filler that comes in before the bound `edge`:
+-- their keys are right, there are fillers for all of them, and the store is then intact, with each bound below
+-- `edge` lower by the number of them below it
 pub record CanBeFilled (ds : List Doomed) (fillers : Range) (edge : Mark) (s : State) : Type 0 where
   pub low : List Mark
   pub high : List Mark
@@ -62,7 +65,7 @@ pub record CanBeFilled (ds : List Doomed) (fillers : Range) (edge : Mark) (s : S
   pub long : length (column_of (pulled (key_at s.cells) itself 0 (map doomed_handle ds) (pieces_under s low edge))) + length ds ≡ edge.position
   pub buried : AreBuried (map doomed_handle ds) s.cells s.pending_out
 
--- they were pulled in this way
+-- doomed rows were pulled, each by a filler that came in before the bound `edge`
 pub record FillsAs (ds : List Doomed) (fillers : Range) (edge : Mark) (s t : State) : Type 0 where
   pub low : List Mark
   pub high : List Mark

@@ -1,5 +1,5 @@
 -- What private clauses alone cite.
--- Rows that a pass over the cells has found.
+-- The live rows that a pass over the cells has found.
 use Rattle.std.specs.Prelude.{◌≤◌, ◌<◌, ℕ, List, length, slice_index_or, IsTrue}
 use Rattle.std.specs.List.{filter_map, range_with_len}
 use Rattle.std.specs.List.Sorted.{IsNonDecreasingBy}
@@ -9,15 +9,15 @@ use Rattle.crack_state.specs.State.{State, live_at}
 use Rattle.crack_state.specs.Stretch.{serial_of}
 use Rattle.crack_store.specs.declared.live.Found.{Found}
 
--- the rows that commands see in the cells before this one, in the order of the cells' numbers
+-- the live rows in the cells before this one, in the order of the cells' numbers
 abbrev pub live_below : ℕ → State → List Row
 live_below slot s = filter_map (live_at s.cells (slots s.pending_out)) (range_with_len 0 slot)
 
--- the serials rise, and this is at least the last of them
+-- the serials of rows rise, and `last` is at least the last of them
 pub record AreRising (rows : List Row) (last : ℕ) : Type 0 where
   pub rise : IsNonDecreasingBy serial_of rows
   pub most : (place : ℕ) (row : Row) → place < length rows → serial_of (slice_index_or rows place row) ≤ last
 
--- if the flag says that serials rise, they do
+-- the serials of the rows found rise, if the flag says so
 abbrev pub KeepsOrder : Found → Type 0
 KeepsOrder found = IsTrue found.is_rising → AreRising found.rows.items found.last

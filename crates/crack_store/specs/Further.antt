@@ -1,4 +1,4 @@
--- The further bound at which a range is cracked beside an end that says little about its piece.
+-- The further bound at which a store is cracked beside an end of a range that says little about its piece.
 use Rattle.std.specs.Prelude.{◌≡◌, ◌⊎◌, ℕ, ◌+◌, ◌-◌, ◌*◌, ◌/◌, ◌<◌, ◌≤◌, nat_lt, min, max, List, [], ◌∷◌, length, count_by, Option, Some, None, slice_index_or}
 use Rattle.std.specs.List.Sorted.{IsPermutation, IsNonDecreasingBy}
 use Rattle.crack_row.specs.Ranges.{Range}
@@ -17,7 +17,7 @@ pub record IsMissing (s : State) (bound : ℕ) : Type 0 where
   pub high : bound < s.keys.high
   pub apart : HasBound s.marks bound → ⊥
 
--- a bound of a piece, or the partition's own end if the piece has no bound there
+-- a bound of a piece, or the partition's end if the piece has no bound there
 abbrev pub bound_or_end : ℕ → Option InnerBound → ℕ
 bound_or_end end None = end
 bound_or_end end (Some bound) = bound.0
@@ -26,11 +26,11 @@ bound_or_end end (Some bound) = bound.0
 abbrev pub own_piece : State → ℕ → Piece
 own_piece s bound = piece_at bound (length s.column) s.marks
 
--- the key of the row at one of nine places that are spread evenly over a piece
+-- the key of the row at one of nine places, spread evenly over a piece
 abbrev pub sampled : State → Piece → ℕ → ℕ
 sampled s piece n = key_at s.cells (slice_index_or s.column (piece.from + (2 * n + 1) * (piece.to - piece.from) / 18) no_handle)
 
--- the keys at these nine places
+-- the keys at the nine places of a piece
 abbrev pub samples : State → Piece → List ℕ
 samples s piece = sampled s piece 0 ∷ sampled s piece 1 ∷ sampled s piece 2 ∷ sampled s piece 3 ∷ sampled s piece 4 ∷ sampled s piece 5 ∷ sampled s piece 6 ∷ sampled s piece 7 ∷ sampled s piece 8 ∷ []
 
@@ -42,14 +42,14 @@ count_below bound keys = count_by (λ key. nat_lt key bound) keys
 abbrev pub DividesWell : ℕ → List ℕ → Type 0
 DividesWell bound keys = (3 ≤ count_below bound keys) × (count_below bound keys ≤ 6)
 
--- the fifth of nine numbers by size
+-- the median of nine numbers
 pub record IsMiddle (numbers : List ℕ) (middle : ℕ) : Type 0 where
   pub rising : List ℕ
   pub order : IsNonDecreasingBy (λ (n : ℕ). n) rising
   pub same : IsPermutation numbers rising
   pub is : middle ≡ slice_index_or rising 4 0
 
--- a bound falls into a large piece: there are bounds already, it is none of them, and its own piece is large
+-- a bound falls into a large piece: there are bounds already, it is none of them, and its piece is large
 pub record FallsIntoLarge (s : State) (bound : ℕ) : Type 0 where
   pub cracked : 0 < length s.marks
   pub missing : IsMissing s bound
@@ -59,12 +59,13 @@ pub record FallsIntoLarge (s : State) (bound : ℕ) : Type 0 where
 abbrev pub EndsDivideWell : Range → List ℕ → Type 0
 EndsDivideWell r keys = DividesWell r.low keys ⊎ DividesWell r.high keys
 
--- an end of a range says little about its own piece: this is large, and neither end of the range divides its sampled keys well
+-- an end of a range says little about its piece: the piece is large, and neither end of the range divides its
+-- sampled keys well
 abbrev pub SaysLittle : State → Range → ℕ → Type 0
 SaysLittle s r end = FallsIntoLarge s end × (EndsDivideWell r (samples s (own_piece s end)) → ⊥)
 
--- the further bound is the middle of the sampled keys of the end's own piece, or the piece's low end and one if that is greater; it lies strictly
--- between the ends of this piece
+-- the further bound is the middle of the sampled keys of the end's piece, but at least one above the piece's low
+-- end; it lies strictly between the piece's ends
 pub record IsFurther (s : State) (end further : ℕ) : Type 0 where
   pub middle : ℕ
   pub is_middle : IsMiddle (samples s (own_piece s end)) middle
@@ -72,7 +73,8 @@ pub record IsFurther (s : State) (end further : ℕ) : Type 0 where
   pub low : bound_or_end s.keys.low (own_piece s end).low < further
   pub high : further < bound_or_end s.keys.high (own_piece s end).high
 
--- a store is cracked at an end of a range and at its further bound if the end says little about its piece; else nothing changes
+-- a store is cracked at an end of a range and at its further bound if the end says little about its piece; else
+-- nothing changes
 abbrev pub CracksBeside : State → State → Range → ℕ → Type 0
 CracksBeside s t r end = (SaysLittle s r end × ((further : ℕ) × IsFurther s end further × Refines s t (record { low = min end further; high = max end further }))) ⊎ ((SaysLittle s r end → ⊥) × (t ≡ s))
 

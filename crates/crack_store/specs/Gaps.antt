@@ -1,5 +1,5 @@
 -- What private clauses alone cite.
--- Which ends of a range are no bounds yet, and the room that cracks at them and beside them need.
+-- Which ends of a range are missing from the index, and the room that cracks at them and beside them need.
 use Rattle.std.specs.Prelude.{◌≡◌, ◌≢◌, ◌⊎◌, ℕ, ◌<◌, ◌≤◌, length}
 use Rattle.crack_row.specs.Ranges.{Range}
 use Rattle.crack_row.specs.declared.InnerBound.{InnerBound}
@@ -12,7 +12,7 @@ use Rattle.crack_store.specs.declared.cracking.Gap.{Gap}
 use Rattle.crack_store.specs.declared.cracking.Missing.{Missing}
 use Rattle.crack_store.specs.declared.cracking.Missing.TheVariants.{Neither, One, Together, Apart}
 
--- the bound is missing, and this is its own piece
+-- the bound is missing from the index, and this is the piece into which it falls
 pub record MissesIn (s : State) (bound : ℕ) (piece : Piece) : Type 0 where
   pub missing : IsMissing s bound
   pub piece_is : piece ≡ piece_at bound (length s.column) s.marks
@@ -24,13 +24,13 @@ bounds_in (One gap) = 1
 bounds_in (Together low high) = 2
 bounds_in (Apart low high) = 2
 
--- the bound of a gap is missing, and so is the second, which is above it and falls into the same piece
+-- two bounds are missing: that of the gap, and one above it that falls into the same piece
 pub record FallTogether (s : State) (gap : Gap) (second : InnerBound) : Type 0 where
   pub low : MissesIn s gap.bound.0 gap.piece
   pub order : gap.bound.0 < second.0
   pub below : second.0 < bound_above s gap.bound.0
 
--- the bounds of two gaps are missing, and the second is at or above the next bound above the first
+-- the bounds of two gaps are missing, and the second is at or above the next bound after the first
 pub record FallApart (s : State) (first second : Gap) : Type 0 where
   pub low : MissesIn s first.bound.0 first.piece
   pub high : MissesIn s second.bound.0 second.piece
@@ -40,14 +40,14 @@ pub record FallApart (s : State) (first second : Gap) : Type 0 where
 abbrev pub AreEnds : Range → ℕ → ℕ → Type 0
 AreEnds r low high = (low ≡ r.low) × (high ≡ r.high)
 
--- the description of a range's ends is right: if only one is missing, no other inner end of the range is
+-- the description of a range's missing ends is right: no other inner end of the range is missing
 abbrev pub Misses : State → Range → Missing → Type 0
 Misses s r Neither = IsCracked s r
 Misses s r (One gap) = MissesIn s gap.bound.0 gap.piece × ((gap.bound.0 ≡ r.low) ⊎ (gap.bound.0 ≡ r.high)) × ((b : ℕ) → IsInner s.keys r b → b ≢ gap.bound.0 → HasBound s.marks b)
 Misses s r (Together low high) = AreEnds r low.bound.0 high.0 × FallTogether s low high
 Misses s r (Apart low high) = AreEnds r low.bound.0 high.bound.0 × FallApart s low high
 
--- the index has room for two bounds for each end of the range that is missing
+-- the index has room for two bounds for each missing end of the range
 pub record HasRoomBeside (s : State) (r : Range) (room : ℕ) : Type 0 where
   pub low : IsMissing s r.low → 2 ≤ room
   pub high : IsMissing s r.high → 2 ≤ room

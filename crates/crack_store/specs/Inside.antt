@@ -1,4 +1,4 @@
--- What a contract sees of the inside of a store.
+-- What contracts see of the parts of a store.
 use Rattle.std.specs.Prelude.{◌≡◌, ◌+◌, ◌-◌, ℕ, [], length}
 use Rattle.crack_row.specs.Ranges.{Range}
 use Rattle.crack_row.specs.declared.layout.Layout.{Layout}
@@ -7,7 +7,7 @@ use Rattle.crack_state.specs.declared.MergeReport.{MergeReport}
 use Rattle.crack_state.specs.State.{State}
 use Rattle.crack_store.specs.declared.inside.Inside.{Inside}
 
--- the inside as lists
+-- the parts of a store, as lists
 abbrev pub lists_of : Inside → State
 lists_of p = record {
   keys = p.keys;
@@ -23,11 +23,11 @@ lists_of p = record {
   in_room = p.in_room;
 }
 
--- nothing was counted
+-- merge counts that are all 0
 abbrev pub no_report : MergeReport
 no_report = record { put_in = 0; taken_out = 0; evicted = 0; moved = 0; pulled = 0 }
 
--- the start: no cell and no bound
+-- an empty store: no cell and no bound
 abbrev pub no_cells : Range → ℕ → ℕ → State
 no_cells keys column_room in_room = record {
   keys = keys;
@@ -43,7 +43,7 @@ no_cells keys column_room in_room = record {
   in_room = in_room;
 }
 
--- a layout reports the lengths of a store's lists, and its pieces by the index
+-- a layout reports the lengths of a store's lists, and the pieces that its index makes
 pub record IsLayoutOf (s : State) (layout : Layout) : Type 0 where
   pub rows : layout.rows ≡ length s.column - length s.pending_out + length s.pending_in
   pub column : layout.column ≡ length s.column

@@ -1,21 +1,21 @@
 -- What private clauses alone cite.
--- The invariant of a store, with no hand or one.
+-- The invariant of a store, with or without a cell in hand.
 use Rattle.std.specs.Prelude.{◌≡◌, ⊤, ◌<◌, ℕ, List, [], ◌∷◌, length, ◌≤◌}
 use Rattle.crack_arena.specs.Arena.{Handle}
 use Rattle.crack_arena.specs.Rows.{key_at}
 use Rattle.crack_arena.specs.Memories.{Agrees, Remembers}
 use Rattle.crack_column.specs.Column.{first_aside}
 use Rattle.crack_index.specs.declared.mark.Mark.{Mark}
-use Rattle.crack_index.specs.Marks.{next_mark, last_mark}
+use Rattle.crack_index.specs.Marks.{next_mark}
 use Rattle.crack_state.specs.State.{IsIntact}
 use Rattle.crack_store.specs.declared.inside.Inside.{Inside}
 use Rattle.crack_store.specs.declared.carrying.Near.{Near}
-use Rattle.crack_store.specs.declared.carrying.Near.TheVariants.{Unsought, Above, Below}
+use Rattle.crack_store.specs.declared.carrying.Near.TheVariants.{Unsought, Above}
 use Rattle.crack_store.specs.Inside.{lists_of}
 use Rattle.crack_store.specs.Hand.{hand_of}
 
--- the invariant of the inside, with no hand or one: what the column and the pending lists remember is right, there is the promised room for pending
--- insertions, and any cell may become one
+-- the invariant of the parts of a store, with a hand or none: what the column and the pending lists remember is
+-- right, the promised room for pending insertions is there, and any cell may become one
 pub record KeepsIntact (p : Inside) (hand : List Handle) : Type 0 where
   pub intact : IsIntact (lists_of p) hand
   pub remembers : Remembers p.arena.cells p.column.handles p.column.remembered
@@ -24,11 +24,10 @@ pub record KeepsIntact (p : Inside) (hand : List Handle) : Type 0 where
   pub room : p.in_room ≤ p.pending_in.room
   pub covered : length p.arena.cells ≤ p.pending_in.covered
 
--- the bound that is kept, once it was looked up, is the one next to the key
+-- the bound kept from the last look-up, if any, is the least above the key
 abbrev pub IsNear : List Mark → ℕ → Near → Type 0
 IsNear marks key Unsought = ⊤
 IsNear marks key (Above mark) = mark ≡ next_mark key marks
-IsNear marks key (Below mark) = mark ≡ last_mark key marks
 
 -- a cell is in hand, aside in the column: what is remembered of its row is right, and the column has room for it
 pub record HasHand (p : Inside) : Type 0 where
@@ -37,7 +36,7 @@ pub record HasHand (p : Inside) : Type 0 where
   pub agrees : Agrees p.arena.cells (hand_of p) (first_aside p.column).memory
   pub room : 0 < p.column.room
 
--- and the bound next to it is the one that is kept
+-- a cell is in hand, and the bound kept from the last look-up is the least above its key
 pub record KeepsHand (p : Inside) (near : Near) : Type 0 where
   pub has : HasHand p
   pub is_near : IsNear p.index.marks (key_at p.arena.cells (hand_of p)) near

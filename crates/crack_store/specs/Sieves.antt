@@ -1,5 +1,5 @@
 -- What private clauses alone cite.
--- What a walk over the bounds from the highest down, which sifts rows through the pieces of a column, does at a bound.
+-- What a walk over the bounds from the highest down, which sifts rows through a column's pieces, does at a bound.
 use Rattle.std.specs.Prelude.{◌≡◌, ℕ, ◌+◌, ◌-◌, ◌<◌, ◌≤◌, min, List, length, slice_index_or}
 use Rattle.std.specs.List.{between}
 use Rattle.crack_arena.specs.Arena.{Cell, Handle, IsAbsent, no_handle}
@@ -17,7 +17,7 @@ pub record IsReady (v : Sieve) : Type 0 where
   pub order : v.from ≤ v.to
   pub within : v.to ≤ length v.column.handles
 
--- they were sifted through the piece above a bound, of which this many rows moved
+-- the rows that came in were sifted through the piece above a bound, which rises by `rise`
 pub record Passes (v : Sieve) (m : Mark) (rise : ℕ) (w : Sieve) : Type 0 where
   pub made : ℕ
   pub sifts : (cells : List (Cell Row)) → AreRead cells v.from v.to v.column → Sifts cells m.bound.0 m.position v.from v.to v.column w.column rise made
@@ -29,16 +29,17 @@ pub record Passes (v : Sieve) (m : Mark) (rise : ℕ) (w : Sieve) : Type 0 where
   pub room : w.column.room ≡ v.column.room
   pub remembered : StillRemembers v.column w.column
 
--- if the bound isn't after the rows that came in, they were sifted, and it rises by as many as are below it
+-- the rows that came in are sifted at a bound that isn't after them, and the bound rises by the number of them
+-- below it
 abbrev pub Rises : Sieve → Mark → ℕ → Sieve → Type 0
 Rises v m rise w = m.position ≤ v.from → Passes v m rise w
 
--- the row is elsewhere than among the first rows of its piece, this many
+-- the row isn't among the first `count` rows of its piece
 abbrev pub IsClear : ℕ → State → Handle → Type 0
 IsClear count s h =
     let from = piece_start s (key_at s.cells h) in
     IsAbsent (between from (min (piece_end s (key_at s.cells h)) (from + count)) s.column) h
 
--- and so does each pending deletion
+-- no pending deletion is among the first `count` rows of its piece
 abbrev pub AreClear : ℕ → State → Type 0
 AreClear count s = (k : ℕ) → k < length s.pending_out → IsClear count s (slice_index_or s.pending_out k no_handle)

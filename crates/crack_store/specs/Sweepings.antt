@@ -1,5 +1,6 @@
 -- What private clauses alone cite.
--- What a walk over the bounds from the lowest up does to a column, whose pieces rows after its last one turn.
+-- What a walk over the bounds from the lowest up does to a column whose pieces are turned by rows after its last
+-- one.
 use Rattle.std.specs.Prelude.{◌≡◌, ℕ, ◌+◌, ◌≤◌, Bool, false, ◌||◌, nat_lt, count_by, min, Option, Some, None, List, ◌++◌, length, take, drop}
 use Rattle.std.specs.List.{All, between}
 use Rattle.crack_arena.specs.Arena.{Cell, Handle, times, slots}
@@ -12,33 +13,34 @@ use Rattle.crack_state.specs.Sweeps.{Swept, goes_on, is_lower, any_lower, swept_
 use Rattle.crack_state.specs.State.{greatest}
 use Rattle.crack_store.specs.declared.sweeping.Sweep.{Sweep}
 
--- a carry ends with this row in hand: it is a pending deletion
+-- whether a carry ends with this row in hand: it is a pending deletion
 abbrev pub ends_in : List Handle → Handle → Bool
 ends_in out h = nat_lt 0 (times h.slot (slots out)) || false
 
--- the rows of a piece and of those below, by the bound where it ends
+-- whether a row is of the piece that ends at this bound, or of one below it
 abbrev pub up_to : List (Cell Row) → List Handle → Option InnerBound → Handle → Bool
 up_to cells out None = any_lower (key_at cells) (ends_in out)
 up_to cells out (Some bound) = is_lower (key_at cells) (ends_in out) bound.0
 
--- a piece that begins at this bound afterwards, and the rows that turn it
+-- a piece that then begins at the bound `low`, with the rows that turn it
 abbrev pub sweep_of : List (Cell Row) → List Handle → ℕ → Option InnerBound → List Handle → List Handle → Swept Handle
 sweep_of cells out low high ts rows = swept_by (key_at cells) (ends_in out) low (up_to cells out high) ts rows
 
--- how many of them turn it
+-- how many rows turn a piece that begins at the bound `low`
 abbrev pub going_on : List (Cell Row) → List Handle → ℕ → List Handle → ℕ
 going_on cells out low ts = count_by (goes_on (ends_in out) (is_lower (key_at cells) (ends_in out) low)) ts
 
--- how many of them go on from a piece that ends at this bound
+-- how many rows go on from a piece that ends at the bound `high`
 abbrev pub leaving : List (Cell Row) → List Handle → Option InnerBound → List Handle → ℕ
 leaving cells out high ts = count_by (goes_on (ends_in out) (up_to cells out high)) ts
 
--- the rows from `from` on passed the piece from `start` up to `end`, of which this many rows moved; all else is as it was
+-- the rows from `from` on passed the piece from `start` up to `end`, of which `made` rows moved; all else is
+-- unchanged
 pub record Sweeps (cells : List (Cell Row)) (out : List Handle) (low : ℕ) (high : Option InnerBound) (start end from : ℕ) (handles handles' : List Handle) (made : ℕ) : Type 0 where
   pub handles_are : handles' ≡ take start handles ++ ((sweep_of cells out low high (drop from handles) (between start end handles)).piece ++ (between end from handles ++ (sweep_of cells out low high (drop from handles) (between start end handles)).tail))
   pub made_is : made ≡ (sweep_of cells out low high (drop from handles) (between start end handles)).made
 
--- the next piece is before the rows that came in, of which this many turn it; up to the floor they are as they came, and none is below it
+-- the next piece is before the rows that came in, of which `count` turn it; none of them is below the floor
 pub record IsReady (v : Sweep) : Type 0 where
   pub order : v.start ≤ v.from
   pub within : v.from ≤ length v.column.handles
@@ -47,7 +49,7 @@ pub record IsReady (v : Sweep) : Type 0 where
   pub above : v.low ≤ v.floor.0 → All (λ h. v.floor.0 ≤ key_at v.arena.now.cells h) (drop v.from v.column.handles)
   pub small : v.moved ≤ greatest
 
--- they passed the piece below a bound
+-- the rows that came in passed the piece below a bound
 pub record Passes (v : Sweep) (m : Mark) (place : ℕ) (w : Sweep) : Type 0 where
   pub made : ℕ
   pub sweeps : Sweeps v.arena.now.cells v.pending_out.now.handles v.low (Some m.bound) v.start m.position v.from v.column.handles w.column.handles made
@@ -60,11 +62,11 @@ pub record Passes (v : Sweep) (m : Mark) (place : ℕ) (w : Sweep) : Type 0 wher
   pub moved_is : w.moved ≡ min (v.moved + made) greatest
   pub ready : IsReady w
 
--- if the bound is before the rows that came in, and after the bound before, they passed the piece below it
+-- the rows that came in pass the piece below a bound, if the bound is before them and not below the one before
 abbrev pub Turns : Sweep → Mark → ℕ → Sweep → Type 0
 Turns v m place w = v.start ≤ m.position → m.position ≤ v.from → v.low ≤ m.bound.0 → Passes v m place w
 
--- they passed the last piece
+-- the rows that came in passed the last piece
 pub record IsSweptTo (v w : Sweep) : Type 0 where
   pub made : ℕ
   pub sweeps : Sweeps v.arena.now.cells v.pending_out.now.handles v.low None v.start v.from v.from v.column.handles w.column.handles made

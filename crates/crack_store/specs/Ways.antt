@@ -1,5 +1,5 @@
 -- What private clauses alone cite.
--- What the visitor of a walk over the bounds preserves about the hand, and does at a place.
+-- What the visitor of a walk over the bounds does to the hand at a place.
 use Rattle.std.specs.Prelude.{◌≡◌, ◌≢◌, ⊤, ◌<◌, ◌≤◌, ℕ, Bool, true, false, Option, Some, None, length}
 use Rattle.crack_row.specs.declared.Bound.{Bound}
 use Rattle.crack_arena.specs.Arena.{times, slots}
@@ -15,7 +15,8 @@ abbrev pub IsKnownBelow : Option Bound → Memory → Type 0
 IsKnownBelow None m = ⊤
 IsKnownBelow (Some bound) m = (m.key ≢ unknown) × (m.key < bound.0)
 
--- on its way up the hand, which isn't doomed and is known to be below the ceiling, takes a place of the column
+-- on its way up the hand, which isn't doomed and is known to be below the ceiling, is exchanged with a place of the
+-- column
 pub record TakesUp (v : Ascent) (place : ℕ) (w : Ascent) : Type 0 where
   pub within : place < length v.column.handles
   pub lasting : times (first_aside v.column).handle.slot (slots v.pending_out.now.handles) ≡ 0
@@ -29,7 +30,7 @@ abbrev pub Ascends : Ascent → ℕ → Bool → Ascent → Type 0
 Ascends v place true w = TakesUp v place w
 Ascends v place false w = w ≡ v
 
--- on its way down the hand takes a place of the column that isn't before the one to which it goes
+-- on its way down the hand is exchanged with a place of the column that isn't before the place where its way ends
 pub record TakesDown (v : Descent) (place : ℕ) (w : Descent) : Type 0 where
   pub ahead : v.place ≤ place
   pub within : place < length v.column.handles
@@ -37,7 +38,7 @@ pub record TakesDown (v : Descent) (place : ℕ) (w : Descent) : Type 0 where
   pub pulled : w.pulled ≡ more v.pulled
   pub goal : w.place ≡ v.place
 
--- otherwise its way ends, and there is no such place
+-- the hand is exchanged with the place, or its way ends and the place isn't on it
 abbrev pub Draws : Descent → ℕ → Bool → Descent → Type 0
 Draws v place true w = TakesDown v place w
 Draws v place false w = (w ≡ v) × (v.place ≤ place → length v.column.handles ≤ place)

@@ -1,4 +1,4 @@
-//! Appending all pending insertions to the column, if there is no bound.
+//! Appends all pending insertions to the column, if there is no bound.
 ghost use Rattle.std.specs.Prelude.{◌≡◌, ◌↔◌, ◌≤◌, ◌++◌, [], length, All, IsTrue, IfErr, OnOk, OnErr};
 ghost use Rattle.crack_arena.specs.Memories.{Remembers};
 ghost use Rattle.crack_state.specs.State.{Reads, live_rows};
@@ -12,16 +12,16 @@ use crack_pending::PendingIn;
 use crack_row::{Refusal, Row};
 
 impl Store {
-    /// Whether there is no bound. O(1).
+    /// Whether the index has no bound. O(1).
     pub fn is_uncracked(&self) -> bool
         ensures { IsTrue result ↔ (self.now.marks ≡ []) }
     {
         self.inside.index.is_empty()
     }
 
-    /// Puts all pending insertions after the column's last row, in order of arrival: if there is no bound, this has the
-    /// result of carrying them one after the other. Room is made for all of them at once. O(pending insertions).
-    /// Refused with 8 if it finds no memory; then nothing has changed.
+    /// Appends all pending insertions to the column, in order of arrival. Without bounds, this has the result of
+    /// carrying them one after the other. Makes room for all of them at once. O(pending insertions). Refused with
+    /// `OutOfMemory` if no memory is found; then nothing has changed.
     pub fn append_all(&mut self) -> Result<(), Refusal>
         requires { self.old.marks ≡ [] }
         ensures ok { OnOk result (SameButRoom (all_appended self.old) self.new) }
@@ -44,8 +44,8 @@ impl Store {
     }
 }
 
-/// Puts the rows of a list after the column's last one, in their order, each with what is to be remembered of it.
-/// O(rows), if the list has no holes; the cells are read in the order of the list.
+/// Appends the rows of a list to the column, in order, each with what is remembered of it. O(rows) if the list has
+/// no holes; the cells are read in the order of the list.
 fn append_rows(column: &mut CrackerColumn, rows: &PendingIn, arena: &Arena<Row>)
     requires room { length rows.now.handles ≤ column.old.room }
     requires reads { All (Reads arena.now.cells) rows.now.handles }

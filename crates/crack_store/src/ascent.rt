@@ -1,4 +1,4 @@
-//! The hand on its way up and down, as the visitor of a walk over the bounds, with the column beside it.
+//! The visitors of a walk over the bounds that move the hand up or down. They hold the column meanwhile.
 ghost use Rattle.std.specs.Prelude.{◌≤◌, IsTrue};
 ghost use Rattle.crack_column.specs.Column.{first_aside};
 ghost use Rattle.crack_state.specs.Steps.{ceiling_of, hand_key, piece_start, PushesOn, PullsBack};
@@ -16,18 +16,18 @@ use crack_index::Visitor;
 use crack_pending::PendingOut;
 use crack_row::Bound;
 
-/// The hand on its way up, under a ceiling or none.
+/// Moves the hand up, under a ceiling or none.
 #[derive(Drop)]
 pub(crate) struct Ascent<'a> {
     column: HeldColumn,
     pending_out: &'a PendingOut,
     ceiling: Option<Bound>,
-    /// How many rows were pushed on, as the store counts them.
+    /// The number of rows moved, as in the store's tally.
     moved: u64,
 }
 
 impl Ascent<'_> {
-    /// Whether the row in hand is known to be below the ceiling. O(1), without a look at any cell.
+    /// Whether the row in hand is known to be below the ceiling. O(1); reads no cell.
     #[inline(always)]
     fn is_below(&self) -> bool
         ensures { IsTrue result → IsKnownBelow self.now.ceiling (first_aside self.now.column).memory }
@@ -47,7 +47,8 @@ impl Visitor for Ascent<'_> {
 
     ghost visits = { Ascends };
 
-    /// Pushes the hand on, if it isn't doomed and is known to be below the ceiling, and the place is in the column.
+    /// Pushes the hand on to the place, if the hand isn't doomed and is known to be below the ceiling, and the
+    /// place is in the column.
     #[inline(always)]
     fn visit(&mut self, place: usize) -> bool {
         if self.pending_out.contains(self.column.slot()) {
@@ -66,8 +67,8 @@ impl Visitor for Ascent<'_> {
 }
 
 /// Pushes the hand on from place to place as long as it isn't doomed, is known to be below the ceiling, and its own
-/// piece ends before the column does. Returns the bound where its piece ends then. O(log bounds) and the bounds at the
-/// places on its way; takes no memory.
+/// piece ends before the column does. Returns the bound at which its piece then ends. O(log bounds), and the bounds
+/// at the places on its way; takes no memory.
 #[inline(always)]
 pub(crate) fn ascend(inside: &mut Inside, ceiling: Option<Bound>) -> Near
     requires { HasHand inside.old }
@@ -88,14 +89,14 @@ pub(crate) fn ascend(inside: &mut Inside, ceiling: Option<Bound>) -> Near
     Near::Above(above)
 }
 
-/// The hand on its way down to a place.
+/// Moves the hand down to a place.
 #[derive(Drop)]
 pub(crate) struct Descent<'a> {
     column: HeldColumn,
     notes: Notes,
     pending_out: &'a PendingOut,
     place: usize,
-    /// How many rows were pulled, as the store counts them.
+    /// The number of rows pulled, as in the store's tally.
     pulled: u64,
 }
 
@@ -107,7 +108,8 @@ impl Visitor for Descent<'_> {
 
     ghost visits = { Draws };
 
-    /// Pulls the hand back to the place, unless its way ends after it. The new place of a doomed row is noted.
+    /// Pulls the hand back to the place, unless that is below the place where its way ends. Notes the new place of
+    /// a doomed row.
     #[inline(always)]
     fn visit(&mut self, place: usize) -> bool {
         if place < self.place {
@@ -123,14 +125,14 @@ impl Visitor for Descent<'_> {
     }
 }
 
-/// Pulls the hand back from place to place as long as its own piece begins after the place. Returns the bound where its
-/// piece begins then. O(log bounds) and the bounds at the places on its way; takes no memory.
+/// Pulls the hand back from place to place as long as its own piece begins after `place`. O(log bounds), and the
+/// bounds at the places on its way; takes no memory.
 #[inline(always)]
-pub(crate) fn descend(inside: &mut Inside, place: usize) -> Near
+pub(crate) fn descend(inside: &mut Inside, place: usize)
     requires { HasHand inside.old }
     ensures pulls { PullsBack place (carried_of inside.old) (carried_of inside.new) }
     ensures ends { piece_start (lists_of inside.new) (hand_key (carried_of inside.new)) ≤ place }
-    ensures kept { KeepsHand inside.new result }
+    ensures kept { HasHand inside.new }
 {
     let key = inside.column.aside_key(&inside.arena);
     let mut descent = Descent {
@@ -140,7 +142,7 @@ pub(crate) fn descend(inside: &mut Inside, place: usize) -> Near
         place,
         pulled: inside.tally.pulled,
     };
-    let below = inside.index.descend(key, &mut descent);
+    inside.index.descend(key, &mut descent);
     let Descent {
         column,
         notes,
@@ -150,5 +152,4 @@ pub(crate) fn descend(inside: &mut Inside, place: usize) -> Near
     inside.column = column.release();
     inside.notes = notes;
     inside.tally.pulled = pulled;
-    Near::Below(below)
 }

@@ -2,10 +2,10 @@
 ghost use Rattle.std.specs.Prelude.{◌≡◌, ◌-◌, ◌<◌, ◌≤◌, ◌∷◌, [], length, All, Some, IsTrue, IsFalse, IfSome, Contains};
 ghost use Rattle.std.specs.Prelude.{MatchOption};
 ghost use Rattle.crack_arena.specs.Arena.{read, times, slots, IsFirstAt, IsAbsent, same_handle};
-ghost use Rattle.crack_index.specs.Marks.{piece_at, next_mark, last_mark};
+ghost use Rattle.crack_index.specs.Marks.{piece_at, next_mark};
 ghost use Rattle.crack_state.specs.State.{IsIntact, live_rows};
-ghost use Rattle.crack_state.specs.Steps.{hand_key, piece_start, piece_end, IsDoomed, pushed_on, pulled_back};
-ghost use Rattle.crack_state.specs.Steps.{exchanged, appended, buried, bounds_above, bounds_up_to, returned};
+ghost use Rattle.crack_state.specs.Steps.{hand_key, piece_start, piece_end, IsDoomed, pushed_on};
+ghost use Rattle.crack_state.specs.Steps.{exchanged, appended, buried, bounds_above, returned};
 
 use crate::Store;
 use crate::inside::Inside;
@@ -17,19 +17,17 @@ use crack_row::{Key, Row};
 use crack_state::MergeReport;
 use std::marker::Model;
 
-/// The bound next to the row in hand on its way, once it was looked up; each step continues from there.
+/// The bound above the row in hand, kept from the last look-up: the next step up continues from it.
 #[derive(Clone, Copy)]
 pub(crate) enum Near {
-    /// Before the way begins.
+    /// It must be looked up.
     Unsought,
-    /// On the way up: the least bound above the row's key.
+    /// The least bound above the row's key.
     Above(Option<Mark>),
-    /// On the way down: the greatest bound at or below the row's key.
-    Below(Option<Mark>),
 }
 
-/// A store with one cell in hand, which is in no list. It can't be dropped: a step ends it and returns the store.
-/// The column keeps the hand aside, so that a step exchanges two of its tags and reads no generation.
+/// A store with one cell in hand, which is in no list. It can't be dropped: a last step returns the store. The
+/// column keeps the hand aside, so that a step exchanges two of the column's tags and reads no generation.
 pub struct Carrying {
     pub(crate) inside: Inside,
     pub(crate) near: Near,
@@ -48,14 +46,14 @@ impl Model for Carrying {
 }
 
 impl Carrying {
-    /// States the invariants of every store with a cell in hand, and does nothing.
+    /// States the invariant of every store with a cell in hand, and does nothing.
     pub fn facts(&self)
         ensures { IsIntact self.now.store (self.now.hand ∷ []) }
     {
         let _ = &self.inside;
     }
 
-    /// The hand, and the row that it reads. O(1).
+    /// The handle in hand, and the row that it reads. O(1).
     pub fn hand(&self) -> (Handle<Row>, Row)
         ensures handle { result.0 ≡ self.now.hand }
         ensures row { read self.now.store.cells self.now.hand ≡ Some result.1 }
@@ -67,7 +65,7 @@ impl Carrying {
         }
     }
 
-    /// Whether this handle is in hand. O(1), without a look at its row.
+    /// Whether this handle is in hand. O(1); reads no cell.
     pub fn holds(&self, handle: Handle<Row>) -> bool
         ensures { result ≡ same_handle self.now.hand handle }
     {
@@ -81,14 +79,14 @@ impl Carrying {
         self.inside.column.len()
     }
 
-    /// What merges have counted.
+    /// The merge counts.
     pub fn tally(&self) -> MergeReport
         ensures { result ≡ self.now.store.tally }
     {
         self.inside.tally
     }
 
-    /// Whether the row in hand is a pending deletion. O(1).
+    /// Whether the row in hand is doomed. O(1).
     pub fn is_doomed(&self) -> bool
         ensures doomed { IsTrue result → IsDoomed self.now }
         ensures kept { IsFalse result → times self.now.hand.slot (slots self.now.store.pending_out) ≡ 0 }
@@ -97,21 +95,21 @@ impl Carrying {
         self.inside.pending_out.contains(slot)
     }
 
-    /// The place of the handle in the column; none if it isn't there. O(rows of the column).
+    /// The place of the handle in the column; `None` if it isn't there. O(rows of the column).
     pub fn place_of(&self, handle: Handle<Row>) -> Option<usize>
         ensures { MatchOption result (IsAbsent self.now.store.column handle) (IsFirstAt self.now.store.column handle) }
     {
         self.inside.column.place_of(handle)
     }
 
-    /// The key of the row in hand. O(1), without a look at its cell if the row is known.
+    /// The key of the row in hand. O(1); reads no cell if the column remembers the row.
     pub fn hand_key(&self) -> Key
         ensures { result.0 ≡ hand_key self.now }
     {
         self.inside.column.aside_key(&self.inside.arena)
     }
 
-    /// The piece whose keys hold the key of the row in hand. O(log bounds).
+    /// The hand's own piece: the one into which the key of its row falls. O(log bounds).
     pub fn own_piece(&self) -> Piece
         ensures value { result ≡ piece_at (hand_key self.now) (length self.now.store.column) self.now.store.marks }
         ensures order { result.from ≤ result.to }
@@ -131,22 +129,11 @@ impl Carrying {
     {
         match self.near {
             Near::Above(mark) => mark,
-            Near::Below(_) | Near::Unsought => self.inside.index.bound_above(self.hand_key()),
+            Near::Unsought => self.inside.index.bound_above(self.hand_key()),
         }
     }
 
-    /// The greatest bound at or below the key in hand. O(1) on the way down, else O(log bounds).
-    #[inline]
-    fn bound_below(&self) -> Option<Mark>
-        ensures { result ≡ last_mark (hand_key self.now) self.now.store.marks }
-    {
-        match self.near {
-            Near::Below(mark) => mark,
-            Near::Above(_) | Near::Unsought => self.inside.index.bound_below(self.hand_key()),
-        }
-    }
-
-    /// Where the hand's own piece ends. O(1) on the way up, else O(log bounds).
+    /// The place where the hand's own piece ends. O(1) on the way up, else O(log bounds).
     pub fn piece_ends_at(&self) -> usize
         ensures value { result ≡ piece_end self.now.store (hand_key self.now) }
         ensures within { result ≤ length self.now.store.column }
@@ -158,20 +145,9 @@ impl Carrying {
         }
     }
 
-    /// Where the hand's own piece begins. O(1) on the way down, else O(log bounds).
-    pub fn piece_begins_at(&self) -> usize
-        ensures value { result ≡ piece_start self.now.store (hand_key self.now) }
-        ensures within { result ≤ length self.now.store.column }
-    {
-        let _ = &self.inside;
-        match self.bound_below() {
-            Some(mark) => mark.position,
-            None => 0,
-        }
-    }
-
-    /// Puts the hand where its own piece ends; each bound above its key that is there moves up by one, and the row
-    /// that was there is in hand. On the way up O(1) and the bounds at that place; else O(log bounds) more, once.
+    /// Puts the hand where its own piece ends, and takes the row that was there into the hand. Each bound at that
+    /// place above the old hand's key moves up by one. On the way up O(1), and the bounds at that place; else O(log
+    /// bounds) more, once.
     pub fn push_on(&mut self)
         requires { piece_end self.old.store (hand_key self.old) < length self.old.store.column }
         ensures after { self.new ≡ pushed_on self.old }
@@ -188,33 +164,7 @@ impl Carrying {
         self.inside.tally.moved = self.inside.tally.moved.saturating_add(1);
     }
 
-    /// Puts the hand at the last place before its own piece; each bound at or below its key that is where that piece
-    /// begins moves down by one, and the row that was there is in hand. On the way down O(1) and the bounds at that
-    /// place; else O(log bounds) more, once.
-    pub fn pull_back(&mut self)
-        requires { 0 < piece_start self.old.store (hand_key self.old) }
-        ensures after { self.new ≡ pulled_back self.old }
-        ensures live { live_rows self.new.store ≡ live_rows self.old.store }
-        ensures nearer { bounds_up_to (hand_key self.new) self.new.store.marks < bounds_up_to (hand_key self.old)
-            self.old.store.marks }
-    {
-        let Some(mark) = self.bound_below() else {
-            unreachable!();
-        };
-        let last = mark.position - 1;
-        let next = self.inside.index.lower_past(mark);
-        note_if_doomed(
-            &mut self.inside.notes,
-            &self.inside.pending_out,
-            self.inside.column.aside_slot(),
-            last,
-        );
-        self.inside.column.exchange(last);
-        self.near = Near::Below(next);
-        self.inside.tally.pulled = self.inside.tally.pulled.saturating_add(1);
-    }
-
-    /// Puts the hand at a place of its own piece, and the row that was there is in hand. No bound moves. O(1).
+    /// Exchanges the hand with the row at a place of its own piece. No bound moves. O(1).
     pub fn exchange(&mut self, place: usize)
         requires from { piece_start self.old.store (hand_key self.old) ≤ place }
         requires to { place < piece_end self.old.store (hand_key self.old) }
@@ -231,7 +181,7 @@ impl Carrying {
         self.inside.tally.pulled = self.inside.tally.pulled.saturating_add(1);
     }
 
-    /// Frees the cell of the row in hand, which is doomed, and removes it from the pending deletions.
+    /// Buries the row in hand, which is doomed: frees its cell, and removes it from the pending deletions.
     /// Amortised O(1).
     pub fn bury(self) -> Store
         requires { IsDoomed self }
@@ -246,7 +196,7 @@ impl Carrying {
         Store { inside }
     }
 
-    /// Puts the hand, which isn't doomed, after the last pending insertion: its row is evicted. Takes no memory. O(1).
+    /// Evicts the row in hand, which isn't doomed: puts it after the last pending insertion. Takes no memory. O(1).
     pub fn put_back(self) -> Store
         requires room { 0 < self.store.in_room }
         requires kept { times self.hand.slot (slots self.store.pending_out) ≡ 0 }
@@ -261,8 +211,8 @@ impl Carrying {
         Store { inside }
     }
 
-    /// Puts the hand after the column's last row, if its own piece ends there; each bound above its key that is
-    /// there moves up by one. On the way up O(1) and the bounds at that place, else O(log bounds) more.
+    /// Appends the hand to the column, if its own piece ends there. Each bound at that place above its key moves up
+    /// by one. On the way up O(1), and the bounds at that place; else O(log bounds) more.
     pub fn append(self) -> Store
         requires ends { piece_end self.store (hand_key self) ≡ length self.store.column }
         requires room { 0 < self.store.column_room }

@@ -1,4 +1,4 @@
-//! A crack by both ends of a range. One look-up of each end finds the pieces to be divided.
+//! Cracks the column at both ends of a range. One look-up of each end finds the pieces to be cracked.
 ghost use Rattle.std.specs.Prelude.{◌≡◌, ◌+◌, ◌≤◌, [], length, IfSome, IfNone};
 ghost use Rattle.crack_index.specs.Marks.{added, piece_at};
 ghost use Rattle.crack_state.specs.Merge.{Refines, Stands};
@@ -12,23 +12,23 @@ use crate::inside::Inside;
 use crack_index::Piece;
 use crack_row::{Bound, InnerBound, KeyRange};
 
-/// A bound that is missing, and the piece of the column into which it falls.
+/// A bound that isn't in the index, and the piece into which it falls.
 #[derive(Clone, Copy)]
 pub(crate) struct Gap {
     bound: InnerBound,
     piece: Piece,
 }
 
-/// Which ends of a range are missing, and in which pieces of the column they fall.
+/// Which ends of a range are missing from the index, and into which pieces they fall.
 #[derive(Clone, Copy)]
 pub(crate) enum Missing {
-    /// Neither.
+    /// Neither is missing.
     Neither,
-    /// Only this one; if the range is empty, it is both.
+    /// Only this one is missing; if the range is empty, it is both ends.
     One(Gap),
-    /// Both, and they fall into one piece: the low one with that piece, and the high one.
+    /// Both are missing and fall into one piece: the low one with that piece, and the high one.
     Together(Gap, InnerBound),
-    /// Both, the low one and the high one, and they fall into different pieces.
+    /// Both are missing, the low one and the high one, and fall into different pieces.
     Apart(Gap, Gap),
 }
 
@@ -54,8 +54,8 @@ impl Missing {
     }
 }
 
-/// The bound with its own piece, if the bound lies between the partition's ends and isn't in the index. O(log bounds):
-/// a bound is in the index exactly if its piece begins at it.
+/// The bound with its piece, if it lies between the ends of the partition's keys and isn't in the index. O(log
+/// bounds): a bound is in the index exactly if the piece of its key begins at it.
 pub(crate) fn gap_at(inside: &Inside, bound: Bound) -> Option<Gap>
     ensures bound { IfSome result (λ gap. gap.bound.0 ≡ bound.0) }
     ensures missing { IfSome result (λ gap. MissesIn (lists_of inside.now) gap.bound.0 gap.piece) }
@@ -85,8 +85,8 @@ fn end_of(piece: Piece, keys: KeyRange) -> Bound
     }
 }
 
-/// Codes the keys of pending rows that have no code yet, unless no range was read before, since the first read may
-/// merge all of them. Amortised O(1) for each pending row.
+/// Codes the keys of pending rows that have no code yet. Does nothing while there is no bound, since the first read
+/// may merge all of them. Amortised O(1) for each pending row.
 #[inline]
 pub(crate) fn code_pending(inside: &mut Inside)
     ensures { inside.new ≡ inside.old }
@@ -98,8 +98,8 @@ pub(crate) fn code_pending(inside: &mut Inside)
     inside.pending_out.code_keys();
 }
 
-/// Which ends of the range are missing. O(log bounds): each end is looked up once, and the high one only if it doesn't
-/// fall into the piece of the low one.
+/// Which ends of the range are missing from the index. O(log bounds): each end is looked up once, and the high one
+/// only if it doesn't fall into the piece of the low one.
 #[inline(always)]
 pub(crate) fn missing_ends(inside: &Inside, range: KeyRange) -> Missing
     ensures { Misses (lists_of inside.now) range result }
@@ -123,7 +123,7 @@ pub(crate) fn missing_ends(inside: &Inside, range: KeyRange) -> Missing
     }
 }
 
-/// Cracks at the ends of the range that are missing. Takes no memory. O(size of their pieces + bounds).
+/// Cracks the column at the missing ends of a range. Takes no memory. O(size of their pieces + bounds).
 pub(crate) fn crack_at_ends(inside: &mut Inside, range: KeyRange, missing: Missing)
     requires intact { KeepsIntact inside.old [] }
     requires missing { Misses (lists_of inside.old) range missing }
@@ -145,7 +145,7 @@ pub(crate) fn crack_at_ends(inside: &mut Inside, range: KeyRange, missing: Missi
     }
 }
 
-/// Cracks a missing bound's own piece in two by it; returns the bound's place. Takes no memory. O(size of the
+/// Cracks the piece of a missing bound in two, and returns the bound's place. Takes no memory. O(size of the
 /// piece + bounds).
 fn crack_in(inside: &mut Inside, gap: Gap) -> usize
     requires intact { KeepsIntact inside.old [] }
@@ -165,8 +165,7 @@ fn crack_in(inside: &mut Inside, gap: Gap) -> usize
     place
 }
 
-/// Cracks the piece into which two missing bounds fall in three by them. Takes no memory. O(size of the piece +
-/// bounds).
+/// Cracks the piece into which two missing bounds fall in three. Takes no memory. O(size of the piece + bounds).
 fn crack_together(inside: &mut Inside, low: Gap, high: InnerBound)
     requires intact { KeepsIntact inside.old [] }
     requires missing { FallTogether (lists_of inside.old) low high }

@@ -1,5 +1,5 @@
-//! Pulling all pending deletions of a range in bulk: the doomed rows are taken out of the column's pieces from the
-//! lowest up, and then buried in order of arrival.
+//! Pulls all pending deletions of a range in bulk: takes the doomed rows out of the column's pieces, from the
+//! lowest up, and then buries them in order of arrival.
 ghost use Rattle.std.specs.Prelude.{◌≡◌, ◌<◌, ◌≤◌, [], length, map, All, IfSome, IsTrue, IsFalse};
 ghost use Rattle.crack_arena.specs.Rows.{key_at};
 ghost use Rattle.crack_arena.specs.Memories.{Remembers};
@@ -22,20 +22,21 @@ use crack_pending::PendingOut;
 use crack_row::{KeyNumber, KeyRange, Row};
 use std::alloc::Global;
 
-/// Fewer rows are pulled one at a time if there are many bounds: a walk over all of them isn't worth it.
+/// If there are many bounds, fewer rows than this are pulled one at a time: a walk over all bounds isn't worth it.
 const FEWEST: usize = 16;
 
-/// More bounds than this are many.
+/// There are many bounds if there are more than this.
 pub(crate) const FEW_BOUNDS: usize = 64;
 
 /// In a piece with more rows than this, one pass that finds all doomed rows is faster than a search for each.
 const SHORT: usize = 4096;
 
 impl Store {
-    /// Pulls all pending deletions of a range in bulk, each by the column's last row, with the result of pulling them
-    /// one after the other; returns whether it did so. It doesn't if none or few are in the range, if one is in a long
-    /// piece, or without memory to list them: then nothing has changed. O(pending deletions and holes); for each that
-    /// it pulls O(bounds) without waiting for memory, and one search of its piece, which is short; O(bounds).
+    /// Pulls all pending deletions of a range in bulk, each by the column's last row, with the result of pulling
+    /// them one after the other. Returns `false`, and changes nothing, if none are in the range, if few are and
+    /// there are many bounds, if one is in a long piece, or if no memory is found to list them. O(pending deletions
+    /// and holes); for each row that it pulls, O(bounds) without waiting for memory, and one search of its piece,
+    /// which is short; O(bounds).
     pub fn pull_in_bulk(&mut self, range: KeyRange) -> bool
         ensures pulled { IsTrue result → self.new ≡ pulled_in_bulk range self.old }
         ensures left { IsTrue result → self.new.pending_out ≡ outside_of self.old.cells range self.old.pending_out }
@@ -56,7 +57,7 @@ impl Store {
     }
 }
 
-/// The rows of a list whose keys are in the range, in their order; none if it finds no memory for them.
+/// The rows of a list whose keys are in the range, in order; `None` if no memory is found for them.
 pub(crate) fn doomed_in(
     rows: &PendingOut,
     range: KeyRange,
@@ -124,7 +125,7 @@ fn pull_rows(inside: &mut Inside, doomed: Vec<Doomed>)
     bury_all(inside, &doomed);
 }
 
-/// Pulls the rows out of the last piece, and takes those that were pulled out of the column, whose last rows they
+/// Pulls the doomed rows out of the last piece, and removes all pulled rows from the column, whose last rows they
 /// are.
 fn drain_last(drain: &mut Drain)
     requires { IsReady drain.old }
@@ -138,7 +139,7 @@ fn drain_last(drain: &mut Drain)
     drain.pulled = drain.pulled.saturating_add(more as u64);
 }
 
-/// Takes the last rows out of a column, down to this many. O(rows taken), and reads none.
+/// Removes the last rows of a column, down to `len` rows. O(rows removed); reads none.
 pub(crate) fn shorten(column: &mut CrackerColumn, len: usize)
     requires { len ≤ length column.old.handles }
     ensures { IsShortened len column.old column.new }
@@ -150,7 +151,7 @@ pub(crate) fn shorten(column: &mut CrackerColumn, len: usize)
     }
 }
 
-/// Removes these rows from the pending deletions, and frees their cells, one after the other.
+/// Removes these rows from the pending deletions, and frees their cells, in order.
 pub(crate) fn bury_all(inside: &mut Inside, doomed: &[Doomed])
     requires { AreBuried (map doomed_handle doomed.now) inside.old.arena.cells inside.old.pending_out.handles }
     ensures buried { lists_of inside.new ≡ buried_all (map doomed_handle doomed.now) (lists_of inside.old) }
@@ -165,9 +166,9 @@ pub(crate) fn bury_all(inside: &mut Inside, doomed: &[Doomed])
     inside.pending_out.shrink_if_empty(0);
 }
 
-/// A column on a walk over its bounds from the lowest up, out of which doomed rows are pulled: the piece that begins at
-/// the bound `low` and the place `from` is next, and those that were taken out of the pieces below are in the `gap`
-/// places before it.
+/// A visitor of a walk over the bounds from the lowest up, which pulls doomed rows out of the column. The piece
+/// that begins at the bound `low` and the place `from` is next; the rows pulled from the pieces below fill the
+/// `gap` places before it.
 #[derive(Drop)]
 pub(crate) struct Drain {
     pub(crate) column: CrackerColumn,
@@ -175,7 +176,7 @@ pub(crate) struct Drain {
     pub(crate) low: KeyNumber,
     pub(crate) from: usize,
     pub(crate) gap: usize,
-    /// How many rows were pulled, as the store counts them.
+    /// The number of rows pulled, as in the store's tally.
     pub(crate) pulled: u64,
 }
 
@@ -186,7 +187,7 @@ impl Placer for Drain {
 
     ghost places = { Empties };
 
-    /// Pulls the doomed rows out of the piece below the bound, which is then where the piece ends.
+    /// Pulls the doomed rows out of the piece below the bound, and returns where that piece then ends.
     fn place(&mut self, mark: Mark) -> usize {
         let Mark { bound, position } = mark;
         if position < self.from || self.column.len() < position {

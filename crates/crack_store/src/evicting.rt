@@ -1,5 +1,6 @@
-//! Carrying all pending insertions of a range in bulk under a ceiling: their rows take the places of the first rows
-//! beyond it, which are evicted, and are sifted through the pieces below it from the highest down.
+//! Carries all pending insertions of a range in bulk under a ceiling. Their rows take the places of the first rows
+//! beyond the ceiling, which are evicted, and are sifted through the pieces below the ceiling, from the highest
+//! down.
 ghost use Rattle.std.specs.Prelude.{◌≡◌, ◌+◌, ◌-◌, ◌<◌, ◌≤◌, ◌^◌, [], Some, length, min, drop, vec_capacity};
 ghost use Rattle.std.specs.Prelude.{All, Contains, IsTrue, IsFalse, IfSome};
 ghost use Rattle.crack_arena.specs.Rows.{keys_at};
@@ -26,16 +27,16 @@ use crack_row::{Bound, KeyNumber, KeyRange, Row};
 /// The number of bounds that a walk passes in the time in which one row is carried by itself.
 const BOUNDS_A_ROW: usize = 8;
 
-/// The number of pending insertions that are passed in the time in which a walk passes one bound.
+/// The number of pending insertions that a pass looks at in the time in which a walk passes one bound.
 const ROWS_A_BOUND: usize = 256;
 
 impl Store {
-    /// Carries all pending insertions of a range in bulk under a ceiling, of which `first` is the first, with the
-    /// result of carrying them one after the other; returns whether it did so. It doesn't if they are few, if a row is
-    /// doomed, if no bound is at the ceiling, or without memory for all of them and for the rows that they evict: then
-    /// nothing has changed. Room is made for all of them at once. Two passes over the pending insertions, or one if
-    /// many are pending and there are few bounds; for each row that it carries O(pieces below the ceiling) without
-    /// waiting for memory; two walks over the bounds.
+    /// Carries all pending insertions of a range in bulk under a ceiling, with the result of carrying them one
+    /// after the other; `first` is the first of them. Returns `false`, and changes nothing, if they are few, if any
+    /// row is doomed, if no bound is at the ceiling, or if no memory is found for all of them and for the rows that
+    /// they evict. Makes room for all of them at once. Two passes over the pending insertions, or one if many are
+    /// pending and there are few bounds; for each row that it carries, O(pieces below the ceiling) without waiting
+    /// for memory; two walks over the bounds.
     pub fn carry_under(&mut self, range: KeyRange, first: usize, ceiling: Bound) -> bool
         requires high { range.high ≤ ceiling.0 }
         requires first { Finds range (keys_at self.old.cells self.old.pending_in) 0 (Some first) }
@@ -72,7 +73,7 @@ impl Store {
     }
 }
 
-/// The bound at the ceiling, with its place; none if there is no such bound. O(log bounds).
+/// The bound at the ceiling, with its place; `None` if there is no such bound. O(log bounds).
 fn mark_of(inside: &Inside, ceiling: Bound) -> Option<Mark>
     ensures there { IfSome result (λ m. Contains inside.now.index.marks m) }
     ensures same { IfSome result (λ m. m.bound.0 ≡ ceiling.0) }
@@ -91,8 +92,8 @@ fn is_counted_late(inside: &Inside) -> bool {
     MANY_PENDING < pending && inside.index.len() <= pending / ROWS_A_BOUND
 }
 
-/// How many pending insertions of a range there are, of which `first` is the first; if they are counted late, how many
-/// there are of all keys.
+/// How many pending insertions of a range there are; `first` is the first of them. If counting them costs too much,
+/// how many pending insertions there are in all.
 fn most_in(inside: &mut Inside, range: KeyRange, first: usize) -> usize
     requires intact { KeepsIntact inside.old [] }
     requires first { Finds range (keys_at inside.old.arena.cells inside.old.pending_in.handles) 0 (Some first) }
@@ -111,8 +112,8 @@ fn is_few(inside: &Inside, count: usize) -> bool {
     count < FEWEST || count < inside.index.len() / BOUNDS_A_ROW
 }
 
-/// Carries the pending insertions of a range under the ceiling at a bound, of which `first` is the first. No row is
-/// doomed, and there is room for them and for the rows that they evict.
+/// Carries the pending insertions of a range under the ceiling at the bound `edge`; `first` is the first of them.
+/// No row is doomed, and there is room for these rows and for those that they evict.
 fn carry_rows(
     inside: &mut Inside,
     range: KeyRange,
@@ -168,9 +169,9 @@ fn carry_rows(
     inside.tally.put_in = inside.tally.put_in.saturating_add(count as u64);
 }
 
-/// Takes the rows of a range out of a list, and puts them into the column from the place `from` on, in their order,
-/// each with what is to be remembered of it. Each row that they replace goes after the last of the list. `taken` is a
-/// list for their handles, and `known` one for what is remembered of them. Returns how many came in.
+/// Takes the rows of a range out of a list, and puts them into the column from the place `from` on, in order, each
+/// with what is remembered of it. Appends each row that they replace to the list. `taken` gets their handles, and
+/// `known` what is remembered of them. Returns how many came in.
 fn exchange_rows(
     rows: &mut PendingIn,
     column: &mut CrackerColumn,
@@ -201,8 +202,8 @@ fn exchange_rows(
     taken.len()
 }
 
-/// Puts these handles into the column from a place on, in their order, each with what is to be remembered of its row.
-/// Each row that they replace goes after the last of the list. O(1) for each.
+/// Puts these handles into the column from the place `from` on, in order, each with what is remembered of its row.
+/// Appends each row that they replace to the list. O(1) for each.
 fn put_rows(
     rows: &mut PendingIn,
     column: &mut CrackerColumn,
@@ -226,8 +227,8 @@ fn put_rows(
     }
 }
 
-/// Puts a handle at a place of the column, with what is to be remembered of its row, which is read if it isn't known. A
-/// row that was there goes after the last of the list; if there was none, the handle is the column's last. O(1).
+/// Puts a handle at a place of the column, with what is remembered of its row, which is read if that isn't known.
+/// Appends a row that was there to the list; if there was none, the handle becomes the column's last. O(1).
 fn put_at(
     rows: &mut PendingIn,
     column: &mut CrackerColumn,
@@ -254,8 +255,8 @@ fn put_at(
     }
 }
 
-/// Sifts the rows of a sieve, which are from the place of a bound on, through the pieces below it. Each bound below it
-/// moves up by as many rows as are below that bound, and the bounds from it on are after the rows afterwards.
+/// Sifts the rows of a sieve, which begin at the place of the bound `edge`, through the pieces below it. Each bound
+/// below it moves up by the number of rows that came in below it; the bounds from `edge` on come after the rows.
 /// O(bounds).
 fn sift_below(index: &mut CrackerIndex, sieve: Sieve, edge: Mark, count: usize) -> Sieve
     requires ready { IsReady sieve }
@@ -283,8 +284,8 @@ fn sift_below(index: &mut CrackerIndex, sieve: Sieve, edge: Mark, count: usize) 
     under.sieve
 }
 
-/// A sieve on a walk over the bounds from the highest down, for the bounds below a ceiling; the others rise by as many
-/// as rows come in.
+/// On a walk over the bounds from the highest down, sifts rows at the bounds below a ceiling, and raises the others
+/// by the number of rows that come in.
 #[derive(Drop)]
 pub(crate) struct CeilingSieve {
     sieve: Sieve,
@@ -300,7 +301,7 @@ impl Raiser for CeilingSieve {
 
     ghost rises = { RisesUnder };
 
-    /// Sifts the rows through the piece above a bound that is below the ceiling.
+    /// Sifts the rows through the piece above a bound, if the bound is below the ceiling.
     fn rise(&mut self, mark: Mark) -> usize {
         if self.ceiling <= mark.bound.number() {
             return self.count;
@@ -309,8 +310,8 @@ impl Raiser for CeilingSieve {
     }
 }
 
-/// A visitor of a walk over the bounds from the lowest up. It moves the bounds from a ceiling on, which rose by as many
-/// as rows came in, back to their places, but not before a given place.
+/// On a walk over the bounds from the lowest up, moves the bounds from a ceiling on, which rose by the number of
+/// rows that came in, back to their places, but not before the place `least`.
 #[derive(Drop)]
 pub(crate) struct CeilingStop {
     ceiling: KeyNumber,

@@ -1,6 +1,6 @@
-//! Making the first pulls of a range in bulk, each by a filler: the doomed rows are taken out of the column's pieces
-//! from the lowest up to a bound, the fillers take the places before it, and the doomed rows are buried in order of
-//! arrival.
+//! Pulls the first pending deletions of a range in bulk, each by a filler. The doomed rows are taken out of the
+//! column's pieces, from the lowest up to a bound; the fillers take the places before the bound; and the doomed
+//! rows are buried in order of arrival.
 ghost use Rattle.std.specs.Prelude.{◌≡◌, ◌<◌, ◌≤◌, [], Some, length, All, Contains, IfSome, IsTrue, IsFalse};
 ghost use Rattle.crack_arena.specs.Rows.{keys_at};
 ghost use Rattle.crack_state.specs.Carried.{inside_of};
@@ -24,13 +24,13 @@ use crack_pending::PendingIn;
 use crack_row::{KeyNumber, KeyRange, Row};
 
 impl Store {
-    /// Pulls pending deletions of a range in bulk, each by a filler: a pending insertion whose key is one of `fillers`,
-    /// of which `first` is the first. It takes the first of both, until one kind is used up, with the result of pulling
-    /// them one after the other; returns whether it did so. It doesn't if there are many bounds, all of which it would
-    /// walk over, if no pending deletion is in the range, if one is in a long piece, if the keys of the fillers don't
-    /// begin at a bound or another bound is among them, or without memory for a list: then nothing has changed.
-    /// O(pending rows and holes); for each row that it pulls O(bounds) without waiting for memory, and one search of
-    /// its piece, which is short; O(bounds).
+    /// Pulls pending deletions of a range in bulk, each by a filler: a pending insertion whose key is in `fillers`;
+    /// `first` is the first of them. Takes the first of both kinds until one is used up, with the result of pulling
+    /// them one after the other. Returns `false`, and changes nothing, if there are many bounds, all of which it
+    /// would walk over, if no pending deletion is in the range, if one is in a long piece, if the fillers' keys
+    /// don't begin at a bound or another bound is among them, or if no memory is found for a list. O(pending rows
+    /// and holes); for each row that it pulls, O(bounds) without waiting for memory, and one search of its piece,
+    /// which is short; O(bounds).
     pub fn fill_in_bulk(&mut self, range: KeyRange, fillers: KeyRange, first: usize) -> bool
         requires behind { range.high ≤ fillers.low }
         requires first { Finds fillers (keys_at self.old.cells self.old.pending_in) 0 (Some first) }
@@ -65,8 +65,8 @@ impl Store {
     }
 }
 
-/// The bound at which the keys of fillers begin, with its place; none if there is no such bound, or if another bound is
-/// among them. O(log bounds).
+/// The bound at which the fillers' keys begin, with its place; `None` if there is no such bound, or if another
+/// bound is among the keys. O(log bounds).
 fn edge_of(index: &CrackerIndex, fillers: KeyRange) -> Option<Mark>
     ensures { IfSome result (IsNextTo fillers index.now.marks) }
 {
@@ -83,8 +83,8 @@ fn edge_of(index: &CrackerIndex, fillers: KeyRange) -> Option<Mark>
     Some(mark)
 }
 
-/// Pulls these pending deletions out of the pieces below a bound, puts as many fillers before it, of which `first` is
-/// the first, and buries the pending deletions.
+/// Pulls these pending deletions out of the pieces below the bound `edge`, puts as many fillers before it, of which
+/// `first` is the first, and buries the pending deletions.
 fn fill_rows(inside: &mut Inside, doomed: Vec<Doomed>, fillers: KeyRange, first: usize, edge: Mark)
     requires intact { KeepsIntact inside.old [] }
     requires first { Finds fillers (keys_at inside.old.arena.cells inside.old.pending_in.handles) 0 (Some first) }
@@ -130,8 +130,8 @@ fn fill_rows(inside: &mut Inside, doomed: Vec<Doomed>, fillers: KeyRange, first:
     bury_all(inside, &doomed);
 }
 
-/// Takes the first rows of a range, this many, out of a list, of which `first` is the first, and puts them into the
-/// column before a place, the last one first, each with what is to be remembered of it.
+/// Takes the first `count` rows of a range out of a list, and puts them into the column before a place, in reverse
+/// order, each with what is remembered of it; `first` is the first of them.
 fn put_fillers(
     rows: &mut PendingIn,
     column: &mut CrackerColumn,
@@ -162,7 +162,7 @@ fn put_fillers(
     }
 }
 
-/// A drain on a walk over the bounds from the lowest up, as far as a bound; those above it stay where they are.
+/// A `Drain` that stops at a bound: the bounds above it stay where they are.
 #[derive(Drop)]
 pub(crate) struct DrainBelow {
     drain: Drain,
@@ -177,7 +177,7 @@ impl Placer for DrainBelow {
 
     ghost places = { EmptiesBelow };
 
-    /// Pulls the doomed rows out of the piece below a bound that isn't above the last one.
+    /// Pulls the doomed rows out of the piece below a bound that isn't above `edge`.
     fn place(&mut self, mark: Mark) -> usize {
         if self.edge < mark.bound.number() {
             return mark.position;

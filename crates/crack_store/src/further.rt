@@ -1,5 +1,5 @@
-//! A further bound beside an end of a range that says little about the piece into which it falls ("Stochastic Database
-//! Cracking", PVLDB 2012).
+//! Cracks at a further bound beside an end of a range that says little about its piece ("Stochastic Database
+//! Cracking", PVLDB 2012): the piece is large, and neither end of the range divides a sample of its keys well.
 ghost use Rattle.std.specs.Prelude.{◌≡◌, ◌⊎◌, ◌+◌, ◌-◌, ◌≤◌, ◌<◌, ◌↔◌, IsTrue, [], length, IfSome, IfNone, min, max};
 ghost use Rattle.crack_store.specs.Keeps.{KeepsIntact};
 ghost use Rattle.crack_store.specs.Inside.{lists_of};
@@ -16,13 +16,13 @@ use crack_row::{Bound, BoundNumber, GREATEST_BOUND, Key, KeyNumber, KeyRange};
 /// A piece with at most this many rows isn't cracked further.
 const MOST_ROWS: usize = 2048;
 
-/// How many keys of a piece are looked at.
+/// How many keys of a piece are sampled.
 const SAMPLES: usize = 9;
 
-/// How many sampled keys are below a bound that divides them well, at least, and how many aren't.
+/// A bound divides the sampled keys well if at least this many are below it, and at least this many aren't.
 const FEWEST: usize = 3;
 
-/// For how many bounds there must be room: for two beside each end of a range.
+/// The room for bounds that a range needs: two for each of its ends.
 pub(crate) const BOUNDS_BESIDE: usize = 4;
 
 /// Cracks beside each end of the range, the low one first, and then at its ends. Takes no memory.
@@ -58,7 +58,7 @@ fn crack_beside(inside: &mut Inside, range: KeyRange, end: Bound)
     crack_at_ends(inside, ends, missing);
 }
 
-/// The range between two bounds in either order, which are in these keys or at their ends.
+/// The range between two bounds, in either order. Both are among these keys, or at their ends.
 fn range_between(keys: KeyRange, one: Bound, other: Bound) -> KeyRange
     requires one { one.0 ≤ keys.high }
     requires other { other.0 ≤ keys.high }
@@ -76,8 +76,7 @@ fn range_between(keys: KeyRange, one: Bound, other: Bound) -> KeyRange
     }
 }
 
-/// The further bound at which the store is cracked beside an end of the range; none if the end says enough about its
-/// piece. O(log bounds).
+/// The further bound beside an end of the range; `None` if the end says enough about its piece. O(log bounds).
 fn further_bound(inside: &Inside, range: KeyRange, end: Bound) -> Option<Bound>
     requires intact { KeepsIntact inside.now [] }
     ensures little { IfSome result (λ further. SaysLittle (lists_of inside.now) range end.0) }
@@ -95,7 +94,7 @@ fn further_bound(inside: &Inside, range: KeyRange, end: Bound) -> Option<Bound>
     Some(bound_at(middle, low_of(piece, inside.keys)))
 }
 
-/// The piece into which a missing bound falls, if it is large and there are bounds already. O(log bounds).
+/// The piece into which a missing bound falls, if it is large and the index isn't empty. O(log bounds).
 fn large_piece(inside: &Inside, bound: Bound) -> Option<Piece>
     requires intact { KeepsIntact inside.now [] }
     ensures own { IfSome result (λ piece. piece ≡ own_piece (lists_of inside.now) bound.0) }
@@ -116,7 +115,7 @@ fn large_piece(inside: &Inside, bound: Bound) -> Option<Piece>
     Some(piece)
 }
 
-/// The number at which the keys of a piece begin: that of the bound below them, or of the low end of these keys.
+/// The low end of a piece's keys: the bound below them, or the low end of the partition's keys.
 fn low_of(piece: Piece, keys: KeyRange) -> BoundNumber
     ensures value { result ≡ bound_or_end keys.low piece.low }
     ensures small { result ≤ GREATEST_BOUND }
@@ -128,7 +127,7 @@ fn low_of(piece: Piece, keys: KeyRange) -> BoundNumber
     }
 }
 
-/// The bound at a key, or the next one above this number if that is greater.
+/// The bound at a key, but at least one above `low`.
 fn bound_at(key: KeyNumber, low: BoundNumber) -> Bound
     requires { low ≤ GREATEST_BOUND }
     ensures { result.0 ≡ max key (low + 1) }
@@ -143,7 +142,7 @@ fn ends_divide_well(range: KeyRange, keys: &[KeyNumber; SAMPLES]) -> bool
     divides_well(range.low(), keys) || divides_well(range.high(), keys)
 }
 
-/// The keys at nine places that are spread evenly over a piece.
+/// The keys at nine places, spread evenly over a piece.
 fn samples(inside: &Inside, piece: Piece) -> [KeyNumber; SAMPLES]
     requires intact { KeepsIntact inside.now [] }
     requires within { piece.to ≤ length inside.now.column.handles }
@@ -197,7 +196,7 @@ fn count_below(bound: Bound, keys: &[KeyNumber; SAMPLES]) -> usize
     below
 }
 
-/// The fifth of the keys by size.
+/// The median of the nine keys.
 fn middle(keys: [KeyNumber; SAMPLES]) -> KeyNumber
     ensures { IsMiddle keys result }
 {

@@ -1,4 +1,4 @@
-//! The parts of a store, and of a store with a cell in hand.
+//! The parts of a store, with or without a cell in hand.
 
 use crate::notes::Notes;
 use crate::serial_hash::SerialHashing;
@@ -10,10 +10,10 @@ use crack_row::{KeyRange, Row};
 use crack_state::MergeReport;
 use indexmap::IndexMap;
 
-/// The handles of rows, by the numbers of their serials.
+/// The handle of each live row, by its serial's number.
 pub(crate) type Serials = IndexMap<u64, Handle<Row>, SerialHashing>;
 
-/// The partition's keys, its cells, and the lists in which they are.
+/// The parts of a store: the partition's keys, its cells, and the lists that the cells are in.
 pub(crate) struct Inside {
     pub(crate) keys: KeyRange,
     pub(crate) arena: Arena<Row>,
@@ -21,16 +21,16 @@ pub(crate) struct Inside {
     pub(crate) index: CrackerIndex,
     pub(crate) pending_in: PendingIn,
     pub(crate) pending_out: PendingOut,
-    /// How many more pending insertions need no memory.
+    /// The number of pending insertions that can be added without memory.
     pub(crate) in_room: usize,
-    /// Where doomed rows were seen last.
+    /// Where doomed rows were last seen.
     pub(crate) notes: Notes,
     /// The handle of each live row, by its serial.
     pub(crate) serials: Serials,
     pub(crate) tally: MergeReport,
 }
 
-// (Written out, so that whoever drops a store calls this function, and proves nothing about the fields.)
+// Written out, so that code that drops a store calls this function, and proves nothing about the fields.
 impl Drop for Inside {
     fn drop(self) {
         let Inside {

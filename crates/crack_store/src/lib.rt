@@ -1,8 +1,8 @@
-//! The store of a partition: every cell in one place, with at most one cell in hand.
+//! The store of a partition: its cells, cracker column, index and pending rows.
 //!
-//! Rows are in the cells of an arena. A cell in use is a place of the cracker column, a pending insertion or the
-//! hand; a doomed row stays in the column and is also a pending deletion. Contracts see a store as one record of
-//! plain lists.
+//! Rows are in the cells of an arena. A cell in use is at one place of the cracker column, a pending insertion, or
+//! in hand, as at most one cell is. A doomed row is a row of the column that is also a pending deletion. Contracts
+//! see a store as one record of plain lists.
 #![tactic(auto)]
 
 pub mod appending;

@@ -1,4 +1,4 @@
-//! All rows of a store that commands see.
+//! The live rows of a store: those that commands see.
 ghost use Rattle.std.specs.Prelude.{◌≡◌, ◌+◌, ◌<◌, ◌≤◌, ◌++◌, [], length, take, drop, IfOk, IfErr, OnOk};
 ghost use Rattle.std.specs.List.{cons_option};
 ghost use Rattle.std.specs.List.Sorted.{IsPermutation, IsNonDecreasingBy};
@@ -11,7 +11,7 @@ use crate::Store;
 use crack_arena::CellRun;
 use crack_row::{Refusal, Row};
 
-/// The rows that a pass over the cells has found so far.
+/// The live rows that a pass over the cells has found so far.
 #[derive(Drop)]
 pub(crate) struct Found {
     rows: Vec<Row>,
@@ -42,9 +42,10 @@ impl Found {
 }
 
 impl Store {
-    /// The rows that commands see, by rising serial. It cracks and merges nothing. O(cells) if serials rise with the
-    /// numbers of the cells, in whose order they are read; else O(n log n) for n rows: after an insert into a freed
-    /// cell, or an update of a row of the column, which takes another cell. Refused with 8 if it finds no memory.
+    /// The live rows, by rising serial. Cracks and merges nothing. O(cells) if serials rise with the cells'
+    /// numbers, in whose order the cells are read. Else O(n log n) for n rows: after an insert into a freed cell,
+    /// or an update of a row of the column, which takes another cell. Refused with `OutOfMemory` if no memory is
+    /// found.
     pub fn live_rows(&self) -> Result<Vec<Row>, Refusal>
         ensures rows { IfOk result (λ rows. IsPermutation (live_rows self.now) rows.items) }
         ensures rising { IfOk result (λ rows. IsNonDecreasingBy serial_of rows.items) }
@@ -61,7 +62,7 @@ impl Store {
         Ok(rows)
     }
 
-    /// The same rows, in the order of their cells' numbers. O(cells).
+    /// The live rows, in the order of their cells' numbers. O(cells).
     fn rows_by_cells(&self) -> Result<Found, Refusal>
         ensures rows { IfOk result (λ found. found.rows.items ≡ live_rows self.now) }
         ensures order { IfOk result (λ found. KeepsOrder found) }
@@ -83,8 +84,8 @@ impl Store {
         Ok(found)
     }
 
-    /// Adds the rows that commands see of cells that are adjacent, from the one with this number on, after those of
-    /// the cells before. O(cells).
+    /// Adds the live rows of a run of cells, which begins with the cell `slot`, to those of the cells before it.
+    /// O(cells).
     fn add_live(
         &self,
         found: &mut Found,
@@ -106,7 +107,7 @@ impl Store {
         Ok(())
     }
 
-    /// The row at this place of a run, which begins with the cell with this number, if commands see one. O(1).
+    /// The live row, if any, at this place of a run that begins with the cell `slot`. O(1).
     #[inline(always)]
     fn live_at(&self, slot: u32, cells: &CellRun<'_, Row>, place: usize) -> Option<Row>
         requires cells { cells.now ≡ take (length cells.now) (drop slot self.now.cells) }

@@ -5,15 +5,15 @@ use crack_row::Refusal;
 use std::alloc::Global;
 use std::mem;
 
-/// For each cell, the place of the column where its row was last seen while it was doomed. Rows move, so a note is
-/// checked before it is used, and only speed depends on it.
+/// For each cell, the place of the column where its row was last seen while doomed. Rows move, so a note is checked
+/// before it is used: only speed depends on it.
 #[derive(Drop)]
 pub(crate) struct Notes {
     places: Vec<u32>,
 }
 
 impl Notes {
-    /// No cell has a note. Takes no memory.
+    /// No notes. Takes no memory.
     pub(crate) fn new(alloc: Global) -> Notes {
         Notes {
             places: Vec::new(alloc),
@@ -28,8 +28,8 @@ impl Notes {
         mem::replace(self, Notes::new(alloc))
     }
 
-    /// Makes room for a note of each of the first `cells` cells. Amortised O(1) for each that has none. Refused with 8
-    /// alone.
+    /// Makes room for a note for each of the first `cells` cells. Amortised O(1) for each that has none. Refused
+    /// only with `OutOfMemory`.
     pub(crate) fn make_places(&mut self, cells: usize) -> Result<(), Refusal>
         ensures err { IfErr result (λ e. e ≡ Refusal.OutOfMemory) }
     {
@@ -46,7 +46,7 @@ impl Notes {
         }
     }
 
-    /// The place that is noted for the cell; not a place of the column if nothing was noted. O(1).
+    /// The place noted for the cell. If none was noted, a number that is no place of the column. O(1).
     pub(crate) fn get(&self, slot: u32) -> usize {
         match self.places.get(slot as usize) {
             Some(place) => *place as usize,
@@ -55,7 +55,7 @@ impl Notes {
     }
 }
 
-/// Puts notes of no place after the others until there are as many as cells.
+/// Adds notes of no place until there are as many notes as cells.
 fn fill_up_to(places: &mut Vec<u32>, cells: usize)
     requires { cells ≤ vec_capacity places.old }
 {

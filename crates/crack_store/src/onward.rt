@@ -1,4 +1,5 @@
-//! From one row in hand to the next: ends the way of the one and begins that of the other, without moving the store.
+//! Steps from one row in hand to the next. Each ends the way of the one and begins that of the other, without
+//! moving the store.
 ghost use Rattle.std.specs.Prelude.{◌≡◌, ◌<◌, ◌≤◌, ◌↔◌, IsTrue, length, OnOk, IfErr};
 ghost use Rattle.crack_arena.specs.Arena.{times, slots, StandsAt};
 ghost use Rattle.crack_arena.specs.Rows.{keys_at};
@@ -13,8 +14,8 @@ use crack_arena::Handle;
 use crack_row::{KeyRange, Refusal, Row};
 
 impl Carrying {
-    /// Makes room for two more places in the column and two more pending insertions: for the hand and for one more row.
-    /// Refused with 8 if it finds no memory; then nothing has changed.
+    /// Makes room for two more rows in the column and two more pending insertions: for the hand and one more row.
+    /// Refused with `OutOfMemory` if no memory is found; then nothing has changed.
     pub fn make_room(&mut self) -> Result<(), Refusal>
         ensures same { SameButRoom self.old.store self.new.store }
         ensures hand { self.new.hand ≡ self.old.hand }
@@ -25,7 +26,7 @@ impl Carrying {
         ensures err { IfErr result (λ e. e ≡ Refusal.OutOfMemory) }
     {
         self.inside.column.reserve(2)?;
-        // room that was made before stays until a row is evicted
+        // Room that was made before stays until a row is evicted.
         if self.inside.in_room < 2 {
             self.inside.pending_in.reserve(2)?;
             self.inside.in_room = 2;
@@ -34,7 +35,7 @@ impl Carrying {
     }
 
     /// Ends the way of the hand as `append` does, and takes the pending insertion at this place into the hand, as
-    /// `lift` does. It costs what the two do, and moves no store.
+    /// `lift` does. Costs what the two do, and moves no store.
     pub fn append_and_lift(&mut self, place: usize)
         requires ends { piece_end self.old.store (hand_key self.old) ≡ length self.old.store.column }
         requires room { 1 < self.old.store.column_room }
@@ -48,8 +49,8 @@ impl Carrying {
         self.near = take_in(&mut self.inside, place);
     }
 
-    /// Ends the way of the hand as `bury` does, and takes the pending insertion at this place into the hand, as `lift`
-    /// does. It costs what the two do, and moves no store.
+    /// Ends the way of the hand as `bury` does, and takes the pending insertion at this place into the hand, as
+    /// `lift` does. Costs what the two do, and moves no store.
     pub fn bury_and_lift(&mut self, place: usize)
         requires doomed { IsDoomed self.old }
         requires there { place < length self.old.store.pending_in }
@@ -61,7 +62,7 @@ impl Carrying {
     }
 
     /// Ends the way of the hand as `bury` does, and takes the column's last row into the hand, as `lift_last` does.
-    /// It costs what the two do, and moves no store.
+    /// Costs what the two do, and moves no store.
     pub fn bury_and_lift_last(&mut self)
         requires doomed { IsDoomed self.old }
         requires some { 0 < length self.old.store.column }
@@ -73,8 +74,8 @@ impl Carrying {
         self.near = take_last(inside);
     }
 
-    /// Ends the way of the hand as `put_back` does, and takes the pending insertion at this place into the hand, as
-    /// `lift` does; the hand itself is after all others. It costs what the two do, and moves no store.
+    /// Ends the way of the hand as `put_back` does, after which it is the last pending insertion, and takes the one
+    /// at this place into the hand, as `lift` does. Costs what the two do, and moves no store.
     pub fn put_back_and_lift(&mut self, place: usize)
         requires room { 0 < self.old.store.in_room }
         requires kept { times self.old.hand.slot (slots self.old.store.pending_out) ≡ 0 }
@@ -86,9 +87,9 @@ impl Carrying {
         self.near = take_in(&mut self.inside, place);
     }
 
-    /// The first pending insertion at or after the place with its key in the range; O(1) for each that it passes. If
-    /// the range holds all of the partition's keys, it looks at none. The next lift starts from the place that it
-    /// finds: finding a row and then lifting it is one pass.
+    /// The place of the first pending insertion at or after `from` whose key is in the range. O(1) for each that it
+    /// passes; it looks at none if the range holds all of the partition's keys. The next lift starts from the place
+    /// found, so that finding and lifting a row is one pass.
     pub fn seek_in(&mut self, range: KeyRange, from: usize) -> Option<usize>
         ensures finds { Finds range (keys_at self.old.store.cells self.old.store.pending_in) from result }
         ensures same { self.new ≡ self.old }
@@ -103,8 +104,8 @@ impl Carrying {
         inside.pending_in.seek_in(range, from, &inside.arena)
     }
 
-    /// The first pending deletion at or after the place with its key in the range, from which the next look-up starts;
-    /// O(1) for each that it passes.
+    /// The place of the first pending deletion at or after `from` whose key is in the range; the next look-up
+    /// starts from it. O(1) for each that it passes.
     pub fn seek_out(&mut self, range: KeyRange, from: usize) -> Option<usize>
         ensures finds { Finds range (keys_at self.old.store.cells self.old.store.pending_out) from result }
         ensures same { self.new ≡ self.old }
@@ -113,7 +114,7 @@ impl Carrying {
         inside.pending_out.seek_in(range, from, &inside.arena)
     }
 
-    /// The pending deletion at this place of the order of arrival. O(1) at the place that was looked up last.
+    /// The pending deletion at this place, in order of arrival. O(1) at the place that was looked up last.
     pub fn doomed(&self, place: usize) -> Handle<Row>
         requires { place < length self.now.store.pending_out }
         ensures { StandsAt self.now.store.pending_out place result }
@@ -129,7 +130,7 @@ impl Carrying {
     }
 }
 
-/// Whether each of these keys is in the range.
+/// Whether all of `keys` are in the range.
 fn holds_all(range: KeyRange, keys: KeyRange) -> bool
     ensures { IsTrue result ↔ ((range.low ≤ keys.low) × (keys.high ≤ range.high)) }
 {

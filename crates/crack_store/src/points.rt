@@ -1,4 +1,4 @@
-//! Rows of a store by their serials: looked up, taken out or replaced.
+//! The rows of a store by their serials: look-up, removal and replacement.
 ghost use Rattle.std.specs.Prelude.{◌≡◌, ◌+◌, ◌-◌, ◌<◌, ◌∷◌, map, slice_get, Some, None, IsSome, IfSome, IfOk, IfErr};
 ghost use Rattle.std.specs.Prelude.{OnOk, OnErr, IsOk, IfNone, true, false};
 ghost use Rattle.std.specs.Option.{option_map};
@@ -6,6 +6,7 @@ ghost use Rattle.std.specs.List.Sorted.{IsPermutation};
 ghost use Rattle.crack_row.specs.Ranges.{IsIn};
 ghost use Rattle.crack_row.specs.Rows.{row_with, replaced};
 ghost use Rattle.crack_arena.specs.Arena.{read, freed, freed_at};
+ghost use Rattle.crack_arena.specs.declared.TheConstants.{MOST_FREED};
 ghost use Rattle.crack_state.specs.State.{live_rows, handle_of, freed_of};
 ghost use Rattle.crack_state.specs.Steps.{SameButRoom};
 ghost use Rattle.crack_state.specs.Points.{row_by, pending_by, handle_by, Maps, MayFree, IsRenewable, IsRewritable};
@@ -17,7 +18,7 @@ use crack_arena::{Arena, Handle, Remembered};
 use crack_row::{Key, Payload, Refusal, Row, Serial};
 
 impl Store {
-    /// The row with this serial; none if there is no such row. O(1).
+    /// The row with this serial; `None` if there is no such row. O(1).
     pub fn row_of(&self, serial: Serial) -> Option<Row>
         ensures value { result ≡ row_by self.now serial.0 }
         ensures none { IfNone result (handle_of self.now.serials serial.0 ≡ None) }
@@ -28,16 +29,16 @@ impl Store {
         }
     }
 
-    /// How often cells were freed.
+    /// How many times a cell was freed.
     pub fn freed(&self) -> u64
         ensures { result ≡ freed_of self.now.cells }
     {
         self.inside.arena.freed()
     }
 
-    /// Takes out the row with this serial, wherever it is: a pending insertion is cancelled, a row of the column is
-    /// doomed. Returns it; none if there is no such row. The serial is looked up once. Amortised O(1). Refused with 8
-    /// if it finds no memory for a row of the column; then nothing has changed.
+    /// Removes the row with this serial, and returns it; `None` if there is no such row. A pending insertion is
+    /// cancelled, and a row of the column is doomed. The serial is looked up once. Amortised O(1). Refused with
+    /// `OutOfMemory` if no memory is found for a row of the column; then nothing has changed.
     pub fn remove(&mut self, serial: Serial) -> Result<Option<Row>, Refusal>
         requires { MayFree self.old }
         ensures row { IfOk result (λ row. row ≡ row_by self.old serial.0) }
@@ -59,8 +60,8 @@ impl Store {
         Ok(Some(row))
     }
 
-    /// Takes out the row with this serial, a pending insertion, and returns it. Its cell is free from then on.
-    /// Takes no memory. Amortised O(1).
+    /// Removes the pending insertion with this serial, and returns its row. Its cell is then free. Takes no memory.
+    /// Amortised O(1).
     pub fn cancel(&mut self, serial: Serial) -> Row
         requires pending { pending_by self.old serial.0 ≡ Some true }
         requires few { MayFree self.old }
@@ -72,8 +73,9 @@ impl Store {
         self.cancel_at(lead)
     }
 
-    /// Takes out the row with this serial, which is in the column: it stays there as a pending deletion, and is
-    /// returned. O(1), except for growth. Refused with 8 if it finds no memory; then nothing has changed.
+    /// Dooms the row with this serial, which is in the column, and returns it: it stays there as a pending
+    /// deletion. O(1), except for growth. Refused with `OutOfMemory` if no memory is found; then nothing has
+    /// changed.
     pub fn doom(&mut self, serial: Serial) -> Result<Row, Refusal>
         requires column { pending_by self.old serial.0 ≡ Some false }
         requires few { MayFree self.old }
@@ -87,7 +89,7 @@ impl Store {
         self.doom_at(lead)
     }
 
-    /// Takes out a pending insertion whose serial was looked up. Takes no memory. Amortised O(1).
+    /// Removes a pending insertion whose serial was looked up. Takes no memory. Amortised O(1).
     fn cancel_at(&mut self, lead: Lead) -> Row
         requires entry { slice_get self.old.serials lead.at ≡ Some (lead.serial.0, lead.handle) }
         requires found { handle_of self.old.serials lead.serial.0 ≡ Some lead.handle }
@@ -129,9 +131,9 @@ impl Store {
         Ok(row)
     }
 
-    /// Replaces the row with the same serial, if there is one, as `rewrite` does; returns the row as it was, and none
-    /// if there is no such row. The serial is looked up once. O(1), except for growth. Refused with 8 if it finds no
-    /// memory for a row of the column; then nothing has changed.
+    /// Replaces the row with the same serial, if there is one, as `rewrite` does. Returns the row as it was; `None`
+    /// if there is no such row. The serial is looked up once. O(1), except for growth. Refused with `OutOfMemory`
+    /// if no memory is found for a row of the column; then nothing has changed.
     pub fn replace(&mut self, row: Row) -> Result<Option<Row>, Refusal>
         requires within { IsIn self.old.keys row.key.0 }
         requires anew { pending_by self.old row.serial.0 ≡ Some false → IsRenewable self.old }
@@ -155,10 +157,10 @@ impl Store {
         Ok(Some(before))
     }
 
-    /// Gives the row with this serial another key and another payload. A pending insertion is written in place, which
-    /// takes no memory and always succeeds. A row of the column becomes a pending deletion, and a new one of its serial
-    /// is after the last pending insertion. O(1), except for growth. Refused with 8 if it finds no memory; then nothing
-    /// has changed.
+    /// Replaces the key and the payload of the row with this serial. A pending insertion is overwritten in its
+    /// cell, which takes no memory and always succeeds. A row of the column becomes a pending deletion, and the new
+    /// row becomes the last pending insertion. O(1), except for growth. Refused with `OutOfMemory` if no memory is
+    /// found; then nothing has changed.
     pub fn rewrite(&mut self, serial: Serial, key: Key, payload: Payload) -> Result<(), Refusal>
         requires { IsRewritable (row_with serial key payload) self.old }
         ensures after { OnOk result (Rewrites (pending_by self.old serial.0) (row_with serial key payload)
@@ -178,8 +180,8 @@ impl Store {
         Ok(())
     }
 
-    /// Writes the row into the cell of the pending insertion with its serial, which has this handle; returns the row as
-    /// it was. O(1).
+    /// Overwrites the pending insertion with this handle, which has the row's serial, and returns the row as it
+    /// was. O(1).
     fn write_over(&mut self, handle: Handle<Row>, row: Row) -> Row
         requires found { handle_of self.old.serials row.serial.0 ≡ Some handle }
         requires pending { pending_by self.old row.serial.0 ≡ Some true }
@@ -194,8 +196,8 @@ impl Store {
         before
     }
 
-    /// Dooms the row with this serial, which is in the column and was looked up, and stores this one in a new cell;
-    /// returns the row as it was. O(1), except for growth.
+    /// Dooms the row of the column with this serial, which was looked up, and adds the new one in another cell.
+    /// Returns the row as it was. O(1), except for growth.
     fn renew(&mut self, lead: Lead, row: Row) -> Result<Row, Refusal>
         requires serial { lead.serial ≡ row.serial }
         requires entry { slice_get self.old.serials lead.at ≡ Some (lead.serial.0, lead.handle) }
@@ -249,7 +251,7 @@ pub(crate) fn row_at(arena: &Arena<Row>, handle: Handle<Row>) -> Row
 /// Frees the cell that the handle reads, and returns its row. O(1).
 fn free(arena: &mut Arena<Row>, handle: Handle<Row>) -> Row
     requires reads { IsSome (read arena.old.cells handle) }
-    requires few { freed arena.old < 18446744073709551615 }
+    requires few { freed arena.old < MOST_FREED }
     ensures row { read arena.old.cells handle ≡ Some result }
     ensures after { arena.new ≡ freed_at handle arena.old }
 {
@@ -259,7 +261,7 @@ fn free(arena: &mut Arena<Row>, handle: Handle<Row>) -> Row
     }
 }
 
-/// What a serial led to when it was looked up: its entry of the map is at `at`.
+/// A serial that was looked up: its handle, and the index `at` of its entry in the map.
 #[derive(Clone, Copy)]
 struct Lead {
     serial: Serial,
@@ -267,7 +269,7 @@ struct Lead {
     handle: Handle<Row>,
 }
 
-/// Looks a serial up: O(1).
+/// Looks up a serial. O(1).
 fn find(serials: &Serials, serial: Serial) -> Option<Lead>
     ensures serial { IfSome result (λ lead. lead.serial ≡ serial) }
     ensures entry { IfSome result (λ lead. slice_get serials.now.entries lead.at ≡ Some (serial.0, lead.handle)) }
@@ -281,7 +283,7 @@ fn find(serials: &Serials, serial: Serial) -> Option<Lead>
     })
 }
 
-/// What a serial that is in the map leads to. O(1).
+/// Looks up a serial that is in the map. O(1).
 fn lead_of(serials: &Serials, serial: Serial) -> Lead
     requires { IsSome (handle_of serials.now.entries serial.0) }
     ensures serial { result.serial ≡ serial }
@@ -294,7 +296,7 @@ fn lead_of(serials: &Serials, serial: Serial) -> Lead
     }
 }
 
-/// Takes a serial out of the map, which isn't searched for it: the last entry takes its place. O(1).
+/// Removes a serial that was looked up from the map, without another search: the last entry takes its place. O(1).
 fn forget_at(serials: &mut Serials, lead: Lead)
     requires { slice_get serials.old.entries lead.at ≡ Some (lead.serial.0, lead.handle) }
     ensures { Maps lead.serial.0 None serials.old.entries serials.new.entries }
@@ -302,7 +304,7 @@ fn forget_at(serials: &mut Serials, lead: Lead)
     serials.swap_remove_index(lead.at);
 }
 
-/// Makes a serial lead to another handle; the map isn't searched for it. Takes no memory. O(1).
+/// Sets the handle of a serial that was looked up, without another search. Takes no memory. O(1).
 fn lead_to(serials: &mut Serials, lead: Lead, handle: Handle<Row>)
     requires { slice_get serials.old.entries lead.at ≡ Some (lead.serial.0, lead.handle) }
     ensures { Maps lead.serial.0 (Some handle) serials.old.entries serials.new.entries }

@@ -1,4 +1,4 @@
-//! Ranges of keys that the bounds of a store make.
+//! Ranges of keys between the bounds of a store.
 ghost use Rattle.std.specs.Prelude.{◌≡◌, ◌≤◌};
 ghost use Rattle.crack_state.specs.Merge.{beyond};
 
@@ -6,14 +6,15 @@ use crate::Store;
 use crack_row::KeyRange;
 
 impl Store {
-    /// The keys that its rows may have.
+    /// The range of keys that the rows may have.
     pub fn keys(&self) -> KeyRange
         ensures { result ≡ self.now.keys }
     {
         self.inside.keys
     }
 
-    /// The keys from a range's end up to the next bound above it, or to the partition's high end. O(log bounds).
+    /// The keys from a range's high end up to the next bound above it, or to the partition's high end. O(log
+    /// bounds).
     pub fn keys_beyond(&self, range: KeyRange) -> KeyRange
         requires { range.high ≤ self.now.keys.high }
         ensures { result ≡ beyond self.now range }

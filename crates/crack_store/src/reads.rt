@@ -1,4 +1,4 @@
-//! What a range command reads from the column.
+//! Reads of the column between the ends of a range.
 ghost use Rattle.std.specs.Prelude.{◌≡◌, ◌<◌, ◌≤◌, ◌≤ℤ◌, ◌^◌, ◌↔◌, neg_ℤ, pos, Some, length};
 ghost use Rattle.std.specs.Prelude.{IfOk, IfErr, IsTrue, slice_index_or};
 ghost use Rattle.std.specs.List.Sorted.{IsPermutation, IsNonDecreasingBy};
@@ -20,8 +20,8 @@ impl Store {
         missing_ends(&self.inside, range).bounds() == 0
     }
 
-    /// The sum of the payloads of the rows that are in the column between the ends of a range by which it was
-    /// cracked. Takes no memory. O(rows there + log bounds); it reads no cell of a row that the column knows.
+    /// The sum of the payloads of the column's rows between the ends of a range, at which the column was cracked.
+    /// Takes no memory. O(rows there + log bounds); reads no cell of a row that the column remembers.
     pub fn sum_between(&self, range: KeyRange) -> i128
         requires { IsCracked self.now range }
         ensures is { result ≡ sum_of (stretch_rows self.now range) }
@@ -31,8 +31,8 @@ impl Store {
         self.inside.column.sum_between(from, to, &self.inside.arena)
     }
 
-    /// The rows that are in the column between the ends of a range by which it was cracked, by rising serial.
-    /// O(m log m + log bounds) for m rows. Refused with 8 if it finds no memory.
+    /// The column's rows between the ends of a range, at which the column was cracked, by rising serial. O(m log
+    /// m + log bounds) for m rows. Refused with `OutOfMemory` if no memory is found.
     pub fn rows_between(&self, range: KeyRange) -> Result<Vec<Row>, Refusal>
         requires { IsCracked self.now range }
         ensures rows { IfOk result (λ rows. IsPermutation (stretch_rows self.now range) rows.items) }
@@ -45,7 +45,7 @@ impl Store {
         Ok(rows)
     }
 
-    /// The places where the rows of a range begin and end, by which the column was cracked. O(log bounds).
+    /// The places where the rows of a range begin and end; the column was cracked at its ends. O(log bounds).
     fn places_of(&self, range: KeyRange) -> (usize, usize)
         requires { IsCracked self.now range }
         ensures from { result.0 ≡ edge self.now range.low }
@@ -65,7 +65,7 @@ impl Store {
         row_at(&self.inside.arena, self.inside.column.at(place))
     }
 
-    /// The rows from the one place of the column up to the other, in their order. O(places).
+    /// The rows from one place of the column up to another, in order. O(places).
     fn rows_in_places(&self, from: usize, to: usize) -> Result<Vec<Row>, Refusal>
         requires order { from ≤ to }
         requires within { to ≤ length self.now.column }

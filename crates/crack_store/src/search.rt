@@ -10,21 +10,21 @@ use crack_index::Piece;
 use crack_pending::PendingOut;
 use crack_row::Row;
 
-/// How many places of a piece are looked at together.
+/// How many places of a piece are checked together.
 const BLOCK: usize = 64;
 
-/// This many doomed rows or fewer are searched for one by one in a piece of any length.
+/// At most this many doomed rows are searched for one by one, in a piece of any length.
 const FEW: usize = 16;
 
-/// In a piece of at most this many rows one row is searched for by itself if fewer rows are doomed than there are
-/// bounds, since it is likely to be the only doomed row there.
+/// In a piece with at most this many rows, a row is searched for by itself if there are at most as many doomed rows
+/// as bounds, since it is likely to be the only doomed row there.
 const SHORT: usize = 4096;
 
 impl Carrying {
-    /// The place of the column where a doomed row is, as `place_of` returns it. O(1) if the row was noted, else O(its
-    /// own piece + log bounds). If the row is likely to be the only doomed row of its piece, it is searched for by
-    /// itself, at a fifth of the cost of a pass that notes every doomed row there; so a long piece is passed over once
-    /// for all its doomed rows, until a crack moves them. Steps that move a doomed row note its new place.
+    /// The place of a doomed row in the column, as `place_of` returns it. O(1) if it was noted, else O(rows of its
+    /// piece + log bounds). A row that is likely to be the only doomed row of its piece is searched for by itself,
+    /// at a fifth of the cost of a pass that notes every doomed row there. Otherwise that pass is made: it serves
+    /// all doomed rows of a long piece, until a crack moves them. Steps that move a doomed row note its new place.
     pub fn find(&mut self, handle: Handle<Row>) -> Option<usize>
         ensures value { MatchOption result (IsAbsent self.old.store.column handle)
             (IsFirstAt self.old.store.column handle) }
@@ -44,7 +44,7 @@ impl Carrying {
         }
     }
 
-    /// The place that is noted for the row, if the row is still there. O(1).
+    /// The place noted for the row, if the row is still there. O(1).
     fn noted(&self, handle: Handle<Row>) -> Option<usize>
         ensures { IfSome result (IsFirstAt self.now.store.column handle) }
     {
@@ -55,7 +55,8 @@ impl Carrying {
         None
     }
 
-    /// Notes the place of a doomed row, alone or with all others of its own piece. O(rows there + log bounds).
+    /// Notes the place of a doomed row, alone or with all other doomed rows of its piece. O(rows there + log
+    /// bounds).
     fn note(&mut self, handle: Handle<Row>)
         ensures { self.new ≡ self.old }
     {
@@ -81,7 +82,7 @@ impl Carrying {
     }
 }
 
-/// Notes the place of a row, if it is in this piece. O(rows there); other doomed rows aren't looked at.
+/// Notes the place of a row, if it is in this piece. O(rows there); no other doomed row is noted.
 fn note_row(column: &CrackerColumn, piece: Piece, handle: Handle<Row>, notes: &mut Notes) {
     let to = piece.to.min(column.len());
     let from = piece.from.min(to);
@@ -90,8 +91,8 @@ fn note_row(column: &CrackerColumn, piece: Piece, handle: Handle<Row>, notes: &m
     }
 }
 
-/// Notes each doomed row of a piece of the column. O(places): those of a block are looked at one by one only if one of
-/// them is doomed.
+/// Notes the place of each doomed row of a piece. O(places): the rows of a block are looked at one by one only if
+/// one of them is doomed.
 fn note_doomed(column: &CrackerColumn, piece: Piece, pending_out: &PendingOut, notes: &mut Notes) {
     let to = piece.to.min(column.len());
     let mut place = piece.from;
@@ -104,7 +105,7 @@ fn note_doomed(column: &CrackerColumn, piece: Piece, pending_out: &PendingOut, n
     }
 }
 
-/// Whether one of the rows from the one place up to the other is doomed. No branch depends on a row.
+/// Whether a row from one place up to another is doomed. No branch depends on a row.
 fn has_doomed(column: &CrackerColumn, from: usize, to: usize, pending_out: &PendingOut) -> bool
     requires { to ≤ length column.now.handles }
 {
@@ -115,7 +116,7 @@ fn has_doomed(column: &CrackerColumn, from: usize, to: usize, pending_out: &Pend
     any
 }
 
-/// Notes each doomed row from the one place up to the other, one by one.
+/// Notes the place of each doomed row from one place up to another.
 fn note_each(
     column: &CrackerColumn,
     from: usize,

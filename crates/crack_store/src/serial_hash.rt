@@ -1,4 +1,4 @@
-//! The hash by which the map of serials finds its places.
+//! The hash of serials, for the map from serials to handles.
 ghost use Rattle.std.specs.Prelude.{◌+◌, ◌*◌, ◌/◌, ◌%◌, ◌^◌, ◌==◌, if◌then◌else◌, length, bit_xor};
 ghost use Rattle.std.specs.Int.{w64, from_le_bytes};
 
@@ -7,18 +7,18 @@ use std::hash::{BuildHasher, Hasher};
 /// How many consecutive serials share a group of the map's table.
 const NEIGHBOURS: u64 = 4;
 
-/// How many adjacent groups are filled by one series of consecutive serials.
+/// How many adjacent groups a series of consecutive serials fills.
 const ADJACENT_GROUPS: u64 = 8;
 
-/// Odd, so that consecutive series have different places for each power of two, and spread over all of them.
+/// Odd, so that consecutive series have different places modulo each power of two, and spread over all of them.
 const SPREAD: u64 = 0x9e37_79b9_7f4a_7c15;
 
-/// Hashes serials for `indexmap`: its table has a power of two of groups, of 12 rows each and 9 on average once it is
-/// full. The low bits of a hash choose the group, and the highest eight of its 32 distinguish rows of one group.
+/// Hashes serials for `indexmap`: its table has a power of two of groups, of 12 rows each and 9 on average once it
+/// is full. The low bits of a hash choose the group, and the highest eight of its 32 distinguish rows of one group.
 ///
-/// A partition gives its serials in order, so rows that are admitted one after the other go into a group whose line is
-/// in the cache, and a growth copies the table series by series. A client can't choose serials, so the hash needs no
-/// secret against deliberate collisions; and a worse hash would only cost time, since a look-up compares serials.
+/// A partition gives serials in order, so consecutive inserts go into a group whose line is in the cache, and a
+/// growth copies the table series by series. A client can't choose serials, so the hash needs no secret against
+/// deliberate collisions. A worse hash would only cost time, since a look-up compares serials.
 #[derive(Clone, Copy)]
 pub struct SerialHashing;
 
@@ -32,7 +32,7 @@ impl BuildHasher for SerialHashing {
     }
 }
 
-/// The number of eight bytes that was written last.
+/// Hashes the number of eight bytes that was written last.
 #[derive(Clone, Copy)]
 pub struct SerialHasher {
     serial: u64,
@@ -47,7 +47,7 @@ impl Hasher for SerialHasher {
 
     fn finish(&self) -> u64 {
         let series = self.serial / (NEIGHBOURS * ADJACENT_GROUPS);
-        // serials that are far apart differ in their higher bits, which move down here
+        // Serials that are far apart differ in their higher bits, which move down here.
         let place = (series ^ series / 256).wrapping_mul(SPREAD);
         let group = (self.serial / NEIGHBOURS ^ place >> 58) % ADJACENT_GROUPS;
         place

@@ -1,5 +1,5 @@
-//! Carrying all pending insertions of a range in bulk: their rows are put after the column's last one, and sifted
-//! through its pieces from the highest down.
+//! Carries all pending insertions of a range in bulk: appends their rows to the column, and sifts them through its
+//! pieces, from the highest down.
 ghost use Rattle.std.specs.Prelude.{◌≡◌, ◌≤◌, ◌^◌, [], None, Some, length, vec_capacity, IsTrue, IsFalse};
 ghost use Rattle.crack_arena.specs.Rows.{keys_at};
 ghost use Rattle.crack_arena.specs.Memories.{Remembers};
@@ -25,24 +25,24 @@ use crack_row::{KeyRange, Row};
 /// The fewest rows that are carried in bulk: for one row the walk over all bounds isn't worth it.
 pub(crate) const FEWEST: usize = 2;
 
-/// With more bounds than this, the walk over them isn't worth it for fewer than `FEWEST_OVER_MANY` rows.
+/// With more bounds than this, the walk over all bounds isn't worth it for fewer than `FEWEST_OVER_MANY` rows.
 const MANY_BOUNDS: usize = 64;
 
 /// The fewest rows that are carried in bulk if there are many bounds.
 const FEWEST_OVER_MANY: usize = 8;
 
-/// With more pending insertions than this, those of a range are counted as they are taken.
+/// If more insertions than this are pending, those of a range are counted as they are taken.
 pub(crate) const MANY_PENDING: usize = 4096;
 
-/// The most doomed rows that are searched for: of more, one is likely to be in the way.
+/// The most doomed rows that are looked for: among more, one is likely to be in the way.
 const MOST_DOOMED: usize = 64;
 
 impl Store {
-    /// Carries all pending insertions of a range in bulk, of which `first` is the first, with the result of carrying
-    /// them one after the other; returns whether it did so. It doesn't if they are few, without memory for all of them,
-    /// or for a first load of all keys: then nothing has changed. Room is made for all of them at once. Two passes over
-    /// the pending insertions, or one if many are pending and none is doomed; for each row that it carries O(pieces)
-    /// without waiting for memory; O(bounds); for each of a few doomed rows O(rows that it carries + log bounds).
+    /// Carries all pending insertions of a range in bulk, with the result of carrying them one after the other;
+    /// `first` is the first of them. Returns `false`, and changes nothing, if they are few, for a first load of all
+    /// keys, or if no memory is found for all of them. Makes room for all of them at once. Two passes over the
+    /// pending insertions, or one if many are pending and no row is doomed; for each row that it carries, O(pieces)
+    /// without waiting for memory; O(bounds); for each of a few doomed rows, O(rows that it carries + log bounds).
     pub fn carry_in_bulk(&mut self, range: KeyRange, first: usize) -> bool
         requires { Finds range (keys_at self.old.cells self.old.pending_in) 0 (Some first) }
         ensures carried { IsTrue result → SameButRoom (carried_in_bulk None range self.old) self.new }
@@ -73,8 +73,8 @@ impl Store {
     }
 }
 
-/// Whether a pass over the pending insertions of a range is worth it: not if the range has all keys, and more rows are
-/// pending than the column has. O(1).
+/// Whether a pass over the pending insertions of a range is worth it: not if the range has all keys, and more
+/// insertions are pending than the column has rows. O(1).
 fn is_worth_a_pass(inside: &Inside, range: KeyRange) -> bool {
     let keys = inside.keys;
     let is_whole = range.low() <= keys.low() && keys.high() <= range.high();
@@ -82,16 +82,16 @@ fn is_worth_a_pass(inside: &Inside, range: KeyRange) -> bool {
     fits || !is_whole
 }
 
-/// Whether no row is doomed, and so many are pending that counting those of a range costs more than a walk over all
-/// bounds. O(1).
+/// Whether no row is doomed, and so many insertions are pending that counting those of a range costs more than a
+/// walk over all bounds. O(1).
 fn is_counted_late(inside: &Inside) -> bool
     ensures { IsTrue result → inside.now.pending_out.handles ≡ [] }
 {
     inside.pending_out.is_empty() && MANY_PENDING < inside.pending_in.len()
 }
 
-/// Carries the pending insertions of a range, at most this many, of which `first` is the first, if no doomed row is in
-/// the way; returns whether it found memory for this many. Otherwise nothing has changed.
+/// Carries the pending insertions of a range, at most `most`, if no doomed row is in the way; `first` is the first
+/// of them. Returns whether memory was found for `most` rows; if not, nothing has changed.
 fn carry_at_most(inside: &mut Inside, range: KeyRange, first: usize, most: usize) -> bool
     requires intact { KeepsIntact inside.old [] }
     requires clear { AreClear (length (inside_of inside.old.arena.cells range inside.old.pending_in.handles))
@@ -121,7 +121,7 @@ fn carry_at_most(inside: &mut Inside, range: KeyRange, first: usize, most: usize
     true
 }
 
-/// How many rows of a list have their key in the range, of which `first` is the first.
+/// How many rows of a list have their key in the range; `first` is the first of them.
 pub(crate) fn count_in(
     rows: &mut PendingIn,
     range: KeyRange,
@@ -152,7 +152,7 @@ fn is_few(inside: &Inside, count: usize) -> bool {
     count < fewest
 }
 
-/// Whether no doomed row is where carries of this many rows could meet it: among as many first rows of its piece.
+/// Whether no doomed row is where carries of `count` rows could meet it: among the first `count` rows of its piece.
 /// False if many rows are doomed.
 fn is_clear(inside: &Inside, count: usize) -> bool
     requires intact { KeepsIntact inside.now [] }
@@ -171,7 +171,7 @@ fn is_clear(inside: &Inside, count: usize) -> bool
     true
 }
 
-/// Whether a row is among the first rows of its piece, this many. O(count + log bounds).
+/// Whether a row is among the first `count` rows of its piece. O(count + log bounds).
 fn is_in_way(inside: &Inside, handle: Handle<Row>, count: usize) -> bool
     requires intact { KeepsIntact inside.now [] }
     requires few { count ≤ 2 ^ 32 }
@@ -183,8 +183,8 @@ fn is_in_way(inside: &Inside, handle: Handle<Row>, count: usize) -> bool
     inside.column.place_between(from, met, handle).is_some()
 }
 
-/// Carries the pending insertions of a range, of which `first` is the first. No doomed row is in the way, and there is
-/// room for them, for their handles in a list and for what is remembered of them in another.
+/// Carries the pending insertions of a range; `first` is the first of them. No doomed row is in the way. There is
+/// room for the rows, for their handles in `taken`, and for what is remembered of them in `known`.
 fn carry_rows(
     inside: &mut Inside,
     range: KeyRange,
@@ -235,14 +235,14 @@ fn carry_rows(
     inside.tally.put_in = inside.tally.put_in.saturating_add(count as u64);
 }
 
-/// A column on a walk over its bounds from the highest down: the rows at the places `from..to` came
-/// in, and are of pieces below the bounds that were passed.
+/// A visitor of a walk over the bounds from the highest down, which sifts rows through the column. The rows at the
+/// places `from..to` came in, and belong to pieces below the bounds that were passed.
 #[derive(Drop)]
 pub(crate) struct Sieve {
     pub(crate) column: CrackerColumn,
     pub(crate) from: usize,
     pub(crate) to: usize,
-    /// How many rows moved, as the store counts them.
+    /// The number of rows moved, as in the store's tally.
     pub(crate) moved: u64,
 }
 
@@ -253,7 +253,7 @@ impl Raiser for Sieve {
 
     ghost rises = { Rises };
 
-    /// Sifts the rows that came in through the piece above the bound, which rises by as many as are below it.
+    /// Sifts the rows that came in through the piece above the bound, which rises by the number of them below it.
     fn rise(&mut self, mark: Mark) -> usize {
         let Mark { bound, position } = mark;
         if self.from < position {

@@ -1,4 +1,4 @@
-//! The steps between the lists and the hand, inside a store: those by value and those by reference share
+//! The steps between the lists and the hand, inside a store. The public steps by value and those by reference share
 //! them.
 ghost use Rattle.std.specs.Prelude.{◌≡◌, ◌<◌, [], length, All, IfSome, Contains};
 ghost use Rattle.crack_arena.specs.Arena.{times, slots};
@@ -16,9 +16,9 @@ use crate::points::row_at;
 use crack_arena::Remembered;
 use crack_index::{CrackerIndex, Mark};
 
-/// Takes the pending insertion at this place into the hand, with what is to be remembered of its row. No bound is
-/// looked up yet. O(1) at the first place or after the one that was taken last; takes no memory. A list that becomes
-/// empty frees its memory.
+/// Takes the pending insertion at this place into the hand, with what is remembered of its row. Doesn't look up the
+/// bound next to the hand. Amortised O(1) at the first place, or after the one taken last; takes no memory. A list
+/// that becomes empty frees its memory.
 pub(crate) fn take_in(inside: &mut Inside, place: usize) -> Near
     requires intact { KeepsIntact inside.old [] }
     requires there { place < length inside.old.pending_in.handles }
@@ -34,8 +34,8 @@ pub(crate) fn take_in(inside: &mut Inside, place: usize) -> Near
     Near::Unsought
 }
 
-/// Takes the column's last row into the hand, with what is remembered of it; each bound that is after it moves down
-/// by one. No bound is looked up yet. O(log bounds) and the bounds at that place; takes no memory.
+/// Takes the column's last row into the hand, with what is remembered of it. Each bound after the row moves down by
+/// one. Doesn't look up the bound next to the hand. O(log bounds), and the bounds at that place; takes no memory.
 pub(crate) fn take_last(inside: &mut Inside) -> Near
     requires intact { KeepsIntact inside.old [] }
     requires some { 0 < length inside.old.column.handles }
@@ -48,8 +48,8 @@ pub(crate) fn take_last(inside: &mut Inside) -> Near
     Near::Unsought
 }
 
-/// Frees the cell of the hand, which is doomed, and removes it from the pending deletions. Amortised O(1). A list that
-/// becomes empty frees its memory.
+/// Buries the hand, which is doomed: frees its cell, and removes it from the pending deletions. Amortised O(1). A
+/// list that becomes empty frees its memory.
 pub(crate) fn free_hand(inside: &mut Inside)
     requires hand { HasHand inside.old }
     requires doomed { IsDoomed (carried_of inside.old) }
@@ -64,8 +64,8 @@ pub(crate) fn free_hand(inside: &mut Inside)
     inside.tally.taken_out = inside.tally.taken_out.saturating_add(1);
 }
 
-/// Puts the hand after the column's last row; `above` is the bound above its key.
-/// O(1) and the bounds at that place; takes no memory.
+/// Appends the hand to the column; `above` is the bound above its key. O(1), and the bounds at that place; takes no
+/// memory.
 pub(crate) fn put_last(inside: &mut Inside, above: Option<Mark>)
     requires hand { HasHand inside.old }
     requires above { above ≡ next_mark (hand_key (carried_of inside.old)) inside.old.index.marks }
@@ -93,7 +93,7 @@ pub(crate) fn give_back(inside: &mut Inside)
     inside.tally.evicted = inside.tally.evicted.saturating_add(1);
 }
 
-/// Each bound above a key that is where the key's piece ends moves up by one, from the least such bound on.
+/// Moves up by one each bound above a key at the place where the key's piece ends; `above` is the least of them.
 fn raise_next(index: &mut CrackerIndex, above: Option<Mark>)
     requires there { IfSome above (λ m. Contains index.old.marks m) }
     requires small { All (λ m. m.position < usize.MAX) index.old.marks }

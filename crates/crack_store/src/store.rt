@@ -1,4 +1,4 @@
-//! The store.
+//! The store of a partition's rows.
 ghost use Rattle.std.specs.Prelude.{◌≡◌, ◌+◌, ◌-◌, ◌<◌, ◌≤◌, ◌∷◌, [], length, IfOk, IfErr, OnOk, OnErr, IsOk, IfNone};
 ghost use Rattle.std.specs.Prelude.{None};
 ghost use Rattle.std.specs.List.Sorted.{IsPermutation};
@@ -30,7 +30,7 @@ use indexmap::IndexMap;
 use std::alloc::Global;
 use std::marker::Model;
 
-/// For how many rows the map of serials has room at first.
+/// The number of rows for which the map of serials first has room.
 const FIRST_SERIALS: usize = 4096;
 
 /// The rows of a partition in cracked order, with the pending rows that no command has needed yet
@@ -54,7 +54,7 @@ impl Model for Store {
 }
 
 impl Store {
-    /// A store of these keys without rows. Takes no memory.
+    /// A store without rows, for these keys. Takes no memory.
     pub fn new(alloc: Global, keys: KeyRange) -> Store
         ensures { result ≡ no_cells keys result.column_room result.in_room }
     {
@@ -80,15 +80,15 @@ impl Store {
         }
     }
 
-    /// States the invariants of every store, and does nothing.
+    /// States the invariant of every store, and does nothing.
     pub fn facts(&self)
         ensures { IsIntact self.now [] }
     {
         let _ = &self.inside;
     }
 
-    /// Stores a row in a new cell, after the last pending insertion. O(1). Refused with 8 if it finds no memory; then
-    /// nothing has changed.
+    /// Adds a row, in a free cell or a new one, as the last pending insertion. O(1). Refused with `OutOfMemory` if
+    /// no memory is found; then nothing has changed.
     pub fn admit(&mut self, row: Row) -> Result<(), Refusal>
         requires { IsAdmissible row self.old }
         ensures ok { OnOk result (SameButRoom (admitted row self.old) self.new) }
@@ -114,7 +114,7 @@ impl Store {
         Ok(())
     }
 
-    /// Whether the row with this serial is a pending insertion; none if there is no such row. O(1).
+    /// Whether the row with this serial is a pending insertion; `None` if there is no such row. O(1).
     pub fn is_pending(&self, serial: Serial) -> Option<bool>
         ensures value { result ≡ pending_by self.now serial.0 }
         ensures none { IfNone result (handle_of self.now.serials serial.0 ≡ None) }
@@ -125,9 +125,9 @@ impl Store {
         }
     }
 
-    /// Cracks the column at both ends of the range: each that isn't an end of the partition is in the index afterwards.
-    /// O(size of their pieces + bounds); O(log bounds) for an end that is there already, which takes no memory. Refused
-    /// with 8 if it finds no memory; then nothing has changed.
+    /// Cracks the column at both ends of the range: each that isn't an end of the partition's keys is then in the
+    /// index. O(size of their pieces + bounds); O(log bounds) for an end that is already there, which takes no
+    /// memory. Refused with `OutOfMemory` if no memory is found; then nothing has changed.
     pub fn crack(&mut self, range: KeyRange) -> Result<(), Refusal>
         ensures ok { OnOk result (Refines self.old self.new range) }
         ensures cracked { OnOk result (IsCracked self.new range) }
@@ -143,11 +143,11 @@ impl Store {
         Ok(())
     }
 
-    /// Cracks the column at both ends of the range, as `crack` does, and before that beside them, the low one first: if
-    /// there are bounds, the end is missing, its piece has more than 2,048 rows, and of nine keys sampled there neither
-    /// end has at least three on each side, then at the end and at a further bound in the middle of these keys.
-    /// O(size of their pieces + bounds); O(log bounds) for ends that are there already, which takes no memory. Refused
-    /// with 8 if it finds no memory; then nothing has changed.
+    /// Cracks the column at both ends of the range, as `crack` does, and before that beside them, the low one
+    /// first: if there are bounds, the end is missing, its piece has more than 2,048 rows, and of nine keys sampled
+    /// there neither end of the range has at least three on each side, it cracks at the end and at a further bound
+    /// in the middle of these keys. O(size of their pieces + bounds); O(log bounds) for ends that are already
+    /// there, which takes no memory. Refused with `OutOfMemory` if no memory is found; then nothing has changed.
     pub fn crack_further(&mut self, range: KeyRange) -> Result<(), Refusal>
         ensures ok { OnOk result (CracksFurther self.old self.new range) }
         ensures cracked { OnOk result (IsCracked self.new range) }
@@ -165,9 +165,9 @@ impl Store {
         Ok(())
     }
 
-    /// Makes room for one more place in the column and one more pending insertion. Refused with 8 if it finds no
-    /// memory; then nothing has changed.
-    // inlined, it makes the compiler copy whole stores in a merge
+    /// Makes room for one more row in the column and one more pending insertion. Refused with `OutOfMemory` if no
+    /// memory is found; then nothing has changed.
+    // If inlined, it makes the compiler copy whole stores in a merge.
     #[inline(never)]
     pub fn make_room(&mut self) -> Result<(), Refusal>
         ensures same { SameButRoom self.old self.new }
@@ -181,8 +181,8 @@ impl Store {
         Ok(())
     }
 
-    /// Takes the pending insertion at this place of the order of arrival into the hand, after `make_room`.
-    /// O(log bounds) at the first place or after the one that was taken last; takes no memory.
+    /// Takes the pending insertion at this place, in order of arrival, into the hand, after `make_room`. Amortised
+    /// O(1) at the first place, or after the one taken last; takes no memory.
     pub fn lift(self, place: usize) -> Carrying
         requires there { place < length self.pending_in }
         requires room { 0 < self.column_room }
@@ -194,8 +194,8 @@ impl Store {
         Carrying { inside, near }
     }
 
-    /// Takes the column's last row into the hand; each bound that is after it moves down by one.
-    /// O(log bounds) and the bounds at that place; takes no memory.
+    /// Takes the column's last row into the hand. Each bound after the row moves down by one. O(log bounds), and
+    /// the bounds at that place; takes no memory.
     pub fn lift_last(self) -> Carrying
         requires { 0 < length self.column }
         ensures after { result ≡ lifted_last self }
@@ -206,7 +206,7 @@ impl Store {
         Carrying { inside, near }
     }
 
-    /// How many rows are in the column between the ends of a range by which it was cracked. O(log bounds).
+    /// The number of the column's rows between the ends of a range, at which the column was cracked. O(log bounds).
     pub fn count_between(&self, range: KeyRange) -> u64
         requires { IsCracked self.now range }
         ensures value { result ≡ edge self.now range.high - edge self.now range.low }
@@ -249,8 +249,8 @@ impl Store {
         }
     }
 
-    /// The layout, as numbers, and the sizes of the pieces. It cracks and merges nothing. O(bounds).
-    /// Refused with 8 if it finds no memory.
+    /// The layout as numbers, and the sizes of the pieces. Cracks and merges nothing. O(bounds). Refused with
+    /// `OutOfMemory` if no memory is found.
     pub fn layout(&self) -> Result<Layout, Refusal>
         ensures ok { IfOk result (λ layout. IsLayoutOf self.now layout) }
         ensures equations { IfOk result (λ layout. IsLayout self.now.keys layout) }
@@ -275,8 +275,8 @@ impl Store {
         })
     }
 
-    /// Frees the memory that the pending lists have beyond their rows and the room of a growth. Contracts see no
-    /// change. O(1) if no row left a hole in them, else O(pending rows); it takes no memory and can't fail.
+    /// Frees the memory of the pending lists beyond their rows and the room of one growth. Contracts see no change.
+    /// O(1) if the lists have no holes, else O(pending rows); takes no memory and can't fail.
     pub fn shrink_pending(&mut self)
         ensures { self.new ≡ self.old }
     {
@@ -305,7 +305,7 @@ impl Store {
         self.inside.column.len()
     }
 
-    /// The number of bounds in the index; the column has one more piece.
+    /// The number of bounds in the index; the column has one more piece than that.
     pub fn bounds(&self) -> usize
         ensures { result ≡ length self.now.marks }
     {
@@ -326,28 +326,29 @@ impl Store {
         self.inside.arena.free_cells()
     }
 
-    /// What merges have counted.
+    /// The merge counts.
     pub fn tally(&self) -> MergeReport
         ensures { result ≡ self.now.tally }
     {
         self.inside.tally
     }
 
-    /// The first pending insertion with its key in the range. O(pending insertions).
+    /// The place of the first pending insertion whose key is in the range. O(pending insertions).
     pub fn first_in(&self, range: KeyRange) -> Option<usize>
         ensures { Finds range (keys_at self.now.cells self.now.pending_in) 0 result }
     {
         self.inside.pending_in.first_in(range, &self.inside.arena)
     }
 
-    /// The first pending deletion with its key in the range. O(pending deletions).
+    /// The place of the first pending deletion whose key is in the range. O(pending deletions).
     pub fn first_out(&self, range: KeyRange) -> Option<usize>
         ensures { Finds range (keys_at self.now.cells self.now.pending_out) 0 result }
     {
         self.inside.pending_out.first_in(range, &self.inside.arena)
     }
 
-    /// The first pending insertion at or after the place with its key in the range; O(1) for each that it passes.
+    /// The place of the first pending insertion at or after `from` whose key is in the range. O(1) for each that it
+    /// passes.
     pub fn next_in(&self, range: KeyRange, from: usize) -> Option<usize>
         ensures { Finds range (keys_at self.now.cells self.now.pending_in) from result }
     {
@@ -355,7 +356,8 @@ impl Store {
         self.inside.pending_in.next_in(range, from, arena)
     }
 
-    /// The first pending deletion at or after the place with its key in the range; O(1) for each that it passes.
+    /// The place of the first pending deletion at or after `from` whose key is in the range. O(1) for each that it
+    /// passes.
     pub fn next_out(&self, range: KeyRange, from: usize) -> Option<usize>
         ensures { Finds range (keys_at self.now.cells self.now.pending_out) from result }
     {
@@ -363,8 +365,8 @@ impl Store {
         self.inside.pending_out.next_in(range, from, arena)
     }
 
-    /// The next search for a pending deletion starts from this place, so that those taken out at rising places are
-    /// passed over once. Contracts see no change.
+    /// Makes the next search for a pending deletion start from this place, so that those removed at rising places
+    /// are passed over once. Contracts see no change.
     pub fn seek_out(&mut self, place: usize)
         requires { place < length self.old.pending_out }
         ensures { self.new ≡ self.old }
@@ -372,7 +374,7 @@ impl Store {
         self.inside.pending_out.seek(place);
     }
 
-    /// The pending deletion at this place of the order of arrival. O(1) at the place that was looked up last.
+    /// The pending deletion at this place, in order of arrival. O(1) at the place that was looked up last.
     pub fn doomed(&self, place: usize) -> Handle<Row>
         requires { place < length self.now.pending_out }
         ensures { StandsAt self.now.pending_out place result }
@@ -381,7 +383,7 @@ impl Store {
     }
 }
 
-/// By how many rows a map of this many grows.
+/// For how many more rows a map of this many makes room.
 fn growth(rows: usize) -> usize
     ensures { 1 ≤ result }
 {

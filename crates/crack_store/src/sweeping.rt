@@ -1,5 +1,6 @@
-//! Carries in bulk that meet doomed rows: the rows that come in are after the column's last one, and turn its pieces
-//! from the lowest up. Each that turns a piece is exchanged with the row that it turns.
+//! Carries in bulk that meet doomed rows. The rows that come in are appended to the column, and turn its pieces
+//! from the lowest up: each row that turns a piece is exchanged with the piece's next row, which goes on in its
+//! place.
 ghost use Rattle.std.specs.Prelude.{◌≡◌, ◌+◌, ◌-◌, ◌<◌, ◌≤◌, ◌++◌, ◌↔◌, ℕ, not, true, false, [], Some, None, map};
 ghost use Rattle.std.specs.Prelude.{length, take, drop, filter, vec_capacity, slice_index_or, IsTrue, IsFalse, IfSome};
 ghost use Rattle.crack_arena.specs.Arena.{no_handle};
@@ -25,9 +26,9 @@ use crack_index::{Mark, Placer};
 use crack_pending::PendingOut;
 use crack_row::{Bound, InnerBound, KeyNumber, KeyRange, Row};
 
-/// Carries the pending insertions of a range, this many, of which `first` is the first, wherever doomed rows are;
-/// returns whether it found memory for them. Otherwise nothing has changed. For each of them O(pieces) without waiting
-/// for memory, and O(bounds).
+/// Carries the `count` pending insertions of a range, wherever doomed rows are; `first` is the first of them.
+/// Returns whether memory was found for them; if not, nothing has changed. For each of them O(pieces) without
+/// waiting for memory, and O(bounds).
 pub(crate) fn carry_by_sweeping(
     inside: &mut Inside,
     range: KeyRange,
@@ -62,7 +63,7 @@ pub(crate) fn carry_by_sweeping(
     true
 }
 
-/// Carries the pending insertions of a range, of which `first` is the first. There is room for them, and to list as
+/// Carries the pending insertions of a range; `first` is the first of them. There is room for them, and to list as
 /// many doomed rows.
 fn sweep_rows(
     inside: &mut Inside,
@@ -150,8 +151,8 @@ fn sweep_last(sweep: &mut Sweep)
     sweep.moved = sweep.moved.saturating_add(made as u64);
 }
 
-/// Takes the doomed rows out of those from the place `from` on, and lists them in their order; the others stay, in
-/// theirs.
+/// Removes the doomed rows among those from the place `from` on, and lists them in order. The others stay, in
+/// order.
 fn take_doomed(
     column: &mut CrackerColumn,
     pending_out: &PendingOut,
@@ -183,9 +184,9 @@ fn take_doomed(
     shorten(column, low);
 }
 
-/// A column on a walk over its bounds from the lowest up: the rows from the place `from` on came in, none below the
-/// bound `floor`, and turn the pieces. The piece that begins at the bound `low` and the place `start` is next, and
-/// `count` of them turn it.
+/// Turns the column's pieces on a walk over the bounds from the lowest up. The rows from the place `from` on came
+/// in, none below the bound `floor`. The piece that begins at the bound `low` and the place `start` is next, and
+/// `count` of the rows turn it.
 #[derive(Drop)]
 pub(crate) struct Sweep<'a> {
     pub(crate) column: CrackerColumn,
@@ -196,7 +197,7 @@ pub(crate) struct Sweep<'a> {
     pub(crate) low: KeyNumber,
     pub(crate) start: usize,
     pub(crate) count: usize,
-    /// How many rows moved, as the store counts them.
+    /// The number of rows moved, as in the store's tally.
     pub(crate) moved: u64,
 }
 
@@ -207,8 +208,8 @@ impl<'a> Placer for Sweep<'a> {
 
     ghost places = { Turns };
 
-    /// Moves the rows that came in past the piece below the bound, which rises by as many as go on from it. None of
-    /// them turns a piece that ends at or below the floor.
+    /// Moves the rows that came in past the piece below the bound, which rises by the number of rows that go on
+    /// from the piece. No row turns a piece that ends at or below the floor.
     fn place(&mut self, mark: Mark) -> usize {
         let Mark { bound, position } = mark;
         if position < self.start || self.from < position || bound.number() < self.low {
@@ -244,7 +245,7 @@ fn is_up_to(bound: InnerBound, floor: Bound) -> bool
     bound.bound() <= floor
 }
 
-/// Like `sweep_piece`, for a piece that this many of the rows turn: if none does, nothing changes.
+/// Does what `sweep_piece` does, for a piece that `count` of the rows turn: if none does, nothing changes.
 fn sweep_turned(
     column: &mut CrackerColumn,
     count: usize,
@@ -277,7 +278,8 @@ fn sweep_turned(
 }
 
 /// Moves the rows from the place `from` on past the piece between two bounds, the higher of which may be none, and
-/// between two places. Returns how many of its rows moved, and how many of the rows from `from` on go on from it.
+/// between two places. Returns how many of the piece's rows moved, and how many of the rows from `from` on go on
+/// from it.
 fn sweep_piece(
     column: &mut CrackerColumn,
     bounds: (KeyNumber, Option<InnerBound>),
@@ -322,7 +324,8 @@ fn sweep_piece(
     (made, going)
 }
 
-/// The first place from `used` on up to `place` whose row goes on from a piece that ends at this bound.
+/// The first place from `used` on whose row goes on from a piece that ends at the bound `high`, but at most
+/// `place`.
 fn next_going(
     column: &CrackerColumn,
     used: usize,
@@ -353,7 +356,7 @@ fn next_going(
     next
 }
 
-/// How many of the rows from the place `from` on go on from a piece that ends at this bound.
+/// How many of the rows from the place `from` on go on from a piece that ends at the bound `high`.
 fn count_going(
     column: &CrackerColumn,
     from: usize,
@@ -374,7 +377,7 @@ fn count_going(
     count
 }
 
-/// Whether the row at the place goes on from a piece that ends at this bound.
+/// Whether the row at the place goes on from a piece that ends at the bound `high`.
 #[inline(always)]
 fn leaves(
     column: &CrackerColumn,
@@ -395,7 +398,8 @@ fn leaves(
     }
 }
 
-/// Whether the row at the place turns a piece that begins at this bound: it is below it, and not doomed.
+/// Whether the row at the place turns a piece that begins at the bound `low`: it is below that bound and not
+/// doomed.
 #[inline(always)]
 fn turns(
     column: &CrackerColumn,

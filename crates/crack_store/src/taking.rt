@@ -1,4 +1,4 @@
-//! Taking the pending insertions of a range out of their list, all at once, and appending them to the column.
+//! Takes the pending insertions of a range out of their list, all at once, and appends them to the column.
 ghost use Rattle.std.specs.Prelude.{◌≡◌, ◌≤◌, ◌++◌, [], length, vec_capacity};
 ghost use Rattle.crack_state.specs.Carried.{inside_of};
 ghost use Rattle.crack_arena.specs.Memories.{Remembers};
@@ -10,8 +10,8 @@ use crack_column::CrackerColumn;
 use crack_pending::PendingIn;
 use crack_row::{KeyRange, Row};
 
-/// Takes the rows of a range out of a list, and puts them after the column's last one, in their order, each with what
-/// is to be remembered of it. `taken` is a list for their handles, and `known` one for what is remembered of them.
+/// Takes the rows of a range out of a list, and appends them to the column, in order, each with what is remembered
+/// of it. `taken` gets their handles, and `known` what is remembered of them.
 pub(crate) fn take_rows(
     rows: &mut PendingIn,
     column: &mut CrackerColumn,
@@ -39,8 +39,8 @@ pub(crate) fn take_rows(
     append_taken(column, &taken, &known, arena);
 }
 
-/// Puts these rows after the column's last one, in their order, each with what is to be remembered of it, which is read
-/// only of rows that aren't known.
+/// Appends these rows to the column, in order, each with what is remembered of it, which is read only of rows of
+/// which it isn't known.
 fn append_taken(
     column: &mut CrackerColumn,
     rows: &[Handle<Row>],

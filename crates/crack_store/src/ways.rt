@@ -1,4 +1,4 @@
-//! Moving a hand from place to place, as one walk over the bounds.
+//! Moves the hand from place to place, in one walk over the bounds.
 ghost use Rattle.std.specs.Prelude.{◌≡◌, ◌≤◌, IsTrue, IsFalse, IfSome, MatchOption};
 ghost use Rattle.crack_state.specs.Steps.{hand_key, piece_start, ceiling_of, IsBelow, PushesOn, PullsBack};
 ghost use Rattle.crack_store.specs.Ends.{EndsBy};
@@ -21,8 +21,8 @@ pub enum CarryEnd {
 }
 
 impl Carrying {
-    /// Pushes the hand on until a rule holds that ends its carry, and returns which. It has the result of as many
-    /// `push_on`, in one walk over the bounds. O(log bounds) and the bounds at the places on its way; takes no memory.
+    /// Pushes the hand on until a rule ends its carry, and returns that rule. Has the result of repeated `push_on`,
+    /// in one walk over the bounds. O(log bounds), and the bounds at the places on its way; takes no memory.
     pub fn carry_up(&mut self, ceiling: Option<Bound>) -> CarryEnd
         ensures pushes { PushesOn (ceiling_of ceiling) self.old self.new }
         ensures ends { EndsBy (ceiling_of ceiling) result self.new }
@@ -36,22 +36,22 @@ impl Carrying {
             if let Some(end) = self.carry_end(ceiling) {
                 return end;
             }
-            // the row in hand isn't known, or has the greatest key
+            // The column doesn't remember the row in hand, or the row has the greatest key.
             self.push_on();
         }
     }
 
-    /// Pulls the hand back as long as its own piece begins after the place. It has the result of as many `pull_back`,
-    /// in one walk over the bounds. O(log bounds) and the bounds at the places on its way; takes no memory.
+    /// Pulls the hand back as long as its own piece begins after the place. One walk over
+    /// the bounds: O(log bounds), and the bounds at the places on its way; takes no memory.
     pub fn pull_down(&mut self, place: usize)
         ensures pulls { PullsBack place self.old self.new }
         ensures ends { piece_start self.new.store (hand_key self.new) ≤ place }
     {
-        self.near = descend(&mut self.inside, place);
+        descend(&mut self.inside, place);
+        self.near = Near::Unsought;
     }
 
-    /// The rule that ends a carry before its first step, if that is known without looking at a bound: if there is none.
-    /// O(1).
+    /// The rule that ends a carry before its first step, if there is no bound; `None` if there are bounds. O(1).
     #[inline(always)]
     fn end_at_once(&mut self, ceiling: Option<Bound>) -> Option<CarryEnd>
         ensures ends { IfSome result (λ end. EndsBy (ceiling_of ceiling) end self.old) }

@@ -1,5 +1,5 @@
-//! Random rows are put into a store of random rows, and taken out of it, all at once or one after the other: the result
-//! is the same.
+//! Random rows are inserted into a store of random rows, or deleted from it, in bulk or one after the other: the
+//! result is the same.
 use crate::bulk::{is_merged_in_bulk, merged};
 use crate::carried::{carried_by, is_carried_in_bulk};
 use crate::filled::pulled_by;
@@ -7,19 +7,20 @@ use crate::script::assert_at;
 use std::alloc::Global;
 use std::process::Abort;
 
-/// How rows are put into a store, or taken out of it.
+/// How rows are inserted into a store, or deleted from it.
 #[derive(Clone, Copy)]
 enum Way {
     Merge,
-    /// Doomed rows are in the way.
+    /// Doomed rows are in the way of the insertions.
     Carry,
-    /// The end of the rows' range is the ceiling.
+    /// The end of the insertions' range is the ceiling.
     CarryUnder,
     /// Fillers take the places of doomed rows.
     Pull,
 }
 
-/// The counts and the contents of the store of a seed, after all rows went at once or each after the other.
+/// The counts and the contents of the store of a seed, after its rows were inserted or deleted, all at once or one
+/// after the other.
 fn noted_by(rt: &impl Abort, alloc: Global, way: Way, seed: u64, at_once: bool) -> Vec<u64> {
     match way {
         Way::Merge => merged(rt, alloc, seed, at_once),
@@ -29,7 +30,7 @@ fn noted_by(rt: &impl Abort, alloc: Global, way: Way, seed: u64, at_once: bool) 
     }
 }
 
-/// Whether the rows of a seed are carried in bulk, if they go at once.
+/// Whether the rows of a seed are carried in bulk, if they are inserted at once.
 fn is_in_bulk(rt: &impl Abort, alloc: Global, way: Way, seed: u64) -> bool {
     match way {
         Way::Merge => is_merged_in_bulk(rt, alloc, seed),
@@ -39,7 +40,7 @@ fn is_in_bulk(rt: &impl Abort, alloc: Global, way: Way, seed: u64) -> bool {
     }
 }
 
-/// For how many of the seeds below this number they are.
+/// For how many of the seeds below this number rows are carried in bulk.
 fn in_bulk(rt: &impl Abort, alloc: Global, way: Way, seeds: u64) -> u64 {
     let mut count = 0u64;
     for seed in 0..seeds {
@@ -48,15 +49,15 @@ fn in_bulk(rt: &impl Abort, alloc: Global, way: Way, seeds: u64) -> u64 {
     count
 }
 
-/// Where counts have the numbers of rows that were put in, taken out and evicted.
+/// The indices of the counts of rows put in, taken out and evicted.
 const PUT_IN: usize = 0;
 
 const TAKEN_OUT: usize = 1;
 
 const EVICTED: usize = 2;
 
-/// Asserts for each seed that going at once has the result of going one after the other; returns the sum of the numbers
-/// at this place of the counts.
+/// Asserts for each seed that all rows at once give the result of one after the other. Returns the sum of the
+/// counts with this index.
 fn assert_alike(rt: &impl Abort, alloc: Global, way: Way, seeds: u64, place: usize) -> u64 {
     let mut sum = 0u64;
     for seed in 0..seeds {

@@ -1,5 +1,5 @@
-//! Freed cells are used again, the last one freed first, and a handle of an earlier generation reads nothing. Tests are
-//! lists of steps.
+//! Freed cells are used again, the last one freed first, and a handle of an earlier generation reads nothing. Tests
+//! are lists of steps.
 
 use crate::script::assert_at;
 use crack_arena::{Arena, Handle};
@@ -9,31 +9,31 @@ use std::process::Abort;
 /// A step of a test on an arena of characters. A handle is given by its slot and its generation.
 #[derive(Clone, Copy)]
 enum Step {
-    /// Puts a value, for which this handle is given, and reads it.
+    /// Puts a value, gets this handle, and reads the value by it.
     Put(char, u32, u64),
-    /// Puts a value into as many new cells, from this slot on, and reads each.
+    /// Puts a value into this many new cells, from this slot on, and reads each.
     Fill(char, u32, u32),
-    /// Frees a handle, which gives this value.
+    /// Frees a handle, which returns this value.
     Free(u32, u64, Option<char>),
-    /// Reads a handle, which has this value.
+    /// Reads a handle, which returns this value.
     Read(u32, u64, Option<char>),
-    /// Sets the value of a handle, which gives this.
+    /// Sets the value of a handle, which returns this.
     Set(u32, u64, char, Result<char, char>),
-    /// Looks how many cells there are, how many of them are free, and how many were ever freed.
+    /// Expects this many cells, free cells, and frees so far.
     Look(usize, usize, u64),
-    /// Makes room for as many puts.
+    /// Reserves room for this many puts.
     Reserve(usize),
-    /// Makes room for as many puts, at the second time if memory is refused once.
+    /// Reserves room for this many puts, with one retry if memory is refused.
     ReserveAtLast(usize),
-    /// Makes no room for more puts than there is memory for.
+    /// Tries to reserve room for more puts than there is memory for, which is refused.
     ReserveTooMany,
-    /// Makes room for three puts, each of which then succeeds in a new arena.
+    /// Reserves room for three puts in a new arena, each of which then succeeds.
     PutReserved,
-    /// Compares the adjacent cells from a slot on, this many of generation 0, with what their handles read.
+    /// Compares the adjacent cells from a slot on, this many and of generation 0, with what their handles read.
     CellsFrom(u32, u32),
 }
 
-/// Steps under a name, in a fresh arena.
+/// Named steps, in a fresh arena.
 #[derive(Clone, Copy)]
 struct Script {
     name: &'static str,
@@ -135,7 +135,15 @@ const SCRIPTS: &[Script] = &[
     },
 ];
 
-/// Whether a put gives this handle, which is equal to itself alone, and reads the value.
+/// The handle with these numbers, which must be small.
+fn named(slot: u32, generation: u64) -> Handle<char> {
+    match Handle::from_numbers(slot.min(9999), generation.min(9999)) {
+        Some(handle) => handle,
+        None => unreachable!(),
+    }
+}
+
+/// Whether a put returns this handle, which reads the value and differs from a handle of another generation.
 fn puts(arena: &mut Arena<char>, value: char, slot: u32, generation: u64) -> bool {
     if arena.cells() >= 2000 {
         return false;
@@ -148,11 +156,11 @@ fn puts(arena: &mut Arena<char>, value: char, slot: u32, generation: u64) -> boo
         handle.generation(),
         arena.get(handle).copied(),
     );
-    let earlier = Handle::new(slot, generation.wrapping_sub(1));
+    let earlier = named(slot, generation.wrapping_sub(1));
     told == (slot, generation, Some(value)) && handle != earlier
 }
 
-/// Whether as many puts give the handles of new cells, from this slot on.
+/// Whether this many puts return the handles of new cells, from this slot on.
 fn fills(arena: &mut Arena<char>, value: char, slot: u32, count: u32) -> bool {
     for more in 0..count {
         if !puts(arena, value, slot.saturating_add(more), 0) {
@@ -162,18 +170,18 @@ fn fills(arena: &mut Arena<char>, value: char, slot: u32, count: u32) -> bool {
     true
 }
 
-/// Whether freeing the handle gives this value.
+/// Whether freeing the handle returns this value.
 fn frees(arena: &mut Arena<char>, handle: Handle<char>, value: Option<char>) -> bool {
     arena.freed() < 1000 && arena.free(handle) == value
 }
 
-/// How many cells there are, how many of them are free, and how many were ever freed.
+/// The number of cells, of free cells, and of frees so far.
 fn numbers(arena: &Arena<char>) -> (usize, usize, u64) {
     (arena.cells(), arena.free_cells(), arena.freed())
 }
 
-/// Whether there is room in the end. If memory is refused once, the arena is as it was, and so it is once there is
-/// room.
+/// Whether room can be reserved, with one retry if memory is refused. Neither a refusal nor a success changes the
+/// numbers of the arena.
 fn reserves_at_last(arena: &mut Arena<char>, additional: usize) -> bool {
     let before = numbers(arena);
     if arena.reserve(additional).is_err() {
@@ -182,20 +190,19 @@ fn reserves_at_last(arena: &mut Arena<char>, additional: usize) -> bool {
     numbers(arena) == before
 }
 
-/// Whether this many adjacent cells of generation 0, from the one with this number on, have the values that their
-/// handles read.
+/// Whether this many adjacent cells of generation 0, from the slot on, have the values that their handles read.
 fn lends(arena: &Arena<char>, slot: u32, len: u32) -> bool {
     let run = arena.cells_from(slot);
     let mut is_same = run.len() == len as usize && run.value_at(len as usize).is_none();
     for place in 0..len {
-        let handle = Handle::new(slot.saturating_add(place), 0);
+        let handle = named(slot.saturating_add(place), 0);
         let value = run.value_at(place as usize).copied();
         is_same = is_same && value == arena.get(handle).copied();
     }
     is_same
 }
 
-/// Whether three puts for which room is made give the handles of the first three cells.
+/// Whether three puts after a reservation return the handles of the first three cells.
 fn puts_reserved(arena: &mut Arena<char>) -> bool {
     if arena.cells() >= 2000 || arena.reserve(3).is_err() {
         return false;
@@ -212,17 +219,17 @@ fn puts_reserved(arena: &mut Arena<char>) -> bool {
     slots == [0, 1, 2] && generations == [0, 0, 0] && arena.get(b).copied() == Some('b')
 }
 
-/// Makes a step; returns whether it gave what it should.
+/// Makes a step, and returns whether it had the expected result.
 fn make(arena: &mut Arena<char>, step: Step) -> bool {
     match step {
         Step::Put(value, slot, generation) => puts(arena, value, slot, generation),
         Step::Fill(value, slot, count) => fills(arena, value, slot, count),
-        Step::Free(slot, generation, value) => frees(arena, Handle::new(slot, generation), value),
+        Step::Free(slot, generation, value) => frees(arena, named(slot, generation), value),
         Step::Read(slot, generation, value) => {
-            arena.get(Handle::new(slot, generation)).copied() == value
+            arena.get(named(slot, generation)).copied() == value
         }
         Step::Set(slot, generation, value, given) => {
-            arena.set(Handle::new(slot, generation), value) == given
+            arena.set(named(slot, generation), value) == given
         }
         Step::Look(cells, free, freed) => numbers(arena) == (cells, free, freed),
         Step::Reserve(additional) => arena.reserve(additional).is_ok(),
@@ -233,7 +240,7 @@ fn make(arena: &mut Arena<char>, step: Step) -> bool {
     }
 }
 
-/// Asserts what each step in a fresh arena gives.
+/// Asserts the result of each step in a fresh arena.
 fn assert_script(rt: &impl Abort, alloc: Global, script: Script) {
     let Script { name, steps } = script;
     let mut arena = Arena::new(alloc);
@@ -252,7 +259,7 @@ fn cells_are_put_freed_and_used_again(rt: HostRuntime) {
     }
 }
 
-/// Holds whichever one allocation is refused: puts for which there is room make none.
+/// Passes whichever single allocation is refused: puts for which there is room allocate nothing.
 #[test]
 fn sweep_reserve(rt: HostRuntime) {
     const SCRIPT: Script = Script {

@@ -9,12 +9,12 @@ use crack_store::{Carrying, Store};
 use std::alloc::Global;
 use std::process::Abort;
 
-/// Numbers that look random.
+/// Pseudo-random numbers.
 #[derive(Drop)]
 pub(crate) struct Numbers(pub(crate) u64);
 
 impl Numbers {
-    /// The next, which is below this one.
+    /// The next number, below `end`.
     pub(crate) fn below(&mut self, end: u64) -> u64
         requires { 0 < end }
         ensures { result < end }
@@ -27,14 +27,14 @@ impl Numbers {
     }
 }
 
-/// Puts a row of this key among the pending insertions.
+/// Inserts a row with this key, which becomes a pending insertion.
 pub(crate) fn insert(rt: &impl Abort, store: &mut Store, key: KeyNumber) {
     let serial = store.cells() as u64;
     let is_in = admits(rt, store, row((serial, key, 0)));
     assert!(rt; is_in);
 }
 
-/// A range of keys that isn't empty, whose ends are below twice this number.
+/// A range of keys that isn't empty, whose ends are below twice `keys`.
 pub(crate) fn some_range(rt: &impl Abort, numbers: &mut Numbers, keys: u64) -> KeyRange
     requires some { 0 < keys }
     requires few { keys ≤ 1000 }
@@ -46,7 +46,7 @@ pub(crate) fn some_range(rt: &impl Abort, numbers: &mut Numbers, keys: u64) -> K
     KeyRange::new(low as u128, (low + more + 1) as u128).expect(rt, "a range")
 }
 
-/// A store of all keys with up to 40 rows in its column, of keys below `keys`, cracked up to six times.
+/// A store of all keys whose column has up to 39 rows with keys below `keys`, cracked by up to five ranges.
 pub(crate) fn some_store(rt: &impl Abort, alloc: Global, numbers: &mut Numbers, keys: u64) -> Store
     requires some { 0 < keys }
     requires few { keys ≤ 1000 }
@@ -72,8 +72,8 @@ fn hand_of(carrying: &Carrying) -> [u64; 3] {
     [row.serial.0, handle.slot() as u64, handle.generation()]
 }
 
-/// Takes the last row of the column out, and puts it after the pending insertions, or frees it if it is doomed; returns
-/// the row.
+/// Removes the last row of the column, and returns it. The row is buried if it is doomed, else it becomes the last
+/// pending insertion.
 pub(crate) fn take_last(rt: &impl Abort, store: Store) -> (Store, [u64; 3]) {
     let mut store = store;
     let len = store.column_len();
@@ -90,7 +90,7 @@ pub(crate) fn take_last(rt: &impl Abort, store: Store) -> (Store, [u64; 3]) {
     }
 }
 
-/// Takes the first pending insertion out, and puts it after the others; returns the row.
+/// Takes the first pending insertion out, puts it after the others, and returns it.
 pub(crate) fn take_first(rt: &impl Abort, store: Store) -> (Store, [u64; 3]) {
     let mut store = store;
     let len = store.pending_in();
@@ -105,7 +105,7 @@ pub(crate) fn take_first(rt: &impl Abort, store: Store) -> (Store, [u64; 3]) {
     (carrying.put_back(), row)
 }
 
-/// Notes the sizes of pieces, after their number.
+/// Appends the number of pieces and their sizes to `noted`.
 fn note_sizes(rt: &impl Abort, pieces: &[PieceSize], noted: &mut Vec<u64>) {
     assert!(rt; noted.push(pieces.len() as u64).is_ok());
     for place in 0..pieces.len() {
@@ -113,7 +113,7 @@ fn note_sizes(rt: &impl Abort, pieces: &[PieceSize], noted: &mut Vec<u64>) {
     }
 }
 
-/// Notes serial, slot and generation of each pending insertion, in their order, after their number.
+/// Appends the number of pending insertions to `noted`, and the serial, slot and generation of each, in order.
 fn note_pending(rt: &impl Abort, store: Store, noted: &mut Vec<u64>) -> Store {
     let mut store = store;
     let count = store.pending_in();
@@ -126,8 +126,8 @@ fn note_pending(rt: &impl Abort, store: Store, noted: &mut Vec<u64>) -> Store {
     store
 }
 
-/// Notes the contents of a store: the sizes of its pieces, the pending insertions, and serial, slot and generation of
-/// each row of its column, from the last place down.
+/// Appends the contents of a store to `noted`: the sizes of its pieces, the pending insertions, and the serial,
+/// slot and generation of each row of its column, from the last place down.
 pub(crate) fn note_contents(rt: &impl Abort, store: Store, noted: &mut Vec<u64>) {
     let layout = store.layout().expect(rt, "a layout");
     note_sizes(rt, layout.pieces.as_slice(), noted);
@@ -141,12 +141,12 @@ pub(crate) fn note_contents(rt: &impl Abort, store: Store, noted: &mut Vec<u64>)
     drop(store);
 }
 
-/// Notes what the merges of a store have counted.
+/// Appends the merge counts of a store to `noted`.
 pub(crate) fn note_counted(rt: &impl Abort, store: &Store, noted: &mut Vec<u64>) {
     assert!(rt; noted.extend_from_slice(&numbers_of(store.tally())).is_ok());
 }
 
-/// Whether up to twelve rows of random keys are put into a store of random rows in bulk.
+/// Whether up to eleven rows with random keys are carried in bulk into a store of random rows.
 pub(crate) fn is_merged_in_bulk(rt: &impl Abort, alloc: Global, seed: u64) -> bool {
     let mut numbers = Numbers(seed);
     let keys = numbers.below(60) + 1;
@@ -165,8 +165,8 @@ pub(crate) fn is_merged_in_bulk(rt: &impl Abort, alloc: Global, seed: u64) -> bo
     in_bulk
 }
 
-/// Merges the same rows into the same store: all at once, or one after the other. Returns the counts and its contents
-/// then.
+/// Merges the same rows into the same store, at once or one after the other. Returns the counts and the contents of
+/// the store.
 pub(crate) fn merged(rt: &impl Abort, alloc: Global, seed: u64, at_once: bool) -> Vec<u64> {
     let mut numbers = Numbers(seed);
     let keys = numbers.below(60) + 1;

@@ -1,8 +1,8 @@
-//! Carries of a range have the result of carrying each of its rows, even if doomed rows are in the way: each row
-//! in its cell, and the free cells in their order.
+//! Carries of a range have the result of carrying each of its rows, even if doomed rows are in the way: each row is
+//! in the same cell, and the free cells are in the same order.
 //!
-//! The test `sweep_..` holds whichever one of its allocations is refused, so it may be run with each of them refused in
-//! turn; it is a list of work on stores.
+//! The test `sweep_..` passes whichever single allocation is refused, so it may be run with each of its allocations
+//! refused in turn. It is a list of work on stores.
 ghost use Rattle.std.specs.Prelude.{◌<◌, ◌≤◌};
 ghost use Rattle.crack_row.specs.declared.TheConstants.{GREATEST_BOUND};
 ghost use Rattle.crack_state.specs.Merge.{IsCracked};
@@ -19,7 +19,7 @@ use crack_store::Store;
 use std::alloc::Global;
 use std::process::Abort;
 
-/// Dooms up to eight rows of the column.
+/// Dooms up to seven rows of the column.
 pub(crate) fn doom_some(rt: &impl Abort, store: &mut Store, numbers: &mut Numbers) {
     let count = numbers.below(8);
     'rows: for _ in 0..count {
@@ -32,7 +32,7 @@ pub(crate) fn doom_some(rt: &impl Abort, store: &mut Store, numbers: &mut Number
     }
 }
 
-/// Inserts up to twelve rows with different keys, in this order of arrival.
+/// Inserts up to eleven rows with different keys, and returns the keys in order of arrival.
 fn insert_some(
     rt: &impl Abort,
     alloc: Global,
@@ -54,7 +54,8 @@ fn insert_some(
     inserted
 }
 
-/// Carries the pending insertions of a range under a ceiling or none; returns the store, and whether all were carried.
+/// Carries the pending insertions of a range under a ceiling or none. Returns the store, and whether all were
+/// carried.
 fn carried_or_stopped(
     rt: &impl Abort,
     store: Store,
@@ -81,7 +82,7 @@ fn carried(rt: &impl Abort, store: Store, range: KeyRange, ceiling: Option<Bound
     carried
 }
 
-/// Carries the rows of these keys that are in the range, one after the other.
+/// Carries the rows with these keys that are in the range, one after the other.
 fn carried_each(
     rt: &impl Abort,
     store: Store,
@@ -100,8 +101,7 @@ fn carried_each(
     store
 }
 
-/// Puts rows of these keys among the pending insertions, with serials from this one on; each at the second time if
-/// memory was refused once.
+/// Inserts rows with these keys, with serials from `first` on, each with one retry if memory is refused.
 fn admit_all(rt: &impl Abort, store: &mut Store, first: u64, keys: &[KeyNumber]) {
     for place in 0..keys.len() {
         let new = row((first.wrapping_add(place as u64), keys[place], 0));
@@ -110,8 +110,7 @@ fn admit_all(rt: &impl Abort, store: &mut Store, first: u64, keys: &[KeyNumber])
     }
 }
 
-/// Admits six rows, which take free cells first, and notes the contents of the store then, after what it had counted
-/// before.
+/// The merge counts of a store, and its contents after six more rows were inserted, which take free cells first.
 pub(crate) fn noted_with_six_more(rt: &impl Abort, alloc: Global, store: Store) -> Vec<u64> {
     let mut store = store;
     let mut noted = Vec::new(alloc);
@@ -121,8 +120,8 @@ pub(crate) fn noted_with_six_more(rt: &impl Abort, alloc: Global, store: Store) 
     noted
 }
 
-/// A store of random rows, of which some may be doomed, with pending insertions of random keys, which are returned in
-/// their order; and a range whose insertions are to be carried, under the ceiling at its end, or none.
+/// A store of random rows, of which some may be doomed, and with random pending insertions. Also returns a range
+/// whose insertions are to be carried, the ceiling at its end or none, and the keys of the insertions in order.
 fn with_some(
     rt: &impl Abort,
     alloc: Global,
@@ -150,7 +149,7 @@ fn with_some(
     (store, range, ceiling, inserted)
 }
 
-/// Whether the insertions of such a store are carried in bulk.
+/// Whether the insertions of a store of `with_some` are carried in bulk.
 pub(crate) fn is_carried_in_bulk(rt: &impl Abort, alloc: Global, seed: u64, under: bool) -> bool {
     let (mut store, range, ceiling, inserted) = with_some(rt, alloc, seed, under);
     drop(inserted);
@@ -159,8 +158,8 @@ pub(crate) fn is_carried_in_bulk(rt: &impl Abort, alloc: Global, seed: u64, unde
     in_bulk
 }
 
-/// Carries the pending insertions of a range in bulk, under a ceiling or none; returns whether there were some, and it
-/// did so.
+/// Carries the pending insertions of a range in bulk, under a ceiling or none. Returns whether there were some and
+/// they were carried.
 pub(crate) fn carries_in_bulk(
     rt: &impl Abort,
     store: &mut Store,
@@ -179,8 +178,8 @@ pub(crate) fn carries_in_bulk(
     }
 }
 
-/// Carries the insertions of such a store: all at once, or one after the other. Returns the counts, and the contents of
-/// the store once it has six more rows.
+/// Carries the insertions of a store of `with_some`, at once or one after the other. Returns the counts, and the
+/// contents of the store after six more rows were inserted.
 pub(crate) fn carried_by(
     rt: &impl Abort,
     alloc: Global,
@@ -198,7 +197,7 @@ pub(crate) fn carried_by(
     noted_with_six_more(rt, alloc, store)
 }
 
-/// Cracks at the ends of a range, at the second time if memory was refused once.
+/// Cracks at the ends of a range, with one retry if memory is refused.
 fn crack_at_last(rt: &impl Abort, store: &mut Store, range: KeyRange)
     ensures { IsCracked store.new range }
 {
@@ -209,7 +208,7 @@ fn crack_at_last(rt: &impl Abort, store: &mut Store, range: KeyRange)
     assert!(rt; again.is_ok());
 }
 
-/// Merges all rows, at the second time if memory was refused once.
+/// Merges all rows, with one retry if memory is refused.
 fn merge_at_last(rt: &impl Abort, store: Store) -> Store {
     let mut store = store;
     for _ in 0..2 {
@@ -223,7 +222,7 @@ fn merge_at_last(rt: &impl Abort, store: Store) -> Store {
     panic!(rt; "no memory");
 }
 
-/// Makes room, at the second time if memory was refused once.
+/// Makes room, with one retry if memory is refused.
 pub(crate) fn make_room_at_last(rt: &impl Abort, store: &mut Store)
     ensures room { 0 < store.new.column_room }
 {
@@ -234,8 +233,8 @@ pub(crate) fn make_room_at_last(rt: &impl Abort, store: &mut Store)
     assert!(rt; again.is_ok());
 }
 
-/// Takes rows out of the column, from its end on, or puts each pending insertion after the others, from the first one
-/// on; asserts their serials.
+/// Removes rows of the column, from its end on, or puts each pending insertion after the others, from the first on,
+/// and asserts their serials.
 fn assert_serials(rt: &impl Abort, store: Store, serials: &[u64], of_column: bool) -> Store {
     let mut store = store;
     for place in 0..serials.len() {
@@ -259,7 +258,7 @@ fn middle(rt: &impl Abort) -> KeyRange
     KeyRange::new(15, 25).expect(rt, "a range")
 }
 
-/// A store whose column has rows of these keys, with serials from 0 on, and is cracked at 15 and 25.
+/// A store whose column has rows with these keys, with serials from 0 on, and is cracked at 15 and 25.
 fn merged_store(rt: &impl Abort, alloc: Global, keys: &[KeyNumber]) -> Store {
     let mut store = Store::new(alloc, KeyRange::all());
     admit_all(rt, &mut store, 0, keys);
@@ -268,7 +267,7 @@ fn merged_store(rt: &impl Abort, alloc: Global, keys: &[KeyNumber]) -> Store {
     store
 }
 
-/// Dooms rows of the column, each at the second time if memory was refused once.
+/// Dooms rows of the column, each with one retry if memory is refused.
 fn doom_all(rt: &impl Abort, store: &mut Store, serials: &[u64]) {
     for place in 0..serials.len() {
         let gone = store.row_of(Serial(serials[place])).expect(rt, "a row");
@@ -277,7 +276,7 @@ fn doom_all(rt: &impl Abort, store: &mut Store, serials: &[u64]) {
     }
 }
 
-/// Carries the pending insertions of a range under its end, at the second time if memory was refused once.
+/// Carries the pending insertions of a range under the ceiling at its end, with one retry if memory is refused.
 fn carried_at_last(rt: &impl Abort, store: Store, range: KeyRange) -> Store {
     let (stopped, all) = carried_or_stopped(rt, store, range, Some(range.high()));
     if all {
@@ -287,7 +286,7 @@ fn carried_at_last(rt: &impl Abort, store: Store, range: KeyRange) -> Store {
     }
 }
 
-/// What is done to a store that is cracked at 15 and 25.
+/// The work on a store that is cracked at 15 and 25.
 #[derive(Clone, Copy)]
 enum Work {
     /// All of its rows are merged.
@@ -298,24 +297,24 @@ enum Work {
     Pull,
 }
 
-/// Work on a store, which holds whichever one allocation is refused.
+/// Work on a store, which passes whichever single allocation is refused.
 #[derive(Clone, Copy)]
 struct Sweep {
-    /// The keys of the rows in the column, whose serials begin at 0; the serials of those that are doomed; and the keys
-    /// of the rows that are pending.
+    /// The keys of the rows in the column, whose serials begin at 0; the serials of the doomed rows; and the keys
+    /// of the pending insertions.
     column: &'static [KeyNumber],
     doomed: &'static [u64],
     pending: &'static [KeyNumber],
     work: Work,
-    /// How many rows were put in, taken out, evicted, moved and pulled by then.
+    /// The merge counts afterwards: rows put in, taken out, evicted, moved and pulled.
     counted: [u64; 5],
-    /// The serials of the rows that are pending then, and of those in the column, from its end on.
+    /// The serials of the rows left afterwards: the pending insertions, and those of the column from its end on.
     left: &'static [u64],
     serials: &'static [u64],
 }
 
 const SWEEPS: &[Sweep] = &[
-    // three rows are carried into three pieces
+    // Three rows are carried into three pieces.
     Sweep {
         column: &[10, 20, 30],
         doomed: &[],
@@ -325,7 +324,7 @@ const SWEEPS: &[Sweep] = &[
         left: &[],
         serials: &[5, 2, 1, 3, 4, 0],
     },
-    // three rows are carried into three pieces, and the second of them meets a doomed row
+    // Three rows are carried into three pieces, and the second of them meets a doomed row.
     Sweep {
         column: &[10, 20, 30],
         doomed: &[1],
@@ -335,7 +334,7 @@ const SWEEPS: &[Sweep] = &[
         left: &[],
         serials: &[5, 2, 3, 4, 0],
     },
-    // three rows are carried into a piece under a ceiling, beyond which there are two rows
+    // Three rows are carried into a piece under a ceiling, beyond which there are two rows.
     Sweep {
         column: &[10, 20, 30, 40],
         doomed: &[],
@@ -345,7 +344,7 @@ const SWEEPS: &[Sweep] = &[
         left: &[2, 3],
         serials: &[6, 5, 4, 1, 0],
     },
-    // two doomed rows of a piece are pulled, each by a filler
+    // Two doomed rows of a piece are pulled, each by a filler.
     Sweep {
         column: &[10, 20, 22, 40],
         doomed: &[1, 2],

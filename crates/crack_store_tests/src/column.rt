@@ -1,4 +1,5 @@
-//! A crack puts the rows below its bound first, and nothing else moves. Tests are lists of steps over rows.
+//! A crack moves the rows below its bound to the front of the stretch, and nothing else moves. Tests are lists of
+//! steps over rows.
 ghost use Rattle.std.specs.Prelude.{◌<◌, length};
 ghost use Rattle.crack_arena.specs.Memories.{Agrees, Remembers};
 ghost use Rattle.crack_column.specs.Column.{first_aside};
@@ -14,31 +15,31 @@ use crack_row::{
 use std::alloc::Global;
 use std::process::Abort;
 
-/// A step of a test on a column. A row is given by its place in the list of rows, which is also its cell.
+/// A step of a test on a column. A row is given by its index in the list of rows, which is also its cell.
 #[derive(Clone, Copy)]
 enum Step {
-    /// Appends a row, which is remembered or not.
+    /// Appends a row, which the column remembers or not.
     Append(u32, bool),
-    /// Puts the second row at a place, where the third was. It is remembered or not.
+    /// Puts the second row at a place, in place of the third. The column remembers it or not.
     SwapIn(usize, u32, u32, bool),
-    /// Takes the last row out, which is this one.
+    /// Removes the last row, which is this one.
     Pop(Option<u32>),
-    /// Takes the last row out, with what is remembered about it.
+    /// Removes the last row, with what is remembered of it.
     PopRemembered,
-    /// Cracks a stretch at a bound, which is at the place then.
+    /// Cracks a stretch at a bound, whose place is then this.
     Crack([usize; 2], KeyNumber, usize),
-    /// Cracks a stretch at two bounds, which are at the places then.
+    /// Cracks a stretch at two bounds, whose places are then these.
     CrackInThree([usize; 2], [KeyNumber; 2], (usize, usize)),
-    /// Looks how many rows there are.
+    /// Expects this many rows.
     Len(usize),
-    /// Looks which row is at a place.
+    /// Expects this row at a place.
     At(usize, u32),
-    /// Looks where a row is: anywhere, and in a stretch.
+    /// Expects a row at this place: in the whole column, or in a stretch.
     Place(u32, Option<usize>),
     PlaceBetween([usize; 2], u32, Option<usize>),
-    /// Looks at the keys at two places, in any order.
+    /// Expects these keys at two places, in any order.
     Keys([usize; 2], [KeyNumber; 2]),
-    /// Sums the payloads of a stretch.
+    /// Expects this sum of the payloads of a stretch.
     Sum([usize; 2], i128),
 }
 
@@ -52,7 +53,7 @@ enum Last {
     InHand,
 }
 
-/// Steps under a name, over rows of these keys and payloads, and what follows them.
+/// Named steps over rows with these keys and payloads, and what follows them.
 #[derive(Clone, Copy)]
 struct Script {
     name: &'static str,
@@ -84,7 +85,7 @@ const SCRIPTS: &[Script] = &[
         ],
         last: Last::Nothing,
     },
-    // keys at both sides of 2^32 and the two greatest, with payloads whose sum is below every payload
+    // Keys on both sides of 2^32 and the two greatest, with payloads whose sum is below every payload.
     Script {
         name: "keys and payloads are wide",
         rows: &[
@@ -178,12 +179,15 @@ const SCRIPTS: &[Script] = &[
     },
 ];
 
-/// The handle of the row with this place in the list of rows.
+/// The handle of the row with this index in the list of rows, which must be short.
 pub(crate) fn row(place: u32) -> Handle<Row> {
-    Handle::new(place, 0)
+    match Handle::from_numbers(place.min(9999), 0) {
+        Some(handle) => handle,
+        None => unreachable!(),
+    }
 }
 
-/// Puts rows of these keys and payloads into the first cells of an arena.
+/// Puts rows with these keys and payloads into the first cells of an arena.
 pub(crate) fn put_all(
     rt: &impl Abort,
     arena: &mut Arena<Row>,
@@ -202,7 +206,7 @@ pub(crate) fn put_all(
     }
 }
 
-/// What is to be remembered about the row that the handle reads.
+/// What is to be remembered of the row that the handle reads.
 fn memory(arena: &Arena<Row>, handle: Handle<Row>) -> Remembered
     ensures { Agrees arena.now.cells handle result }
 {
@@ -212,7 +216,7 @@ fn memory(arena: &Arena<Row>, handle: Handle<Row>) -> Remembered
     }
 }
 
-/// Puts a row after the last one; returns whether there was room.
+/// Appends a row, and returns whether there was room.
 fn append(arena: &Arena<Row>, column: &mut CrackerColumn, handle: Handle<Row>, knows: bool) -> bool
     requires remembered { Remembers arena.now.cells column.old.handles column.old.remembered }
     ensures remembered { Remembers arena.now.cells column.new.handles column.new.remembered }
@@ -228,7 +232,7 @@ fn append(arena: &Arena<Row>, column: &mut CrackerColumn, handle: Handle<Row>, k
     true
 }
 
-/// Puts a row at a place; returns whether this row was there.
+/// Puts a row at a place, and returns whether `out` was there.
 fn swaps(
     arena: &Arena<Row>,
     column: &mut CrackerColumn,
@@ -251,7 +255,7 @@ fn swaps(
     }
 }
 
-/// Whether the bound is at this place after a crack of the stretch.
+/// Whether the bound is at this place after a crack of the stretch at it.
 fn cracks(
     arena: &Arena<Row>,
     column: &mut CrackerColumn,
@@ -287,7 +291,7 @@ fn cracks_in_three(
     column.crack_three(from, to, bound_at(low), bound_at(high), arena) == places
 }
 
-/// Whether the sum of the payloads of a stretch is this.
+/// Whether the payloads of a stretch have this sum.
 fn sums(arena: &Arena<Row>, column: &CrackerColumn, stretch: [usize; 2], sum: i128) -> bool
     requires remembered { Remembers arena.now.cells column.now.handles column.now.remembered }
 {
@@ -313,7 +317,7 @@ fn has_keys(
     told == [low, high] || told == [high, low]
 }
 
-/// Whether the handle is at this place, if it is in the stretch at all.
+/// Whether the handle is found at this place of the stretch, or not at all for `None`.
 fn is_between(
     column: &CrackerColumn,
     stretch: [usize; 2],
@@ -324,7 +328,7 @@ fn is_between(
     from <= to && to <= column.len() && column.place_between(from, to, handle) == place
 }
 
-/// Looks at a column; returns whether it is as the step says.
+/// Whether a column is as the step expects.
 fn looks(arena: &Arena<Row>, column: &CrackerColumn, step: Step) -> bool
     requires remembered { Remembers arena.now.cells column.now.handles column.now.remembered }
 {
@@ -342,7 +346,7 @@ fn looks(arena: &Arena<Row>, column: &CrackerColumn, step: Step) -> bool
     }
 }
 
-/// Makes a step; returns whether it gave what it should.
+/// Makes a step, and returns whether it had the expected result.
 fn make(arena: &Arena<Row>, column: &mut CrackerColumn, step: Step) -> bool
     requires remembered { Remembers arena.now.cells column.old.handles column.old.remembered }
     ensures remembered { Remembers arena.now.cells column.new.handles column.new.remembered }
@@ -362,7 +366,7 @@ fn make(arena: &Arena<Row>, column: &mut CrackerColumn, step: Step) -> bool
     }
 }
 
-/// Asserts what each step gives.
+/// Asserts the result of each step.
 fn make_all(rt: &impl Abort, arena: &Arena<Row>, column: &mut CrackerColumn, script: Script)
     requires remembered { Remembers arena.now.cells column.old.handles column.old.remembered }
     ensures remembered { Remembers arena.now.cells column.new.handles column.new.remembered }
@@ -374,7 +378,7 @@ fn make_all(rt: &impl Abort, arena: &Arena<Row>, column: &mut CrackerColumn, scr
     }
 }
 
-/// Sets a row aside, with what is to be remembered about it.
+/// Sets a row aside, with what is remembered of it.
 fn set_aside(rt: &impl Abort, arena: &Arena<Row>, column: &mut CrackerColumn, handle: Handle<Row>)
     requires remembered { Remembers arena.now.cells column.old.handles column.old.remembered }
     ensures remembered { Remembers arena.now.cells column.new.handles column.new.remembered }
@@ -386,7 +390,7 @@ fn set_aside(rt: &impl Abort, arena: &Arena<Row>, column: &mut CrackerColumn, ha
     column.set_aside(handle, memory(arena, handle));
 }
 
-/// Sets the third row of three aside, and exchanges it with the first, which is then appended and taken out again.
+/// Sets the third of three rows aside, and exchanges it with the first, which is then appended and removed again.
 fn go_aside(rt: &impl Abort, arena: &Arena<Row>, column: &mut CrackerColumn)
     requires remembered { Remembers arena.now.cells column.old.handles column.old.remembered }
 {
@@ -402,7 +406,7 @@ fn go_aside(rt: &impl Abort, arena: &Arena<Row>, column: &mut CrackerColumn)
     assert!(rt; column.aside() == row(0) && column.len() == 2);
 }
 
-/// Takes the third row of three in hand, exchanges it with both others, and drops it.
+/// Takes the third of three rows in hand, exchanges it with both others, and releases the column.
 fn go_in_hand(rt: &impl Abort, arena: &Arena<Row>, column: &mut CrackerColumn)
     requires remembered { Remembers arena.now.cells column.old.handles column.old.remembered }
 {
@@ -424,7 +428,7 @@ fn go_in_hand(rt: &impl Abort, arena: &Arena<Row>, column: &mut CrackerColumn)
     assert!(rt; [third, second, first] == [2, 1, 0]);
 }
 
-/// Asserts what each step gives in a fresh column over the rows of a script, and what follows them.
+/// Asserts the result of each step in a fresh column over the rows of a script, and then makes its last one.
 fn assert_script(rt: &impl Abort, alloc: Global, script: Script) {
     let mut arena = Arena::new(alloc);
     let mut column = CrackerColumn::new(alloc);

@@ -1,4 +1,4 @@
-//! Pulls by fillers in bulk have the result of one after the other, in random stores.
+//! Pulls by fillers in bulk have the result of pulling one after the other, in random stores.
 ghost use Rattle.std.specs.Prelude.{◌≤◌};
 ghost use Rattle.crack_row.specs.declared.TheConstants.{GREATEST_BOUND};
 
@@ -12,7 +12,7 @@ use crack_store::Store;
 use std::alloc::Global;
 use std::process::Abort;
 
-/// Inserts up to sixteen rows, none with this key, and half of them with keys above it.
+/// Inserts up to fifteen rows, none with the key `high`, and at least half of them with keys above it.
 fn insert_apart(rt: &impl Abort, store: &mut Store, numbers: &mut Numbers, high: u64)
     requires { high ≤ 2000 }
 {
@@ -27,7 +27,7 @@ fn insert_apart(rt: &impl Abort, store: &mut Store, numbers: &mut Numbers, high:
     }
 }
 
-/// The keys of the range but for the first, if there are others: no bound is at its low end then.
+/// The range without its first key, if it has others: no bound is at its low end then.
 fn but_the_first(range: KeyRange) -> KeyRange {
     let low = range.low().number();
     let high = range.high().number();
@@ -40,7 +40,7 @@ fn but_the_first(range: KeyRange) -> KeyRange {
     }
 }
 
-/// Pulls the pending deletions of the range, if there is a filler, and makes room for it before.
+/// Makes room, and pulls the pending deletions of the range if there is a filler.
 fn pulled_with(rt: &impl Abort, store: Store, range: KeyRange, fillers: KeyRange) -> Store {
     let mut store = store;
     make_room_at_last(rt, &mut store);
@@ -51,9 +51,9 @@ fn pulled_with(rt: &impl Abort, store: Store, range: KeyRange, fillers: KeyRange
     pull_range(store, range, fillers, first)
 }
 
-/// Pulls pending deletions of a random range in a store of random rows, as long as there are fillers by these: in bulk,
-/// or one after the other, as where the fillers' keys begin at no bound. Returns the counts, and the contents of the
-/// store once it has six more rows.
+/// Pulls pending deletions of a random range in a store of random rows, as long as there are fillers: in bulk, or
+/// one after the other, as happens if the fillers' keys don't begin at a bound. Returns the counts, and the
+/// contents of the store after six more rows were inserted.
 pub(crate) fn pulled_by(rt: &impl Abort, alloc: Global, seed: u64, in_bulk: bool) -> Vec<u64> {
     let mut numbers = Numbers(seed);
     let keys = numbers.below(60) + 1;
@@ -69,7 +69,7 @@ pub(crate) fn pulled_by(rt: &impl Abort, alloc: Global, seed: u64, in_bulk: bool
     noted_with_six_more(rt, alloc, store)
 }
 
-/// Pulls the pending deletions of a range by all fillers of the keys beyond it.
+/// Pulls the pending deletions of a range by the fillers with keys from its end up to the next bound.
 pub(crate) fn pulled_at_last(rt: &impl Abort, store: Store, range: KeyRange) -> Store
     requires { range.high ≤ GREATEST_BOUND }
 {

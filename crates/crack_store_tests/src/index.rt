@@ -1,4 +1,5 @@
-//! The bounds of a cracked column and their places. What an index has is given as numbers of bounds with their places.
+//! The bounds of a cracked column and their places. The contents of an index are given as bounds' numbers with
+//! places.
 
 ghost use Rattle.std.specs.Prelude.{◌≡◌, ◌<◌, All};
 
@@ -38,7 +39,7 @@ fn tens(rt: &impl Abort, alloc: Global) -> CrackerIndex
     index
 }
 
-/// Where the bounds 10, 20 and 30 are.
+/// The places of the bounds 10, 20 and 30.
 fn places(index: &CrackerIndex) -> [Option<usize>; 3] {
     [
         index.position(bound_at(10)),
@@ -47,7 +48,7 @@ fn places(index: &CrackerIndex) -> [Option<usize>; 3] {
     ]
 }
 
-/// Two bounds at the places 1 and 2, the second of which is added first.
+/// Two bounds at the places 1 and 2; the higher one is added first.
 fn two(rt: &impl Abort, alloc: Global, low: KeyNumber, high: KeyNumber) -> CrackerIndex
     requires some { 0 < low }
     requires order { low < high }
@@ -61,7 +62,7 @@ fn two(rt: &impl Abort, alloc: Global, low: KeyNumber, high: KeyNumber) -> Crack
     index
 }
 
-/// A mark's bound and place.
+/// The number and the place of a mark.
 fn placed(mark: Option<Mark>) -> Option<Placed> {
     match mark {
         Some(mark) => Some((mark.bound.number(), mark.position)),
@@ -73,7 +74,7 @@ fn key(number: KeyNumber) -> Key {
     Key::from_number(number)
 }
 
-/// Asserts which pieces a column of four rows has.
+/// Asserts the pieces of a column of four rows.
 fn assert_pieces(rt: &impl Abort, index: &CrackerIndex, sizes: &[(BoundNumber, BoundNumber, u64)]) {
     let pieces = index.pieces(KeyRange::all(), 4).expect(rt, "the pieces");
     assert!(rt; pieces.len() == sizes.len());
@@ -88,7 +89,7 @@ fn assert_pieces(rt: &impl Abort, index: &CrackerIndex, sizes: &[(BoundNumber, B
     }
 }
 
-/// Also the pieces, which join and make up the column.
+/// Also the pieces, which adjoin and make up the column.
 #[test]
 fn neighbours_and_pieces_of_bounds(rt: HostRuntime) {
     const SIZES: &[(BoundNumber, BoundNumber, u64)] = &[
@@ -116,7 +117,7 @@ fn neighbours_and_pieces_of_bounds(rt: HostRuntime) {
     assert!(rt; piece == between && len == 2);
 }
 
-/// The bounds 4294967296 and 18446744073709551615, which is the greatest between two keys.
+/// The bounds 4294967296 and 18446744073709551615, which is the greatest bound between two keys.
 #[test]
 fn bounds_are_as_wide_as_keys(rt: HostRuntime) {
     const SIZES: &[(BoundNumber, BoundNumber, u64)] = &[
@@ -135,8 +136,8 @@ fn bounds_are_as_wide_as_keys(rt: HostRuntime) {
     assert!(rt; above == [Some((4294967296, 1)), Some((GREATEST_KEY, 2)), None]);
 }
 
-/// The places of the bounds 10, 20 and 30 after a bound and those above it that are at its place moved up, or it and
-/// those below it that are at its place moved down.
+/// The places of the bounds 10, 20 and 30 after a bound and those at its place above it moved up, or it and those
+/// at its place below it moved down.
 fn shifted(rt: &impl Abort, alloc: Global, bound: InnerBound, raises: bool) -> [Option<usize>; 3] {
     let mut index = tens(rt, alloc);
     let place = index.position(bound).expect(rt, "the bound is there");
@@ -179,7 +180,7 @@ fn bounds_next_to_a_key(rt: HostRuntime) {
     assert!(rt; above == [Some((20, 1)), None] && below == [Some((20, 1)), None]);
 }
 
-/// Two steps up: past the place of bound 10, and past that of the other two.
+/// Two steps up: past the place of the bound 10, and past that of the other two.
 #[test]
 fn steps_up_go_from_place_to_place(rt: HostRuntime) {
     let mut index = tens(&rt, rt.alloc());
@@ -205,8 +206,7 @@ fn a_step_down_goes_to_the_place_before(rt: HostRuntime) {
     assert!(rt; ten == Some((10, 0)) && places == [Some(0), Some(0), Some(0)]);
 }
 
-/// A visitor that adds up the places that it is given, and lets the walk go on as long as it was given fewer than this
-/// many.
+/// A visitor that adds up the places it visits, and ends the walk at place number `at_most`.
 #[derive(Clone, Copy)]
 pub struct Sums {
     told: u32,

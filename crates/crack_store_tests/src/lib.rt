@@ -1,5 +1,5 @@
-//! Tests that run through the public calls of rows, cells, pending lists, the cracker column, its index and sums, a
-//! store and the merges: what no clause says.
+//! Tests through the public calls of rows, cells, pending lists, the cracker column, its index and sums, the store
+//! and the merges. They check what no contract states.
 #![tactic(auto)]
 
 #[cfg(test)]
@@ -27,7 +27,11 @@ mod script;
 #[cfg(test)]
 mod serial_hash;
 #[cfg(test)]
+mod serials;
+#[cfg(test)]
 mod sorted_index;
+#[cfg(test)]
+mod spread;
 #[cfg(test)]
 mod store;
 #[cfg(test)]

@@ -16,7 +16,7 @@ pub(crate) fn crack_between(rt: &impl Abort, store: &mut Store, range: KeyRange)
     assert!(rt; cracked.is_ok());
 }
 
-/// Cracks a store of all keys at the ends of a range, and merges at it under the policy.
+/// Cracks a store of all keys at the ends of a range, and merges for the range by the policy.
 pub(crate) fn merge_at(
     rt: &impl Abort,
     store: Store,
@@ -42,7 +42,7 @@ pub(crate) fn merge_at(
     }
 }
 
-/// How many rows were put in, taken out, evicted, moved and pulled.
+/// The counts of a report: rows put in, taken out, evicted, moved and pulled.
 pub(crate) fn numbers_of(report: MergeReport) -> [u64; 5] {
     [
         report.put_in,
@@ -194,7 +194,7 @@ const SCRIPTS: &[Script] = &[
             Step::Look([3, 0, 0], &[1, 0, 2]),
         ],
     },
-    // Both rows are put in, and the row in the way moves.
+    // Both rows are inserted, and the row in the way moves.
     Script {
         name: "complete puts two more rows in",
         first: FOUR,
@@ -205,7 +205,7 @@ const SCRIPTS: &[Script] = &[
             Step::Look([6, 0, 0], &[1, 2, 3]),
         ],
     },
-    // The row of the range is put in, and the row in the way moves.
+    // The row of the range is inserted, and the row in the way moves.
     Script {
         name: "gradual puts one of two rows in",
         first: FOUR,
@@ -216,7 +216,7 @@ const SCRIPTS: &[Script] = &[
             Step::Look([5, 1, 0], &[1, 2, 2]),
         ],
     },
-    // The row of the range is put in, and the row in the way is evicted.
+    // The row of the range is inserted, and the row in the way is evicted.
     Script {
         name: "ripple puts one of two rows in",
         first: FOUR,

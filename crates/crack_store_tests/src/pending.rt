@@ -1,5 +1,5 @@
-//! Pending rows are in order of arrival, whatever holes others left; they are compared with a plain list of keys. Tests
-//! are lists of steps.
+//! Pending rows stay in order of arrival, whatever holes removed rows leave. They are compared with a plain list of
+//! keys. Tests are lists of steps.
 ghost use Rattle.std.specs.Prelude.{List};
 ghost use Rattle.crack_row.specs.declared.Row.{Row};
 ghost use Rattle.crack_arena.specs.Arena.{Cell};
@@ -18,27 +18,27 @@ use std::process::Abort;
 /// A step of a test on a pending list. A row is given by its cell.
 #[derive(Clone, Copy)]
 enum Step {
-    /// Puts a row after all others, remembered or not.
+    /// Appends a row, whose key the list remembers or not.
     Push(u32, bool),
-    /// Takes the row at a place.
+    /// Takes the row at a place out.
     Take(usize),
     /// Removes a row, if it is in the list.
     Strike(u32),
-    /// Takes the rows of a range, one after the other.
+    /// Takes the rows of a range out, one after the other.
     TakeEach(KeyNumber, BoundNumber),
-    /// Takes the rows of a range at once.
+    /// Takes the rows of a range out at once.
     TakeAll(KeyNumber, BoundNumber),
-    /// Has codes made of the keys.
+    /// Makes codes of the keys.
     Code,
-    /// Makes the step that comes in this round after the row of a cell was removed.
+    /// Makes the step that follows the removal of a cell's row in this round.
     AfterStrike(usize, u32),
-    /// Looks for the rows of a range from each place on.
+    /// Looks for the rows of a range, from each place on.
     Find(KeyNumber, BoundNumber),
-    /// Looks at the keys of the rows, in their order.
+    /// Expects these keys of the rows, in order.
     Keys(&'static [KeyNumber]),
 }
 
-/// The keys and payloads of four rows, and how these go and come.
+/// The keys and payloads of four rows, and steps that add and remove them.
 const FOUR: &[(KeyNumber, PayloadNumber)] = &[(40, 0), (10, -1), (GREATEST_KEY, -2), (20, -3)];
 
 const GO_AND_COME: &[Step] = &[
@@ -62,7 +62,7 @@ const GO_AND_COME: &[Step] = &[
     Step::Find(10, GREATEST_BOUND - 1),
 ];
 
-/// Of the rows of ranges, some of which have keys in common, one after the other is taken.
+/// The rows of ranges, some of which overlap, are taken out one after the other.
 const EACH: &[Step] = &[
     Step::TakeEach(0, 15),
     Step::TakeEach(67, 82),
@@ -76,7 +76,7 @@ const EACH: &[Step] = &[
     Step::TakeEach(63, 78),
 ];
 
-/// The rows of the same ranges are taken at once, each time after another row.
+/// The rows of the same ranges are taken out at once, each time after another row.
 const AT_ONCE: &[Step] = &[
     Step::Take(0),
     Step::TakeAll(0, 15),
@@ -100,7 +100,7 @@ const AT_ONCE: &[Step] = &[
     Step::TakeAll(63, 78),
 ];
 
-/// Puts a row after all others, and its key after those of the list of keys.
+/// Appends a row, and its key to the list of keys.
 fn push<Kind>(
     rt: &impl Abort,
     arena: &Arena<Row>,
@@ -128,7 +128,7 @@ fn push<Kind>(
     }
 }
 
-/// Asserts that the rows have these keys, in this order, and that each is found again.
+/// Asserts that the rows have these keys, in this order, and that each row is found again.
 fn assert_keys<Kind>(
     rt: &impl Abort,
     arena: &Arena<Row>,
@@ -146,7 +146,7 @@ fn assert_keys<Kind>(
     }
 }
 
-/// The first of the keys at or after a place that lies in a range.
+/// The index of the first key at or after `from` that lies in a range.
 fn first_from(keys: &[KeyNumber], low: KeyNumber, high: BoundNumber, from: usize) -> Option<usize> {
     for place in from..keys.len() {
         if low <= keys[place] && Bound::from_number(high).is_above(Key::from_number(keys[place])) {
@@ -162,7 +162,7 @@ fn range_from(rt: &impl Abort, low: KeyNumber, high: BoundNumber) -> KeyRange {
     range.expect(rt, "a range")
 }
 
-/// Asserts that the rows are found by their keys, from each place on, as in the list of the keys.
+/// Asserts that the rows of a range are found, from each place on, as in the list of the keys.
 fn assert_found<Kind>(
     rt: &impl Abort,
     arena: &Arena<Row>,
@@ -186,7 +186,7 @@ fn assert_found<Kind>(
     }
 }
 
-/// Takes the handle at the place, whose key the list of keys has.
+/// Takes the row at a place out, and its key out of the list of keys.
 fn take<Kind>(
     rt: &impl Abort,
     arena: &Arena<Row>,
@@ -205,7 +205,7 @@ fn take<Kind>(
     assert_at(rt, is_out, "keys taken", place);
 }
 
-/// Removes the handle, if it is in the list, and its key from the list of keys.
+/// Removes the row, if it is in the list, and its key from the list of keys.
 fn strike<Kind>(
     rt: &impl Abort,
     arena: &Arena<Row>,
@@ -234,7 +234,7 @@ fn remove_key(keys: &mut Vec<KeyNumber>, key: KeyNumber) {
     }
 }
 
-/// Takes the rows of a range one after the other, and their keys out of the list of keys.
+/// Takes the rows of a range out one after the other, and their keys out of the list of keys.
 fn take_each<Kind>(
     rt: &impl Abort,
     arena: &Arena<Row>,
@@ -258,7 +258,7 @@ fn take_each<Kind>(
     }
 }
 
-/// Takes the rows of a range all at once, and their keys out of the list of keys.
+/// Takes the rows of a range out all at once, and their keys out of the list of keys.
 fn take_all<Kind>(
     rt: &impl Abort,
     arena: &Arena<Row>,
@@ -281,7 +281,7 @@ fn take_all<Kind>(
     drop(taken);
 }
 
-/// Asserts that these are the rows of a range, and takes their keys out of the list of keys.
+/// Asserts that these are all rows of a range, in order, and takes their keys out of the list of keys.
 fn assert_taken<Kind>(
     rt: &impl Abort,
     arena: &Arena<Row>,
@@ -301,8 +301,8 @@ fn assert_taken<Kind>(
     assert!(rt; first_from(keys, low, high, 0).is_none());
 }
 
-/// The step that comes in a round after a row was removed, while this many are left: another row is taken now and then,
-/// and the removed row comes again.
+/// The step after a row was removed in this round, with this many rows left: now and then another row is taken, or
+/// the removed row is added again.
 fn after_strike(round: usize, cell: u32, rows: usize) -> Step {
     if round % 5 == 4 && rows > 0 {
         Step::Take(rows / 2)
@@ -336,7 +336,7 @@ fn make<Kind>(
     }
 }
 
-/// Makes steps; after each of them the rows have the keys of the list.
+/// Makes steps. After each of them the rows have the keys of the list.
 fn make_all<Kind>(
     rt: &impl Abort,
     arena: &Arena<Row>,
@@ -357,7 +357,7 @@ fn make_all<Kind>(
     }
 }
 
-/// Makes steps in a list without rows, after those that come first.
+/// Makes steps in an empty list: those of `first`, and then the others.
 fn assert_steps<Kind: Drop>(
     rt: &impl Abort,
     alloc: Global,
@@ -384,7 +384,7 @@ fn rows_go_and_come(rt: HostRuntime) {
     assert_steps(&rt, rt.alloc(), deletions, FOUR, &[], GO_AND_COME);
 }
 
-/// Rows of the keys below 199, each once, in no particular order.
+/// Rows with the keys below 199, each once, in no particular order.
 fn scattered(rt: &impl Abort, alloc: Global) -> Vec<(KeyNumber, PayloadNumber)> {
     let mut rows = Vec::new(alloc);
     for key in 0..199u64 {
@@ -394,7 +394,7 @@ fn scattered(rt: &impl Abort, alloc: Global) -> Vec<(KeyNumber, PayloadNumber)> 
     rows
 }
 
-/// Steps that push 199 rows; of each three the first isn't remembered, unless all are.
+/// Steps that append 199 rows. Of every three rows the key of the first isn't remembered, unless `all` are.
 fn pushes(rt: &impl Abort, alloc: Global, all: bool) -> Vec<Step> {
     let mut steps = Vec::new(alloc);
     for cell in 0..199u32 {
@@ -419,9 +419,9 @@ fn strikes(rt: &impl Abort, alloc: Global) -> Vec<Step> {
     steps
 }
 
-/// Two hundred rows are removed by their handles, in no particular order; rows are taken and come again in between, and
-/// holes are closed up. Of two hundred rows those of one range after the other are taken in order of arrival, as a pass
-/// finds them ahead; and those of a range at once, in the order of their arrival, while the others are unchanged.
+/// Removes 199 rows by their handles, in no particular order; in between, rows are taken out and added again, and
+/// holes are closed up. Then takes the rows of ranges out of 199 rows, one after the other and at once: they come
+/// in order of arrival, and the others are unchanged.
 #[test]
 fn rows_go_in_any_order_and_by_ranges(rt: HostRuntime) {
     let rows = scattered(&rt, rt.alloc());

@@ -1,4 +1,5 @@
-//! Copies of replies, the size of an entry, lists of pieces, intersections of ranges, and a writer that takes nothing.
+//! Copies of replies, the size of an entry, lists of pieces, intersections of ranges, and a writer that accepts
+//! nothing.
 
 use crack_row::{
     Bound, BoundNumber, Entry, GREATEST_BOUND, GREATEST_KEY, GREATEST_PAYLOAD, Key, KeyNumber,
@@ -25,7 +26,7 @@ impl Write for Full {
     }
 }
 
-/// A row.
+/// A row of these numbers.
 fn row(serial: u64, key: KeyNumber, payload: PayloadNumber) -> Row {
     Row {
         serial: Serial(serial),
@@ -39,7 +40,7 @@ fn copy_of(rt: &impl Abort, alloc: Global, reply: &Reply) -> Reply {
     reply.copy(alloc).expect(rt, "a copy")
 }
 
-/// Asserts that a copy of a reply has this row, and isn't the same as one with another payload.
+/// Asserts that a copy of the reply to a delete has this row, and differs from a reply with another payload.
 fn assert_gone(rt: &impl Abort, alloc: Global, row: Row) {
     let gone = copy_of(rt, alloc, &Reply::Gone(row));
     let other = Row {
@@ -50,13 +51,13 @@ fn assert_gone(rt: &impl Abort, alloc: Global, row: Row) {
     assert!(rt; matches!(gone, Reply::Gone(gone) if gone == row));
 }
 
-/// Asserts that a copy of a reply has this sum.
+/// Asserts that a copy of the reply to a sum has this sum.
 fn assert_summed(rt: &impl Abort, alloc: Global, sum: i128) {
     let summed = copy_of(rt, alloc, &Reply::Summed(sum));
     assert!(rt; matches!(summed, Reply::Summed(summed) if summed == sum));
 }
 
-/// Also those with the greatest key, with the least payload, and the least sum.
+/// Also rows with the greatest key or the least payload, and the least sum.
 #[test]
 fn flat_replies_are_copied(rt: HostRuntime) {
     let placed = copy_of(&rt, rt.alloc(), &Reply::Placed(Serial(3)));
@@ -95,14 +96,14 @@ fn pieces_go_in_and_out(rt: HostRuntime) {
     drop(given_back);
 }
 
-/// The range from a low end to a high one.
+/// The range from a low end up to a high one.
 fn range(rt: &impl Abort, low: BoundNumber, high: BoundNumber) -> KeyRange {
     KeyRange::new(low, high).expect(rt, "a range")
 }
 
-/// Two ranges that meet have no intersection: the empty range at the other's low end. The range of only the greatest
-/// key ends at the greatest bound, which no range exceeds. Also the size of an entry of a history, without the rows of
-/// a select.
+/// The intersection of two adjacent ranges is the empty range at the higher one's low end. The range of only the
+/// greatest key ends at the greatest bound, which no range exceeds. Also the size of a history's entry, without the
+/// rows of a select.
 #[test]
 fn ranges_and_entries_at_their_ends(rt: HostRuntime) {
     let common = range(&rt, 0, 50).clip(range(&rt, 50, 60));
@@ -121,7 +122,7 @@ fn ranges_and_entries_at_their_ends(rt: HostRuntime) {
     assert!(rt; size_of::<Entry>() <= 96);
 }
 
-/// How many bytes of these a writer takes.
+/// How many of these bytes a writer accepts.
 fn taken(rt: &impl Abort, writer: &mut Watched<Full>, bytes: &[u8]) -> usize {
     writer.write(bytes).ok().expect(rt, "no failure")
 }

@@ -1,4 +1,4 @@
-//! Scripts: steps in a fresh store of all keys, each with what it gives.
+//! Scripts: steps in a fresh store of all keys, each with its expected result.
 ghost use Rattle.std.specs.Prelude.{◌≡◌, ◌<◌, length};
 
 use crate::merge::{merge_at, numbers_of};
@@ -16,49 +16,49 @@ pub(crate) type Numbers = (u64, KeyNumber, PayloadNumber);
 /// A step of a test on a store of all keys.
 #[derive(Clone, Copy)]
 pub(crate) enum Step {
-    /// Puts a row among the pending insertions.
+    /// Inserts a row, which becomes the last pending insertion.
     Admit(Numbers),
-    /// Puts the first pending insertion at the column's end.
+    /// Appends the first pending insertion to the column.
     Append,
-    /// Pushes the first pending insertion on once, which takes a row of this key into the hand, and appends that.
+    /// Pushes the first pending insertion on once, which takes a row with this key into the hand, and appends that
+    /// row.
     PushOnce(KeyNumber),
-    /// Cracks at the ends of a range, between which this many rows are then.
+    /// Cracks at the ends of a range, between which there are then this many rows.
     Crack(BoundNumber, BoundNumber, u64),
     /// Cancels a pending insertion, which is this row.
     Cancel(Numbers),
     /// Dooms a row of the column, which is this one.
     Doom(Numbers),
-    /// Removes a row by its serial, which is this one.
+    /// Removes the row with a serial, which is this one.
     Remove(u64, Option<Numbers>),
-    /// Puts the first row in the place of the one of its serial, which is the second.
+    /// Replaces the row with the same serial by the first row. It was the second row, or there was none.
     Replace(Numbers, Option<Numbers>),
-    /// Rewrites the row of this one's serial, which waits then.
+    /// Rewrites the row with this one's serial, which is then a pending insertion.
     Rewrite(Numbers),
-    /// Cracks by the range from 0, and reads the sum of its payloads and its rows.
+    /// Cracks at the end of the range from 0, and expects this sum of its payloads and these rows.
     Read(BoundNumber, i128, &'static [Numbers]),
-    /// Looks how many rows wait to be put in and to be taken out, how many cells there are, and how many of them are
-    /// free.
+    /// Expects this many pending insertions, pending deletions, cells and free cells.
     Count([usize; 4]),
-    /// Looks how many rows the column has.
+    /// Expects this many rows in the column.
     Column(usize),
-    /// Looks where the first pending insertion of a range is, and the first pending deletion of all keys.
+    /// Expects the first pending insertion of a range, and the first pending deletion of all keys, at these places.
     First(BoundNumber, BoundNumber, Option<usize>, Option<usize>),
-    /// Looks for the bound after one.
+    /// Expects the second bound as the next one above the first.
     Next(BoundNumber, BoundNumber),
-    /// Looks whether the row of a serial is pending, and which row it is.
+    /// Expects whether the row with a serial is pending, and which row it is.
     Row(u64, Option<bool>, Option<Numbers>),
-    /// Looks how many rows the layout counts; and at the sizes of the pieces.
+    /// Expects this many rows in the layout, or these sizes of the pieces.
     Rows(u64),
     Sizes(&'static [u64]),
-    /// Merges at the keys between two ends. The merge counts this many rows put in, taken out, evicted, moved and
-    /// pulled; then this many rows are between the ends.
+    /// Merges for the range between two ends. Expects these counts of the merge (rows put in, taken out, evicted,
+    /// moved and pulled), and then this many rows between the ends.
     Merge(Policy, [BoundNumber; 2], [u64; 5], u64),
-    /// Looks how many rows the layout counts in the column, in the pending insertions and in the pending deletions, and
-    /// at the sizes of the pieces, in rising order.
+    /// Expects in the layout this many rows of the column, pending insertions and pending deletions, and these
+    /// sizes of the pieces, in rising order of keys.
     Look([u64; 3], &'static [u64]),
 }
 
-/// Steps under a name, in a fresh store of all keys, after those that come first.
+/// Named steps in a fresh store of all keys, after those of `first`.
 #[derive(Clone, Copy)]
 pub(crate) struct Script {
     pub(crate) name: &'static str,
@@ -91,7 +91,7 @@ fn lift_first(rt: &impl Abort, store: Store) -> Carrying
     store.lift(0)
 }
 
-/// Pushes on, before the column's end.
+/// Pushes the hand on, if its piece ends before the column does.
 fn push_on(rt: &impl Abort, carrying: Carrying) -> Carrying
     ensures room { result.store.column_room ≡ carrying.store.column_room }
     ensures doomed { result.store.pending_out ≡ carrying.store.pending_out }
@@ -104,7 +104,7 @@ fn push_on(rt: &impl Abort, carrying: Carrying) -> Carrying
     carrying
 }
 
-/// Ends a carry at the column's end.
+/// Ends a carry by appending the hand to the column.
 fn append(rt: &impl Abort, carrying: Carrying) -> Store
     requires room { 0 < carrying.store.column_room }
     requires doomed { length carrying.store.pending_out ≡ 0 }
@@ -115,8 +115,8 @@ fn append(rt: &impl Abort, carrying: Carrying) -> Store
     carrying.append()
 }
 
-/// Pushes the first pending insertion on once, and appends the row that is in the hand then. It has this key, and is
-/// the only one of three that moved.
+/// Pushes the first pending insertion on once, and appends the row that is then in hand. That row has this key, and
+/// is the only one that moved; three rows were put in.
 fn push_once(rt: &impl Abort, store: Store, key: KeyNumber) -> Store {
     let carrying = push_on(rt, lift_first(rt, store));
     let (_, row) = carrying.hand();
@@ -136,7 +136,7 @@ pub(crate) fn assert_all_keys(rt: &impl Abort, store: &Store)
     assert!(rt; all.high() <= keys.high());
 }
 
-/// Whether a row is put among the pending insertions.
+/// Whether a row can be inserted, and is then a pending insertion.
 pub(crate) fn admits(rt: &impl Abort, store: &mut Store, new: Row) -> bool {
     assert_all_keys(rt, store);
     if store.is_pending(new.serial).is_some() || store.cells() >= 1000 {
@@ -145,7 +145,7 @@ pub(crate) fn admits(rt: &impl Abort, store: &mut Store, new: Row) -> bool {
     store.admit(new).is_ok() && store.is_pending(new.serial) == Some(true)
 }
 
-/// Whether a pending insertion is cancelled that is this row, and is gone then.
+/// Whether a pending insertion that is this row can be cancelled, and is gone then.
 fn cancels(store: &mut Store, gone: Row) -> bool {
     let freed = store.freed();
     let doomed = store.pending_out();
@@ -157,7 +157,7 @@ fn cancels(store: &mut Store, gone: Row) -> bool {
         && store.freed() == freed + 1
 }
 
-/// Whether a row of the column is doomed that is this one, and is gone then.
+/// Whether this row, which is in the column, can be doomed, and is gone then.
 pub(crate) fn dooms(store: &mut Store, gone: Row) -> bool {
     let freed = store.freed();
     let doomed = store.pending_out();
@@ -169,7 +169,7 @@ pub(crate) fn dooms(store: &mut Store, gone: Row) -> bool {
         && store.pending_out() == doomed + 1
 }
 
-/// Whether the row that is removed by its serial is this one.
+/// Whether removing the row with a serial returns this row.
 fn removes(store: &mut Store, serial: u64, gone: Option<Row>) -> bool {
     if store.freed() >= 1000 || store.pending_out() >= 1000 {
         return false;
@@ -177,7 +177,7 @@ fn removes(store: &mut Store, serial: u64, gone: Option<Row>) -> bool {
     store.remove(Serial(serial)) == Ok(gone)
 }
 
-/// Whether the row in the place of which this one is put is the old one.
+/// Whether replacing a row by this one returns the old row.
 fn replaces(rt: &impl Abort, store: &mut Store, new: Row, old: Option<Row>) -> bool {
     assert_all_keys(rt, store);
     if store.freed() >= 1000 || store.pending_out() >= 1000 || store.cells() >= 1000 {
@@ -186,7 +186,7 @@ fn replaces(rt: &impl Abort, store: &mut Store, new: Row, old: Option<Row>) -> b
     store.replace(new) == Ok(old)
 }
 
-/// Whether a row is rewritten so, and waits then.
+/// Whether a row can be rewritten as this one, and is then a pending insertion.
 fn rewrites(rt: &impl Abort, store: &mut Store, new: Row) -> bool {
     assert_all_keys(rt, store);
     if store.is_pending(new.serial).is_none() || store.cells() >= 1000 {
@@ -200,7 +200,7 @@ fn rewrites(rt: &impl Abort, store: &mut Store, new: Row) -> bool {
         && store.is_pending(new.serial) == Some(true)
 }
 
-/// Whether this many rows are between two ends after a crack at them.
+/// Whether there are this many rows between two ends after a crack at them.
 fn cracks(store: &mut Store, low: BoundNumber, high: BoundNumber, rows: u64) -> bool {
     match KeyRange::new(low, high) {
         Ok(range) => store.crack(range).is_ok() && store.count_between(range) == rows,
@@ -218,7 +218,7 @@ fn are_rows(rows: &[Row], numbers: &[Numbers]) -> bool {
     rows.len() == numbers.len()
 }
 
-/// Whether the rows of the range from 0 have this sum, and are listed so, after a crack by it.
+/// Whether the rows of the range from 0 have this sum and are these, after a crack at its end.
 fn reads(store: &mut Store, high: BoundNumber, sum: i128, rows: &[Numbers]) -> bool {
     let Ok(range) = KeyRange::new(0, high) else {
         return false;
@@ -245,7 +245,7 @@ fn are_sizes(pieces: &[PieceSize], sizes: &[u64]) -> bool {
     pieces.len() == sizes.len()
 }
 
-/// Whether the layout is as the step says.
+/// Whether the layout is as the step expects.
 fn is_laid_out(store: &Store, step: Step) -> bool {
     let Ok(layout) = store.layout() else {
         return false;
@@ -262,8 +262,8 @@ fn is_laid_out(store: &Store, step: Step) -> bool {
     }
 }
 
-/// Whether the first pending insertion of the keys between two ends is at this place, and the first pending deletion of
-/// all keys at the other.
+/// Whether the first pending insertion of the keys between two ends is at this place, and the first pending
+/// deletion of all keys at the other.
 fn finds(
     store: &Store,
     low: BoundNumber,
@@ -279,7 +279,7 @@ fn finds(
     }
 }
 
-/// How many rows wait to be put in and to be taken out, how many cells there are, and how many of them are free.
+/// The number of pending insertions, pending deletions, cells and free cells.
 fn numbers(store: &Store) -> [usize; 4] {
     [
         store.pending_in(),
@@ -289,7 +289,7 @@ fn numbers(store: &Store) -> [usize; 4] {
     ]
 }
 
-/// Looks at a store; returns whether it is as the step says.
+/// Whether a store is as the step expects.
 fn looks(store: &Store, step: Step) -> bool {
     match step {
         Step::Count(counted) => numbers(store) == counted,
@@ -306,7 +306,7 @@ fn looks(store: &Store, step: Step) -> bool {
     }
 }
 
-/// Makes a step in place; returns whether it gave what it should.
+/// Makes a step in place, and returns whether it had the expected result.
 fn change(rt: &impl Abort, store: &mut Store, step: Step) -> bool {
     match step {
         Step::Admit(new) => admits(rt, store, row(new)),
@@ -321,7 +321,8 @@ fn change(rt: &impl Abort, store: &mut Store, step: Step) -> bool {
     }
 }
 
-/// Merges at a range; returns the store, whether the merge counts this, and whether as many rows are in the range then.
+/// Merges for a range. Returns the store, and whether the merge has these counts and the range then has this many
+/// rows.
 fn merges(
     rt: &impl Abort,
     store: Store,
@@ -338,7 +339,7 @@ fn merges(
     (store, numbers_of(report) == counted && count == rows)
 }
 
-/// Makes a step; returns the store, and whether the step gave what it should.
+/// Makes a step. Returns the store, and whether the step had the expected result.
 fn make(rt: &impl Abort, store: Store, step: Step) -> (Store, bool) {
     match step {
         Step::Append => (append(rt, lift_first(rt, store)), true),
@@ -352,12 +353,12 @@ fn make(rt: &impl Abort, store: Store, step: Step) -> (Store, bool) {
     }
 }
 
-/// Asserts what holds at a place of a list with this name.
+/// Asserts a condition for this index in a list with this name.
 pub(crate) fn assert_at(rt: &impl Abort, holds: bool, name: &str, place: usize) {
     assert!(rt; holds, "{name}: at {place}");
 }
 
-/// Makes steps, and asserts what each gives.
+/// Makes steps, and asserts the result of each.
 fn make_all(rt: &impl Abort, store: Store, name: &str, steps: &[Step]) -> Store {
     let mut store = store;
     'steps: for place in 0..steps.len() {
@@ -368,7 +369,7 @@ fn make_all(rt: &impl Abort, store: Store, name: &str, steps: &[Step]) -> Store 
     store
 }
 
-/// Asserts what each step of a script gives.
+/// Asserts the result of each step of a script.
 pub(crate) fn assert_script(rt: &impl Abort, alloc: Global, script: Script) {
     let Script { name, first, steps } = script;
     let store = make_all(rt, Store::new(alloc, KeyRange::all()), name, first);

@@ -1,5 +1,5 @@
-//! The hash of serials chooses groups of a map's table: one group for neighbours, others for rows that are kept far
-//! apart.
+//! The hash of serials chooses groups of a map's table: the same group for neighbours, and different ones for
+//! serials that are far apart.
 ghost use Rattle.std.specs.Prelude.{◌<◌};
 
 use crack_store::serial_hash::SerialHashing;
@@ -7,20 +7,20 @@ use std::alloc::Global;
 use std::hash::BuildHasher;
 use std::process::Abort;
 
-/// How many rows a group of the map's table has places for.
+/// The number of rows that a group of the map's table holds.
 const PLACES: u32 = 12;
 
-/// How many rows a group has on average when the table is full.
+/// The number of rows that a group has on average when the table is full.
 const LOAD: u64 = 9;
 
-/// The group of a serial in a table of this many groups, a power of two.
+/// The group of a serial in a table with this many groups, a power of two.
 fn group_of(serial: u64, groups: usize) -> usize
     requires { 0 < groups }
 {
     (SerialHashing.hash_one(serial) % groups as u64) as usize
 }
 
-/// The most rows that one group gets, of this many rows whose serials are a step apart.
+/// The number of rows in the fullest group, for this many rows whose serials are `step` apart.
 fn most_in_one(rt: &impl Abort, alloc: Global, groups: usize, step: u64, rows: u64) -> u32
     requires { 0 < groups }
 {
@@ -36,7 +36,7 @@ fn most_in_one(rt: &impl Abort, alloc: Global, groups: usize, step: u64, rows: u
     most
 }
 
-/// Asserts that the four serials from this one on share a group, and have hashes of their own.
+/// Asserts that the four serials from this one on share a group, and have different hashes.
 fn assert_neighbours(rt: &impl Abort, serial: u64) {
     for next in 1..4 {
         let other = serial.wrapping_add(next);
@@ -52,8 +52,7 @@ fn neighbours_share_a_group(rt: HostRuntime) {
     }
 }
 
-/// If serials follow one another from the first on, no group gets more rows than it has places, up to a full table
-/// of each size.
+/// For consecutive serials from 0 on, no group gets more rows than it holds, up to a full table of each size.
 #[test]
 fn rows_in_order_find_their_groups_free(rt: HostRuntime) {
     for groups in [512, 4096, 65536] {
@@ -63,7 +62,8 @@ fn rows_in_order_find_their_groups_free(rt: HostRuntime) {
     }
 }
 
-/// Of a million serials each 8,192nd: no two share a group, be the table for a million rows or the smallest.
+/// If only each 8,192nd of a million serials is kept, no two share a group, in a table for a million rows and in
+/// the smallest.
 #[test]
 fn rows_kept_far_apart_do_not_pile_up(rt: HostRuntime) {
     let large = most_in_one(&rt, rt.alloc(), 131072, 8192, 123);

@@ -1,4 +1,4 @@
-//! The index compared with bounds in a sorted vector, over lists of calls from a seed.
+//! The index compared with a sorted vector of bounds, over pseudo-random lists of calls.
 
 ghost use Rattle.std.specs.Prelude.{◌<◌, All};
 
@@ -8,7 +8,7 @@ use crack_row::{InnerBound, Key, KeyNumber};
 use std::alloc::Global;
 use std::process::Abort;
 
-/// The position of the bound, if it is in the index.
+/// The place of the bound, if it is in the vector.
 fn place_of(marks: &[Placed], number: KeyNumber) -> Option<usize> {
     'marks: for i in 0..marks.len() {
         if marks[i].0 == number {
@@ -18,7 +18,7 @@ fn place_of(marks: &[Placed], number: KeyNumber) -> Option<usize> {
     None
 }
 
-/// Puts a mark after those at or below its bound.
+/// Inserts a mark after those at or below its bound.
 fn insert(rt: &impl Abort, marks: &mut Vec<Placed>, mark: Placed) {
     let mut at = 0;
     'marks: for i in 0..marks.len() {
@@ -30,7 +30,7 @@ fn insert(rt: &impl Abort, marks: &mut Vec<Placed>, mark: Placed) {
     assert!(rt; marks.insert(at, mark).is_ok());
 }
 
-/// Adds the bound at the place to both, if it isn't there.
+/// Adds the bound to both, at the place where its piece begins, if it isn't there.
 fn add(rt: &impl Abort, index: &mut CrackerIndex, marks: &mut Vec<Placed>, bound: InnerBound) {
     let room = index.reserve(1);
     assert!(rt; room.is_ok());
@@ -43,7 +43,7 @@ fn add(rt: &impl Abort, index: &mut CrackerIndex, marks: &mut Vec<Placed>, bound
     insert(rt, marks, (bound.number(), piece.from));
 }
 
-/// The bound and those above it that are at its place move up, in both.
+/// Moves the bound and those above it at its place up by one, in both.
 fn raise(rt: &impl Abort, index: &mut CrackerIndex, marks: &mut [Placed], bound: InnerBound) {
     let Some(place) = index.position(bound) else {
         return;
@@ -57,7 +57,7 @@ fn raise(rt: &impl Abort, index: &mut CrackerIndex, marks: &mut [Placed], bound:
     }
 }
 
-/// The bound and those below it that are at its place move down, in both.
+/// Moves the bound and those below it at its place down by one, in both.
 fn lower(index: &mut CrackerIndex, marks: &mut [Placed], bound: InnerBound) {
     let Some(place) = index.position(bound) else {
         return;
@@ -73,7 +73,7 @@ fn lower(index: &mut CrackerIndex, marks: &mut [Placed], bound: InnerBound) {
     }
 }
 
-/// A walk down from the number over this many places, in both.
+/// Walks down from the key over this many places, in both.
 fn descend(index: &mut CrackerIndex, marks: &mut [Placed], key: KeyNumber, places: u32) {
     let mut visitor = ending_at(places.saturating_add(1));
     index.descend(Key::from_number(key), &mut visitor);
@@ -109,13 +109,13 @@ fn assert_same(rt: &impl Abort, index: &CrackerIndex, marks: &[Placed]) {
     }
 }
 
-/// The next of the numbers from a seed.
+/// The pseudo-random number after this one.
 fn next(seed: u64) -> u64 {
     seed.wrapping_mul(6364136223846793005)
         .wrapping_add(1442695040888963407)
 }
 
-/// A thousand calls from a seed; both are the same after each of them.
+/// Makes a thousand calls from a seed, and asserts after each that both are the same.
 fn call(rt: &impl Abort, alloc: Global, seed: u64) {
     let mut index = CrackerIndex::new(alloc);
     let mut marks: Vec<Placed> = Vec::new(alloc);
@@ -142,7 +142,7 @@ fn the_index_stands_as_a_sorted_vector_does(rt: HostRuntime) {
     call(&rt, rt.alloc(), 2);
 }
 
-/// Bounds that are added in rising order: a tree that is never rotated would be seven high.
+/// Adds bounds in rising order: a tree that is never rotated would be seven high.
 #[test]
 fn seven_bounds_in_rising_order_stand_three_high(rt: HostRuntime) {
     let mut index = CrackerIndex::new(rt.alloc());
@@ -155,7 +155,7 @@ fn seven_bounds_in_rising_order_stand_three_high(rt: HostRuntime) {
     assert!(rt; told == [7, 3]);
 }
 
-/// Adds the bound at a place that rises with it, to both, if it isn't there.
+/// Adds the bound to both, at a place that rises with it, if it isn't there.
 fn add_rising(rt: &impl Abort, index: &mut CrackerIndex, marks: &mut Vec<Placed>, bound: InnerBound)
     requires { All (λ m. m.position < usize.MAX) index.old.marks }
     ensures { All (λ m. m.position < usize.MAX) index.new.marks }
@@ -173,7 +173,7 @@ fn add_rising(rt: &impl Abort, index: &mut CrackerIndex, marks: &mut Vec<Placed>
     insert(rt, marks, (bound.number(), place));
 }
 
-/// A walk up from the number over this many places, in both.
+/// Walks up from the key over this many places, in both.
 fn climb(index: &mut CrackerIndex, marks: &mut [Placed], key: KeyNumber, places: u32)
     requires { All (λ m. m.position < usize.MAX) index.old.marks }
 {
@@ -197,7 +197,7 @@ fn climb(index: &mut CrackerIndex, marks: &mut [Placed], key: KeyNumber, places:
     }
 }
 
-/// A walk up over bounds from a seed; both are the same after it.
+/// Walks up once over bounds from a seed, and asserts that both are then the same.
 fn climb_once(rt: &impl Abort, alloc: Global, seed: u64) {
     let mut index = CrackerIndex::new(alloc);
     let mut marks: Vec<Placed> = Vec::new(alloc);

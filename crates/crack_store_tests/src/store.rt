@@ -1,4 +1,4 @@
-//! A store: each call with ample memory; and which bounds move where several are at one place.
+//! Calls of a store with ample memory, and which bounds move if several are at one place.
 use crate::script::{Script, Step, assert_script};
 use crack_row::GREATEST_BOUND;
 
@@ -17,7 +17,7 @@ const SCRIPTS: &[Script] = &[
             Step::Next(20, GREATEST_BOUND),
         ],
     },
-    // both bounds at a place move up together when a row is put there whose key is below them
+    // Both bounds at a place move up together when a row with a key below them is put there.
     Script {
         name: "two bounds at one place move together",
         first: &[],
@@ -34,7 +34,8 @@ const SCRIPTS: &[Script] = &[
             Step::Sizes(&[0, 2, 0, 1]),
         ],
     },
-    // the low bound of an empty piece stays where it is, though it is where the piece's high bound moves up
+    // The low bound of an empty piece stays where it is, though the piece's high bound, which is at the same place,
+    // moves up.
     Script {
         name: "the low bound of an empty piece stays",
         first: &[],
@@ -50,7 +51,7 @@ const SCRIPTS: &[Script] = &[
             Step::Sizes(&[2, 1, 0]),
         ],
     },
-    // a pending row is removed immediately
+    // A pending insertion is removed immediately.
     Script {
         name: "pending rows go at once",
         first: &[],
@@ -75,7 +76,8 @@ const SCRIPTS: &[Script] = &[
             Step::First(20, 21, Some(1), None),
         ],
     },
-    // a row of the column stays there as a pending deletion, and a rewritten one also waits in a new cell
+    // A row of the column stays there as a pending deletion, and a rewritten one is also a pending insertion in a
+    // new cell.
     Script {
         name: "rows of the column are doomed",
         first: &[],
@@ -91,7 +93,7 @@ const SCRIPTS: &[Script] = &[
             Step::Rows(2),
         ],
     },
-    // a row is returned as it was, whether it waits or is in the column; none if there is none
+    // A replaced row is returned as it was, whether it was pending or in the column; none is if there was none.
     Script {
         name: "a replaced row comes back",
         first: &[],
@@ -107,8 +109,8 @@ const SCRIPTS: &[Script] = &[
             Step::Count([2, 1, 4, 0]),
         ],
     },
-    // a pending row frees its cell, a row of the column stays there as a pending deletion, and a row that is gone isn't
-    // found again
+    // A removed pending insertion frees its cell, and a removed row of the column stays there as a pending
+    // deletion. A removed row isn't found again.
     Script {
         name: "a row is removed wherever it stands",
         first: &[],
@@ -142,7 +144,7 @@ const SCRIPTS: &[Script] = &[
             Step::Read(17, 13, &[(0, 16, 8), (1, 10, 5)]),
         ],
     },
-    // rows whose serials are far apart are found by them, and none between them
+    // Rows with serials that are far apart are found by them, and no row is found between them.
     Script {
         name: "rows kept far apart are found",
         first: &[],

@@ -1,4 +1,4 @@
-//! Which sums are asked of a source, and which aren't; the numbers that don't fit. Tests are lists of steps.
+//! Which sums a source is asked for and which it isn't, and sums that don't fit. Tests are lists of steps.
 
 use crate::script::assert_at;
 use crack_index::{PieceSums, Source};
@@ -7,7 +7,8 @@ use std::alloc::Global;
 use std::cell::Cell;
 use std::process::Abort;
 
-/// A row at each key, all with one payload. It counts how often it is asked, and has no sums while it is silent.
+/// A source with a row at each key, all with one payload. It counts how often it is asked, and returns no sum while
+/// it is silent.
 #[derive(Drop)]
 struct Rows {
     payload: i128,
@@ -42,21 +43,21 @@ fn keys_in(range: KeyRange) -> BoundNumber {
 /// A step of a test on the sums of rows.
 #[derive(Clone, Copy)]
 enum Step {
-    /// Sums a range, which gives this; then the rows were asked this many times.
+    /// Sums a range, which returns this; the source has then been asked this many times.
     Sum(BoundNumber, BoundNumber, Option<i128>, u32),
-    /// Notes that the payloads at a key change by this much.
+    /// Adjusts the known sums for a change by this much at a key.
     Adjust(KeyNumber, i128),
-    /// The rows have no sums from now on, or have them again.
+    /// Makes the source silent, or lets it return sums again.
     Silence(bool),
-    /// Rows with this payload are asked from now on, and were never asked before.
+    /// Sets the payload of the source's rows, and its count of questions to 0.
     Rows(i128),
-    /// Looks how many pieces there are.
+    /// Expects this many pieces.
     Pieces(usize),
     /// Forgets all pieces.
     Clear,
 }
 
-/// Steps under a name, with fresh sums of rows of payload 3.
+/// Named steps, with fresh sums over rows with payload 3.
 #[derive(Clone, Copy)]
 struct Script {
     name: &'static str,
@@ -72,7 +73,7 @@ const SCRIPTS: &[Script] = &[
             Step::Sum(10, 15, Some(15), 2),
             Step::Sum(15, 20, Some(15), 2),
             Step::Sum(18, 20, Some(6), 3),
-            // at the first key of a piece, at its last, and below all pieces
+            // At the first key of a piece, at its last, and below all pieces.
             Step::Adjust(15, 100),
             Step::Adjust(17, 1000),
             Step::Adjust(9, 10000),
@@ -92,11 +93,11 @@ const SCRIPTS: &[Script] = &[
             Step::Sum(90, 100, Some(30), 2),
             Step::Sum(20, 90, Some(210), 3),
             Step::Sum(0, 20, Some(60), 3),
-            // both ends in one piece: its rest is two parts
+            // Both ends are in one piece, and its rest is two parts.
             Step::Sum(25, 80, Some(165), 5),
             Step::Sum(20, 90, Some(210), 5),
             Step::Sum(80, 90, Some(30), 5),
-            // and the part, if that is less
+            // The part is asked for, if it is less than the rest.
             Step::Sum(40, 50, Some(30), 6),
             Step::Sum(25, 80, Some(165), 8),
         ],
@@ -123,7 +124,7 @@ const SCRIPTS: &[Script] = &[
     },
 ];
 
-/// Makes a step; returns whether it gave what it should.
+/// Makes a step, and returns whether it had the expected result.
 fn make(sums: &mut PieceSums, rows: &mut Rows, step: Step) -> bool {
     match step {
         Step::Sum(low, high, sum, asked) => match KeyRange::new(low, high) {
@@ -151,7 +152,7 @@ fn make(sums: &mut PieceSums, rows: &mut Rows, step: Step) -> bool {
     }
 }
 
-/// Asserts what each step gives, with fresh sums of rows of payload 3.
+/// Asserts the result of each step, with fresh sums over rows with payload 3.
 fn assert_script(rt: &impl Abort, alloc: Global, script: Script) {
     let Script { name, steps } = script;
     let mut rows = Rows {

@@ -8,19 +8,20 @@ use Rattle.std.proofs.lemmas.List.Folds.{Any-from_list_any}
 use Rattle.std.proofs.lemmas.List.{get_or_append_left, get_or_at, get_or_default}
 use Rattle.std.proofs.lemmas.Bool.Decides.{nat_tests}
 use Rattle.std.proofs.lemmas.List.Quantifiers.{all_pairs_push}
-use Rattle.crack_kept.specs.declared.receipt.Receipt.{Receipt}
-use Rattle.crack_table.specs.Cover.{KeptState, has_place, CoveredBelow, IsCovered, IsGap, first_stranger, first_late, is_late, IsFault, Covers}
+use Rattle.crack_row.specs.declared.command.Entry.{Entry}
+use Rattle.crack_witness.specs.declared.receipt.Receipt.{Receipt}
+use Rattle.crack_table.specs.Cover.{has_place, CoveredBelow, IsCovered, IsGap, first_stranger, first_late, is_late, IsFault, Covers}
 use Rattle.crack_table.specs.Coverage.{named_place}
 
 tail_none : (b : Bool) (r : Receipt) (o : Option Receipt) → cond (not b) (Some r) o ≡ None → (b ≡ true) × (o ≡ None)
 tail_none true r o is = (refl, is)
 tail_none false r o is = cc
 
-pub all_placed : (kept : List KeptState) (rs : List Receipt) → first_stranger kept rs ≡ None → All (λ r. has_place kept r ≡ true) rs
-all_placed kept [] none = All-nil (λ r. has_place kept r ≡ true)
-all_placed kept (r ∷ rs) none =
-    let t = tail_none (has_place kept r) r (first_stranger kept rs) none in
-    All-cons (λ r. has_place kept r ≡ true) r rs t.0 (all_placed kept rs t.1)
+pub all_placed : (lists : List (List Entry)) (rs : List Receipt) → first_stranger lists rs ≡ None → All (λ r. has_place lists r ≡ true) rs
+all_placed lists [] none = All-nil (λ r. has_place lists r ≡ true)
+all_placed lists (r ∷ rs) none =
+    let t = tail_none (has_place lists r) r (first_stranger lists rs) none in
+    All-cons (λ r. has_place lists r ≡ true) r rs t.0 (all_placed lists rs t.1)
 
 or_parts : (a b : Bool) → (a || b) ≡ false → (a ≡ false) × (b ≡ false)
 or_parts true b is = cc
@@ -53,20 +54,20 @@ from_map : (o : Option Receipt) (place : ℕ × ℕ) → Some place ≡ option_m
 from_map None place is = cc
 from_map (Some r) place is = let e : place ≡ named_place r = cc in (r, refl, sym (ap (λ p. p.0) e), sym (ap (λ p. p.1) e))
 
-pub stranger_fault : (kept : List KeptState) (rs : List Receipt) (place : ℕ × ℕ) → CoveredBelow kept rs (length kept) → Some place ≡ option_map named_place (first_stranger kept rs) → IsFault kept rs place.0 place.1
-stranger_fault kept rs place met is = inr (inl (met, from_map (first_stranger kept rs) place is))
+pub stranger_fault : (lists : List (List Entry)) (rs : List Receipt) (place : ℕ × ℕ) → CoveredBelow lists rs (length lists) → Some place ≡ option_map named_place (first_stranger lists rs) → IsFault lists rs place.0 place.1
+stranger_fault lists rs place met is = inr (inl (met, from_map (first_stranger lists rs) place is))
 
-pub late_fault : (kept : List KeptState) (rs : List Receipt) (place : ℕ × ℕ) → CoveredBelow kept rs (length kept) → first_stranger kept rs ≡ None → Some place ≡ option_map named_place (first_late [] rs) → IsFault kept rs place.0 place.1
-late_fault kept rs place met none is = inr (inr (met, none, from_map (first_late [] rs) place is))
+pub late_fault : (lists : List (List Entry)) (rs : List Receipt) (place : ℕ × ℕ) → CoveredBelow lists rs (length lists) → first_stranger lists rs ≡ None → Some place ≡ option_map named_place (first_late [] rs) → IsFault lists rs place.0 place.1
+late_fault lists rs place met none is = inr (inr (met, none, from_map (first_late [] rs) place is))
 
 found_absurd : (b : Bool) (r s : Receipt) (o : Option Receipt) → b ≡ true → cond (not b) (Some s) o ≡ Some r → o ≡ Some r
 found_absurd true r s o b_is is = is
 found_absurd false r s o b_is is = cc
 
-stranger_absurd : (kept : List KeptState) (rs : List Receipt) (r : Receipt) → first_stranger kept rs ≡ Some r → All (λ r. has_place kept r ≡ true) rs → ⊥
-stranger_absurd kept [] r is all = cc
-stranger_absurd kept (s ∷ ss) r is all =
-    stranger_absurd kept ss r (found_absurd (has_place kept s) r s (first_stranger kept ss) (All-head (λ r. has_place kept r ≡ true) s ss all) is) (All-tail (λ r. has_place kept r ≡ true) s ss all)
+stranger_absurd : (lists : List (List Entry)) (rs : List Receipt) (r : Receipt) → first_stranger lists rs ≡ Some r → All (λ r. has_place lists r ≡ true) rs → ⊥
+stranger_absurd lists [] r is all = cc
+stranger_absurd lists (s ∷ ss) r is all =
+    stranger_absurd lists ss r (found_absurd (has_place lists s) r s (first_stranger lists ss) (All-head (λ r. has_place lists r ≡ true) s ss all) is) (All-tail (λ r. has_place lists r ≡ true) s ss all)
 
 late_here : (done : List Receipt) (x : Receipt) (rs : List Receipt) → list_any (λ a. is_late a x) done ≡ true → AllPairs IsPunctual (done ++ x ∷ rs) → ⊥
 late_here done x rs late rises =
@@ -92,8 +93,8 @@ late_absurd done (x ∷ rs) r is rises =
     (λ later. late_absurd (done ++ x ∷ []) rs r later (subst P (sym (append_assoc done (x ∷ []) rs)) rises))
     (if_some (list_any (λ a. is_late a x) done) r x (first_late (done ++ x ∷ []) rs) is)
 
-gap_absurd : (rs : List Receipt) (p : ℕ) (k : KeptState) (n : ℕ) → IsGap rs p k n → IsCovered rs p k → ⊥
-gap_absurd rs p k n gap covered = ⊎_elim (λ unmet. unmet.2 (covered.met n unmet.0 unmet.1)) (λ miscount. miscount.1 covered.counted) gap
+gap_absurd : (rs : List Receipt) (p : ℕ) (list : List Entry) (n : ℕ) → IsGap rs p list n → IsCovered rs p list → ⊥
+gap_absurd rs p list n gap covered = gap.2 (covered n gap.0 gap.1)
 
 -- receipts of one worker in one partition name rising places exactly if none is late
 abbrev RisesTo : Receipt → Receipt → Type 0
@@ -117,12 +118,12 @@ all_punctual : (rs : List Receipt) → AllPairs RisesTo rs → AllPairs IsPunctu
 all_punctual rs all i j d before within = punctual_to (get_or rs i d) (get_or rs j d) (all i j d before within) (is_late (get_or rs i d) (get_or rs j d)) refl
 
 -- if a place is at fault the receipts aren't a cover
-pub fault_uncovered : (kept : List KeptState) (rs : List Receipt) (p n : ℕ) → IsFault kept rs p n → Covers kept rs → ⊥
-fault_uncovered kept rs p n fault covers =
+pub fault_uncovered : (lists : List (List Entry)) (rs : List Receipt) (p n : ℕ) → IsFault lists rs p n → Covers lists rs → ⊥
+fault_uncovered lists rs p n fault covers =
     ⊎_elim
     (λ first. gap_absurd rs p first.0 n first.2 (covers.covered p first.0 first.1))
     (λ other. ⊎_elim
-    (λ strange. stranger_absurd kept rs strange.1.0 strange.1.1 covers.placed)
+    (λ strange. stranger_absurd lists rs strange.1.0 strange.1.1 covers.placed)
     (λ late. late_absurd [] rs late.2.0 late.2.1 (all_punctual rs covers.rising))
     other)
     fault

@@ -1,5 +1,5 @@
--- Receipts that cover the pasts of partitions have the same sums.
-use Rattle.std.proofs.Common.{◌≡◌, ◌<◌, ℕ, ◌+◌, ◌-◌, List, [], ◌∷◌, length, map, Bool, true, false, cond, ◌==◌, ◌&&◌, Option, Some, None, refl, ap, arith, sym, zero, suc, ◌∙◌, add-zero}
+-- Receipts that cover lists of entries have the same sums.
+use Rattle.std.proofs.Common.{◌≡◌, ℕ, ◌+◌, List, [], ◌∷◌, length, map, Bool, true, false, cond, ◌==◌, ◌&&◌, Option, Some, None, refl, ap, arith, sym, zero, suc, ◌∙◌, add-zero}
 use Rattle.std.specs.Prelude.{filter, All, is_some, nat_lt, sum_by}
 use Rattle.std.specs.List.{slice_get}
 use Rattle.std.proofs.lemmas.Bool.Decides.{nat_tests}
@@ -7,22 +7,17 @@ use Rattle.std.proofs.lemmas.List.Sums.{sum_by-cons}
 use Rattle.std.proofs.lemmas.List.Elements.{All-nil, All-cons, All-head, All-tail, All-weaker}
 use Rattle.std.proofs.lemmas.Option.{slice_get_within}
 use Rattle.crack_row.specs.declared.command.Entry.{Entry}
-use Rattle.crack_kept.specs.declared.receipt.Receipt.{Receipt}
-use Rattle.crack_kept.specs.Receipts.{entry_of}
+use Rattle.crack_witness.specs.declared.receipt.Receipt.{Receipt}
+use Rattle.crack_witness.specs.Receipts.{entry_of, entries_of, AreShares}
 use Rattle.crack_plain.specs.Totals.{is_placed, is_gone, inserted, deleted}
-use Rattle.crack_table.specs.Cover.{KeptState, place_at, has_place, IsMetBy, folded_entries, IsCovered, Covers}
-use Rattle.crack_table.specs.Coverage.{Place, place_in, names}
-use Rattle.crack_table.specs.Coverage.{IsSole}
-use Rattle.crack_table.proofs.Places.{part_of, places}
+use Rattle.crack_table.specs.Cover.{at, has_place, IsMetBy, Covers}
+use Rattle.crack_table.specs.Coverage.{names, IsSole}
+use Rattle.crack_table.proofs.Places.{row_of, some_within}
 
 -- g 0 + .. + g (n - 1)
 abbrev pub sum_upto : (ℕ → ℕ) → ℕ → ℕ
 sum_upto g zero = 0
 sum_upto g (suc n) = sum_upto g n + g n
-
-sum_upto_same : (g h : ℕ → ℕ) (n : ℕ) → ((k : ℕ) → k < n → g k ≡ h k) → sum_upto g n ≡ sum_upto h n
-sum_upto_same g h zero same = refl
-sum_upto_same g h (suc n) same = rw (sum_upto_same g h n (λ k lt. same k (omega arith)), same n (omega arith)) refl
 
 -- one more than the bound
 split_by : (key : ℕ) (n x s t u : ℕ) (a b c : Bool) → a ≡ nat_lt key (suc n) → b ≡ nat_lt key n → c ≡ (key == n) → s ≡ t + u
@@ -92,116 +87,76 @@ some_of : {X : Type 0} (o : Option X) → is_some o ≡ true → (x : X) × (o �
 some_of None is = cc
 some_of (Some x) is = (x, refl)
 
-sum_from : (key : Receipt → ℕ) (F : Receipt → ℕ) (rs : List Receipt) (base n : ℕ) → sum_by F (filter (λ r. nat_lt (key r) (base + n)) rs) ≡ sum_by F (filter (λ r. nat_lt (key r) base) rs) + sum_upto (λ k. sum_by F (filter (λ r. key r == base + k) rs)) n
-sum_from key F rs base zero = let e : base + 0 ≡ base = omega arith in rw e (omega arith)
-sum_from key F rs base (suc n) =
-    let e : base + suc n ≡ suc (base + n) = omega arith in
-    let more = split_more key F rs (base + n) in
-    let rest = sum_from key F rs base n in
-    rw e (omega (arith, more, rest))
-
--- the sum of the keys below a base, and of those from there on, key by key
-pub by_key_from : (key : Receipt → ℕ) (F : Receipt → ℕ) (rs : List Receipt) (base n : ℕ) → All (λ r. nat_lt (key r) (base + n) ≡ true) rs → sum_by F rs ≡ sum_by F (filter (λ r. nat_lt (key r) base) rs) + sum_upto (λ k. sum_by F (filter (λ r. key r == base + k) rs)) n
-by_key_from key F rs base n all = ap (λ l. sum_by F l) (sym (filter_always (λ r. nat_lt (key r) (base + n)) rs all)) ∙ sum_from key F rs base n
-
 -- what a cover implies for the places
-record AreMet (kept : List KeptState) (rs : List Receipt) : Type 0 where
-  covered : (p : ℕ) (k : KeptState) → slice_get kept p ≡ Some k → IsCovered rs p k
-  placed : All (λ r. has_place kept r ≡ true) rs
+place_row : (lists : List (List Entry)) (r : Receipt) → has_place lists r ≡ true → (list : List Entry) × (slice_get lists r.part ≡ Some list) × (nat_lt r.position (length list) ≡ true)
+place_row lists r is =
+    let e = some_of (at lists r.part r.position) is in
+    let row = row_of (slice_get lists r.part) r.position e.0 e.1 in
+    (row.0, row.1, sym (some_within row.0 r.position) ∙ ap is_some row.2)
 
-place_row : (kept : List KeptState) (r : Receipt) → has_place kept r ≡ true → (k : KeptState) × (slice_get kept r.part ≡ Some k) × (nat_lt r.position (k.folded + length k.tail) ≡ true)
-place_row kept r is =
-    let e = some_of (place_in kept r.part r.position) is in
-    let k = part_of kept r.part r.position e.0 e.1 in (k.0, k.1, sym (places k.0 r.position) ∙ rw k.2 refl)
-
-parts_within : (kept : List KeptState) (rs : List Receipt) → All (λ r. has_place kept r ≡ true) rs → All (λ r. nat_lt r.part (length kept) ≡ true) rs
-parts_within kept rs all =
-    All-weaker (λ r. has_place kept r ≡ true) (λ r. nat_lt r.part (length kept) ≡ true)
-    (λ r is. let row = place_row kept r is in let lt = slice_get_within kept r.part row.0 row.1 in grind (arith, nat_tests, lt))
+parts_within : (lists : List (List Entry)) (rs : List Receipt) → All (λ r. has_place lists r ≡ true) rs → All (λ r. nat_lt r.part (length lists) ≡ true) rs
+parts_within lists rs all =
+    All-weaker (λ r. has_place lists r ≡ true) (λ r. nat_lt r.part (length lists) ≡ true)
+    (λ r is. let row = place_row lists r is in let lt = slice_get_within lists r.part row.0 row.1 in grind (arith, nat_tests, lt))
     rs all
 
-position_within : (kept : List KeptState) (p : ℕ) (k : KeptState) (r : Receipt) → slice_get kept p ≡ Some k → has_place kept r ≡ true → (r.part == p) ≡ true → nat_lt r.position (k.folded + length k.tail) ≡ true
-position_within kept p k r k_is is same =
-    let row = place_row kept r is in
+position_within : (lists : List (List Entry)) (p : ℕ) (list : List Entry) (r : Receipt) → slice_get lists p ≡ Some list → has_place lists r ≡ true → (r.part == p) ≡ true → nat_lt r.position (length list) ≡ true
+position_within lists p list r list_is is same =
+    let row = place_row lists r is in
     let e : r.part ≡ p = grind (arith, nat_tests) in
-    let row_is : slice_get kept p ≡ Some row.0 = rw (← e) row.1 in
-    let one : row.0 ≡ k = cc in
+    let row_is : slice_get lists p ≡ Some row.0 = rw (← e) row.1 in
+    let one : row.0 ≡ list = cc in
     rw (← one) row.2
 
-positions_within : (kept : List KeptState) (p : ℕ) (k : KeptState) → slice_get kept p ≡ Some k → (rs : List Receipt) → All (λ r. has_place kept r ≡ true) rs → All (λ r. nat_lt r.position (k.folded + length k.tail) ≡ true) (filter (λ r. r.part == p) rs)
-positions_within kept p k k_is [] all = All-nil (λ r. nat_lt r.position (k.folded + length k.tail) ≡ true)
-positions_within kept p k k_is (r ∷ rs) all =
-    all_cond (λ r. nat_lt r.position (k.folded + length k.tail) ≡ true) (r.part == p) r (filter (λ r. r.part == p) rs)
-    (position_within kept p k r k_is (All-head (λ r. has_place kept r ≡ true) r rs all))
-    (positions_within kept p k k_is rs (All-tail (λ r. has_place kept r ≡ true) r rs all))
+positions_within : (lists : List (List Entry)) (p : ℕ) (list : List Entry) → slice_get lists p ≡ Some list → (rs : List Receipt) → All (λ r. has_place lists r ≡ true) rs → All (λ r. nat_lt r.position (length list) ≡ true) (filter (λ r. r.part == p) rs)
+positions_within lists p list list_is [] all = All-nil (λ r. nat_lt r.position (length list) ≡ true)
+positions_within lists p list list_is (r ∷ rs) all =
+    all_cond (λ r. nat_lt r.position (length list) ≡ true) (r.part == p) r (filter (λ r. r.part == p) rs)
+    (position_within lists p list r list_is (All-head (λ r. has_place lists r ≡ true) r rs all))
+    (positions_within lists p list list_is rs (All-tail (λ r. has_place lists r ≡ true) r rs all))
 
-sole_sum : (f : Entry → ℕ) (place : Place) (named : List Receipt) → (sole : IsSole place named) → sum_by (λ r. f (entry_of r)) named ≡ f (entry_of sole.0)
-sole_sum f place named sole = rw sole.1 (sum_by-cons (λ r. f (entry_of r)) sole.0 [] ∙ add-zero (f (entry_of sole.0)))
+sole_sum : (f : Entry → ℕ) (entry : Entry) (named : List Receipt) → (sole : IsSole entry named) → sum_by (λ r. f (entry_of r)) named ≡ f (entry_of sole.0)
+sole_sum f entry named sole = rw sole.1 (sum_by-cons (λ r. f (entry_of r)) sole.0 [] ∙ add-zero (f (entry_of sole.0)))
 
-place_sum : (f : Entry → ℕ) (rs : List Receipt) (p n : ℕ) (place : Place) → (met : IsMetBy rs p n place) → sum_by (λ r. f (entry_of r)) (filter (λ r. r.position == n) (filter (λ r. r.part == p) rs)) ≡ f (entry_of met.0)
-place_sum f rs p n place met =
-    ap (λ l. sum_by (λ r. f (entry_of r)) l) (filter_filter (λ r. r.part == p) (λ r. r.position == n) rs) ∙ sole_sum f place (filter (names p n) rs) met
+place_sum : (f : Entry → ℕ) (rs : List Receipt) (p n : ℕ) (entry : Entry) → (met : IsMetBy rs p n entry) → sum_by (λ r. f (entry_of r)) (filter (λ r. r.position == n) (filter (λ r. r.part == p) rs)) ≡ f entry
+place_sum f rs p n entry met =
+    ap (λ l. sum_by (λ r. f (entry_of r)) l) (filter_filter (λ r. r.part == p) (λ r. r.position == n) rs) ∙ (sole_sum f entry (filter (names p n) rs) met ∙ ap f met.2)
 
-standing_at : (k : KeptState) (n : ℕ) (e : Entry) → slice_get k.tail n ≡ Some e → place_at k (k.folded + n) ≡ Some (Some e)
-standing_at k n e is =
-    let above : nat_lt (k.folded + n) k.folded ≡ false = grind (arith, nat_tests) in
-    let same : k.folded + n - k.folded ≡ n = omega arith in
-    rw (above, same, is) refl
+-- the total of the receipts of a partition is that of its entries
+part_counted : (f : Entry → ℕ) (lists : List (List Entry)) (rs : List Receipt) → Covers lists rs → (p : ℕ) (list : List Entry) → slice_get lists p ≡ Some list
+    → sum_by (λ r. f (entry_of r)) (filter (λ r. r.part == p) rs) ≡ sum_by f list
+part_counted f lists rs covers p list list_is =
+    by_key (λ r. r.position) (λ r. f (entry_of r)) (filter (λ r. r.part == p) rs) (length list) (positions_within lists p list list_is rs covers.placed)
+    ∙ sum_list f list (λ n. sum_by (λ r. f (entry_of r)) (filter (λ r. r.position == n) (filter (λ r. r.part == p) rs)))
+    (λ n e e_is. place_sum f rs p n e (covers.covered p list list_is n e e_is))
 
-folded_at : (k : KeptState) (n : ℕ) → n < k.folded → place_at k n ≡ Some None
-folded_at k n lt = let below : nat_lt n k.folded ≡ true = grind (arith, nat_tests, lt) in rw below refl
+-- the total of receipts that cover is that of all entries
+counted : (f : Entry → ℕ) (lists : List (List Entry)) (rs : List Receipt) → Covers lists rs → sum_by f (entries_of rs) ≡ sum_by (λ (list : List Entry). sum_by f list) lists
+counted f lists rs covers =
+    sym (sum_entries f rs)
+    ∙ (by_key (λ r. r.part) (λ r. f (entry_of r)) rs (length lists) (parts_within lists rs covers.placed)
+    ∙ sum_list (λ (list : List Entry). sum_by f list) lists (λ p. sum_by (λ r. f (entry_of r)) (filter (λ r. r.part == p) rs))
+    (λ p list list_is. part_counted f lists rs covers p list list_is))
 
--- the total of the receipts of a partition is that of its checkpointed places and of the entries since
-part_counted : (f : Entry → ℕ) (kept : List KeptState) (rs : List Receipt) → AreMet kept rs → (p : ℕ) (k : KeptState) → slice_get kept p ≡ Some k
-    → sum_by (λ r. f (entry_of r)) (filter (λ r. r.part == p) rs) ≡ sum_by (λ r. f (entry_of r)) (filter (λ r. nat_lt r.position k.folded) (filter (λ r. r.part == p) rs)) + sum_by f k.tail
-part_counted f kept rs are p k k_is =
-    let whole = by_key_from (λ r. r.position) (λ r. f (entry_of r)) (filter (λ r. r.part == p) rs) k.folded (length k.tail) (positions_within kept p k k_is rs are.placed) in
-    let rest = sum_list f k.tail (λ n. sum_by (λ r. f (entry_of r)) (filter (λ r. r.position == k.folded + n) (filter (λ r. r.part == p) rs)))
-    (λ n e e_is.
-    let met = (are.covered p k k_is).met (k.folded + n) (Some e) (standing_at k n e e_is) in
-    place_sum f rs p (k.folded + n) (Some e) met ∙ ap f met.2) in
-    whole ∙ ap (λ s. sum_by (λ r. f (entry_of r)) (filter (λ r. nat_lt r.position k.folded) (filter (λ r. r.part == p) rs)) + s) rest
+abbrev one : Entry → ℕ
+one e = 1
 
-sum_ones : (n : ℕ) → sum_upto (λ k. 1) n ≡ n
-sum_ones zero = refl
-sum_ones (suc n) = let h = sum_ones n in omega (arith, h)
+long-sum : (es : List Entry) → sum_by one es ≡ length es
+long-sum [] = refl
+long-sum (e ∷ es) = sum_by-cons one e es ∙ rw (long-sum es) (omega arith)
 
--- each checkpointed place has one receipt
-folded_once : (kept : List KeptState) (rs : List Receipt) → AreMet kept rs → (p : ℕ) (k : KeptState) → slice_get kept p ≡ Some k
-    → sum_by (λ r. 1) (filter (λ r. nat_lt r.position k.folded) (filter (λ r. r.part == p) rs)) ≡ k.folded
-folded_once kept rs are p k k_is =
-    split_upto (λ r. r.position) (λ r. 1) (filter (λ r. r.part == p) rs) k.folded
-    ∙ (sum_upto_same (λ n. sum_by (λ r. 1) (filter (λ r. r.position == n) (filter (λ r. r.part == p) rs))) (λ n. 1) k.folded
-    (λ n lt. place_sum (λ e. 1) rs p n None ((are.covered p k k_is).met n None (folded_at k n lt)))
-    ∙ sum_ones k.folded)
+long-sums : (lists : List (List Entry)) → sum_by (λ (list : List Entry). sum_by one list) lists ≡ sum_by (λ (list : List Entry). length list) lists
+long-sums [] = refl
+long-sums (list ∷ lists) =
+    sum_by-cons (λ (list : List Entry). sum_by one list) list lists
+    ∙ rw (long-sums lists, long-sum list) (sym (sum_by-cons (λ (list : List Entry). length list) list lists))
 
--- the checkpointed receipts, by their entries
-folded_sum : (f : Entry → ℕ) (rs : List Receipt) (p folded : ℕ) → sum_by (λ r. f (entry_of r)) (filter (λ r. nat_lt r.position folded) (filter (λ r. r.part == p) rs)) ≡ sum_by f (folded_entries rs p folded)
-folded_sum f rs p folded =
-    ap (λ l. sum_by (λ r. f (entry_of r)) l) (filter_filter (λ r. r.part == p) (λ r. nat_lt r.position folded) rs)
-    ∙ sum_entries f (filter (λ r. (r.part == p) && nat_lt r.position folded) rs)
-
--- the total of receipts that cover is that of the checkpointed commands, counted by f, and of the entries since
-counted : (f : Entry → ℕ) (base : KeptState → ℕ) (kept : List KeptState) (rs : List Receipt) → AreMet kept rs
-    → ((p : ℕ) (k : KeptState) → slice_get kept p ≡ Some k → sum_by (λ r. f (entry_of r)) (filter (λ r. nat_lt r.position k.folded) (filter (λ r. r.part == p) rs)) ≡ base k)
-    → sum_by (λ r. f (entry_of r)) rs ≡ sum_by (λ k. base k + sum_by f k.tail) kept
-counted f base kept rs are folded =
-    by_key (λ r. r.part) (λ r. f (entry_of r)) rs (length kept) (parts_within kept rs are.placed)
-    ∙ sum_list (λ k. base k + sum_by f k.tail) kept (λ p. sum_by (λ r. f (entry_of r)) (filter (λ r. r.part == p) rs))
-    (λ p k k_is. part_counted f kept rs are p k k_is ∙ ap (λ s. s + sum_by f k.tail) (folded p k k_is))
-
-met_by : (kept : List KeptState) (rs : List Receipt) → Covers kept rs → AreMet kept rs
-met_by kept rs covers = record { covered = covers.covered; placed = covers.placed }
-
-pub all_counted : (kept : List KeptState) (rs : List Receipt) → Covers kept rs → sum_by (λ r. 1) rs ≡ sum_by (λ k. k.folded + sum_by (λ (e : Entry). 1) k.tail) kept
-all_counted kept rs covers = counted (λ e. 1) (λ k. k.folded) kept rs (met_by kept rs covers) (folded_once kept rs (met_by kept rs covers))
-
-pub placed_counted : (kept : List KeptState) (rs : List Receipt) → Covers kept rs → sum_by (λ r. cond (is_placed (entry_of r).reply) 1 0) rs ≡ sum_by (λ k. k.placed + inserted k.tail) kept
-placed_counted kept rs covers =
-    counted (λ e. cond (is_placed e.reply) 1 0) (λ k. k.placed) kept rs (met_by kept rs covers)
-    (λ p k k_is. folded_sum (λ e. cond (is_placed e.reply) 1 0) rs p k.folded ∙ ((met_by kept rs covers).covered p k k_is).counted.0)
-
-pub gone_counted : (kept : List KeptState) (rs : List Receipt) → Covers kept rs → sum_by (λ r. cond (is_gone (entry_of r).reply) 1 0) rs ≡ sum_by (λ k. k.gone + deleted k.tail) kept
-gone_counted kept rs covers =
-    counted (λ e. cond (is_gone e.reply) 1 0) (λ k. k.gone) kept rs (met_by kept rs covers)
-    (λ p k k_is. folded_sum (λ e. cond (is_gone e.reply) 1 0) rs p k.folded ∙ ((met_by kept rs covers).covered p k k_is).counted.1)
+-- so the totals of the lists are those of the receipts
+pub are_shares : (lists : List (List Entry)) (rs : List Receipt) (answers placed gone : ℕ) → Covers lists rs
+    → answers ≡ sum_by (λ (list : List Entry). length list) lists → placed ≡ sum_by (λ (list : List Entry). inserted list) lists → gone ≡ sum_by (λ (list : List Entry). deleted list) lists
+    → AreShares rs answers placed gone
+are_shares lists rs answers placed gone covers answers_are placed_are gone_are = record {
+  accepted_is = answers_are ∙ (sym (long-sums lists) ∙ (sym (counted one lists rs covers) ∙ long-sum (entries_of rs)));
+  inserted_is = placed_are ∙ sym (counted (λ (e : Entry). cond (is_placed e.reply) 1 0) lists rs covers);
+  deleted_is = gone_are ∙ sym (counted (λ (e : Entry). cond (is_gone e.reply) 1 0) lists rs covers);
+}

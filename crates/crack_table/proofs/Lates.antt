@@ -11,7 +11,7 @@ use denote.Ref.{Bor}
 use Rattle.std.specs.Prelude.{if◌then◌else◌, is_some}
 use Rattle.crack_table.proofs.StateLaws.{flat_read}
 use Rattle.std.proofs.lemmas.List.Folds.{list_any-append}
-use Rattle.crack_kept.specs.declared.receipt.Receipt.{Receipt}
+use Rattle.crack_witness.specs.declared.receipt.Receipt.{Receipt}
 use Rattle.crack_table.specs.Cover.{is_late, first_late}
 use Rattle.crack_table.specs.Coverage.{named_place, is_late_at, pair_cmp, Tracks}
 

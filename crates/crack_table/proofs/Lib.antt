@@ -1,14 +1,15 @@
 mod Places
 mod StateLaws
-mod KindLaws
-mod Causes
 mod Opens
 mod Lates
 mod Conclusions
 mod Counting
-pub mod Totals
+mod Shares
+mod Causes
+mod Placing
+mod Hiring
+mod Partitions
+mod Counts
 pub mod Missing
-mod Refusing
-mod Others
 mod RepeatLaws
 pub mod Crosses

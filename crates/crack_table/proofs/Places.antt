@@ -1,13 +1,10 @@
--- Places in a list of lists, and in the pasts that partitions keep.
-use Rattle.std.proofs.Common.{◌≡◌, ◌≢◌, ◌<◌, ◌≤◌, ℕ, ◌+◌, ◌-◌, List, [], ◌∷◌, length, get_or, set, zero, suc, Bool, true, false, ◌==◌, ◌&&◌, Option, Some, None, refl, ap, arith, subst, sym, ◌∙◌}
+-- Places in a list of lists.
+use Rattle.std.proofs.Common.{◌≡◌, ◌≢◌, ℕ, List, [], ◌∷◌, length, set, zero, suc, Bool, true, false, ◌==◌, ◌&&◌, Option, Some, None, refl, ap, arith, subst, sym}
 use Rattle.std.specs.List.{slice_get}
-use Rattle.std.specs.Option.{option_map, option_and_then}
+use Rattle.std.specs.Option.{option_and_then}
 use Rattle.std.proofs.lemmas.Bool.Decides.{nat_tests}
-use Rattle.std.specs.Prelude.{map, nat_lt, is_some, if◌then◌else◌}
-use Rattle.crack_table.specs.declared.kept.Kept.{Kept}
-use Rattle.crack_table.specs.Cover.{KeptState, told, place_at}
-use Rattle.crack_table.specs.Coverage.{Place, place_in}
-use Rattle.crack_table.specs.Coverage.{at}
+use Rattle.std.specs.Prelude.{nat_lt, is_some}
+use Rattle.crack_table.specs.Cover.{at}
 
 pub get_set_same : {X : Type 0} (xs : List X) (k : ℕ) (x y : X) → slice_get xs k ≡ Some x → slice_get (set xs k y) k ≡ Some y
 get_set_same [] k x y is = cc
@@ -45,49 +42,8 @@ at_set_by xss p n q m row y row_is false is other =
 pub at_set_other : {X : Type 0} (xss : List (List X)) (p n q m : ℕ) (row : List X) (y : X) → slice_get xss p ≡ Some row → ((p == q) && (n == m)) ≡ false → at (set xss p (set row n y)) q m ≡ at xss q m
 at_set_other xss p n q m row y row_is other = at_set_by xss p n q m row y row_is (p == q) refl other
 
--- the place at a position of one of the partitions
-pub place_in-there : (kept : List KeptState) (p n : ℕ) (k : KeptState) → slice_get kept p ≡ Some k → place_in kept p n ≡ place_at k n
-place_in-there kept p n k is = rw is refl
-
--- an existing partition has a place
-pub part_of : (kept : List KeptState) (p n : ℕ) (place : Place) → place_in kept p n ≡ Some place → (k : KeptState) × (slice_get kept p ≡ Some k) × (place_at k n ≡ Some place)
-part_of kept p n place is = found (slice_get kept p) refl is
-  where
-    found : (o : Option KeptState) → slice_get kept p ≡ o → option_and_then (λ k. place_at k n) o ≡ Some place → (k : KeptState) × (slice_get kept p ≡ Some k) × (place_at k n ≡ Some place)
-    found None here is = cc
-    found (Some k) here is = (k, here, is)
-
--- a partition as the caller passes it
-pub read_told : (ks : List Kept) (i : ℕ) (k : Kept) → i < length ks → k ≡ get_or ks i k → slice_get (map told ks) i ≡ Some (told k)
-read_told [] i k lt read = absurd (omega arith)
-read_told (x ∷ xs) zero k lt read = rw read refl
-read_told (x ∷ xs) (suc i) k lt read = read_told xs i k (omega arith) read
-
-pub get_told : (ks : List Kept) (i : ℕ) (k : Kept) → slice_get ks i ≡ Some k → slice_get (map told ks) i ≡ Some (told k)
-get_told [] i k is = cc
-get_told (x ∷ xs) zero k is = let e : x ≡ k = cc in ap (λ y. Some (told y)) e
-get_told (x ∷ xs) (suc i) k is = get_told xs i k is
-
-pub get_none : {X : Type 0} (xs : List X) (i : ℕ) → length xs ≤ i → slice_get xs i ≡ None
-get_none [] i long = refl
-get_none (x ∷ xs) zero long = absurd (omega arith)
-get_none (x ∷ xs) (suc i) long = get_none xs i (omega arith)
-
+-- there is an element exactly below the length
 pub some_within : {X : Type 0} (xs : List X) (i : ℕ) → is_some (slice_get xs i) ≡ nat_lt i (length xs)
 some_within [] i = let f : nat_lt i 0 ≡ false = grind (arith, nat_tests) in sym f
 some_within (x ∷ xs) zero = let f : nat_lt 0 (suc (length xs)) ≡ true = grind (arith, nat_tests) in sym f
 some_within (x ∷ xs) (suc i) = let f : nat_lt (suc i) (suc (length xs)) ≡ nat_lt i (length xs) = grind (arith, nat_tests) in rw f (some_within xs i)
-
-some_mapped : {X Y : Type 0} (f : X → Y) (o : Option X) → is_some (option_map f o) ≡ is_some o
-some_mapped f None = refl
-some_mapped f (Some x) = refl
-
-place_by : (k : KeptState) (n : ℕ) (b : Bool) → nat_lt n k.folded ≡ b → is_some (if b then Some None else option_map Some (slice_get k.tail (n - k.folded))) ≡ nat_lt n (k.folded + length k.tail)
-place_by k n true is = let f : nat_lt n (k.folded + length k.tail) ≡ true = grind (arith, nat_tests) in sym f
-place_by k n false is =
-    let f : nat_lt n (k.folded + length k.tail) ≡ nat_lt (n - k.folded) (length k.tail) = grind (arith, nat_tests) in
-    some_mapped Some (slice_get k.tail (n - k.folded)) ∙ (some_within k.tail (n - k.folded) ∙ sym f)
-
--- there are as many places as commands were checkpointed and entries are
-pub places : (k : KeptState) (n : ℕ) → is_some (place_at k n) ≡ nat_lt n (k.folded + length k.tail)
-places k n = place_by k n (nat_lt n k.folded) refl

@@ -1,9 +1,9 @@
 -- Replies follow from the base and from the commands, so steps with the same commands have the same answers.
-use Rattle.std.specs.Prelude.{◌≡◌, ◌≢◌, ◌⊎◌, ℕ, zero, suc, ◌+◌, ◌<◌, ◌≤◌, ◌==◌, ◌&&◌, not, Bool, true, false, cond, List, [], ◌∷◌, ◌++◌, length, map, take, Option, None, Some, IfSome, IsOk, Result, Ok, Err, slice_get, All, nat_le, nat_lt, if◌then◌else◌}
+use Rattle.std.specs.Prelude.{◌≡◌, ◌≢◌, ◌⊎◌, ℕ, suc, ◌+◌, ◌<◌, ◌≤◌, ◌==◌, ◌&&◌, not, Bool, true, false, cond, List, [], ◌∷◌, ◌++◌, length, map, take, Option, None, Some, IfSome, IsOk, Result, Ok, Err, slice_get, All, nat_le, if◌then◌else◌}
 use Rattle.std.specs.Option.{option_map, option_or}
 use Rattle.std.proofs.Common.{ap, sym, refl, subst, ◌∙◌, arith, inl, inr, ⊎_elim, get_or, append-nil, append_assoc, length-append}
 use Rattle.std.proofs.lemmas.Bool.{eq-eqb, ne_eqb, cases_eq, le-leb, lt-leb, lt-ltb}
-use Rattle.std.proofs.lemmas.List.{map-append, length-map}
+use Rattle.std.proofs.lemmas.List.{map-append, length-map, get_or-map}
 use Rattle.std.proofs.lemmas.Option.{slice_get-map, slice_get_within, slice_get-get_or, get_or_from_slice_get}
 use Rattle.crack_row.specs.Commands.{key_of}
 use Rattle.crack_row.specs.Ranges.{Range, IsIn}
@@ -15,27 +15,28 @@ use Rattle.crack_row.specs.declared.command.Reply.{Reply}
 use Rattle.crack_row.specs.declared.limit.Limits.{Limits}
 use Rattle.crack_row.specs.declared.refusal.Refusal.{Refusal}
 use Rattle.crack_row.specs.declared.refusal.Refusal.TheVariants.{KeyOutside, HistoryFull, LifeOver, OutOfMemory, NoCell}
-use Rattle.crack_plain.specs.Past.{Past, IsLegal, state_after, with_entry, accepted_in}
-use Rattle.crack_plain.specs.Plain.{PlainState, PlainView, AreReplies, reply_to, after}
+use Rattle.crack_plain.specs.Past.{Past, IsLegal, state_after, with_entry, accepted_in, folded}
+use Rattle.crack_plain.specs.Plain.{PlainState, PlainView, AreReplies, checkpointed, reply_to, after}
 use Rattle.crack_plain.proofs.PastLaws.{state_after-push}
 use Rattle.crack_plain.proofs.Words.{IsWithin, BringWithin, replay_from}
-use Rattle.crack_kept.specs.Parts.{Part, IsSound}
-use Rattle.crack_part.specs.Refusals.{is_key_in, stopped_by, first_cause}
-use Rattle.crack_kept.specs.Refusals.{table_of}
-use Rattle.crack_part.specs.Upkeep.{is_automatic}
-use Rattle.crack_kept.specs.Upkeep.{upkept}
-use Rattle.crack_kept.proofs.UpkeepLaws.{upkept-room, table_of-upkept}
-use Rattle.crack_table.specs.Parts.{AreParts, pasts_of}
+use Rattle.crack_part.specs.Refusals.{is_key_in}
+use Rattle.crack_part.specs.Parts.{Part}
+use Rattle.crack_part.specs.Upkeep.{is_automatic, is_due}
+use Rattle.crack_core.specs.Opening.{AreParts}
 use Rattle.crack_core.specs.Routes.{keys_of_part}
-use Rattle.crack_core.specs.Steps.{bounds_of, mapped, unless, expected, MayLackCell, IsOutcome, table_after, upkept_by}
-use Rattle.crack_core.specs.Jobs.{after_job, after_jobs, IsJobOutcome, AreExpectedOutcomes}
+use Rattle.crack_core.specs.Steps.{bounds_of, mapped, unless, expected, IsOutcome, table_after, upkept_by}
+use Rattle.crack_core.specs.Jobs.{after_job, after_jobs, IsJobOutcome}
 use Rattle.crack_core.proofs.JobLaws.{outcome-alike}
 use Rattle.crack_core.specs.declared.step.Step.{Step}
 use Rattle.crack_core.specs.declared.step.Job.{Job}
 use Rattle.crack_core.specs.declared.step.Job.TheVariants.{Perform}
 use Rattle.crack_core.specs.declared.step.Done.{Done}
 use Rattle.crack_core.specs.declared.step.Done.TheVariants.{Replied}
-use Rattle.crack_table.specs.Repeats.{asked, asked_of, replies_at, first_refusal, at_base, table_at_base, said, AreAsked, AreRepeated, Repeats}
+use Rattle.crack_witness.specs.Histories.{upkept_past}
+use Rattle.crack_witness.specs.Witnesses.{WitnessedState, IsWhole, past_of}
+use Rattle.crack_witness.proofs.Pasts.{upkept-room}
+use Rattle.crack_table.specs.Gather.{held_by}
+use Rattle.crack_table.specs.Repeats.{pasts_of, asked, asked_of, replies_of_part, first_refusal, at_base, table_of_past, table_at_base, said, Repeats}
 
 -- an entry in the middle has the reply of the state that those before it leave
 middle-reply : (s : PlainState) (xs ys : List Entry) (e : Entry) → AreReplies s (xs ++ e ∷ ys) → e.reply ≡ reply_to (replay_from s xs) e.command
@@ -63,7 +64,7 @@ record OnTheWay (past now : Past) (asks : List Command) : Type 0 where
   pub coming : asks ≡ map asked rest
 
 -- the next command of a partition is to be answered as it was
-next-answered : (limits : Limits) (keys : Range) (past now : Past) (e : Entry) (rest : List Entry) → IsLegal keys limits past → now.base ≡ past.base → past.tail ≡ now.tail ++ e ∷ rest → expected (bounds_of limits) keys (Some (table_of now)) e.command ≡ Ok e.reply
+next-answered : (limits : Limits) (keys : Range) (past now : Past) (e : Entry) (rest : List Entry) → IsLegal keys limits past → now.base ≡ past.base → past.tail ≡ now.tail ++ e ∷ rest → expected (bounds_of limits) keys (Some (table_of_past now)) e.command ≡ Ok e.reply
 next-answered limits keys past now e rest legal base tails =
     let long : length past.tail ≡ length now.tail + length (e ∷ rest) = ap length tails ∙ length-append now.tail (e ∷ rest) in
     let more : length (e ∷ rest) ≡ suc (length rest) = refl in
@@ -93,21 +94,29 @@ made worker step reply = record { worker = worker; command = step.command; reply
 
 -- the past of one partition with these limits after a step: one of its own that was answered is one more entry, after upkeep is done
 abbrev past_after : Limits → ℕ → ℕ → Step → Result Reply Refusal → Past → Past
-past_after limits worker part step (Ok reply) past = if step.part == part then with_entry (upkept limits past) (made worker step reply) else past
+past_after limits worker part step (Ok reply) past = if step.part == part then with_entry (upkept_past limits past) (made worker step reply) else past
 past_after limits worker part step (Err e) past = past
 
 -- one more entry is one more command of the plain table
-table_of-push : (past : Past) (e : Entry) → table_of (with_entry past e) ≡ table_after (table_of past) e.command
-table_of-push past e =
+table_of_past-push : (past : Past) (e : Entry) → table_of_past (with_entry past e) ≡ table_after (table_of_past past) e.command
+table_of_past-push past e =
     let long : length (past.tail ++ e ∷ []) ≡ length past.tail + 1 = omega (arith, length-append past.tail (e ∷ [])) in
     rw (state_after-push past e, long) refl
 
+-- upkeep does the same to a past and to its plain table
+table_of_past-upkept : (limits : Limits) (past : Past) → table_of_past (upkept_past limits past) ≡ upkept_by (bounds_of limits) (table_of_past past)
+table_of_past-upkept limits past = by_test (is_due limits (length past.tail))
+  where
+    by_test : (b : Bool) → table_of_past (cond b (folded past) past) ≡ cond b (checkpointed (table_of_past past)) (table_of_past past)
+    by_test true = refl
+    by_test false = refl
+
 -- the plain table of a past after a step is its plain table after that step
-table-stepped : (limits : Limits) (worker part : ℕ) (step : Step) (r : Result Reply Refusal) (past : Past) → table_of (past_after limits worker part step r past) ≡ after_job limits part (Perform step) (mapped Replied r) (table_of past)
+table-stepped : (limits : Limits) (worker part : ℕ) (step : Step) (r : Result Reply Refusal) (past : Past) → table_of_past (past_after limits worker part step r past) ≡ after_job limits part (Perform step) (mapped Replied r) (table_of_past past)
 table-stepped limits worker part step (Ok reply) past = by_test (step.part == part)
   where
-    by_test : (b : Bool) → table_of (cond b (with_entry (upkept limits past) (made worker step reply)) past) ≡ cond b (table_after (upkept_by (bounds_of limits) (table_of past)) step.command) (table_of past)
-    by_test true = table_of-push (upkept limits past) (made worker step reply) ∙ ap (λ (t : PlainView). table_after t step.command) (table_of-upkept limits past)
+    by_test : (b : Bool) → table_of_past (cond b (with_entry (upkept_past limits past) (made worker step reply)) past) ≡ cond b (table_after (upkept_by (bounds_of limits) (table_of_past past)) step.command) (table_of_past past)
+    by_test true = table_of_past-push (upkept_past limits past) (made worker step reply) ∙ ap (λ (t : PlainView). table_after t step.command) (table_of_past-upkept limits past)
     by_test false = refl
 table-stepped limits worker part step (Err e) past = refl
 
@@ -115,7 +124,7 @@ table-stepped limits worker part step (Err e) past = refl
 abbrev Outcomes : Limits → List Bound → (ℕ → Option Past) → List Step → List (Result Reply Refusal) → Type 0
 Outcomes limits splits now steps results =
     (k : ℕ) (job : Job) (result : Result Done Refusal) → slice_get (map Perform steps) k ≡ Some job → slice_get (map (mapped Replied) results) k ≡ Some result →
-    IsJobOutcome (bounds_of limits) splits (λ part. option_map (λ (past : Past). after_jobs limits part (take k (map Perform steps)) (take k (map (mapped Replied) results)) (table_of past)) (now part)) job result
+    IsJobOutcome (bounds_of limits) splits (λ part. option_map (λ (past : Past). after_jobs limits part (take k (map Perform steps)) (take k (map (mapped Replied) results)) (table_of_past past)) (now part)) job result
 
 -- the partitions after one step
 abbrev stepped : Limits → ℕ → Step → Result Reply Refusal → (ℕ → Option Past) → ℕ → Option Past
@@ -124,11 +133,11 @@ stepped limits worker step result now part = option_map (past_after limits worke
 outcomes-rest : (limits : Limits) (worker : ℕ) (splits : List Bound) (now : ℕ → Option Past) (step : Step) (steps : List Step) (result : Result Reply Refusal) (results : List (Result Reply Refusal)) → Outcomes limits splits now (step ∷ steps) (result ∷ results) → Outcomes limits splits (stepped limits worker step result now) steps results
 outcomes-rest limits worker splits now step steps result results outcomes = λ k job r at there.
     outcome-alike (bounds_of limits) splits
-    (λ part. option_map (λ (past : Past). after_jobs limits part (take (suc k) (map Perform (step ∷ steps))) (take (suc k) (map (mapped Replied) (result ∷ results))) (table_of past)) (now part))
-    (λ part. option_map (λ (past : Past). after_jobs limits part (take k (map Perform steps)) (take k (map (mapped Replied) results)) (table_of past)) (stepped limits worker step result now part))
+    (λ part. option_map (λ (past : Past). after_jobs limits part (take (suc k) (map Perform (step ∷ steps))) (take (suc k) (map (mapped Replied) (result ∷ results))) (table_of_past past)) (now part))
+    (λ part. option_map (λ (past : Past). after_jobs limits part (take k (map Perform steps)) (take k (map (mapped Replied) results)) (table_of_past past)) (stepped limits worker step result now part))
     job r (λ part. rest k part (now part)) (outcomes (suc k) job r at there)
   where
-    rest : (k part : ℕ) (o : Option Past) → option_map (λ (past : Past). after_jobs limits part (take (suc k) (map Perform (step ∷ steps))) (take (suc k) (map (mapped Replied) (result ∷ results))) (table_of past)) o ≡ option_map (λ (past : Past). after_jobs limits part (take k (map Perform steps)) (take k (map (mapped Replied) results)) (table_of past)) (option_map (past_after limits worker part step result) o)
+    rest : (k part : ℕ) (o : Option Past) → option_map (λ (past : Past). after_jobs limits part (take (suc k) (map Perform (step ∷ steps))) (take (suc k) (map (mapped Replied) (result ∷ results))) (table_of_past past)) o ≡ option_map (λ (past : Past). after_jobs limits part (take k (map Perform steps)) (take k (map (mapped Replied) results)) (table_of_past past)) (option_map (past_after limits worker part step result) o)
     rest k part None = refl
     rest k part (Some past) = ap (λ (t : PlainView). Some (after_jobs limits part (take k (map Perform steps)) (take k (map (mapped Replied) results)) t)) (sym (table-stepped limits worker part step result past))
 
@@ -146,8 +155,8 @@ AreLegal limits splits final = (part : ℕ) (past : Past) → final part ≡ Som
 
 -- what follows from such steps
 record Followed (final now : ℕ → Option Past) (steps : List Step) (results : List (Result Reply Refusal)) : Type 0 where
-  pub whole : first_refusal results ≡ None → (part : ℕ) (past cur : Past) → final part ≡ Some past → now part ≡ Some cur → map said past.tail ≡ map said cur.tail ++ (replies_at part steps results ++ [])
-  pub begun : (part : ℕ) (past cur : Past) → final part ≡ Some past → now part ≡ Some cur → (rest : List Reply) × (map said past.tail ≡ map said cur.tail ++ (replies_at part steps results ++ rest))
+  pub whole : first_refusal results ≡ None → (part : ℕ) (past cur : Past) → final part ≡ Some past → now part ≡ Some cur → map said past.tail ≡ map said cur.tail ++ (replies_of_part part steps results ++ [])
+  pub begun : (part : ℕ) (past cur : Past) → final part ≡ Some past → now part ≡ Some cur → (rest : List Reply) × (map said past.tail ≡ map said cur.tail ++ (replies_of_part part steps results ++ rest))
   pub refused : IfSome (first_refusal results) (λ e. (e ≡ OutOfMemory) ⊎ (e ≡ NoCell))
 
 -- a partition's own step is the first that it is asked
@@ -157,20 +166,20 @@ asked-own step steps = ap (λ (b : Bool). cond b (step.command ∷ asked_of step
 asked-other : (part : ℕ) (step : Step) (steps : List Step) → step.part ≢ part → asked_of part (step ∷ steps) ≡ asked_of part steps
 asked-other part step steps differs = ap (λ (b : Bool). cond b (step.command ∷ asked_of part steps) (asked_of part steps)) (ne_eqb step.part part differs)
 
-replies-own : (step : Step) (steps : List Step) (reply : Reply) (results : List (Result Reply Refusal)) → replies_at step.part (step ∷ steps) (Ok reply ∷ results) ≡ reply ∷ replies_at step.part steps results
-replies-own step steps reply results = ap (λ (b : Bool). cond b (reply ∷ replies_at step.part steps results) (replies_at step.part steps results)) (eq-eqb step.part step.part refl)
+replies-own : (step : Step) (steps : List Step) (reply : Reply) (results : List (Result Reply Refusal)) → replies_of_part step.part (step ∷ steps) (Ok reply ∷ results) ≡ reply ∷ replies_of_part step.part steps results
+replies-own step steps reply results = ap (λ (b : Bool). cond b (reply ∷ replies_of_part step.part steps results) (replies_of_part step.part steps results)) (eq-eqb step.part step.part refl)
 
-replies-other : (part : ℕ) (step : Step) (steps : List Step) (reply : Reply) (results : List (Result Reply Refusal)) → step.part ≢ part → replies_at part (step ∷ steps) (Ok reply ∷ results) ≡ replies_at part steps results
-replies-other part step steps reply results differs = ap (λ (b : Bool). cond b (reply ∷ replies_at part steps results) (replies_at part steps results)) (ne_eqb step.part part differs)
+replies-other : (part : ℕ) (step : Step) (steps : List Step) (reply : Reply) (results : List (Result Reply Refusal)) → step.part ≢ part → replies_of_part part (step ∷ steps) (Ok reply ∷ results) ≡ replies_of_part part steps results
+replies-other part step steps reply results differs = ap (λ (b : Bool). cond b (reply ∷ replies_of_part part steps results) (replies_of_part part steps results)) (ne_eqb step.part part differs)
 
 -- the past after a step of its own, and after another
 after-own : (limits : Limits) (worker : ℕ) (step : Step) (reply : Reply) (past : Past) → length past.tail < limits.history → past_after limits worker step.part step (Ok reply) past ≡ with_entry past (made worker step reply)
 after-own limits worker step reply past room =
-    ap (λ (b : Bool). cond b (with_entry (upkept limits past) (made worker step reply)) past) (eq-eqb step.part step.part refl)
+    ap (λ (b : Bool). cond b (with_entry (upkept_past limits past) (made worker step reply)) past) (eq-eqb step.part step.part refl)
     ∙ ap (λ (p : Past). with_entry p (made worker step reply)) (upkept-room limits past room)
 
 after-other : (limits : Limits) (worker part : ℕ) (step : Step) (reply : Reply) (past : Past) → step.part ≢ part → past_after limits worker part step (Ok reply) past ≡ past
-after-other limits worker part step reply past differs = ap (λ (b : Bool). cond b (with_entry (upkept limits past) (made worker step reply)) past) (ne_eqb step.part part differs)
+after-other limits worker part step reply past differs = ap (λ (b : Bool). cond b (with_entry (upkept_past limits past) (made worker step reply)) past) (ne_eqb step.part part differs)
 
 -- the next entry of a step's partition
 record Next (final now : ℕ → Option Past) (step : Step) (steps : List Step) : Type 0 where
@@ -210,10 +219,10 @@ module _ (limits : Limits) (splits : List Bound) (final : ℕ → Option Past) (
   comes : (now : ℕ → Option Past) (step : Step) (steps : List Step) (result : Result Reply Refusal) (results : List (Result Reply Refusal)) (n : Next final now step steps) → Outcomes limits splits now (step ∷ steps) (result ∷ results) → (result ≡ Ok n.entry.reply) ⊎ ((result ≡ Err OutOfMemory) ⊎ (result ≡ Err NoCell))
   comes now step steps result results n outcomes =
       let keys = keys_of_part splits step.part in
-      let job : IsJobOutcome (bounds_of limits) splits (λ part. option_map (λ (past : Past). table_of past) (now part)) (Perform step) (mapped Replied result) = outcomes 0 (Perform step) (mapped Replied result) refl refl in
-      let mine : IsOutcome (bounds_of limits) keys (Some (table_of n.cur)) step.command job.0 = subst (λ (o : Option Past). IsOutcome (bounds_of limits) keys (option_map (λ (past : Past). table_of past) o) step.command job.0) n.now_is job.2 in
-      let same : expected (bounds_of limits) keys (Some (table_of n.cur)) step.command ≡ Ok n.entry.reply = subst (λ (c : Command). expected (bounds_of limits) keys (Some (table_of n.cur)) c ≡ Ok n.entry.reply) n.command (next-answered limits keys n.past n.cur n.entry n.rest (legal step.part n.past n.final_is) n.base n.tails) in
-      rw (unperformed result job.0 job.1) (answered-or n.entry.reply (expected (bounds_of limits) keys (Some (table_of n.cur)) step.command) job.0 same mine)
+      let job : IsJobOutcome (bounds_of limits) splits (λ part. option_map (λ (past : Past). table_of_past past) (now part)) (Perform step) (mapped Replied result) = outcomes 0 (Perform step) (mapped Replied result) refl refl in
+      let mine : IsOutcome (bounds_of limits) keys (Some (table_of_past n.cur)) step.command job.0 = subst (λ (o : Option Past). IsOutcome (bounds_of limits) keys (option_map (λ (past : Past). table_of_past past) o) step.command job.0) n.now_is job.2 in
+      let same : expected (bounds_of limits) keys (Some (table_of_past n.cur)) step.command ≡ Ok n.entry.reply = subst (λ (c : Command). expected (bounds_of limits) keys (Some (table_of_past n.cur)) c ≡ Ok n.entry.reply) n.command (next-answered limits keys n.past n.cur n.entry n.rest (legal step.part n.past n.final_is) n.base n.tails) in
+      rw (unperformed result job.0 job.1) (answered-or n.entry.reply (expected (bounds_of limits) keys (Some (table_of_past n.cur)) step.command) job.0 same mine)
 
   -- and then all are still on the way
   gone-on : (now : ℕ → Option Past) (step : Step) (steps : List Step) (n : Next final now step steps) → Going final now (step ∷ steps) → Going final (stepped limits n.entry.worker step (Ok n.entry.reply) now) steps
@@ -240,26 +249,26 @@ module _ (limits : Limits) (splits : List Bound) (final : ℕ → Option Past) (
           (way.0, there, record { rest = way.2.rest; base = way.2.base; tails = way.2.tails; coming = sym (asked-other part step steps differs) ∙ way.2.coming })
 
   -- what holds for the steps after it holds for these
-  said-on : (now : ℕ → Option Past) (step : Step) (steps : List Step) (results : List (Result Reply Refusal)) (n : Next final now step steps) (part : ℕ) (tail : List Reply) (cur : Past) (rest : List Reply) → now part ≡ Some cur → ((cur' : Past) → stepped limits n.entry.worker step (Ok n.entry.reply) now part ≡ Some cur' → tail ≡ map said cur'.tail ++ (replies_at part steps results ++ rest)) → tail ≡ map said cur.tail ++ (replies_at part (step ∷ steps) (Ok n.entry.reply ∷ results) ++ rest)
+  said-on : (now : ℕ → Option Past) (step : Step) (steps : List Step) (results : List (Result Reply Refusal)) (n : Next final now step steps) (part : ℕ) (tail : List Reply) (cur : Past) (rest : List Reply) → now part ≡ Some cur → ((cur' : Past) → stepped limits n.entry.worker step (Ok n.entry.reply) now part ≡ Some cur' → tail ≡ map said cur'.tail ++ (replies_of_part part steps results ++ rest)) → tail ≡ map said cur.tail ++ (replies_of_part part (step ∷ steps) (Ok n.entry.reply ∷ results) ++ rest)
   said-on now step steps results n part tail cur rest is behind = ⊎_elim own else_where (cases_eq part step.part)
     where
       reply : Reply
       reply = n.entry.reply
 
-      own : part ≡ step.part → tail ≡ map said cur.tail ++ (replies_at part (step ∷ steps) (Ok reply ∷ results) ++ rest)
+      own : part ≡ step.part → tail ≡ map said cur.tail ++ (replies_of_part part (step ∷ steps) (Ok reply ∷ results) ++ rest)
       own same =
           let one : n.cur ≡ cur = cc (is, same, n.now_is) in
           let there : stepped limits n.entry.worker step (Ok reply) now part ≡ Some (with_entry n.cur (made n.entry.worker step reply)) = rw (same, n.now_is) (ap Some (after-own limits n.entry.worker step reply n.cur (next-room now step steps n))) in
           let given = behind (with_entry n.cur (made n.entry.worker step reply)) there in
-          let here : tail ≡ map said n.cur.tail ++ (replies_at step.part (step ∷ steps) (Ok reply ∷ results) ++ rest) =
-          subst (λ (p : ℕ). tail ≡ map said (n.cur.tail ++ made n.entry.worker step reply ∷ []) ++ (replies_at p steps results ++ rest)) same given
-          ∙ ap (λ (l : List Reply). l ++ (replies_at step.part steps results ++ rest)) (map-append said n.cur.tail (made n.entry.worker step reply ∷ []))
-          ∙ append_assoc (map said n.cur.tail) (reply ∷ []) (replies_at step.part steps results ++ rest)
+          let here : tail ≡ map said n.cur.tail ++ (replies_of_part step.part (step ∷ steps) (Ok reply ∷ results) ++ rest) =
+          subst (λ (p : ℕ). tail ≡ map said (n.cur.tail ++ made n.entry.worker step reply ∷ []) ++ (replies_of_part p steps results ++ rest)) same given
+          ∙ ap (λ (l : List Reply). l ++ (replies_of_part step.part steps results ++ rest)) (map-append said n.cur.tail (made n.entry.worker step reply ∷ []))
+          ∙ append_assoc (map said n.cur.tail) (reply ∷ []) (replies_of_part step.part steps results ++ rest)
           ∙ ap (λ (l : List Reply). map said n.cur.tail ++ (l ++ rest)) (sym (replies-own step steps reply results)) in
-          subst (λ (c : Past). tail ≡ map said c.tail ++ (replies_at part (step ∷ steps) (Ok reply ∷ results) ++ rest)) one
-          (subst (λ (p : ℕ). tail ≡ map said n.cur.tail ++ (replies_at p (step ∷ steps) (Ok reply ∷ results) ++ rest)) (sym same) here)
+          subst (λ (c : Past). tail ≡ map said c.tail ++ (replies_of_part part (step ∷ steps) (Ok reply ∷ results) ++ rest)) one
+          (subst (λ (p : ℕ). tail ≡ map said n.cur.tail ++ (replies_of_part p (step ∷ steps) (Ok reply ∷ results) ++ rest)) (sym same) here)
 
-      else_where : part ≢ step.part → tail ≡ map said cur.tail ++ (replies_at part (step ∷ steps) (Ok reply ∷ results) ++ rest)
+      else_where : part ≢ step.part → tail ≡ map said cur.tail ++ (replies_of_part part (step ∷ steps) (Ok reply ∷ results) ++ rest)
       else_where other =
           let differs : step.part ≢ part = λ e. other (sym e) in
           let there : stepped limits n.entry.worker step (Ok reply) now part ≡ Some cur = rw is (ap Some (after-other limits n.entry.worker part step reply cur differs)) in
@@ -272,13 +281,13 @@ module _ (limits : Limits) (splits : List Bound) (final : ℕ → Option Past) (
     refused = f.refused;
   }
     where
-      begun : (part : ℕ) (past cur : Past) → final part ≡ Some past → now part ≡ Some cur → (rest : List Reply) × (map said past.tail ≡ map said cur.tail ++ (replies_at part (step ∷ steps) (Ok n.entry.reply ∷ results) ++ rest))
+      begun : (part : ℕ) (past cur : Past) → final part ≡ Some past → now part ≡ Some cur → (rest : List Reply) × (map said past.tail ≡ map said cur.tail ++ (replies_of_part part (step ∷ steps) (Ok n.entry.reply ∷ results) ++ rest))
       begun part past cur is at = by_now (stepped limits n.entry.worker step (Ok n.entry.reply) now part) refl
         where
           there : stepped limits n.entry.worker step (Ok n.entry.reply) now part ≡ Some (past_after limits n.entry.worker part step (Ok n.entry.reply) cur)
           there = ap (option_map (past_after limits n.entry.worker part step (Ok n.entry.reply))) at
 
-          by_now : (o : Option Past) → stepped limits n.entry.worker step (Ok n.entry.reply) now part ≡ o → (rest : List Reply) × (map said past.tail ≡ map said cur.tail ++ (replies_at part (step ∷ steps) (Ok n.entry.reply ∷ results) ++ rest))
+          by_now : (o : Option Past) → stepped limits n.entry.worker step (Ok n.entry.reply) now part ≡ o → (rest : List Reply) × (map said past.tail ≡ map said cur.tail ++ (replies_of_part part (step ∷ steps) (Ok n.entry.reply ∷ results) ++ rest))
           by_now None none = absurd (cc (none, there))
           by_now (Some cur') now_is =
               let b = f.begun part past cur' is now_is in
@@ -326,15 +335,15 @@ module _ (limits : Limits) (splits : List Bound) (final : ℕ → Option Past) (
       let n = next final now step steps going there in
       followed-refused now step steps e results going (⊎_elim (λ (r : Err e ≡ Ok n.entry.reply). cc r) (⊎_elim (λ (r : Err e ≡ Err OutOfMemory). inl (cc r)) (λ (r : Err e ≡ Err NoCell). inr (cc r))) (comes now step steps (Err e) results n outcomes))
 
-pub repeats : (splits : List Bound) (limits : Limits) (parts : List Part) → AreParts splits limits parts → Repeats splits limits (pasts_of parts)
-repeats splits limits parts are steps results asks outcomes = record {
-  whole = λ none part past is. f.whole none part past (at_base past) is (now-is part past is) ∙ append-nil (replies_at part steps results);
+pub repeats : (owner : ℕ → ℕ) (splits : List Bound) (limits : Limits) (parts : List WitnessedState) → All (λ (w : WitnessedState). IsWhole owner w) parts → AreParts splits limits (held_by parts) → Repeats splits limits (pasts_of owner parts)
+repeats owner splits limits parts whole are steps results asks outcomes = record {
+  whole = λ none part past is. f.whole none part past (at_base past) is (now-is part past is) ∙ append-nil (replies_of_part part steps results);
   begun = λ part past is. f.begun part past (at_base past) is (now-is part past is);
   refused = f.refused;
 }
   where
     pasts : List Past
-    pasts = pasts_of parts
+    pasts = pasts_of owner parts
 
     final : ℕ → Option Past
     final part = slice_get pasts part
@@ -348,19 +357,21 @@ repeats splits limits parts are steps results asks outcomes = record {
     legal : AreLegal limits splits final
     legal part past is = by_part (slice_get parts part) refl
       where
-        there : slice_get pasts part ≡ option_map (λ (p : Part). p.past) (slice_get parts part)
-        there = slice_get-map (λ (p : Part). p.past) parts part
+        there : slice_get pasts part ≡ option_map (past_of owner) (slice_get parts part)
+        there = slice_get-map (past_of owner) parts part
 
-        by_part : (o : Option Part) → slice_get parts part ≡ o → IsLegal (keys_of_part splits part) limits past
+        by_part : (o : Option WitnessedState) → slice_get parts part ≡ o → IsLegal (keys_of_part splits part) limits past
         by_part None at = absurd (cc (is, there, at))
-        by_part (Some p) at =
-            let same : p.past ≡ past = cc (is, there, at) in
-            let within = slice_get_within parts part p at in
-            let here : get_or parts part p ≡ p = get_or_from_slice_get parts part p p at in
-            let sound : IsSound p = subst IsSound here (are.sound part p within) in
-            let keys : p.keys ≡ keys_of_part splits part = sym (ap (λ (q : Part). q.keys) here) ∙ are.keys part p within in
-            let alike : p.limits ≡ limits = sym (ap (λ (q : Part). q.limits) here) ∙ are.alike part p within in
-            rw (← same, ← keys, ← alike) sound.legal
+        by_part (Some w) at =
+            let same : past_of owner w ≡ past = cc (is, there, at) in
+            let within = slice_get_within parts part w at in
+            let held_within : part < length (held_by parts) = omega (arith, within, length-map parts (λ (v : WitnessedState). v.held)) in
+            let here : get_or parts part w ≡ w = get_or_from_slice_get parts part w w at in
+            let held_here : get_or (held_by parts) part w.held ≡ w.held = get_or-map (λ (v : WitnessedState). v.held) parts part w w.held within ∙ ap (λ (v : WitnessedState). v.held) here in
+            let legal_here : IsLegal w.held.keys w.held.limits (past_of owner w) = (subst (λ (v : WitnessedState). IsWhole owner v) here (whole part w within)).past in
+            let keys : w.held.keys ≡ keys_of_part splits part = sym (ap (λ (p : Part). p.keys) held_here) ∙ are.keys part w.held held_within in
+            let alike : w.held.limits ≡ limits = sym (ap (λ (p : Part). p.limits) held_here) ∙ are.alike part w.held held_within in
+            rw (← same, ← keys, ← alike) legal_here
 
     going : Going final now steps
     going part past is = (at_base past, now-is part past is, record { rest = past.tail; base = refl; tails = refl; coming = asks.commands part past is })
@@ -369,14 +380,14 @@ repeats splits limits parts are steps results asks outcomes = record {
     at-bases : Outcomes limits splits now steps results
     at-bases k job r at there = outcome-alike (bounds_of limits) splits
         (λ part. option_map (after_jobs limits part (take k (map Perform steps)) (take k (map (mapped Replied) results))) (slice_get (map table_at_base pasts) part))
-        (λ part. option_map (λ (past : Past). after_jobs limits part (take k (map Perform steps)) (take k (map (mapped Replied) results)) (table_of past)) (now part))
+        (λ part. option_map (λ (past : Past). after_jobs limits part (take k (map Perform steps)) (take k (map (mapped Replied) results)) (table_of_past past)) (now part))
         job r (λ part. alike k part) (outcomes.outcomes k job r at there)
       where
-        by_past : (k part : ℕ) (o : Option Past) → option_map (after_jobs limits part (take k (map Perform steps)) (take k (map (mapped Replied) results))) (option_map table_at_base o) ≡ option_map (λ (past : Past). after_jobs limits part (take k (map Perform steps)) (take k (map (mapped Replied) results)) (table_of past)) (option_map at_base o)
+        by_past : (k part : ℕ) (o : Option Past) → option_map (after_jobs limits part (take k (map Perform steps)) (take k (map (mapped Replied) results))) (option_map table_at_base o) ≡ option_map (λ (past : Past). after_jobs limits part (take k (map Perform steps)) (take k (map (mapped Replied) results)) (table_of_past past)) (option_map at_base o)
         by_past k part None = refl
         by_past k part (Some past) = refl
 
-        alike : (k part : ℕ) → option_map (after_jobs limits part (take k (map Perform steps)) (take k (map (mapped Replied) results))) (slice_get (map table_at_base pasts) part) ≡ option_map (λ (past : Past). after_jobs limits part (take k (map Perform steps)) (take k (map (mapped Replied) results)) (table_of past)) (now part)
+        alike : (k part : ℕ) → option_map (after_jobs limits part (take k (map Perform steps)) (take k (map (mapped Replied) results))) (slice_get (map table_at_base pasts) part) ≡ option_map (λ (past : Past). after_jobs limits part (take k (map Perform steps)) (take k (map (mapped Replied) results)) (table_of_past past)) (now part)
         alike k part = rw (slice_get-map table_at_base pasts part, slice_get-map at_base pasts part) (by_past k part (slice_get pasts part))
 
     there-all : (some : List Step) → All (λ (step : Step). step.part < length pasts) some → AreThere final some

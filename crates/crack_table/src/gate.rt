@@ -1,4 +1,4 @@
-//! Gates, for which a command waits under a lock, and which are notified of checkpoints that were due.
+//! Gates, which may delay or refuse a command under a partition's lock, and note checkpoints that were due.
 ghost use Rattle.std.specs.Prelude.{◌≡◌, ◌<◌, ℕ, IfErr};
 ghost use Rattle.std.specs.Bool.{OnFalse};
 ghost use Rattle.crack_table.specs.declared.TheConstants.{GATE_TURNS};
@@ -6,25 +6,25 @@ ghost use Rattle.crack_table.specs.declared.TheConstants.{GATE_TURNS};
 use crate::GATE_TURNS;
 use crack_row::Refusal;
 
-/// A gate is asked, while a partition's lock is held, whether a command may go on. A server or a test can wait here.
+/// Decides, while a partition's lock is held, whether a command may go on. A server or a test can wait here.
 pub trait Gate {
-    /// When it may refuse: at this partition, at this turn.
+    /// When the gate may refuse: at this partition, at this turn.
     ghost may_refuse: { Self → ℕ → ℕ → Type 0 };
 
-    /// Whether a command may go on. It is asked under the lock of partition `part`, with turn 0, 1, .. until it
-    /// consents, at most `GATE_TURNS` times in one call.
+    /// Whether a command may go on. Called under the lock of partition `part`, with turn 0, 1, .. until it returns
+    /// true, at most `GATE_TURNS` times in one call.
     fn inside(&self, part: u32, turn: u32) -> bool
         ensures { OnFalse result (may_refuse self.now part turn) };
 
-    /// Takes note of a checkpoint that partition `part` made by itself, since one was due, and of how many entries its
-    /// history had. The worker whose command found the history full calls it, once for each such checkpoint, after it
-    /// has released the lock.
+    /// Notes that partition `part` made a checkpoint because one was due, and how many commands it had answered since
+    /// the last one. The worker whose command found the history full calls this once for each such checkpoint, after
+    /// it has released the lock.
     fn note_checkpoint(&self, part: u32, entries: u64) {
         let _ = (part, entries);
     }
 }
 
-/// A gate that consents immediately.
+/// A gate that always consents.
 #[derive(Clone, Copy, Drop, Debug)]
 pub struct OpenGate;
 
@@ -36,8 +36,8 @@ impl Gate for OpenGate {
     }
 }
 
-/// Asks a gate until it consents. Refused with 7 if it refuses at each turn.
-pub fn pass<G: Gate>(gate: &G, part: u32) -> Result<(), Refusal>
+/// Asks a gate until it consents. Refused with `GateGaveUp` if it refuses at each turn.
+pub(crate) fn pass<G: Gate>(gate: &G, part: u32) -> Result<(), Refusal>
     ensures cause { IfErr result (λ e. e ≡ Refusal.GateGaveUp) }
     ensures turns { IfErr result (λ _. (turn : ℕ) → turn < GATE_TURNS → G.may_refuse gate.now part turn) }
 {
@@ -47,4 +47,12 @@ pub fn pass<G: Gate>(gate: &G, part: u32) -> Result<(), Refusal>
         }
     }
     Err(Refusal::GateGaveUp)
+}
+
+/// Notifies the gate of a checkpoint that was due, of `folded` commands; 0 means that there was none.
+#[inline(always)]
+pub(crate) fn note_folded<G: Gate>(gate: &G, part: u32, folded: u64) {
+    if folded > 0 {
+        gate.note_checkpoint(part, folded);
+    }
 }

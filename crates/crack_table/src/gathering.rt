@@ -1,62 +1,79 @@
-//! The end of a table: its workers are gathered.
-ghost use Rattle.std.specs.Prelude.{◌≡◌, ◌+◌, ℕ, ◌<◌, ◌≤◌, ◌==◌, true, length, map, IfOk, IfErr, OnOk, OnErr, vec_len};
-ghost use Rattle.std.specs.Prelude.{if◌then◌else◌};
+//! Closing a table: its workers are gathered.
+ghost use Rattle.std.specs.Prelude.{◌≡◌, ℕ, ◌+◌, ◌<◌, ◌≤◌, ◌==◌, length, All, IfOk, IfErr, IfNone, IfSome, IsTrue};
+ghost use Rattle.std.specs.Prelude.{OnOk, OnErr, ◌↔◌, true, is_some, if◌then◌else◌, vec_len};
 ghost use Rattle.std.specs.List.{list_any};
-ghost use Rattle.crack_kept.specs.Receipts.{AreShares, BookState};
-ghost use Rattle.crack_table.specs.Parts.{AreParts};
+ghost use Rattle.crack_part.specs.Parts.{IsSound};
+ghost use Rattle.crack_core.specs.Opening.{AreParts};
 ghost use Rattle.crack_core.specs.Routes.{AreSplits};
+ghost use Rattle.crack_witness.specs.Receipts.{AreShares};
+ghost use Rattle.crack_witness.specs.Witnesses.{WorkerState, WitnessedState, IsWhole};
+ghost use Rattle.crack_table.specs.Audits.{histories_of, receipts_of};
 ghost use Rattle.crack_table.specs.Cover.{Covers};
-ghost use Rattle.crack_table.specs.Gather.{missing_below, receipts_of, AreTotals, MayNotAgree, MayNotGather};
-ghost use Rattle.crack_table.specs.Cover.{kept_of};
+ghost use Rattle.crack_table.specs.Gather.{missing_below, held_by, AreGathered, AreHistoryTotals, IsTables};
+ghost use Rattle.crack_table.specs.Gather.{IsTablesAt, IsFirstStrange, MayNotMatch, MayNotGather};
+ghost use Rattle.crack_table.specs.Keeps.{AreNumbered};
 
-use crate::account::account;
+use crate::auditing::{audit, is_listed};
 use crate::locks::{lock, unlock};
 use crate::table::Table;
-use crate::worker::Worker;
-use crack_kept::Kept as Partition;
+use crate::totals::{Sums, sums_of};
+use crack_core::keys_of_part;
+use crack_part::Partition;
 use crack_row::{Bound, Limits, Refusal};
+use crack_witness::{Naming, Witnessed, Worker, compare};
 use std::alloc::Global;
 use std::sync::Mutex;
 
-/// The totals of all workers, and the partitions with their histories.
+/// The totals of all workers, and the partitions with their histories, which exist only in proofs.
 #[derive(Drop)]
-pub struct Closed {
+pub struct Gathered<J: Naming> {
     /// How many commands were answered.
     pub accepted: u64,
-    /// How many rows were placed.
+    /// How many rows were inserted.
     pub inserted: u64,
-    /// How many rows were removed.
+    /// How many rows were deleted.
     pub deleted: u64,
-    /// How many rows are left.
+    /// How many rows are live.
     pub held: u64,
-    /// The partitions, by their numbers.
-    pub parts: Vec<Partition>,
+    /// The partitions, by number.
+    pub parts: Vec<Witnessed<J>>,
 }
 
-/// Why workers weren't gathered, with the table and the workers as they were.
+/// Why workers weren't gathered, with the table and the workers unchanged.
 #[derive(Drop)]
-pub struct GatherRefused {
+pub struct GatherRefused<J: Naming> {
     pub refusal: Refusal,
-    pub table: Table,
-    pub workers: Vec<Worker>,
+    pub table: Table<J>,
+    pub workers: Vec<Worker<J>>,
 }
 
-/// Ends a table whose workers are all handed back: checks that their receipts are the entries of the histories, one by
-/// one, and name each checkpointed place once, with as many of each kind as the partition says. Refused with 15, one
-/// bit for each missing number, if a worker of the table is missing; then with 16 at the first partition that isn't the
-/// table's; then as `cover` is; after 15 it may be refused with 8 at any point. The table and the workers are then
-/// handed back. O(entries + checkpointed places + receipts), up to a logarithm of the workers and partitions.
-pub fn gather(alloc: Global, table: Table, workers: Vec<Worker>) -> Result<Closed, GatherRefused>
-    ensures all { OnOk result ((n : ℕ) → n < table.workers → list_any (λ (w : BookState). w.worker == n)
+/// Closes a table when all its workers are handed back. Checks that each partition's history since its opening begins
+/// with all that the workers saw of it, and has exactly the entries of each worker for which it received replies, as
+/// both have counted. With an audit it also checks that the receipts of all workers match these entries one to one;
+/// then the totals are those of the receipts. Refused, in this order: with `WorkersMissing`, one bit for each missing
+/// number, if a worker of the table is missing; with `OutOfMemory` if no memory is found; with `StrangeReceipt` at
+/// position 0 of the first partition that isn't the table's; with an audit as `cover` is, and with `OutOfMemory` if no
+/// memory is found; then as `compare` of crack_witness is. A refusal hands the table and the workers back.
+/// O(partitions × workers), however many entries there are; an audit takes O(entries + receipts), up to a logarithm,
+/// and a byte for each entry.
+pub fn gather<J: Naming>(
+    alloc: Global,
+    table: Table<J>,
+    workers: Vec<Worker<J>>,
+) -> Result<Gathered<J>, GatherRefused<J>>
+    ensures all { OnOk result ((n : ℕ) → n < table.workers → list_any (λ (w : WorkerState). w.worker == n)
         workers.items ≡ true) }
-    ensures parts { IfOk result (λ c. AreParts table.splits table.limits c.parts.items) }
-    ensures covered { IfOk result (λ c. Covers (map kept_of c.parts.items) (receipts_of workers.items)) }
-    ensures shares { IfOk result (λ c. AreShares (receipts_of workers.items) c.accepted c.inserted c.deleted) }
-    ensures totals { IfOk result (λ c. AreTotals c.parts.items c.accepted c.inserted c.deleted c.held) }
+    ensures gathered { IfOk result (λ s. AreGathered J.owner table.splits table.limits table.workers workers.items
+        s.parts.items) }
+    ensures totals { IfOk result (λ s. AreHistoryTotals J.owner s.parts.items s.accepted s.inserted s.deleted s.held) }
+    ensures covered { IfOk result (λ s. table.audited ≡ true → Covers (histories_of J.owner s.parts.items)
+        (receipts_of workers.items)) }
+    ensures shares { IfOk result (λ s. table.audited ≡ true → AreShares (receipts_of workers.items) s.accepted
+        s.inserted s.deleted) }
 
     ensures table { IfErr result (λ e. e.table ≡ table) }
     ensures workers { IfErr result (λ e. e.workers.items ≡ workers.items) }
-    ensures causes { IfErr result (λ e. MayNotGather table workers.items e.refusal) }
+    ensures causes { IfErr result (λ e. MayNotGather J.owner table workers.items e.refusal) }
 {
     let missing = missing_workers(&workers, table.workers());
     if missing != 0 {
@@ -71,9 +88,12 @@ pub fn gather(alloc: Global, table: Table, workers: Vec<Worker>) -> Result<Close
         splits,
         limits,
         workers: count,
+        is_audited,
     } = table;
-    match close(alloc, &mut locks, &splits, limits, &workers) {
-        Ok(closed) => Ok(closed),
+    match close(
+        alloc, &mut locks, &splits, limits, count, is_audited, &workers,
+    ) {
+        Ok(gathered) => Ok(gathered),
         Err(refusal) => Err(GatherRefused {
             refusal,
             table: Table {
@@ -81,76 +101,153 @@ pub fn gather(alloc: Global, table: Table, workers: Vec<Worker>) -> Result<Close
                 splits,
                 limits,
                 workers: count,
+                is_audited,
             },
             workers,
         }),
     }
 }
 
-/// Takes the partitions out of their locks, and checks whether they and the workers agree; otherwise the list that
-/// `conclude` returns goes into the locks again.
-fn close(
+/// Takes the partitions out of their locks, and checks that they and the workers agree; otherwise puts them back.
+fn close<J: Naming>(
     alloc: Global,
-    locks: &mut Vec<Mutex<Partition>>,
+    locks: &mut Vec<Mutex<Witnessed<J>>>,
     splits: &[Bound],
     limits: Limits,
-    workers: &Vec<Worker>,
-) -> Result<Closed, Refusal>
+    count: u64,
+    is_audited: bool,
+    workers: &Vec<Worker<J>>,
+) -> Result<Gathered<J>, Refusal>
     requires all { vec_len locks.old ≡ length splits.now + 1 }
     requires rising { AreSplits splits.now }
-    ensures parts { IfOk result (λ c. AreParts splits.now limits c.parts.items) }
-    ensures covered { IfOk result (λ c. Covers (map kept_of c.parts.items) (receipts_of workers.now.items)) }
-    ensures shares { IfOk result (λ c. AreShares (receipts_of workers.now.items) c.accepted c.inserted c.deleted) }
-    ensures totals { IfOk result (λ c. AreTotals c.parts.items c.accepted c.inserted c.deleted c.held) }
+    ensures gathered { IfOk result (λ s. AreGathered J.owner splits.now limits count workers.now.items
+        s.parts.items) }
+    ensures totals { IfOk result (λ s. AreHistoryTotals J.owner s.parts.items s.accepted s.inserted s.deleted s.held) }
+    ensures covered { IfOk result (λ s. is_audited ≡ true → Covers (histories_of J.owner s.parts.items)
+        (receipts_of workers.now.items)) }
+    ensures shares { IfOk result (λ s. is_audited ≡ true → AreShares (receipts_of workers.now.items) s.accepted
+        s.inserted s.deleted) }
     ensures locked { OnErr result (vec_len locks.new ≡ vec_len locks.old) }
-    ensures causes { IfErr result (MayNotAgree splits.now limits workers.now.items) }
+    ensures causes { IfErr result (MayNotMatch J.owner splits.now limits count is_audited workers.now.items) }
 {
     let mut parts = Vec::with_capacity(alloc, locks.len())?;
     unlock(locks, &mut parts);
-    match conclude(alloc, splits, limits, parts, workers) {
-        Ok(closed) => Ok(closed),
-        Err((refusal, mut back)) => {
-            lock(&mut back, locks);
-            Err(refusal)
-        }
-    }
-}
-
-/// Checks whether the partitions that were taken out of the locks, and the workers, agree. The list that
-/// goes into the locks again is the one that was taken out.
-fn conclude(
-    alloc: Global,
-    splits: &[Bound],
-    limits: Limits,
-    parts: Vec<Partition>,
-    workers: &Vec<Worker>,
-) -> Result<Closed, (Refusal, Vec<Partition>)>
-    requires all { length parts.items ≡ length splits.now + 1 }
-    requires rising { AreSplits splits.now }
-    ensures taken { IfOk result (λ c. c.parts.items ≡ parts.items) }
-    ensures parts { IfOk result (λ c. AreParts splits.now limits c.parts.items) }
-    ensures covered { IfOk result (λ c. Covers (map kept_of c.parts.items) (receipts_of workers.now.items)) }
-    ensures shares { IfOk result (λ c. AreShares (receipts_of workers.now.items) c.accepted c.inserted c.deleted) }
-    ensures totals { IfOk result (λ c. AreTotals c.parts.items c.accepted c.inserted c.deleted c.held) }
-    ensures back { IfErr result (λ e. e.1.items ≡ parts.items) }
-    ensures causes { IfErr result (λ e. MayNotAgree splits.now limits workers.now.items e.0) }
-{
-    match account(alloc, splits, limits, &parts, workers) {
-        Ok(sums) => Ok(Closed {
+    match match_all(
+        alloc, splits, limits, count, is_audited, &mut parts, workers,
+    ) {
+        Ok(sums) => Ok(Gathered {
             accepted: sums.accepted,
             inserted: sums.inserted,
             deleted: sums.deleted,
             held: sums.held,
             parts,
         }),
-        Err(refusal) => Err((refusal, parts)),
+        Err(refusal) => {
+            lock(&mut parts, locks);
+            Err(refusal)
+        }
     }
 }
 
-/// One bit for each of this many workers that is missing.
-fn missing_workers(workers: &Vec<Worker>, count: u64) -> u64
+/// Checks that the partitions are the table's, and that they and the workers agree. Returns their totals.
+fn match_all<J: Naming>(
+    alloc: Global,
+    splits: &[Bound],
+    limits: Limits,
+    count: u64,
+    is_audited: bool,
+    parts: &mut Vec<Witnessed<J>>,
+    workers: &Vec<Worker<J>>,
+) -> Result<Sums, Refusal>
+    requires count { length parts.old.items ≡ length splits.now + 1 }
+    requires rising { AreSplits splits.now }
+    ensures same { parts.new.items ≡ parts.old.items }
+    ensures gathered { OnOk result (AreGathered J.owner splits.now limits count workers.now.items
+        parts.old.items) }
+    ensures totals { IfOk result (λ s. AreHistoryTotals J.owner parts.old.items s.accepted s.inserted s.deleted
+        s.held) }
+    ensures covered { OnOk result (is_audited ≡ true → Covers (histories_of J.owner parts.old.items)
+        (receipts_of workers.now.items)) }
+    ensures shares { IfOk result (λ s. is_audited ≡ true → AreShares (receipts_of workers.now.items) s.accepted
+        s.inserted s.deleted) }
+    ensures causes { IfErr result (MayNotMatch J.owner splits.now limits count is_audited workers.now.items) }
+{
+    facts(parts);
+    if let Some(part) = first_strange(splits, limits, count, is_audited, parts) {
+        return Err(Refusal::StrangeReceipt { part, position: 0 });
+    }
+    audit(alloc, is_audited, parts, workers)?;
+    compare(workers, parts)?;
+    Ok(sums_of(parts))
+}
+
+/// States the invariants of every partition. Does nothing: O(partitions).
+pub(crate) fn facts<J: Naming>(parts: &Vec<Witnessed<J>>)
+    ensures whole { All (λ (w : WitnessedState). IsWhole J.owner w) parts.now.items }
+    ensures sound { All (λ (w : WitnessedState). IsSound w.held) parts.now.items }
+{
+    'parts: for part in parts {
+        part.facts();
+    }
+}
+
+/// The first partition that isn't the table's at its place.
+fn first_strange<J: Naming>(
+    splits: &[Bound],
+    limits: Limits,
+    workers: u64,
+    is_audited: bool,
+    parts: &Vec<Witnessed<J>>,
+) -> Option<u32>
+    requires count { length parts.now.items ≡ length splits.now + 1 }
+    requires rising { AreSplits splits.now }
+    requires sound { All (λ (w : WitnessedState). IsSound w.held) parts.now.items }
+    ensures none { IfNone result (AreParts splits.now limits (held_by parts.now.items) ×
+        AreNumbered workers parts.now.items) }
+    ensures listed { IfNone result (All (λ (w : WitnessedState). is_some w.entries ≡ is_audited) parts.now.items) }
+    ensures some { IfSome result (IsFirstStrange splits.now limits workers is_audited parts.now.items) }
+{
+    'parts: for (place, part) in parts.iter().enumerate() {
+        if !is_tables_at(splits, limits, workers, is_audited, place, part) {
+            return Some(place as u32);
+        }
+    }
+    None
+}
+
+/// Whether a partition has the number of its place, counts the table's workers, lists its entries if there is an audit,
+/// and has the table's keys and limits there.
+fn is_tables_at<J: Naming>(
+    splits: &[Bound],
+    limits: Limits,
+    workers: u64,
+    is_audited: bool,
+    place: usize,
+    part: &Witnessed<J>,
+) -> bool
+    requires rising { AreSplits splits.now }
+    requires there { place ≤ length splits.now }
+    ensures { IsTrue result ↔ IsTablesAt splits.now limits workers is_audited place part.now }
+{
+    part.part() as usize == place
+        && part.workers() as u64 == workers
+        && is_listed(part) == is_audited
+        && is_tables(splits, limits, place, part.partition())
+}
+
+/// Whether a partition has these limits, and the keys of partition `part`.
+fn is_tables(splits: &[Bound], limits: Limits, part: usize, partition: &Partition) -> bool
+    requires rising { AreSplits splits.now }
+    requires there { part ≤ length splits.now }
+    ensures { IsTrue result ↔ IsTables splits.now limits part partition.now }
+{
+    partition.keys() == keys_of_part(splits, part) && partition.limits() == limits
+}
+
+/// One bit for each number below `count` that no worker has.
+fn missing_workers<J: Naming>(workers: &Vec<Worker<J>>, count: u64) -> u64
     requires { count ≤ 64 }
-    ensures { result ≡ missing_below (λ (w : BookState). w.worker) workers.now.items count }
+    ensures { result ≡ missing_below (λ (w : WorkerState). w.worker) workers.now.items count }
 {
     let mut missing = 0u64;
     let mut bit = 1u128;
@@ -161,8 +258,8 @@ fn missing_workers(workers: &Vec<Worker>, count: u64) -> u64
     missing
 }
 
-/// The bit, unless the worker is present.
-pub fn bit_unless(is_there: bool, bit: u64) -> u64
+/// The bit, or 0 if the worker is present.
+fn bit_unless(is_there: bool, bit: u64) -> u64
     ensures is { result ≡ (if is_there then 0 else bit) }
     ensures small { result ≤ bit }
 {
@@ -170,10 +267,10 @@ pub fn bit_unless(is_there: bool, bit: u64) -> u64
 }
 
 /// Whether one of the workers has this number.
-fn has_worker(workers: &Vec<Worker>, number: u64) -> bool
-    ensures { result ≡ list_any (λ (w : BookState). w.worker == number) workers.now.items }
+fn has_worker<J: Naming>(workers: &Vec<Worker<J>>, number: u64) -> bool
+    ensures { result ≡ list_any (λ (w : WorkerState). w.worker == number) workers.now.items }
 {
     workers
         .iter()
-        .any(|worker| u64::from(worker.book().worker()) == number)
+        .any(|worker| u64::from(worker.number()) == number)
 }

@@ -1,11 +1,11 @@
-//! Putting partitions into locks, and taking them out.
+//! Putting witnessed partitions into locks, and taking them out.
 ghost use Rattle.std.specs.Prelude.{◌≡◌, ◌≤◌, length, vec_len, vec_capacity};
 
-use crack_kept::Kept as Partition;
+use crack_witness::{Naming, Witnessed};
 use std::sync::Mutex;
 
-/// Takes partitions out of their locks, in their order.
-pub(crate) fn unlock(locks: &mut Vec<Mutex<Partition>>, parts: &mut Vec<Partition>)
+/// Takes the partitions out of their locks, in order.
+pub(crate) fn unlock<J: Naming>(locks: &mut Vec<Mutex<Witnessed<J>>>, parts: &mut Vec<Witnessed<J>>)
     requires empty { vec_len parts.old ≡ 0 }
     requires room { vec_len locks.old ≤ vec_capacity parts.old }
     ensures parts { length parts.new.items ≡ vec_len locks.old }
@@ -17,8 +17,8 @@ pub(crate) fn unlock(locks: &mut Vec<Mutex<Partition>>, parts: &mut Vec<Partitio
     parts.reverse();
 }
 
-/// Puts partitions into locks again, in their order; there is room for them, so no memory is taken.
-pub(crate) fn lock(parts: &mut Vec<Partition>, locks: &mut Vec<Mutex<Partition>>)
+/// Puts the partitions into locks, in order. There is room for the locks, so this takes no memory.
+pub(crate) fn lock<J: Naming>(parts: &mut Vec<Witnessed<J>>, locks: &mut Vec<Mutex<Witnessed<J>>>)
     requires empty { vec_len locks.old ≡ 0 }
     requires room { length parts.old.items ≤ vec_capacity locks.old }
     ensures { vec_len locks.new ≡ length parts.old.items }

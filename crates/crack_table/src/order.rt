@@ -1,17 +1,17 @@
-//! Whether the receipts of one worker in one partition rise.
+//! Whether one worker's receipts in one partition rise.
 ghost use Rattle.std.specs.Prelude.{◌≡◌, List, [], ◌++◌, IfOk, None};
 ghost use Rattle.std.specs.BTreeMap.{get};
 ghost use Rattle.std.specs.List.{flat_map};
 ghost use Rattle.std.specs.Option.{option_map};
-ghost use Rattle.crack_kept.specs.declared.receipt.Receipt.{Receipt};
+ghost use Rattle.crack_witness.specs.declared.receipt.Receipt.{Receipt};
 ghost use Rattle.crack_table.specs.Cover.{first_late};
 ghost use Rattle.crack_table.specs.Coverage.{named_place, Tracks, pair_cmp, is_late_at};
 
-use crack_kept::Receipt;
+use crack_witness::Receipt;
 use std::alloc::{AllocError, Global};
 use std::collections::BTreeMap;
 
-/// The place of the first receipt that isn't above an earlier one of its worker in its partition.
+/// The place of the first receipt whose place isn't above that of an earlier one of its worker in its partition.
 pub(crate) fn first_late(
     alloc: Global,
     receipts: &[&[Receipt]],
@@ -28,7 +28,7 @@ pub(crate) fn first_late(
     Ok(None)
 }
 
-/// The same for one list, given the last position of each worker in each partition.
+/// The same for one list, after others. `last` maps each worker and partition to the last position.
 fn first_late_in(
     last: &mut BTreeMap<(u32, u32), u64>,
     list: &[Receipt],
@@ -47,7 +47,7 @@ fn first_late_in(
     Ok(None)
 }
 
-/// Whether a position isn't above the last one, if there is one.
+/// Whether there is a last position and `position` isn't above it.
 fn is_late_at(last: Option<u64>, position: u64) -> bool
     ensures { result ≡ is_late_at last position }
 {

@@ -2,18 +2,20 @@
 ghost use Rattle.std.specs.Prelude.{List};
 ghost use Rattle.crack_row.specs.declared.Bound.{Bound};
 ghost use Rattle.crack_row.specs.declared.limit.Limits.{Limits};
-ghost use Rattle.crack_table.specs.Parts.{AreParts};
-ghost use Rattle.crack_table.specs.Parts.{pasts_of};
-ghost use Rattle.crack_table.specs.Repeats.{Repeats};
+ghost use Rattle.crack_core.specs.Opening.{AreParts};
+ghost use Rattle.crack_table.specs.Gather.{held_by};
+ghost use Rattle.crack_table.specs.Repeats.{pasts_of, Repeats};
 
-use crate::gathering::Closed;
+use crate::gathering::{Gathered, facts};
+use crack_witness::Naming;
 
-/// States that a core with the same splits and limits, whose partitions have the rows of the bases of a gathered
-/// table's, repeats the answers of the table's workers: whatever list of steps asks each partition the commands of its
-/// history, in their order, gets the replies of the history. Does nothing.
-pub fn one_thread_repeats(closed: &Closed)
-    ensures { (splits : List Bound) (limits : Limits) → AreParts splits limits closed.now.parts.items →
-        Repeats splits limits (pasts_of closed.now.parts.items) }
+/// States that one thread can repeat the answers to a table's workers: in a core with the same splits and limits,
+/// whose partitions have the rows as of the last checkpoint of the gathered ones, any list of steps that asks each
+/// partition the commands that it answered since, in order, gets the replies in its history, up to a refusal for lack
+/// of memory or of a cell. Does nothing: O(partitions).
+pub fn one_thread_repeats<J: Naming>(gathered: &Gathered<J>)
+    ensures { (splits : List Bound) (limits : Limits) → AreParts splits limits (held_by gathered.now.parts.items) →
+        Repeats splits limits (pasts_of J.owner gathered.now.parts.items) }
 {
-    let _ = &closed.parts;
+    facts(&gathered.parts);
 }

@@ -2,19 +2,19 @@
 ghost use Rattle.std.specs.Prelude.{◌≡◌, ◌<◌, ℕ, length, replicate, IfOk, slice_get, slice_set, Some, MatchOption};
 ghost use Rattle.crack_table.specs.declared.states.PlaceState.{PlaceState};
 ghost use Rattle.crack_table.specs.declared.states.PlaceState.TheVariants.{Unnamed, Met};
-ghost use Rattle.crack_table.specs.Coverage.{IsOpenIn, state_after};
+ghost use Rattle.crack_table.specs.Coverage.{IsOpenIn, next_state};
 
 use std::alloc::{AllocError, Global};
 use std::marker::Model;
 
-/// The state of a place by the receipts so far.
+/// How the receipts so far name a place.
 #[derive(Clone, Copy, PartialEq, Eq, Debug, Drop)]
 pub(crate) enum PlaceState {
-    /// None names it.
+    /// No receipt names the place.
     Unnamed,
-    /// One names it, with an entry that is right there.
+    /// One receipt names it, and holds the entry there.
     Met,
-    /// One names it with another entry, or several name it.
+    /// One names it with a wrong entry, or several name it.
     Failed,
 }
 
@@ -34,7 +34,7 @@ impl Model for PlaceStates {
 }
 
 impl PlaceStates {
-    /// This many places that no receipt names: O(places).
+    /// The states of `count` places that no receipt names: O(places).
     pub(crate) fn new(alloc: Global, count: usize) -> Result<PlaceStates, AllocError>
         ensures { IfOk result (λ r. r ≡ replicate count Unnamed) }
     {
@@ -42,11 +42,11 @@ impl PlaceStates {
         Ok(PlaceStates { states })
     }
 
-    /// Updates the state of a place that one more receipt names, by whether its entry is right there.
+    /// Updates a place's state after one more receipt names it, by whether the receipt holds the entry there.
     pub(crate) fn update(&mut self, place: usize, right: bool)
         requires { place < length self.old }
         ensures { (m : PlaceState) → slice_get self.old place ≡ Some m → self.new ≡ slice_set self.old place
-            (state_after m right) }
+            (next_state m right) }
     {
         self.states[place] = match self.states[place] {
             PlaceState::Unnamed if right => PlaceState::Met,

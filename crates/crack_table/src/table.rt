@@ -1,33 +1,33 @@
-//! Tables.
-ghost use Rattle.std.specs.Prelude.{◌≡◌, ◌+◌, ◌<◌, ◌≤◌, length, IfOk, IfErr, vec_len, None, Some};
-ghost use Rattle.crack_row.specs.Limits.{AreLimits, of_history};
+//! Tables, which prove each reply when they give it. Without an audit they keep no commands.
+ghost use Rattle.std.specs.Prelude.{◌≡◌, ◌+◌, ◌≤◌, length};
+ghost use Rattle.crack_row.specs.Limits.{AreLimits};
 ghost use Rattle.crack_core.specs.Routes.{AreSplits};
-ghost use Rattle.crack_table.specs.Opening.{table_fault, Opens};
-ghost use Rattle.crack_table.specs.Keeps.{AreNew};
+ghost use Rattle.crack_witness.specs.Witnesses.{AreApart};
+ghost use Rattle.crack_table.specs.Asking.{AsksTable};
+ghost use Rattle.crack_table.specs.Tables.{AnswersAt, LooksAt, MeasuresAt};
 
-use crate::MOST_WORKERS;
-use crate::locks::lock;
-use crate::partitions::open_partitions;
-use crate::worker::Worker;
-use crack_core::{limits_fault, splits_fault};
-use crack_kept::Kept as Partition;
-use crack_row::{Bound, Limits, Refusal};
-use std::alloc::{AllocError, Global};
+use crate::asking::{ask_behind, with_table_limit};
+use crate::gate::{Gate, note_folded};
+use crack_plain::Statistics;
+use crack_row::{Bound, Command, Layout, Limits, Policy, Refusal, Reply};
+use crack_witness::{Naming, Witnessed, Worker};
 use std::marker::Model;
-use std::sync::Mutex;
+use std::sync::{Mutex, Wait};
 
-/// Partitions, each with a lock of its own. Many threads may share it, and its workers ask it.
-/// Contracts see what it was opened with; of the partition in a lock only its own invariant is known.
+/// A table: partitions, each in a lock with the scribe of its history. Many threads may share a table, and its workers
+/// ask it. With an audit each partition lists its entries, and each worker keeps its receipts. Contracts see what the
+/// table was opened with; the workers' own state has the events that they have seen.
 #[derive(Drop)]
-pub struct Table {
-    pub(crate) locks: Vec<Mutex<Partition>>,
+pub struct Table<J: Naming> {
+    pub(crate) locks: Vec<Mutex<Witnessed<J>>>,
     pub(crate) splits: Vec<Bound>,
     pub(crate) limits: Limits,
     pub(crate) workers: u64,
+    pub(crate) is_audited: bool,
 }
 
-impl Model for Table {
-    ghost use Rattle.std.specs.Prelude.{vec_len, true};
+impl<J: Naming> Model for Table<J> {
+    ghost use Rattle.std.specs.Prelude.{vec_len};
     ghost use Rattle.crack_table.specs.Keeps.{IsTable};
     ghost use Rattle.crack_table.specs.Tables.{TableState};
 
@@ -38,61 +38,21 @@ impl Model for Table {
       limits = t.limits;
       workers = t.workers;
       locks = vec_len t.locks;
-      audited = true;
+      audited = t.is_audited;
     } };
 
-    ghost invariant = { λ t. IsTable t.splits.items t.limits t.workers (vec_len t.locks) };
+    ghost invariant = { λ t. IsTable J.owner t.splits.items t.limits t.workers (vec_len t.locks) };
 }
 
-impl Table {
-    /// A table without rows, and its workers, numbered from 0: each split ends one partition and begins the next, and
-    /// each partition's history may have `limit` entries, with the greatest of the other limits. Refused as `open_with`
-    /// is. O(partitions + workers).
-    pub fn open(
-        alloc: Global,
-        splits: &[Bound],
-        limit: u64,
-        workers: u64,
-    ) -> Result<(Table, Vec<Worker>), Refusal>
-        ensures { Opens splits.now (of_history limit) workers result }
-    {
-        Table::open_with(alloc, splits, Limits::of_history(limit), workers)
-    }
-
-    /// A table without rows, and its workers, numbered from 0: each split ends one partition and begins the next, and
-    /// each partition has these limits. Refused, in this order: with 11 if the splits don't rise strictly or one
-    /// isn't 1 to `GREATEST_KEY`, with 12 if there are more than `MOST_SPLITS` of crack_core, with 13 if there
-    /// aren't 1 to `MOST_WORKERS` workers, with 14 if a limit isn't 1 to the greatest of its kind, with 8 if it
-    /// finds no memory. O(partitions + workers).
-    pub fn open_with(
-        alloc: Global,
-        splits: &[Bound],
-        limits: Limits,
-        workers: u64,
-    ) -> Result<(Table, Vec<Worker>), Refusal>
-        ensures { Opens splits.now limits workers result }
-    {
-        if let Some(refusal) = fault(splits, limits, workers) {
-            return Err(refusal);
-        }
-        let locks = locks_of(alloc, splits, limits)?;
-        let splits = Vec::from_slice(alloc, splits)?;
-        let hands = hire(alloc, workers)?;
-        let table = Table {
-            locks,
-            splits,
-            limits,
-            workers,
-        };
-        Ok((table, hands))
-    }
-
-    /// States the invariants of every table, and does nothing: it has a lock for each partition of its splits.
+impl<J: Naming> Table<J> {
+    /// States the invariants of every table, among them one lock for each partition, and no two partitions with the
+    /// same history. Does nothing.
     pub fn facts(&self)
         ensures locks { self.now.locks ≡ length self.now.splits + 1 }
         ensures rising { AreSplits self.now.splits }
         ensures limited { AreLimits self.now.limits }
         ensures few { self.now.workers ≤ 64 }
+        ensures apart { AreApart J.owner self.now.locks }
     {
         let _ = &self.locks;
     }
@@ -105,55 +65,89 @@ impl Table {
         self.splits.as_slice()
     }
 
-    /// How many workers it was opened with. Takes no lock.
+    /// How many workers the table was opened with. Takes no lock.
     pub(crate) fn workers(&self) -> u64
         ensures value { result ≡ self.now.workers }
         ensures few { result ≤ 64 }
     {
         self.workers
     }
-}
 
-/// The first fault of an opening.
-pub fn fault(splits: &[Bound], limits: Limits, workers: u64) -> Option<Refusal>
-    ensures value { result ≡ table_fault splits.now limits workers }
-    ensures good { result ≡ None → AreSplits splits.now × AreLimits limits × (0 < workers) × (workers ≤ 64) }
-{
-    if let Some(refusal) = splits_fault(splits) {
-        return Some(refusal);
+    /// Asks partition `part` for a worker, under its lock, for which it may wait. Refused, in this order: with
+    /// `NoSuchPartition` if there is no such partition; under the lock with `GateGaveUp` if the gate refuses at each
+    /// turn; if the worker is another table's, with `NoSuchPartition` or with `StrangeReceipt`, which carries `part`
+    /// and the number of its replies there; then as `Partition::apply` is, with `KeyOutside`, `HistoryFull`,
+    /// `LifeOver`, `NoCell` and `OutOfMemory`. After a refusal nothing was seen or written. The gate is notified of a
+    /// checkpoint that was due. Costs, beyond `Partition::apply`, O(1) and the gate's turns, and no memory; with an
+    /// audit O(1), amortised, the copies of a select's list, and the memory of an entry and a receipt.
+    pub fn ask<R: Wait, G: Gate>(
+        &self,
+        rt: &R,
+        gate: &G,
+        worker: &mut Worker<J>,
+        part: u32,
+        command: Command,
+        policy: Policy,
+    ) -> Result<Reply, Refusal>
+        ensures { AsksTable J.owner self.now (G.may_refuse gate.now part) part command result worker.old worker.new }
+    {
+        let Some(lock) = self.locks.get(part as usize) else {
+            return Err(Refusal::NoSuchPartition);
+        };
+        let mut witnessed = lock.lock(rt);
+        let mut folded = 0;
+        let answered = ask_behind(
+            gate,
+            worker,
+            part,
+            &mut witnessed,
+            command,
+            policy,
+            &mut folded,
+        )?;
+        drop(witnessed);
+        note_folded(gate, part, folded);
+        let reply = with_table_limit(answered, self.limits.history)?;
+        Ok(reply)
     }
-    if workers == 0 || workers > MOST_WORKERS {
-        return Some(Refusal::BadWorkerCount);
-    }
-    limits_fault(limits)
-}
 
-/// The partitions of splits, each in a lock.
-fn locks_of(
-    alloc: Global,
-    splits: &[Bound],
-    limits: Limits,
-) -> Result<Vec<Mutex<Partition>>, Refusal>
-    requires splits { AreSplits splits.now }
-    requires limited { AreLimits limits }
-    ensures all { IfOk result (λ locks. vec_len locks ≡ length splits.now + 1) }
-    ensures err { IfErr result (λ e. e ≡ Refusal.OutOfMemory) }
-{
-    let mut locks = Vec::with_capacity(alloc, splits.len() + 1)?;
-    let mut parts = open_partitions(alloc, splits, limits)?;
-    lock(&mut parts, &mut locks);
-    Ok(locks)
-}
-
-/// Workers numbered from 0, this many.
-fn hire(alloc: Global, count: u64) -> Result<Vec<Worker>, AllocError>
-    requires few { count ≤ 64 }
-    ensures count { IfOk result (λ workers. vec_len workers ≡ count) }
-    ensures new { IfOk result (λ workers. AreNew workers.items) }
-{
-    let mut workers = Vec::new(alloc);
-    'numbers: for number in 0..count {
-        workers.push(Worker::new(alloc, number as u32))?;
+    /// Makes a checkpoint of partition `part` under its lock, for which it may wait. Returns how many commands were
+    /// answered since the last one. The rows and the history stay whole for all workers. Refused with
+    /// `NoSuchPartition` if there is no such partition. Holds this one lock for the time that
+    /// `Partition::checkpoint` takes.
+    pub fn checkpoint<R: Wait>(&self, rt: &R, part: u32) -> Result<u64, Refusal>
+        ensures { AnswersAt self.now part (λ e. ⊥) result }
+    {
+        let Some(lock) = self.locks.get(part as usize) else {
+            return Err(Refusal::NoSuchPartition);
+        };
+        let mut witnessed = lock.lock(rt);
+        Ok(witnessed.checkpoint())
     }
-    Ok(workers)
+
+    /// The layout of partition `part`, read under its lock, for which it may wait. Cracks and merges nothing, and
+    /// isn't recorded. Refused with `NoSuchPartition` if there is no such partition, and with `OutOfMemory` if no
+    /// memory is found. O(pieces).
+    pub fn layout<R: Wait>(&self, rt: &R, part: u32) -> Result<Layout, Refusal>
+        ensures { LooksAt self.now part result }
+    {
+        let Some(lock) = self.locks.get(part as usize) else {
+            return Err(Refusal::NoSuchPartition);
+        };
+        let witnessed = lock.lock(rt);
+        witnessed.partition().layout()
+    }
+
+    /// The statistics of partition `part`, read under its lock, for which it may wait. Cracks and merges nothing,
+    /// and isn't recorded. Refused with `NoSuchPartition` if there is no such partition. O(1).
+    pub fn statistics<R: Wait>(&self, rt: &R, part: u32) -> Result<Statistics, Refusal>
+        ensures { MeasuresAt self.now part result }
+    {
+        let Some(lock) = self.locks.get(part as usize) else {
+            return Err(Refusal::NoSuchPartition);
+        };
+        let witnessed = lock.lock(rt);
+        witnessed.facts();
+        Ok(witnessed.partition().statistics())
+    }
 }

@@ -1,15 +1,18 @@
 //! The answers to workers under small limits, with checkpoints between their commands.
 use crate::gates::Due;
 use crate::script::{Script, assert_answers};
-use crate::values::{FOUR, GREATEST, ONE, TEN, TWO, assert_totals, open};
+use crate::trials::{Opening, Trial, run_both};
+use crate::values::{FOUR, GREATEST, ONE, TEN, TWO, assert_totals};
 use crack_row::{BoundNumber, Limits, Upkeep};
-use crack_table::OpenGate;
+use crack_table::{OpenGate, Table};
+use crack_witness::{Naming, Worker};
 use std::alloc::Global;
 use std::process::Abort;
 use std::sync::Wait;
 use std::sync::atomic::Ordering;
 
-/// The answers that the workers of a fresh table get, and its totals once they are gathered, the last one first.
+/// The answers that the workers of a new table get, and the table's totals when they are gathered, the last worker
+/// first.
 #[derive(Clone, Copy)]
 struct Case {
     name: &'static str,
@@ -20,7 +23,7 @@ struct Case {
     totals: [u64; 4],
 }
 
-/// Full histories, and what a layout leaves as it is.
+/// Full histories, and what a layout leaves unchanged.
 const FULL: &[Case] = &[
     Case {
         name: "a full history goes on after a checkpoint",
@@ -45,7 +48,7 @@ const FULL: &[Case] = &[
         ],
         totals: [5, 3, 1, 2],
     },
-    // A layout makes no checkpoint: the checkpoint after it counts all entries, and the one after that none.
+    // A layout makes no checkpoint: the first checkpoint after it counts all entries, and the second one none.
     Case {
         name: "a layout makes no checkpoint",
         splits: ONE,
@@ -67,7 +70,7 @@ const FULL: &[Case] = &[
     },
 ];
 
-/// Refusals for want of a cell, a life, a partition, a key of it, or room in its history.
+/// Refusals: no free cell, the end of a life, no such partition, another partition's key, a full history.
 const REFUSED: &[Case] = &[
     Case {
         name: "a worker is refused where no cell is free",
@@ -91,7 +94,7 @@ const REFUSED: &[Case] = &[
         ],
         totals: [7, 3, 1, 2],
     },
-    // A checkpoint doesn't extend a life.
+    // A checkpoint doesn't extend a partition's life.
     Case {
         name: "a worker is refused where the life is over",
         splits: ONE,
@@ -109,7 +112,7 @@ const REFUSED: &[Case] = &[
         ],
         totals: [3, 1, 0, 1],
     },
-    // A layout isn't kept, so a full history refuses none.
+    // A layout isn't recorded, so a full history refuses none.
     Case {
         name: "a worker is refused as its partition is",
         splits: TWO,
@@ -134,9 +137,10 @@ const REFUSED: &[Case] = &[
     },
 ];
 
-/// Checkpoints by one worker of several, and of one partition of several.
+/// Checkpoints by one of several workers, and of one of several partitions.
 const CHECKPOINTS: &[Case] = &[
-    // Commands of two workers are checkpointed by one of them, and the other goes on: receipts keep their positions.
+    // One of two workers makes a checkpoint of both workers' commands, and the other goes on: receipts keep their
+    // positions.
     Case {
         name: "a checkpoint is made for all workers",
         splits: ONE,
@@ -150,8 +154,37 @@ const CHECKPOINTS: &[Case] = &[
         ],
         totals: [3, 3, 0, 3],
     },
-    // A checkpoint is of the partition that it names, and of no other: each still counts its own entries, in whatever
-    // order they are checkpointed.
+    Case {
+        name: "layouts and checkpoints are of the partition that they name",
+        splits: TWO,
+        limits: TEN,
+        workers: 1,
+        script: &[
+            (0, 0, "insert 7 1", "row 0.0"),
+            (0, 1, "insert 1000007 1", "row 1.0"),
+            (0, 1, "insert 1000008 1", "row 1.1"),
+            (
+                0,
+                0,
+                "layout 0",
+                "layout 0 rows 1 column 0 out 0 in 1 cells 1 free 0 pieces 1\npiece 0 1000000 0",
+            ),
+            (
+                0,
+                0,
+                "layout 1",
+                "layout 1 rows 2 column 0 out 0 in 2 cells 2 free 0 pieces 1\npiece 1000000 18446744073709551616 0",
+            ),
+            (0, 0, "layout 2", "refused 5"),
+            (0, 0, "checkpoint 1", "folded 2"),
+            (0, 0, "checkpoint 1", "folded 0"),
+            (0, 0, "checkpoint 0", "folded 1"),
+            (0, 0, "checkpoint 2", "refused 5"),
+        ],
+        totals: [3, 3, 0, 3],
+    },
+    // A checkpoint is only of the partition that it names: each partition counts its own entries, in any order of
+    // the checkpoints.
     Case {
         name: "a checkpoint is of its own partition alone",
         splits: FOUR,
@@ -177,20 +210,37 @@ const CHECKPOINTS: &[Case] = &[
     },
 ];
 
+impl Trial for Case {
+    fn run<J: Naming, R: Wait + Abort>(
+        self,
+        rt: &R,
+        alloc: Global,
+        table: Table<J>,
+        workers: Vec<Worker<J>>,
+    ) {
+        let mut workers = workers;
+        assert_answers(
+            rt,
+            alloc,
+            &mut workers,
+            &table,
+            &OpenGate,
+            self.name,
+            self.script,
+        );
+        workers.reverse();
+        assert_totals(rt, alloc, table, workers, self.totals);
+    }
+}
+
 /// Asserts the answers of a case.
 fn assert_case<R: Wait + Abort>(rt: &R, alloc: Global, case: Case) {
-    let (table, mut workers) = open(rt, alloc, case.splits, case.limits, case.workers);
-    assert_answers(
-        rt,
-        alloc,
-        &mut workers,
-        &table,
-        &OpenGate,
-        case.name,
-        case.script,
-    );
-    workers.reverse();
-    assert_totals(rt, alloc, table, workers, case.totals);
+    let opening = Opening {
+        splits: case.splits,
+        limits: case.limits,
+        workers: case.workers,
+    };
+    run_both(rt, alloc, opening, case);
 }
 
 #[test]
@@ -214,8 +264,8 @@ fn a_checkpoint_is_of_one_partition_for_all_workers(rt: HostRuntime) {
     }
 }
 
-/// Commands with checkpoints that are due, and a checkpoint that was asked for. With each script come the numbers of
-/// checkpoints and of their entries that the gate has noted after it.
+/// Commands that find checkpoints due, and a checkpoint on request. With each script, the number of checkpoints that
+/// the gate has noted after it, and of their entries.
 const NOTED: &[(Script, [u64; 2])] = &[
     (
         &[
@@ -237,23 +287,42 @@ const NOTED: &[(Script, [u64; 2])] = &[
     (&[(0, 1, "checkpoint 1", "folded 1")], [2, 6]),
 ];
 
-/// A checkpoint that is due is noted once, with its partition and the length of its history; one that was asked for
-/// isn't.
+/// One worker, whose gate counts the checkpoints that were due.
+#[derive(Clone, Copy)]
+struct Noted;
+
+impl Trial for Noted {
+    fn run<J: Naming, R: Wait + Abort>(
+        self,
+        rt: &R,
+        alloc: Global,
+        table: Table<J>,
+        workers: Vec<Worker<J>>,
+    ) {
+        let mut workers = workers;
+        let gate = Due::new();
+        'scripts: for place in 0..NOTED.len() {
+            let (script, noted) = NOTED[place];
+            assert_answers(rt, alloc, &mut workers, &table, &gate, "due", script);
+            assert!(rt; gate.counts() == noted);
+        }
+        assert!(rt; gate.part.load(Ordering::SeqCst) == 1);
+        assert_totals(rt, alloc, table, workers, [7, 7, 0, 7]);
+    }
+}
+
+/// A checkpoint that is due is noted once, with its partition and the length of its history; one on request isn't.
 #[test]
 fn a_checkpoint_that_is_due_is_noted(rt: HostRuntime) {
-    let alloc: Global = rt.alloc();
     let limits = Limits {
         history: 3,
         upkeep: Upkeep::Automatic,
         ..GREATEST
     };
-    let (table, mut workers) = open(&rt, alloc, TWO, limits, 1);
-    let gate = Due::new();
-    'scripts: for place in 0..NOTED.len() {
-        let (script, noted) = NOTED[place];
-        assert_answers(&rt, alloc, &mut workers, &table, &gate, "due", script);
-        assert!(rt; gate.counts() == noted);
-    }
-    assert!(rt; gate.part.load(Ordering::SeqCst) == 1);
-    assert_totals(&rt, alloc, table, workers, [7, 7, 0, 7]);
+    let opening = Opening {
+        splits: TWO,
+        limits,
+        workers: 1,
+    };
+    run_both(&rt, rt.alloc(), opening, Noted);
 }

@@ -1,24 +1,26 @@
 //! Sessions over a worker's desk, and over a core.
 use crate::gates::Shut;
-use crate::values::{HUNDRED, ONE, assert_totals, bounds};
+use crate::trials::{Opening, Trial, run_both};
+use crate::values::{GREATEST, HUNDRED, ONE, assert_totals, bounds, give_back};
 use crack_commands::write_refusal;
 use crack_core::Core;
 use crack_row::{BoundNumber, GREATEST_LIMIT, Policy, Refusal, Watched};
 use crack_session::{Desk, End, How, serve};
 use crack_table::{Gate, OpenGate, Table};
+use crack_witness::{Naming, Worker};
 use crack_worker_desk::WorkerDesk;
 use std::alloc::Global;
 use std::process::Abort;
 use std::sync::Wait;
 
-/// Each statement, at both partitions, and each refusal that needs no lack of room and no gate.
+/// Each kind of statement, at both partitions, and each refusal that needs no limit and no gate.
 const SCRIPT: &[u8] = b"insert 50 5\ninsert 150 6\ninsert 99 7\ninsert 100 8\n\
 count 50 151\nsum 0 18446744073709551616\nselect 60 160\nupdate 0.0 60 9\nupdate 0.0 100 9\n\
 delete 1.0\ndelete 1.0\nlayout 2\nupdate 2.0 100 9\ncount 5 1\nx\npolicy complete\n\
 select 0 18446744073709551616\nlayout 0\nlayout 1\n\
 policy gradual\ninsert 10 1\ninsert 20 2\ncount 10 11\nlayout 0\nquit\ninsert 1 1\n";
 
-/// The replies to it.
+/// The replies to `SCRIPT`.
 const REPLIES: &[u8] = b"row 0.0\nrow 1.0\nrow 0.1\nrow 1.1\n\
 count 4\nsum 26\nrows 3\n0.1 99 7\n1.0 150 6\n1.1 100 8\nchanged\nrefused 4\n\
 gone 150 6\nnone\nrefused 5\nrefused 5\nrefused 2\nrefused 1\npolicy complete\n\
@@ -31,8 +33,8 @@ policy gradual\nrow 0.2\nrow 0.3\ncount 1\n\
 layout 0 rows 4 column 3 out 0 in 1 cells 4 free 0 pieces 5\n\
 piece 0 10 0\npiece 10 11 1\npiece 11 50 0\npiece 50 60 0\npiece 60 100 2\nbye\n";
 
-/// A row of the range 10 to 20 is pending, and one outside it, over bounds at one place: by the complete merge
-/// both are put in.
+/// One pending row is in the range 10 to 20, and one is above the bounds 20 and 30, which are at one place. The
+/// complete merge inserts both into the column.
 const COMPLETE: &[u8] =
     b"policy complete\ninsert 10 1\ninsert 40 4\ncount 0 18446744073709551616\ncount 20 30\n\
 insert 15 5\ninsert 50 6\ncount 10 20\nlayout 0\n";
@@ -41,7 +43,7 @@ const COMPLETED: &[u8] = b"policy complete\nrow 0.0\nrow 0.1\ncount 2\ncount 0\n
 row 0.2\nrow 0.3\ncount 2\nlayout 0 rows 4 column 4 out 0 in 0 cells 4 free 0 pieces 4\n\
 piece 0 10 0\npiece 10 20 2\npiece 20 30 0\npiece 30 18446744073709551616 2\n";
 
-/// By the gradual merge the row of the range is put in.
+/// The gradual merge inserts only the row of the range.
 const GRADUAL: &[u8] =
     b"policy gradual\ninsert 10 1\ninsert 40 4\ncount 0 18446744073709551616\ncount 20 30\n\
 insert 15 5\ninsert 50 6\ncount 10 20\nlayout 0\n";
@@ -50,7 +52,7 @@ const MERGED: &[u8] = b"policy gradual\nrow 0.0\nrow 0.1\ncount 2\ncount 0\n\
 row 0.2\nrow 0.3\ncount 2\nlayout 0 rows 4 column 3 out 0 in 1 cells 4 free 0 pieces 4\n\
 piece 0 10 0\npiece 10 20 2\npiece 20 30 0\npiece 30 18446744073709551616 1\n";
 
-/// And so is it by a sum and by a select, which merge as a count does.
+/// A sum and a select merge as a count does.
 const GRADUAL_SUM: &[u8] =
     b"policy gradual\ninsert 10 1\ninsert 40 4\ncount 0 18446744073709551616\ncount 20 30\n\
 insert 15 5\ninsert 50 6\nsum 10 20\nlayout 0\n";
@@ -67,7 +69,8 @@ const MERGED_BY_A_SELECT: &[u8] = b"policy gradual\nrow 0.0\nrow 0.1\ncount 2\nc
 row 0.2\nrow 0.3\nrows 2\n0.0 10 1\n0.2 15 5\nlayout 0 rows 4 column 3 out 0 in 1 cells 4 free 0 pieces 4\n\
 piece 0 10 0\npiece 10 20 2\npiece 20 30 0\npiece 30 18446744073709551616 1\n";
 
-/// By ripple it is put in, and the row above the range that makes room for it is pending again.
+/// The ripple merge inserts the row of the range; the row above the range, which makes room for it, is pending
+/// again.
 const RIPPLE: &[u8] =
     b"policy ripple\ninsert 10 1\ninsert 40 4\ncount 0 18446744073709551616\ncount 20 30\n\
 insert 15 5\ninsert 50 6\ncount 10 20\nlayout 0\n";
@@ -76,7 +79,7 @@ const RIPPLED: &[u8] = b"policy ripple\nrow 0.0\nrow 0.1\ncount 2\ncount 0\n\
 row 0.2\nrow 0.3\ncount 2\nlayout 0 rows 4 column 2 out 0 in 2 cells 4 free 0 pieces 4\n\
 piece 0 10 0\npiece 10 20 2\npiece 20 30 0\npiece 30 18446744073709551616 0\n";
 
-/// Keys at both sides of 2^32 and the two greatest, with payloads of both signs.
+/// Keys on both sides of 2^32 and the two greatest keys, with positive and negative payloads.
 const WIDE: &[u8] =
     b"policy complete\ninsert 4294967296 -4\ninsert 18446744073709551615 -9223372036854775808\n\
 sum 4294967296 18446744073709551616\ninsert 4294967295 5\ninsert 18446744073709551614 -1\n\
@@ -87,7 +90,7 @@ row 0.2\nrow 0.3\nsum 5\nsum -9223372036854775809\n\
 layout 0 rows 4 column 4 out 0 in 0 cells 4 free 0 pieces 3\n\
 piece 0 4294967296 1\npiece 4294967296 4294967297 1\npiece 4294967297 18446744073709551616 2\n";
 
-/// Serves a session over memory, which is to write these replies and to end in this way, with no lack of room.
+/// Serves a session over memory, and asserts its replies and its end. No statement is refused for lack of memory.
 fn assert_session<D: Desk>(
     rt: &impl Abort,
     alloc: Global,
@@ -122,25 +125,30 @@ fn a_core_is_told_the_script(rt: HostRuntime) {
     assert!(rt; accepted == 18);
 }
 
-/// A session at a worker's desk.
+/// A session at the desk of the only worker of a table, whose gate is open.
 #[derive(Clone, Copy)]
 struct Session {
     splits: &'static [BoundNumber],
     input: &'static [u8],
     replies: &'static [u8],
-    /// How it ends, and after how many statements.
+    /// How the session ends, and after how many statements.
     end: (How, u64),
-    /// How many commands the desk has accepted then.
+    /// How many commands the desk has accepted at the end.
     accepted: u64,
-    /// The totals of the table, once the worker is gathered.
+    /// The totals of the table when the worker is gathered.
     totals: [u64; 4],
 }
 
-/// Asserts what a session at the desk of the only worker of a table is told.
-fn assert_desk<R: Abort + Wait, G: Gate>(rt: &R, alloc: Global, gate: &G, session: Session) {
+/// Asserts the replies to a session at the desk of the only worker of a table.
+fn assert_desk<J: Naming, R: Abort + Wait, G: Gate>(
+    rt: &R,
+    alloc: Global,
+    table: Table<J>,
+    mut workers: Vec<Worker<J>>,
+    gate: &G,
+    session: Session,
+) {
     let splits = bounds(rt, alloc, session.splits);
-    let opened = Table::open(alloc, &splits, GREATEST_LIMIT, 1);
-    let (table, mut workers) = opened.expect(rt, "a table");
     let worker = workers.pop().expect(rt, "a worker");
     let mut desk = WorkerDesk::new(rt, &table, gate, worker);
     assert_session(
@@ -153,14 +161,35 @@ fn assert_desk<R: Abort + Wait, G: Gate>(rt: &R, alloc: Global, gate: &G, sessio
     );
     let accepted = desk.accepted();
     let has_splits = desk.splits() == splits.as_slice();
-    assert!(rt; workers.push(desk.into_worker()).is_ok());
+    give_back(rt, &mut workers, desk.into_worker());
     assert!(rt; accepted == session.accepted && has_splits);
     assert_totals(rt, alloc, table, workers, session.totals);
 }
 
-/// Sessions whose commands go through no gate.
+impl Trial for Session {
+    fn run<J: Naming, R: Wait + Abort>(
+        self,
+        rt: &R,
+        alloc: Global,
+        table: Table<J>,
+        workers: Vec<Worker<J>>,
+    ) {
+        assert_desk(rt, alloc, table, workers, &OpenGate, self);
+    }
+}
+
+/// The opening of a table with one worker.
+fn of_one_worker(splits: &'static [BoundNumber]) -> Opening {
+    Opening {
+        splits,
+        limits: GREATEST,
+        workers: 1,
+    }
+}
+
+/// Sessions, and their replies.
 const SESSIONS: &[Session] = &[
-    // what a core is told
+    // the same replies as from a core
     Session {
         splits: HUNDRED,
         input: SCRIPT,
@@ -169,7 +198,7 @@ const SESSIONS: &[Session] = &[
         accepted: 18,
         totals: [18, 6, 1, 5],
     },
-    // by the session's policy, whichever that is
+    // the session's policy, whichever it is
     Session {
         splits: ONE,
         input: COMPLETE,
@@ -194,7 +223,7 @@ const SESSIONS: &[Session] = &[
         accepted: 7,
         totals: [7, 4, 0, 4],
     },
-    // by a sum and by a select, as by a count
+    // a sum and a select, which merge as a count does
     Session {
         splits: ONE,
         input: GRADUAL_SUM,
@@ -219,7 +248,7 @@ const SESSIONS: &[Session] = &[
         accepted: 7,
         totals: [7, 4, 0, 4],
     },
-    // each checkpoint is of the partition that it names, and of no other
+    // each checkpoint is only of the partition that it names
     Session {
         splits: HUNDRED,
         input: b"insert 50 5\ninsert 60 6\ninsert 150 7\ncheckpoint 1\ncheckpoint 0\ncheckpoint 0\ncheckpoint 2\n",
@@ -230,16 +259,35 @@ const SESSIONS: &[Session] = &[
     },
 ];
 
-/// A worker's desk is told what a core is told, asks each question about a range by the session's policy, adds up below
-/// 0, and makes checkpoints.
+/// A worker's desk gives the replies of a core, asks each query by the session's policy, adds up negative payloads,
+/// and makes checkpoints.
 #[test]
 fn a_worker_desk_serves_sessions(rt: HostRuntime) {
     'sessions: for place in 0..SESSIONS.len() {
-        assert_desk(&rt, rt.alloc(), &OpenGate, SESSIONS[place]);
+        let session = SESSIONS[place];
+        run_both(&rt, rt.alloc(), of_one_worker(session.splits), session);
     }
 }
 
-/// A layout goes through no gate.
+/// The same at a desk whose gate is shut.
+#[derive(Clone, Copy)]
+struct AtShut {
+    session: Session,
+}
+
+impl Trial for AtShut {
+    fn run<J: Naming, R: Wait + Abort>(
+        self,
+        rt: &R,
+        alloc: Global,
+        table: Table<J>,
+        workers: Vec<Worker<J>>,
+    ) {
+        assert_desk(rt, alloc, table, workers, &Shut::new(None), self.session);
+    }
+}
+
+/// A layout is asked without the gate.
 #[test]
 fn a_shut_gate_refuses_each_command_of_a_session(rt: HostRuntime) {
     const SESSION: Session = Session {
@@ -251,7 +299,8 @@ layout 0 rows 0 column 0 out 0 in 0 cells 0 free 0 pieces 1\npiece 0 100 0\npoli
         accepted: 0,
         totals: [0, 0, 0, 0],
     };
-    assert_desk(&rt, rt.alloc(), &Shut::new(None), SESSION);
+    let trial = AtShut { session: SESSION };
+    run_both(&rt, rt.alloc(), of_one_worker(HUNDRED), trial);
 }
 
 /// Refusals of a gathering, each with its line.

@@ -1,5 +1,5 @@
-//! Gates that refuse: always, at one partition, or until another worker is inside; and gates that consent, and list to
-//! whom, or count the checkpoints that were due.
+//! Gates that refuse: always, at one partition, or until another worker is inside; and gates that consent, and list
+//! the workers or count the checkpoints that were due.
 ghost use Rattle.std.specs.Prelude.{◌≡◌, ◌<◌, not, false, nat_eq, MatchOption};
 
 use crack_table::Gate;
@@ -7,19 +7,19 @@ use std::alloc::{AllocError, Global};
 use std::sync::atomic::{AtomicBool, AtomicU32, AtomicU64, Ordering};
 use std::thread;
 
-/// A gate that refuses at one partition, or at all, and consents at every other. It counts how often it is asked, by
-/// any worker, and records whether that is with the turns of one call, in order.
+/// A gate that refuses at one partition, or at all partitions. It counts how often any worker asked it, and records
+/// whether it was asked at the turns of one call, in order.
 #[derive(Drop)]
 pub(crate) struct Shut {
     part: Option<u32>,
-    /// How often it was asked.
+    /// How often the gate was asked.
     pub(crate) asked: AtomicU32,
-    /// Whether the n-th time that it was asked, from 0, was always at turn n.
+    /// Whether the n-th question, from 0, was always at turn n.
     pub(crate) is_orderly: AtomicBool,
 }
 
 impl Shut {
-    /// A gate that refuses at this partition; at all if there is none.
+    /// A gate that refuses at this partition, or at all partitions if `part` is `None`.
     pub(crate) fn new(part: Option<u32>) -> Shut {
         Shut {
             part,
@@ -45,15 +45,15 @@ impl Gate for Shut {
     }
 }
 
-/// Yields, long enough for another thread to arrive.
+/// Yields often enough for another thread to arrive.
 fn give_way() {
     'turns: for _ in 0..1000u32 {
         thread::yield_now();
     }
 }
 
-/// A gate that refuses each of partitions 0 and 1 until the other has been inside. It yields before each refusal. At
-/// other partitions it consents.
+/// A gate that refuses at each of partitions 0 and 1 until a worker has been inside at the other. It yields before
+/// each refusal, and consents at other partitions.
 #[derive(Drop)]
 pub(crate) struct Meeting {
     arrived: [AtomicBool; 2],
@@ -84,12 +84,12 @@ impl Gate for Meeting {
     }
 }
 
-/// A gate that records whether it is asked while another worker is inside. It refuses twenty times, and yields before
-/// each answer.
+/// A gate that records whether it is asked while another worker is inside. It refuses twenty times, and yields
+/// before each answer.
 #[derive(Drop)]
 pub(crate) struct Alone {
     inside: AtomicBool,
-    /// Whether two were inside at the same time.
+    /// Whether two workers were inside at the same time.
     pub(crate) met: AtomicBool,
 }
 
@@ -116,16 +116,16 @@ impl Gate for Alone {
     }
 }
 
-/// Who was let in by the gates that share this list, in order.
+/// The workers that were let in by the gates that share this list, in order.
 #[derive(Drop)]
 pub(crate) struct Visitors {
-    /// How many were let in.
+    /// How often a worker was let in.
     pub(crate) entered: AtomicU32,
     workers: Vec<AtomicU32>,
 }
 
 impl Visitors {
-    /// None yet, with room for this many.
+    /// An empty list with room for this many workers.
     pub(crate) fn new(alloc: Global, room: u32) -> Result<Visitors, AllocError> {
         let mut workers = Vec::new(alloc);
         'places: for _ in 0..room {
@@ -137,7 +137,7 @@ impl Visitors {
         })
     }
 
-    /// Whether this worker was let in when this many others had been.
+    /// Whether this worker is at this place of the list.
     pub(crate) fn has(&self, place: u64, worker: u32) -> bool {
         match self.workers.get(place as usize) {
             Some(listed) => listed.load(Ordering::SeqCst) == worker,
@@ -146,9 +146,9 @@ impl Visitors {
     }
 }
 
-/// A gate that consents, and lists its worker each time; if there is no room, it is counted alone. All gates of one
-/// partition share a list, which then is in the order of its history, as long as each command is let in once and no
-/// other comes between a gate's consent and the command.
+/// A gate that consents, and lists its worker each time; a worker for which there is no room is only counted. All
+/// gates of one partition share a list. It is in the order of the partition's history if each command is let in
+/// once, and no other command comes between a gate's consent and the command.
 #[derive(Clone, Copy, Drop)]
 pub(crate) struct Listing<'a> {
     pub(crate) worker: u32,
@@ -167,18 +167,17 @@ impl Gate for Listing<'_> {
     }
 }
 
-/// A gate that consents, and counts the checkpoints that were due: how many, how many entries they took, and the
-/// partition of the last one.
+/// A gate that consents, and counts the checkpoints that were due and their entries.
 #[derive(Drop)]
 pub(crate) struct Due {
     count: AtomicU64,
     entries: AtomicU64,
-    /// The partition of the last one.
+    /// The partition of the last checkpoint.
     pub(crate) part: AtomicU32,
 }
 
 impl Due {
-    /// A gate that has counted none.
+    /// A gate that has counted no checkpoint.
     pub(crate) fn new() -> Due {
         Due {
             count: AtomicU64::new(0),
@@ -187,7 +186,7 @@ impl Due {
         }
     }
 
-    /// How many there were, and how many entries they took.
+    /// How many checkpoints there were, and how many entries they had.
     pub(crate) fn counts(&self) -> [u64; 2] {
         [
             self.count.load(Ordering::SeqCst),

@@ -1,33 +1,60 @@
-//! Gatherings that are refused, and those that follow.
+//! Gatherings that are refused, and those after them. A second worker with the number of one of the table's may have
+//! asked, too.
+ghost use Rattle.std.specs.Prelude.{◌≡◌, ℕ, Some, slice_get};
+ghost use Rattle.crack_witness.specs.Histories.{AreEmpty};
+ghost use Rattle.crack_witness.specs.Witnesses.{WorkerState};
+
 use crate::script::{Script, assert_answers};
-use crate::values::{ONE, TEN, TWO, assert_totals, give_back, open};
+use crate::trials::{Opening, Trial, run_at};
+use crate::values::{ONE, TEN, TWO, give_back, totals_in};
 use crack_row::{BoundNumber, Refusal};
-use crack_table::{GatherRefused, OpenGate, Table, Worker, gather};
+use crack_table::{GatherRefused, OpenGate, Table, gather};
+use crack_witness::{Naming, Worker};
 use std::alloc::Global;
 use std::process::Abort;
 use std::sync::Wait;
 
-/// A gathering that is refused, and one with the table's own workers.
+/// A refused gathering, and another one after it.
 #[derive(Clone, Copy)]
 struct Case {
     name: &'static str,
     splits: &'static [BoundNumber],
+    /// How many workers the table has.
     workers: u64,
-    /// The answers that the table's workers get before the first gathering.
+    /// The number of a second worker with this number, if there is one. It comes after the table's workers.
+    twin: Option<u32>,
+    /// The answers that the workers get before the first gathering.
     before: Script,
-    /// Whether the last of them is missing there.
-    lacks_last: bool,
-    /// The answers that a worker of another table got there, if one is handed in after the others.
-    stranger: Option<Script>,
-    refusal: Refusal,
-    /// The answers that the table's workers get before the second gathering, and its totals.
+    /// The index of the worker that is missing from the first gathering, if one is. Later it comes last.
+    first_lacks: Option<usize>,
+    /// The refusals of the first gathering: without an audit, and with one.
+    refusals: [Refusal; 2],
+    /// The answers that the workers get before the second gathering.
     after: Script,
-    totals: [u64; 4],
+    /// The index of the worker that is missing from the second gathering, if one is.
+    second_lacks: Option<usize>,
+    /// The totals of the second gathering, or its refusal.
+    end: Result<[u64; 4], Refusal>,
 }
 
-/// A receipt of the first row of a table that isn't its own worker's.
-const STRANGE: Refusal = Refusal::StrangeReceipt {
+/// The refusals of a gathering from which worker 1 is missing.
+const MISSING: [Refusal; 2] = [Refusal::WorkersMissing { missing: 2 }; 2];
+
+/// The refusal at the first place of partition 0.
+const FIRST: Refusal = Refusal::StrangeReceipt {
     part: 0,
+    position: 0,
+};
+
+/// The refusal at the second place of partition 0.
+const SECOND: Refusal = Refusal::StrangeReceipt {
+    part: 0,
+    position: 1,
+};
+
+/// The refusal at the first place of partition 1.
+const ELSEWHERE: Refusal = Refusal::StrangeReceipt {
+    part: 1,
     position: 0,
 };
 
@@ -36,142 +63,247 @@ const CASES: &[Case] = &[
         name: "a missing worker is reported and all are handed back",
         splits: TWO,
         workers: 2,
+        twin: None,
         before: &[(1, 0, "insert 7 1", "row 0.0")],
-        lacks_last: true,
-        stranger: None,
-        refusal: Refusal::WorkersMissing { missing: 2 },
+        first_lacks: Some(1),
+        refusals: MISSING,
         after: &[],
-        totals: [1, 1, 0, 1],
+        second_lacks: None,
+        end: Ok([1, 1, 0, 1]),
     },
-    // A worker of another table, with the number of one of this: its receipts are no entries here.
     Case {
-        name: "a stranger of the same number is found",
+        name: "a stranger of the same number is found beside the table's worker",
         splits: ONE,
         workers: 1,
-        before: &[],
-        lacks_last: false,
-        stranger: Some(&[(0, 0, "insert 7 1", "row 0.0")]),
-        refusal: STRANGE,
+        twin: Some(0),
+        before: &[(1, 0, "insert 7 1", "row 0.0")],
+        first_lacks: None,
+        refusals: [FIRST, FIRST],
         after: &[],
-        totals: [0, 0, 0, 0],
+        second_lacks: Some(0),
+        end: Ok([1, 1, 0, 1]),
     },
-    // The partitions that were taken out are in the locks again, in order: the receipts of the table's own worker
+    // The partitions that were taken out are back in their locks, in order: the replies of the table's own worker
     // agree.
     Case {
         name: "a table that a stranger was refused is gathered by its own worker",
         splits: TWO,
         workers: 1,
+        twin: Some(0),
         before: &[
             (0, 0, "insert 7 1", "row 0.0"),
             (0, 1, "insert 1000007 1", "row 1.0"),
         ],
-        lacks_last: true,
-        stranger: Some(&[]),
-        refusal: STRANGE,
+        first_lacks: Some(0),
+        refusals: [FIRST, FIRST],
         after: &[],
-        totals: [2, 2, 0, 2],
+        second_lacks: Some(0),
+        end: Ok([2, 2, 0, 2]),
     },
-    // Each partition still has its entries, which a checkpoint then counts.
+    // Each partition still has its entries, which a later checkpoint counts.
     Case {
         name: "a refused gathering makes no checkpoint",
         splits: TWO,
         workers: 1,
+        twin: Some(0),
         before: &[
             (0, 0, "insert 7 1", "row 0.0"),
             (0, 0, "insert 8 1", "row 0.1"),
             (0, 1, "insert 1000007 1", "row 1.0"),
         ],
-        lacks_last: true,
-        stranger: Some(&[]),
-        refusal: STRANGE,
+        first_lacks: Some(0),
+        refusals: [FIRST, FIRST],
         after: &[
             (0, 0, "checkpoint 0", "folded 2"),
             (0, 1, "checkpoint 1", "folded 1"),
         ],
-        totals: [3, 3, 0, 3],
+        second_lacks: Some(0),
+        end: Ok([3, 3, 0, 3]),
+    },
+    // The table's own worker has asked nothing. The table is then gathered with the stranger.
+    Case {
+        name: "the entries of a stranger are found",
+        splits: TWO,
+        workers: 1,
+        twin: Some(0),
+        before: &[
+            (1, 0, "insert 7 1", "row 0.0"),
+            (1, 0, "insert 8 1", "row 0.1"),
+        ],
+        first_lacks: Some(1),
+        refusals: [FIRST, FIRST],
+        after: &[(0, 0, "checkpoint 0", "folded 2")],
+        second_lacks: Some(0),
+        end: Ok([2, 2, 0, 2]),
+    },
+    // Where one of two workers with the same number received a reply, the other is refused with its own count of
+    // replies there, and nothing is applied. The table can't be gathered any more.
+    Case {
+        name: "two workers of one number don't ask one partition",
+        splits: TWO,
+        workers: 1,
+        twin: Some(0),
+        before: &[
+            (0, 0, "insert 7 1", "row 0.0"),
+            (1, 0, "insert 8 1", "refused 16 0 0"),
+            (0, 0, "insert 9 1", "row 0.1"),
+            (1, 1, "insert 1000007 1", "row 1.0"),
+            (0, 1, "insert 1000008 1", "refused 16 1 0"),
+        ],
+        first_lacks: Some(1),
+        refusals: [ELSEWHERE, ELSEWHERE],
+        after: &[],
+        second_lacks: None,
+        end: Err(FIRST),
+    },
+    // An audit names the place of the entry without a receipt.
+    Case {
+        name: "an entry of a stranger beside others is found",
+        splits: TWO,
+        workers: 2,
+        twin: Some(1),
+        before: &[
+            (0, 0, "insert 7 1", "row 0.0"),
+            (2, 0, "insert 8 1", "row 0.1"),
+        ],
+        first_lacks: Some(2),
+        refusals: [FIRST, SECOND],
+        after: &[],
+        second_lacks: Some(1),
+        end: Ok([2, 2, 0, 2]),
     },
 ];
 
-/// A worker of another table, which got these answers there.
-fn stranger<R: Wait + Abort>(rt: &R, alloc: Global, script: Script) -> Worker {
-    let (other, mut strangers) = open(rt, alloc, ONE, TEN, 1);
-    assert_answers(
-        rt,
-        alloc,
-        &mut strangers,
-        &other,
-        &OpenGate,
-        "a stranger",
-        script,
-    );
-    strangers.pop().expect(rt, "a stranger")
+/// A case at a table with or without an audit.
+#[derive(Clone, Copy)]
+struct Gathering {
+    case: Case,
+    is_audited: bool,
 }
 
-/// A table that refuses to be gathered by these workers, and the workers, as both are handed back.
-fn refused(
+/// A second worker with this number, for a table whose workers have asked nothing yet.
+fn twin_of<J: Naming>(
     rt: &impl Abort,
     alloc: Global,
-    table: Table,
-    workers: Vec<Worker>,
+    workers: &Vec<Worker<J>>,
+    number: u32,
+    is_audited: bool,
+) -> Worker<J>
+    requires { (place : ℕ) (w : WorkerState) → slice_get workers.now.items place ≡ Some w → AreEmpty w.seen }
+{
+    let first = workers.first().expect(rt, "a worker");
+    let made = Worker::new(alloc, number, first.front().again(), 2, is_audited);
+    made.expect(rt, "a twin")
+}
+
+/// Takes a worker out of a list, if one is named by its index.
+fn taken<J: Naming>(
+    rt: &impl Abort,
+    workers: &mut Vec<Worker<J>>,
+    place: Option<usize>,
+) -> Option<Worker<J>> {
+    match place {
+        Some(place) => {
+            assert!(rt; place < workers.len());
+            Some(workers.remove(place))
+        }
+        None => None,
+    }
+}
+
+/// Makes a gathering that is refused. Returns the table and all workers.
+fn refused<J: Naming>(
+    rt: &impl Abort,
+    alloc: Global,
+    table: Table<J>,
+    mut workers: Vec<Worker<J>>,
+    lacking: Option<usize>,
     wanted: Refusal,
-) -> (Table, Vec<Worker>) {
+) -> (Table<J>, Vec<Worker<J>>) {
+    let aside = taken(rt, &mut workers, lacking);
     let refused = gather(alloc, table, workers).err().expect(rt, "a refusal");
     let GatherRefused {
         refusal,
         table,
-        workers,
+        mut workers,
     } = refused;
+    if let Some(worker) = aside {
+        give_back(rt, &mut workers, worker);
+    }
     assert!(rt; refusal == wanted);
     (table, workers)
 }
 
-/// The table and the workers of a case, after they were handed in as the case says and were handed back.
-fn handed_back<R: Wait + Abort>(
+/// The totals of a gathering, or its refusal.
+fn end_of<J: Naming>(
+    alloc: Global,
+    table: Table<J>,
+    workers: Vec<Worker<J>>,
+) -> Result<[u64; 4], Refusal> {
+    match gather(alloc, table, workers) {
+        Ok(gathered) => Ok(totals_in(&gathered)),
+        Err(refused) => Err(refused.refusal),
+    }
+}
+
+/// Makes both gatherings of a case.
+fn assert_case<J: Naming, R: Wait + Abort>(
     rt: &R,
     alloc: Global,
     case: Case,
-    table: Table,
-    mut workers: Vec<Worker>,
-) -> (Table, Vec<Worker>) {
-    let aside = if case.lacks_last { workers.pop() } else { None };
-    if let Some(script) = case.stranger {
-        give_back(rt, &mut workers, stranger(rt, alloc, script));
+    refusal: Refusal,
+    table: Table<J>,
+    mut workers: Vec<Worker<J>>,
+) {
+    let name = case.name;
+    assert_answers(
+        rt,
+        alloc,
+        &mut workers,
+        &table,
+        &OpenGate,
+        name,
+        case.before,
+    );
+    let (table, mut workers) = refused(rt, alloc, table, workers, case.first_lacks, refusal);
+    assert_answers(rt, alloc, &mut workers, &table, &OpenGate, name, case.after);
+    drop(taken(rt, &mut workers, case.second_lacks));
+    let end = end_of(alloc, table, workers);
+    assert!(rt; end == case.end, "{name}");
+}
+
+impl Trial for Gathering {
+    fn run<J: Naming, R: Wait + Abort>(
+        self,
+        rt: &R,
+        alloc: Global,
+        table: Table<J>,
+        workers: Vec<Worker<J>>,
+    ) {
+        let Gathering { case, is_audited } = self;
+        let mut workers = workers;
+        if let Some(number) = case.twin {
+            let twin = twin_of(rt, alloc, &workers, number, is_audited);
+            give_back(rt, &mut workers, twin);
+        }
+        let [without, with] = case.refusals;
+        let refusal = if is_audited { with } else { without };
+        assert_case(rt, alloc, case, refusal, table, workers);
     }
-    let (table, mut workers) = refused(rt, alloc, table, workers, case.refusal);
-    if case.stranger.is_some() {
-        drop(workers.pop());
-    }
-    if let Some(worker) = aside {
-        give_back(rt, &mut workers, worker);
-    }
-    (table, workers)
 }
 
 #[test]
 fn a_refused_gathering_hands_all_back(rt: HostRuntime) {
-    let alloc: Global = rt.alloc();
     'cases: for place in 0..CASES.len() {
         let case = CASES[place];
-        let (table, mut workers) = open(&rt, alloc, case.splits, TEN, case.workers);
-        assert_answers(
-            &rt,
-            alloc,
-            &mut workers,
-            &table,
-            &OpenGate,
-            case.name,
-            case.before,
-        );
-        let (table, mut workers) = handed_back(&rt, alloc, case, table, workers);
-        assert_answers(
-            &rt,
-            alloc,
-            &mut workers,
-            &table,
-            &OpenGate,
-            case.name,
-            case.after,
-        );
-        assert_totals(&rt, alloc, table, workers, case.totals);
+        let opening = Opening {
+            splits: case.splits,
+            limits: TEN,
+            workers: case.workers,
+        };
+        'audits: for is_audited in [false, true] {
+            let trial = Gathering { case, is_audited };
+            assert!(rt; run_at(&rt, rt.alloc(), opening, is_audited, trial).is_ok());
+        }
     }
 }

@@ -1,5 +1,5 @@
-//! Tests of tables, of their workers, and of desks at which workers serve sessions and loads. They check what no clause
-//! says.
+//! Tests of tables, of their workers, and of desks at which workers serve sessions and loads. They check what no
+//! contract says.
 #![tactic(auto)]
 
 #[cfg(test)]
@@ -21,12 +21,14 @@ mod locks;
 #[cfg(test)]
 mod memory;
 #[cfg(test)]
+mod receipts;
+#[cfg(test)]
 mod script;
 #[cfg(test)]
 mod tables;
 #[cfg(test)]
 mod threads;
 #[cfg(test)]
-mod values;
+mod trials;
 #[cfg(test)]
-mod witnessed;
+mod values;

@@ -1,19 +1,20 @@
 //! A worker that finds no memory for a command: nothing has changed.
 //!
-//! The tests `sweep_..` hold whichever one of their allocations is refused, so they may be run with each of them
-//! refused in turn.
+//! The tests `sweep_..` pass whichever one of their allocations is refused, so they can be run with each one refused
+//! in turn.
 use crate::script::command_of;
-use crate::values::GREATEST;
+use crate::trials::{Opening, Trial, run_at};
+use crate::values::{GREATEST, ONE, give_back};
 use crack_commands::parse_statement;
-use crack_kept::Book;
 use crack_plain::PlainTable;
 use crack_row::{Command, Limits, Policy, Refusal, Upkeep};
-use crack_table::{Closed, GatherRefused, OpenGate, Table, Worker, gather};
+use crack_table::{GatherRefused, Gathered, OpenGate, Table, gather};
+use crack_witness::{Naming, Worker};
 use std::alloc::Global;
 use std::process::Abort;
 use std::sync::Wait;
 
-/// Inserts, changes and reads, with pending rows in between, and the policies by which they are asked.
+/// Inserts, changes and reads, some while rows are pending, each with its policy.
 const ASKED: [(&str, Policy); 12] = [
     ("insert 10 1", Policy::Ripple),
     ("insert 20 1", Policy::Ripple),
@@ -29,43 +30,45 @@ const ASKED: [(&str, Policy); 12] = [
     ("select 0 18446744073709551616", Policy::Ripple),
 ];
 
-/// How many receipts a book has, and its shares.
-fn shares(book: &Book) -> [u64; 4] {
-    let receipts = book.receipts().len() as u64;
-    [receipts, book.accepted(), book.inserted(), book.deleted()]
+/// The numbers of a worker's replies and receipts.
+fn counts<J: Naming>(worker: &Worker<J>) -> [u64; 2] {
+    [worker.replies(), worker.receipts().len() as u64]
 }
 
-/// Asks a worker, and a plain table if the worker finds memory; the plain table finds it at the second time. Returns
-/// how many answers are refused.
-fn ask_beside<R: Abort + Wait>(
+/// Asks a worker and, if it finds memory, a plain table, whose reply must be the same. The plain table finds memory
+/// at the second try. Returns how many answers are refused.
+fn ask_beside<J: Naming, R: Abort + Wait>(
     rt: &R,
-    worker: &mut Worker,
-    table: &Table,
+    worker: &mut Worker<J>,
+    table: &Table<J>,
     plain: &mut PlainTable,
     command: Command,
     policy: Policy,
 ) -> u64 {
-    let before = shares(worker.book());
-    match worker.ask(rt, table, &OpenGate, 0, command, policy) {
+    let before = counts(worker);
+    match table.ask(rt, &OpenGate, worker, 0, command, policy) {
         Ok(reply) => {
             let plain_reply = match plain.apply(&command) {
                 Ok(reply) => reply,
                 Err(_) => plain.apply(&command).expect(rt, "a reply"),
             };
-            assert!(rt;
-                reply.is_same(&plain_reply) && worker.book().accepted() == plain.accepted()
-            );
+            assert!(rt; reply.is_same(&plain_reply) && worker.replies() == plain.accepted());
             0
         }
         Err(refusal) => {
-            assert!(rt; refusal == Refusal::OutOfMemory && shares(worker.book()) == before);
+            assert!(rt; refusal == Refusal::OutOfMemory && counts(worker) == before);
             1
         }
     }
 }
 
-/// Asks for all commands, of which at most one is refused; returns how many were answered, and how many rows are left.
-fn ask_all<R: Abort + Wait>(rt: &R, alloc: Global, worker: &mut Worker, table: &Table) -> [u64; 2] {
+/// Asks all commands, of which at most one is refused. Returns how many were answered, and how many rows are left.
+fn ask_all<J: Naming, R: Abort + Wait>(
+    rt: &R,
+    alloc: Global,
+    worker: &mut Worker<J>,
+    table: &Table<J>,
+) -> [u64; 2] {
     let mut plain = PlainTable::new(alloc);
     let mut refused = 0u64;
     'asked: for place in 0..ASKED.len() {
@@ -81,10 +84,15 @@ fn ask_all<R: Abort + Wait>(rt: &R, alloc: Global, worker: &mut Worker, table: &
     told
 }
 
-/// Gathers the workers, at the second time if memory isn't found at once.
-fn gather_at_last(rt: &impl Abort, alloc: Global, table: Table, workers: Vec<Worker>) -> Closed {
+/// Gathers the workers, at the second try at the latest.
+fn gather_at_last<J: Naming>(
+    rt: &impl Abort,
+    alloc: Global,
+    table: Table<J>,
+    workers: Vec<Worker<J>>,
+) -> Gathered<J> {
     match gather(alloc, table, workers) {
-        Ok(closed) => closed,
+        Ok(gathered) => gathered,
         Err(refused) => {
             let GatherRefused {
                 refusal,
@@ -97,18 +105,44 @@ fn gather_at_last(rt: &impl Abort, alloc: Global, table: Table, workers: Vec<Wor
     }
 }
 
-/// Has a worker ask for all at a table of these limits, and gathers it.
-fn work_within<R: Abort + Wait>(rt: &R, alloc: Global, limits: Limits) {
-    let Ok((table, mut workers)) = Table::open_with(alloc, &[], limits, 1) else {
-        return;
+/// The only worker of a table asks all commands, and is gathered.
+#[derive(Clone, Copy)]
+struct Short {
+    is_audited: bool,
+}
+
+impl Trial for Short {
+    fn run<J: Naming, R: Wait + Abort>(
+        self,
+        rt: &R,
+        alloc: Global,
+        table: Table<J>,
+        workers: Vec<Worker<J>>,
+    ) {
+        let mut workers = workers;
+        let mut worker = workers.pop().expect(rt, "a worker");
+        let told = ask_all(rt, alloc, &mut worker, &table);
+        let receipts = if self.is_audited { told[0] } else { 0 };
+        assert!(rt; counts(&worker) == [told[0], receipts]);
+        give_back(rt, &mut workers, worker);
+        let gathered = gather_at_last(rt, alloc, table, workers);
+        let totals = [gathered.accepted, gathered.held];
+        drop(gathered);
+        assert_eq!(rt; totals, told);
+    }
+}
+
+/// Has the only worker of a table with these limits work, without an audit and with one.
+fn work_within<R: Wait + Abort>(rt: &R, alloc: Global, limits: Limits) {
+    let opening = Opening {
+        splits: ONE,
+        limits,
+        workers: 1,
     };
-    let mut worker = workers.pop().expect(rt, "a worker");
-    let told = ask_all(rt, alloc, &mut worker, &table);
-    assert!(rt; workers.push(worker).is_ok());
-    let closed = gather_at_last(rt, alloc, table, workers);
-    let gathered = [closed.accepted, closed.held];
-    drop(closed);
-    assert_eq!(rt; gathered, told);
+    'audits: for is_audited in [false, true] {
+        let ended = run_at(rt, alloc, opening, is_audited, Short { is_audited });
+        assert!(rt; ended == Ok(()) || ended == Err(Refusal::OutOfMemory));
+    }
 }
 
 #[test]

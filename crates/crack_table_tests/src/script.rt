@@ -1,17 +1,18 @@
-//! Scripts: statements in the order in which workers put them to a table, each with its answer.
+//! Scripts: statements that workers ask a table, in order, each with its answer.
 use crate::values::ask;
 use crack_commands::{
     Statement, parse_statement, write_folded, write_layout, write_refusal, write_reply,
 };
 use crack_row::{Command, Refusal, Watched};
-use crack_table::{Gate, Table, Worker};
+use crack_table::{Gate, Table};
+use crack_witness::{Naming, Worker};
 use std::alloc::Global;
 use std::io::Write;
 use std::process::Abort;
 use std::sync::Wait;
 
-/// Statements, each with the place of its worker and the partition that is asked before it, and with its answer after
-/// it, which has no line feed at its end.
+/// Statements, each as the index of its worker, the partition that is asked, the line, and the answer without its
+/// last line feed.
 pub(crate) type Script = &'static [(usize, u32, &'static str, &'static str)];
 
 /// The command of a statement, if it has one.
@@ -31,19 +32,19 @@ pub(crate) fn command_of(statement: Statement) -> Option<Command> {
     }
 }
 
-/// Puts a statement to a worker, and writes the answer unless it is a refusal.
-fn answer<R: Wait + Abort, G: Gate, W: Write>(
+/// Has a worker ask a statement, and writes the answer unless it is a refusal.
+fn answer<J: Naming, R: Wait + Abort, G: Gate, W: Write>(
     rt: &R,
-    worker: &mut Worker,
-    table: &Table,
+    worker: &mut Worker<J>,
+    table: &Table<J>,
     gate: &G,
     part: u32,
     statement: Statement,
     writer: &mut Watched<W>,
 ) -> Result<(), Refusal> {
     match statement {
-        Statement::Checkpoint(part) => write_folded(worker.checkpoint(rt, table, part)?, writer),
-        Statement::Layout(part) => write_layout(part, &worker.layout(rt, table, part)?, writer),
+        Statement::Checkpoint(part) => write_folded(table.checkpoint(rt, part)?, writer),
+        Statement::Layout(part) => write_layout(part, &table.layout(rt, part)?, writer),
         _ => {
             let command = command_of(statement).expect(rt, "a command");
             let reply = ask(rt, worker, table, gate, part, command)?;
@@ -52,7 +53,7 @@ fn answer<R: Wait + Abort, G: Gate, W: Write>(
     }
 }
 
-/// Asserts that this is the text of the wanted answer to a line of a test.
+/// Asserts that a text is the wanted answer to a line of a test.
 fn assert_text(rt: &impl Abort, text: &[u8], name: &str, line: &str, wanted: &str) {
     let told = match text.split_last() {
         Some((b'\n', told)) => told,
@@ -62,11 +63,11 @@ fn assert_text(rt: &impl Abort, text: &[u8], name: &str, line: &str, wanted: &st
 }
 
 /// Asserts that a worker gets the wanted answer to a line of a test.
-pub(crate) fn assert_answer<R: Wait + Abort, G: Gate>(
+pub(crate) fn assert_answer<J: Naming, R: Wait + Abort, G: Gate>(
     rt: &R,
     alloc: Global,
-    worker: &mut Worker,
-    table: &Table,
+    worker: &mut Worker<J>,
+    table: &Table<J>,
     gate: &G,
     part: u32,
     name: &str,
@@ -82,11 +83,11 @@ pub(crate) fn assert_answer<R: Wait + Abort, G: Gate>(
 }
 
 /// Asserts the answers that workers get with a gate.
-pub(crate) fn assert_answers<R: Wait + Abort, G: Gate>(
+pub(crate) fn assert_answers<J: Naming, R: Wait + Abort, G: Gate>(
     rt: &R,
     alloc: Global,
-    workers: &mut Vec<Worker>,
-    table: &Table,
+    workers: &mut Vec<Worker<J>>,
+    table: &Table<J>,
     gate: &G,
     name: &str,
     script: Script,

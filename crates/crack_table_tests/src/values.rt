@@ -1,14 +1,15 @@
-//! Tables, their workers and their totals, and what workers ask.
+//! Limits and splits of tables, what workers ask, and the totals of gathered workers.
 use crack_row::{
     Bound, BoundNumber, Command, GREATEST_CELLS, GREATEST_LIFE, GREATEST_LIMIT, Key, KeyNumber,
     Limits, Payload, Policy, Refusal, Reply, Upkeep,
 };
-use crack_table::{Gate, Table, Worker, gather};
+use crack_table::{Gate, Gathered, Table, gather};
+use crack_witness::{Naming, Worker};
 use std::alloc::Global;
 use std::process::Abort;
 use std::sync::Wait;
 
-/// No splits: there is one partition.
+/// No splits: one partition.
 pub(crate) const ONE: &[BoundNumber] = &[];
 
 /// Two partitions, which meet at key 1000000.
@@ -28,7 +29,7 @@ pub(crate) const GREATEST: Limits = Limits {
     upkeep: Upkeep::OnRequest,
 };
 
-/// The same with ten entries in each history.
+/// The same, with at most ten entries in each history.
 pub(crate) const TEN: Limits = Limits {
     history: 10,
     ..GREATEST
@@ -43,40 +44,36 @@ pub(crate) fn bounds(rt: &impl Abort, alloc: Global, numbers: &[BoundNumber]) ->
     bounds
 }
 
-/// A table between these splits, and its workers. It promises nothing, so that no test carries the contract of
-/// `open_with`.
-pub(crate) fn open(
+/// Adds a worker after the others.
+pub(crate) fn give_back<J: Naming>(
     rt: &impl Abort,
-    alloc: Global,
-    splits: &[BoundNumber],
-    limits: Limits,
-    workers: u64,
-) -> (Table, Vec<Worker>) {
-    let splits = bounds(rt, alloc, splits);
-    Table::open_with(alloc, &splits, limits, workers).expect(rt, "a table")
-}
-
-/// Puts a worker after the others.
-pub(crate) fn give_back(rt: &impl Abort, workers: &mut Vec<Worker>, worker: Worker) {
+    workers: &mut Vec<Worker<J>>,
+    worker: Worker<J>,
+) {
     assert!(rt; workers.push(worker).is_ok());
 }
 
-/// Gathers a table, and asserts how many commands were accepted, rows inserted, deleted and held.
-pub(crate) fn assert_totals(
+/// How many commands were accepted, and rows inserted, deleted and held.
+pub(crate) fn totals_in<J: Naming>(gathered: &Gathered<J>) -> [u64; 4] {
+    [
+        gathered.accepted,
+        gathered.inserted,
+        gathered.deleted,
+        gathered.held,
+    ]
+}
+
+/// Gathers a table, and asserts how many commands were accepted, and rows inserted, deleted and held.
+pub(crate) fn assert_totals<J: Naming>(
     rt: &impl Abort,
     alloc: Global,
-    table: Table,
-    workers: Vec<Worker>,
+    table: Table<J>,
+    workers: Vec<Worker<J>>,
     wanted: [u64; 4],
 ) {
-    let closed = gather(alloc, table, workers).ok().expect(rt, "gathered");
-    let told = [
-        closed.accepted,
-        closed.inserted,
-        closed.deleted,
-        closed.held,
-    ];
-    drop(closed);
+    let gathered = gather(alloc, table, workers).ok().expect(rt, "gathered");
+    let told = totals_in(&gathered);
+    drop(gathered);
     assert_eq!(rt; told, wanted);
 }
 
@@ -89,13 +86,13 @@ pub(crate) fn insert(key: u32) -> Command {
 }
 
 /// The answer that a worker gets with a gate.
-pub(crate) fn ask<R: Wait, G: Gate>(
+pub(crate) fn ask<J: Naming, R: Wait, G: Gate>(
     rt: &R,
-    worker: &mut Worker,
-    table: &Table,
+    worker: &mut Worker<J>,
+    table: &Table<J>,
     gate: &G,
     part: u32,
     command: Command,
 ) -> Result<Reply, Refusal> {
-    worker.ask(rt, table, gate, part, command, Policy::Complete)
+    table.ask(rt, gate, worker, part, command, Policy::Complete)
 }

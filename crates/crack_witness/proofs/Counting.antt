@@ -5,12 +5,14 @@ use Rattle.std.proofs.lemmas.List.{append-nil, length-set, get_or-set_same, get_
 use Rattle.std.proofs.lemmas.List.Elements.{filter-append, All-set, All-replicate}
 use Rattle.std.proofs.lemmas.List.Folds.{sum_by-replicate}
 use Rattle.std.proofs.lemmas.List.Sums.{sum_by-set, sum_by-le}
-use Rattle.std.specs.Prelude.{All, sum_by}
+use Rattle.std.specs.Prelude.{All, sum_by, Option, Some, None, IfSome}
 use mathlib.Core.List.{IsPrefix}
 use Rattle.crack_row.specs.declared.command.Entry.{Entry}
 use Rattle.crack_witness.specs.declared.event.Event.{Event}
+use Rattle.crack_witness.specs.declared.receipt.Receipt.{Receipt}
+use Rattle.crack_witness.specs.Audits.{empty_list, and_one}
 use Rattle.crack_witness.specs.Histories.{calls_by, calls_at, history_of, AreEmpty}
-use Rattle.crack_witness.specs.Keeps.{AreCounts, IsAsker}
+use Rattle.crack_witness.specs.Keeps.{AreCounts, IsWorker}
 use Rattle.crack_witness.proofs.Lists.{prefix_trans, prefix_self, history_grows}
 
 pub calls_own : (w : ℕ) (es : List Entry) (e : Entry) → e.worker ≡ w → calls_by w (es ++ e ∷ []) ≡ calls_by w es ++ e ∷ []
@@ -69,9 +71,16 @@ begins_at seen fronts part new k false is old grows less less' =
     let away : k ≢ part = grind (arith, nat_tests) in
     subst (λ (l : List Event). IsPrefix l new) (sym (get_or-set_other fronts part k new [] away)) (prefix_trans (slice_index_or fronts k []) seen new (old k (omega (arith, less', length-set fronts part new))) grows)
 
+pub none_counted : (n : ℕ) → sum_by (λ (k : ℕ). k) (replicate n 0) ≡ 0
+none_counted n = let none = sum_by-replicate (λ (k : ℕ). k) n 0 in omega (arith, none)
+
 -- a worker that has asked nothing
-pub asker_fresh : (own : ℕ → ℕ) (n : ℕ) (seen : List Event) (parts : ℕ) → AreEmpty seen → parts ≤ 64 → IsAsker own n seen (replicate parts seen) (replicate parts 0)
-asker_fresh own n seen parts empty few = record {
+none_received : (parts : ℕ) (audited : Bool) → IfSome (empty_list audited) (λ (items : List Receipt). length items ≡ sum_by (λ (k : ℕ). k) (replicate parts 0))
+none_received parts true = sym (none_counted parts)
+none_received parts false = tt
+
+pub worker_fresh : (own : ℕ → ℕ) (n : ℕ) (seen : List Event) (parts : ℕ) (audited : Bool) → AreEmpty seen → parts ≤ 64 → IsWorker own n seen (replicate parts seen) (replicate parts 0) (empty_list audited)
+worker_fresh own n seen parts audited empty few = record {
   all = length-replicate {A = ℕ} parts 0 ∙ sym (length-replicate parts seen);
   few = omega (arith, few, length-replicate {A = ℕ} parts 0);
   small = All-replicate (λ (count : ℕ). count ≤ 2 ^ 41) parts 0 (omega arith);
@@ -82,27 +91,37 @@ asker_fresh own n seen parts empty few = record {
   begins = λ part less.
       let within : part < parts = omega (arith, less, length-replicate parts seen) in
       subst (λ (l : List Event). IsPrefix l seen) (sym (get_or-replicate parts part seen [] within)) (prefix_self seen);
+  received = none_received parts audited;
 }
 
-pub none_counted : (n : ℕ) → sum_by (λ (k : ℕ). k) (replicate n 0) ≡ 0
-none_counted n = let none = sum_by-replicate (λ (k : ℕ). k) n 0 in omega (arith, none)
+-- one more reply
+pub sum_more : (counts : List ℕ) (part count : ℕ) → part < length counts → count ≡ slice_index_or counts part 0 + 1 → sum_by (λ (n : ℕ). n) (slice_set counts part count) ≡ sum_by (λ (n : ℕ). n) counts + 1
+sum_more counts part count less is = let set = sum_by-set (λ (n : ℕ). n) counts part count 0 less in omega (arith, set, is)
 
-pub asker_after : (own : ℕ → ℕ) (n : ℕ) (seen : List Event) (fronts : List (List Event)) (counts : List ℕ) (part count : ℕ) (new : List Event)
-    → IsAsker own n seen fronts counts → part < length fronts → IsPrefix seen new → count ≡ length (calls_at own part n new) → count ≤ 2 ^ 41 → IsAsker own n new (slice_set fronts part new) (slice_set counts part count)
-asker_after own n seen fronts counts part count new w less grows more bound = record {
+-- one more receipt, if there is an audit
+one_received : (receipts : Option (List Receipt)) (r : Receipt) (counts more : List ℕ) → sum_by (λ (k : ℕ). k) more ≡ sum_by (λ (k : ℕ). k) counts + 1
+    → IfSome receipts (λ (items : List Receipt). length items ≡ sum_by (λ (k : ℕ). k) counts) → IfSome (and_one receipts r) (λ (items : List Receipt). length items ≡ sum_by (λ (k : ℕ). k) more)
+one_received None r counts more sum all = tt
+one_received (Some items) r counts more sum all = omega (arith, length-append items (r ∷ []), all, sum)
+
+pub worker_after : (own : ℕ → ℕ) (n : ℕ) (seen : List Event) (fronts : List (List Event)) (counts : List ℕ) (receipts : Option (List Receipt)) (part count : ℕ) (new : List Event) (r : Receipt)
+    → IsWorker own n seen fronts counts receipts → part < length fronts → IsPrefix seen new → count ≡ length (calls_at own part n new) → count ≤ 2 ^ 41 → count ≡ slice_index_or counts part 0 + 1
+    → IsWorker own n new (slice_set fronts part new) (slice_set counts part count) (and_one receipts r)
+worker_after own n seen fronts counts receipts part count new r w less grows more bound one = record {
   all = length-set counts part count ∙ (w.all ∙ sym (length-set fronts part new));
   counted = λ k l. counted_at own n fronts counts part count new k (part == k) refl w.counted w.all less more l;
   begins = λ k l. begins_at seen fronts part new k (part == k) refl w.begins grows less l;
   few = omega (arith, w.few, length-set counts part count);
   small = All-set (λ (k : ℕ). k ≤ 2 ^ 41) counts part count bound w.small;
+  received = one_received receipts r counts (slice_set counts part count) (sum_more counts part count (omega (arith, less, w.all)) one) w.received;
 }
 
 -- if a history has as many entries of a worker as the worker counted, they are those of its calls
-pub agree : (own : ℕ → ℕ) (n : ℕ) (seen : List Event) (fronts : List (List Event)) (counts : List ℕ) (part mine theirs : ℕ) (all log : List Event)
-    → IsAsker own n seen fronts counts → part < length counts → mine ≡ slice_index_or counts part 0 → theirs ≡ length (calls_by n (history_of (own part) log)) → mine ≡ theirs
+pub agree : (own : ℕ → ℕ) (n : ℕ) (seen : List Event) (fronts : List (List Event)) (counts : List ℕ) (receipts : Option (List Receipt)) (part mine theirs : ℕ) (all log : List Event)
+    → IsWorker own n seen fronts counts receipts → part < length counts → mine ≡ slice_index_or counts part 0 → theirs ≡ length (calls_by n (history_of (own part) log)) → mine ≡ theirs
     → IsPrefix seen all → IsPrefix (history_of (own part) all) (history_of (own part) log)
     → calls_at own part n log ≡ calls_at own part n (slice_index_or fronts part [])
-agree own n seen fronts counts part mine theirs all log w less is are same grows begins =
+agree own n seen fronts counts receipts part mine theirs all log w less is are same grows begins =
     let f = slice_index_or fronts part [] in
     let l : part < length fronts = omega (arith, w.all, less) in
     let p : IsPrefix (history_of (own part) f) (history_of (own part) log) = prefix_trans (history_of (own part) f) (history_of (own part) all) (history_of (own part) log) (history_grows (own part) f all (prefix_trans f seen all (w.begins part l) grows)) begins in
@@ -117,10 +136,6 @@ given_exact own n part number f seen log new e count same begins before written 
     let here : history_of (own part) new ≡ history_of (own part) log ++ e ∷ [] = subst (λ (p : ℕ). history_of (own p) new ≡ history_of (own p) log ++ e ∷ []) same written in
     let many : length (calls_by n (history_of (own part) f)) ≡ length (calls_by n (history_of (own part) log)) = subst (λ (p : ℕ). length (calls_by n (history_of (own part) f)) ≡ length (calls_by n (history_of (own p) log))) same (omega (arith, mine, theirs)) in
     mine_exact n (history_of (own part) f) (history_of (own part) seen) (history_of (own part) log) (history_of (own part) new) e (history_grows (own part) f seen begins) old many here is
-
--- one more reply
-pub sum_more : (counts : List ℕ) (part count : ℕ) → part < length counts → count ≡ slice_index_or counts part 0 + 1 → sum_by (λ (n : ℕ). n) (slice_set counts part count) ≡ sum_by (λ (n : ℕ). n) counts + 1
-sum_more counts part count less is = let set = sum_by-set (λ (n : ℕ). n) counts part count 0 less in omega (arith, set, is)
 
 -- the number of replies to a worker fits into a word
 pub sum_fits : (counts : List ℕ) → length counts ≤ 64 → All (λ (k : ℕ). k ≤ 2 ^ 41) counts → sum_by (λ (n : ℕ). n) counts < 2 ^ 64

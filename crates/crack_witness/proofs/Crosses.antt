@@ -8,7 +8,7 @@ use Rattle.logbook.proofs.tokens.Pen.TheSendSync as pen
 use Rattle.logbook.proofs.tokens.Seen.TheSendSync as seen
 use Rattle.logbook.proofs.word.Word.TheSendSync as word
 use Rattle.crack_row.specs.contracts.command.Entry as Entry
-use Rattle.crack_kept.specs.contracts.receipt.Receipt as Receipt
+use Rattle.crack_witness.specs.contracts.receipt.Receipt as Receipt
 use Rattle.crack_part.proofs.Crosses.{command-send, reply-send, partition-send}
 use Rattle.std.proofs.Common.{[]}
 use Rattle.crack_witness.specs.Rules.{IsKept}
@@ -19,8 +19,8 @@ use Rattle.crack_witness.specs.contracts.scribe.Scribe as Scribe
 use Rattle.crack_witness.specs.contracts.scribe.Scribe.TheInside as scribe
 use Rattle.crack_witness.specs.contracts.witnessed.Witnessed as Witnessed
 use Rattle.crack_witness.specs.contracts.witnessed.Witnessed.TheInside as inside
-use Rattle.crack_witness.specs.contracts.asker.Asker as Asker
-use Rattle.crack_witness.specs.contracts.asker.Asker.TheInside as asker
+use Rattle.crack_witness.specs.contracts.worker.Worker as Worker
+use Rattle.crack_witness.specs.contracts.worker.Worker.TheInside as worker
 
 -- worker, command, reply
 entry-send : IsSend Entry.the_field.row
@@ -57,11 +57,11 @@ module _ (J : RattleType) (g : Ghosts J.Denot) (s : IsSend J) where
   witnessed-send = let i = witnessed-inside in search (sendable, crosses) depth 30
 
   -- number, front, fronts, counts, receipts
-  asker-inside : IsSend (asker.the_field J g).row
-  asker-inside =
+  worker-inside : IsSend (worker.the_field J g).row
+  worker-inside =
       let f = front-send in
       let r = receipt-send in
-      struct_send (shape (asker.the_type J g)) (search (sendable, crosses) depth 30, (search (sendable, crosses) depth 30, (search (sendable, crosses) depth 30, (search (sendable, crosses) depth 30, (search (sendable, crosses) depth 30, tt)))))
+      struct_send (shape (worker.the_type J g)) (search (sendable, crosses) depth 30, (search (sendable, crosses) depth 30, (search (sendable, crosses) depth 30, (search (sendable, crosses) depth 30, (search (sendable, crosses) depth 30, tt)))))
 
-  pub asker-send : IsSend (Asker.the_row J g)
-  asker-send = let i = asker-inside in search (sendable, crosses) depth 30
+  pub worker-send : IsSend (Worker.the_row J g)
+  worker-send = let i = worker-inside in search (sendable, crosses) depth 30

@@ -43,7 +43,7 @@ pub same_base : (s t : PlainState) (a b c d e f : ℕ) → s ≡ t → a ≡ b �
 same_base s t a b c d e f p q r u = λ i. base_of (p i) (q i) (r i) (u i)
 
 -- the base after a history that is divided anywhere is the base after all of it
-base-whole : (first rest : List Entry) → base_after (record { base = no_base; tail = first ++ rest }) ≡ base_after (record { base = base_after (record { base = no_base; tail = first }); tail = rest })
+pub base-whole : (first rest : List Entry) → base_after (record { base = no_base; tail = first ++ rest }) ≡ base_after (record { base = base_after (record { base = no_base; tail = first }); tail = rest })
 base-whole first rest = same_base
     (replay_from no_rows (first ++ rest))
     (replay_from (replay_from no_rows first) rest)
@@ -65,10 +65,10 @@ take-whole h n is = ap (λ (k : ℕ). take k h) is ∙ (ap (take (length h)) (sy
 drop-whole : (h : List Entry) (n : ℕ) → n ≡ length h → drop n h ≡ []
 drop-whole h n is = ap (λ (k : ℕ). drop k h) is ∙ (ap (drop (length h)) (sym (append-nil h)) ∙ drop-append_seam h [])
 
-abbrev past_with : Base → List Entry → Past
+abbrev pub past_with : Base → List Entry → Past
 past_with base tail = record { base = base; tail = tail }
 
-same_past : (a b : Base) (xs ys : List Entry) → a ≡ b → xs ≡ ys → past_with a xs ≡ past_with b ys
+pub same_past : (a b : Base) (xs ys : List Entry) → a ≡ b → xs ≡ ys → past_with a xs ≡ past_with b ys
 same_past a b xs ys p q = λ i. past_with (p i) (q i)
 
 -- a checkpoint divides the history at its end: its entries so far are folded into the base

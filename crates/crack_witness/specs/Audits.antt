@@ -6,10 +6,10 @@ use Rattle.std.specs.Global.{Vec}
 abbrev pub listed : {X : Type 0} → Option (Vec X) → Option (List X)
 listed list = option_map (λ items. items.items) list
 
--- an empty list, if there is an audit
+-- an empty list if there is an audit
 abbrev pub empty_list : {X : Type 0} → Bool → Option (List X)
 empty_list audited = if audited then Some [] else None
 
--- a list with one more item, if there is one
+-- the list with one more item, if there is a list
 abbrev pub and_one : {X : Type 0} → Option (List X) → X → Option (List X)
 and_one list item = option_map (λ items. items ++ item ∷ []) list

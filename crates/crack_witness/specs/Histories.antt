@@ -1,8 +1,10 @@
--- The history of each owner in the events of a book, and the plain table after it.
+-- The history of each owner in the events of a book, and the plain table after that history.
 use Rattle.std.specs.Prelude.{◌≡◌, ◌≢◌, ℕ, ◌==◌, List, [], ◌∷◌, ◌++◌, length, take, drop, option_to_list, filter, if◌then◌else◌}
 use Rattle.crack_row.specs.declared.command.Entry.{Entry}
+use Rattle.crack_row.specs.declared.limit.Limits.{Limits}
 use Rattle.crack_plain.specs.Plain.{PlainView, AreReplies, no_rows, accepted_of}
-use Rattle.crack_plain.specs.Past.{Past, no_base, base_after, state_after}
+use Rattle.crack_plain.specs.Past.{Past, no_base, base_after, state_after, folded}
+use Rattle.crack_part.specs.Upkeep.{is_due}
 use Rattle.crack_witness.specs.declared.event.Event.{Event}
 
 -- the entries of one owner, in order
@@ -10,7 +12,7 @@ abbrev pub history_of : ℕ → List Event → List Entry
 history_of owner [] = []
 history_of owner (e ∷ es) = (if e.owner == owner then option_to_list e.entry else []) ++ history_of owner es
 
--- each owner's entries are a history: each has the reply of the plain rows after the entries before it
+-- the entries of each owner are a history: each reply is that of the plain rows after the entries before it
 abbrev pub AreHistories : List Event → Type 0
 AreHistories log = (owner : ℕ) → AreReplies no_rows (history_of owner log)
 
@@ -22,16 +24,21 @@ AreEmpty log = (owner : ℕ) → history_of owner log ≡ []
 abbrev pub calls_by : ℕ → List Entry → List Entry
 calls_by worker es = filter (λ (e : Entry). e.worker == worker) es
 
--- the entries of one worker in the history of a partition, as far as it is in these events
+-- the entries of one worker in a partition's history, as far as these events have it
 abbrev pub calls_at : (ℕ → ℕ) → ℕ → ℕ → List Event → List Entry
 calls_at owner part worker log = calls_by worker (history_of (owner part) log)
 
--- a plain table that has answered a history: its rows are those after the history, and it has accepted as many commands as the history has
+-- a plain table that has answered a history: its rows are those after the history, and it has accepted as many
+-- commands as the history has entries
 pub record IsPastOf (history : List Entry) (table : PlainView) : Type 0 where
   pub rows : table.state ≡ state_after (record { base = no_base; tail = history })
   pub all : accepted_of table ≡ length history
 
--- the past of a plain table that has answered a history: its base is the effect of the commands up to the last checkpoint, and the rest of the history
--- follows
+-- the past of a plain table that has answered a history: the commands up to the last checkpoint make its base, and
+-- the rest is its tail
 abbrev pub past_in : List Entry → PlainView → Past
 past_in history table = record { base = base_after (record { base = no_base; tail = take table.folded history }); tail = drop table.folded history }
+
+-- the past to which the next entry is added: after a checkpoint, if one is due
+abbrev pub upkept_past : Limits → Past → Past
+upkept_past limits past = if is_due limits (length past.tail) then folded past else past

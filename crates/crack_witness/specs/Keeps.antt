@@ -1,19 +1,23 @@
 -- What private clauses alone cite.
 -- The invariants of scribes, owners and workers.
 use Rattle.std.specs.Global.{Vec}
-use Rattle.std.specs.Prelude.{ℕ, Option, IfSome, vec_len, vec_capacity, slice_index_or, ◌≡◌, ◌⊎◌, ◌<◌, ◌≤◌, ◌^◌, All, List, [], ◌∷◌, ◌++◌, length, true}
+use Rattle.std.specs.Prelude.{ℕ, Option, IfSome, vec_len, vec_capacity, slice_index_or, ◌≡◌, ◌⊎◌, ◌<◌, ◌≤◌, ◌^◌, All, List, [], ◌∷◌, ◌++◌, length, sum_by, true}
 use mathlib.Core.List.{IsPrefix}
 use Rattle.logbook.specs.Pages.{Book, Named, Right, may_write}
+use Rattle.crack_row.specs.Commands.{key_of}
+use Rattle.crack_row.specs.Ranges.{Range, IsIn}
+use Rattle.crack_row.specs.declared.Key.{Key}
 use Rattle.crack_row.specs.declared.command.Entry.{Entry}
 use Rattle.crack_witness.specs.declared.event.Event.{Event}
+use Rattle.crack_witness.specs.declared.receipt.Receipt.{Receipt}
 use Rattle.crack_witness.specs.Histories.{history_of, calls_by, calls_at}
 use Rattle.crack_witness.specs.Rules.{OwnerState}
 
--- a list has room for one more item, if there is one
+-- if there is a list, it has room for one more item
 abbrev pub HasRoom : {X : Type 0} → Option (Vec X) → Type 0
 HasRoom list = IfSome list (λ items. vec_len items < vec_capacity items)
 
--- P holds for one of them
+-- P holds for one element
 abbrev pub Among : {X : Type 0} → (X → Type 0) → List X → Type 0
 Among P [] = ⊥
 Among P (x ∷ xs) = P x ⊎ Among P xs
@@ -22,7 +26,7 @@ Among P (x ∷ xs) = P x ⊎ Among P xs
 abbrev pub HasOwner : ℕ → List Event → Type 0
 HasOwner owner log = Among (λ (e : Event). e.owner ≡ owner) log
 
--- one of the events is at this word
+-- an event is at this word
 abbrev pub HasWord : ℕ → List Event → Type 0
 HasWord k log = Among (λ (e : Event). e.word ≡ k) log
 
@@ -30,7 +34,8 @@ HasWord k log = Among (λ (e : Event). e.word ≡ k) log
 abbrev pub named : Book → ℕ → Named
 named b k = record { tracked = true; key = k; book = b }
 
--- the invariant of a scribe of this owner: the last event seen is the owner's, and names the pen's cell
+-- the invariant of a scribe of this owner: the last event seen is the owner's, at the scribe's word, and names the
+-- pen's cell
 pub record IsScribe (b : Book) (owner : ℕ) (word : Named) (pen : Book) (key : ℕ) (right : Right) (seen : Book) (log : List Event) : Type 0 where
   pub word_is : word ≡ named b word.key
   pub pen_is : pen ≡ b
@@ -48,25 +53,31 @@ pub record IsNew (b : Book) (o : OwnerState) : Type 0 where
   pub book_is : o.book ≡ b
   pub empty : history_of o.id o.log ≡ []
 
--- the owner of a partition that has no entry yet
+-- the owner of partition `part`, without an entry
 pub record IsOwnerAt (b : Book) (owner : ℕ → ℕ) (part : ℕ) (o : OwnerState) : Type 0 where
   pub book_is : o.book ≡ b
   pub id_is : o.id ≡ owner part
   pub empty : history_of (owner part) o.log ≡ []
 
--- they are the owners of the partitions, by their numbers
+-- these are the owners of the partitions, in order, without an entry
 abbrev pub AreOwners : Book → (ℕ → ℕ) → List OwnerState → Type 0
 AreOwners b owner os = (k : ℕ) (d : OwnerState) → k < length os → IsOwnerAt b owner k (slice_index_or os k d)
 
--- the counts of the entries of each worker
+-- each count is the number of a worker's entries
 abbrev pub AreCounts : List ℕ → List Entry → Type 0
 AreCounts counts es = (worker : ℕ) → worker < length counts → slice_index_or counts worker 0 ≡ length (calls_by worker es)
 
--- a worker counts its entries at each partition, among the events that it had seen after its last reply there; no table has more than 64 partitions,
--- and none accepts more than 2 ^ 40 commands
-pub record IsAsker (owner : ℕ → ℕ) (worker : ℕ) (seen : List Event) (fronts : List (List Event)) (counts : List ℕ) : Type 0 where
+-- each key in a command of the entries is one of these
+abbrev pub AreWithin : Range → List Entry → Type 0
+AreWithin keys es = All (λ (e : Entry). IfSome (key_of e.command) (λ (key : Key). IsIn keys key.0)) es
+
+-- A worker counts its entries at each partition, among the events that it had seen after its last reply there, which
+-- begin those that it has seen now. There are at most 64 partitions, and each count is at most 2 ^ 41. With an audit
+-- there is a receipt for each reply.
+pub record IsWorker (owner : ℕ → ℕ) (worker : ℕ) (seen : List Event) (fronts : List (List Event)) (counts : List ℕ) (receipts : Option (List Receipt)) : Type 0 where
   pub all : length counts ≡ length fronts
   pub few : length counts ≤ 64
   pub small : All (λ (count : ℕ). count ≤ 2 ^ 41) counts
   pub counted : (part : ℕ) → part < length fronts → slice_index_or counts part 0 ≡ length (calls_at owner part worker (slice_index_or fronts part []))
   pub begins : (part : ℕ) → part < length fronts → IsPrefix (slice_index_or fronts part []) seen
+  pub received : IfSome receipts (λ (items : List Receipt). length items ≡ sum_by (λ (n : ℕ). n) counts)

@@ -1,4 +1,4 @@
--- What contracts see of an opened book, and of witnessed partitions.
+-- What contracts see of an opened book, of witnessed partitions and of their workers.
 use Rattle.std.specs.Prelude.{◌≡◌, ◌≢◌, Bool, ℕ, ◌+◌, ◌<◌, ◌≤◌, ◌⊎◌, List, [], ◌∷◌, ◌++◌, length, sum_by, take, All, Any, AllPairs, Option, Some, IfSome, unwrap_or, slice_index_or, replicate}
 use mathlib.Core.List.{IsPrefix}
 use Rattle.logbook.specs.Pages.{Book}
@@ -6,33 +6,35 @@ use Rattle.crack_row.specs.declared.command.Entry.{Entry}
 use Rattle.crack_row.specs.declared.refusal.Refusal.{Refusal}
 use Rattle.crack_row.specs.declared.command.Command.{Command}
 use Rattle.crack_row.specs.declared.refusal.Refusal.TheVariants.{NoSuchPartition, OutOfMemory, StrangeReceipt}
-use Rattle.crack_kept.specs.declared.receipt.Receipt.{Receipt}
-use Rattle.crack_part.specs.Parts.{Part, table_of}
+use Rattle.crack_witness.specs.declared.receipt.Receipt.{Receipt}
+use Rattle.crack_plain.specs.Past.{Past, accepted_in, inserted_in, deleted_in, IsLegal}
+use Rattle.crack_plain.specs.Plain.{accepted_of}
+use Rattle.crack_part.specs.Parts.{Part, state_of, table_of}
 use Rattle.crack_part.specs.Refusals.{refusal_of}
 use Rattle.crack_witness.specs.declared.event.Event.{Event}
 use Rattle.crack_witness.specs.Audits.{empty_list}
-use Rattle.crack_witness.specs.Histories.{history_of, calls_by, calls_at, AreHistories, AreEmpty, IsPastOf}
+use Rattle.crack_witness.specs.Histories.{history_of, calls_by, calls_at, AreHistories, AreEmpty, IsPastOf, past_in}
 
 -- a book, and the number of each owner in it
 pub record OpenedState : Type 0 where
   pub book : Book
   pub ids : List ℕ
 
--- no two of them are the same
+-- no two of the numbers are the same
 abbrev pub AreDistinct : List ℕ → Type 0
 AreDistinct ids = AllPairs (λ (one other : ℕ). one ≢ other) ids
 
--- each partition, by its number, is the owner at its place in this book
+-- this is the opened book, and the owner of each partition is the one at its number
 pub record AreNames (book : Book) (owner : ℕ → ℕ) (opened : OpenedState) : Type 0 where
   pub book_is : book ≡ opened.book
   pub owner_is : (part : ℕ) → owner part ≡ slice_index_or opened.ids part 0
 
--- of this many partitions no two have one owner, and so one history
+-- no two of this many partitions have the same owner, and so the same history
 abbrev pub AreApart : (ℕ → ℕ) → ℕ → Type 0
 AreApart owner count = (one other : ℕ) → one < other → other < count → owner one ≢ owner other
 
--- a partition with its number, the events that were seen of its book, the number of workers whose entries it counts, and the list of its entries, if
--- there is an audit
+-- a partition with its number, the events that its scribe has seen, the number of workers whose entries it counts,
+-- and the list of its entries, if there is an audit
 pub record WitnessedState : Type 0 where
   pub part : ℕ
   pub log : List Event
@@ -40,15 +42,29 @@ pub record WitnessedState : Type 0 where
   pub workers : ℕ
   pub entries : Option (List Entry)
 
--- a partition's plain rows are those after its history, which has as many entries as it accepted commands; each reply in the history is that of the
--- plain rows there, and each entry is of one of the workers that it counts; the list of an audit is the history
+-- a partition's past: the base that its last checkpoint makes of its history, and the entries since
+abbrev pub past_of : (ℕ → ℕ) → WitnessedState → Past
+past_of owner w = past_in (history_of (owner w.part) w.log) (table_of w.held)
+
+-- A partition's plain rows are those after its history, which has as many entries as the partition accepted
+-- commands. Each reply in the history is that of the plain rows there, each entry is by one of its workers, and the
+-- list of an audit is the history. The past is possible for the partition's keys and limits: each key in it is one of
+-- these keys, and the limits bound the entries since the last checkpoint and the accepted commands.
 pub record IsWhole (owner : ℕ → ℕ) (w : WitnessedState) : Type 0 where
   pub legal : AreHistories w.log
   pub kept : IsPastOf (history_of (owner w.part) w.log) (table_of w.held)
   pub known : All (λ (e : Entry). e.worker < w.workers) (history_of (owner w.part) w.log)
   pub listed : IfSome w.entries (λ entries. entries ≡ history_of (owner w.part) w.log)
+  pub past : IsLegal w.held.keys w.held.limits (past_of owner w)
 
--- a partition that has its number, and no entry yet; there is an empty list of its entries, if there is an audit
+-- A past has as many commands as the partition accepted, and as many insertions as the partition gave serials. The
+-- rows are the inserted ones minus the deleted ones.
+pub record HasTotals (past : Past) (held : Part) : Type 0 where
+  pub accepted : accepted_in past ≡ accepted_of (table_of held)
+  pub inserted : inserted_in past ≡ held.next
+  pub rows : length (state_of held).rows + deleted_in past ≡ held.next
+
+-- a partition with this number and no entry yet, whose list of entries is empty, if there is an audit
 pub record IsNewAt (owner : ℕ → ℕ) (workers : ℕ) (audited : Bool) (part : ℕ) (held : Part) (w : WitnessedState) : Type 0 where
   pub part_is : w.part ≡ part
   pub held_is : w.held ≡ held
@@ -56,93 +72,99 @@ pub record IsNewAt (owner : ℕ → ℕ) (workers : ℕ) (audited : Bool) (part 
   pub empty : history_of (owner part) w.log ≡ []
   pub entries_are : w.entries ≡ empty_list audited
 
--- these partitions, with the numbers from one on, without an entry
+-- these partitions without an entry, numbered in order from `number`
 abbrev pub AreNewFrom : (ℕ → ℕ) → ℕ → Bool → ℕ → List Part → List WitnessedState → Type 0
 AreNewFrom owner workers audited number [] [] = Unit {0}
 AreNewFrom owner workers audited number (p ∷ ps) (w ∷ ws) = IsNewAt owner workers audited number p w × AreNewFrom owner workers audited (number + 1) ps ws
 AreNewFrom owner workers audited number _ _ = ⊥
 
--- a worker is one of those that are counted, and this many of its entries are in the history
+-- the partition counts the worker's entries, and its history has this many of them
 pub record IsInStep (owner : ℕ → ℕ) (w : WitnessedState) (worker count : ℕ) : Type 0 where
   pub one : worker < w.workers
   pub same : length (calls_by worker (history_of (owner w.part) w.log)) ≡ count
 
--- why a partition may refuse a worker that has received this many replies there: 16, if its history doesn't have exactly as many entries of the
--- worker; else for lack of memory, or as the partition refuses the command
+-- why a partition may refuse a worker that has received this many replies there: `StrangeReceipt` if its history has
+-- another number of the worker's entries, or it doesn't count them; otherwise `OutOfMemory`, or as the partition
+-- refuses the command
 abbrev pub MayRefuseIt : (ℕ → ℕ) → WitnessedState → ℕ → ℕ → Command → Refusal → Type 0
 MayRefuseIt owner w worker count command e =
     ((e ≡ StrangeReceipt w.part count) × (IsInStep owner w worker count → ⊥))
     ⊎ ((e ≡ OutOfMemory) ⊎ (refusal_of w.held command ≡ Some e))
 
--- a worker: its number, the events that it has seen, those that it had seen after its last reply from each partition, the number of its replies
--- from each partition, and its receipts in the order in which it asked, if there is an audit
-pub record AskerState : Type 0 where
+-- a worker: its number, the events that it has seen, those that it had seen after its last reply from each
+-- partition, the number of its replies from each partition, and its receipts in the order in which it asked, if
+-- there is an audit
+pub record WorkerState : Type 0 where
   pub worker : ℕ
   pub seen : List Event
   pub fronts : List (List Event)
   pub counts : List ℕ
   pub receipts : Option (List Receipt)
 
--- a worker with this number that has seen nothing of this many partitions, and has received no reply from any of them, and no receipt
-pub record IsNewAsker (number parts : ℕ) (audited : Bool) (a : AskerState) : Type 0 where
+-- a worker with this number at this many partitions that has seen no entry, and has received no reply and no receipt
+pub record IsNewWorker (number parts : ℕ) (audited : Bool) (a : WorkerState) : Type 0 where
   pub worker_is : a.worker ≡ number
   pub unseen : AreEmpty a.seen
   pub fronts_are : a.fronts ≡ replicate parts a.seen
   pub counts_are : a.counts ≡ replicate parts 0
   pub receipts_are : a.receipts ≡ empty_list audited
 
--- the partition's history, as far as it is now seen, ends with the entry, and all that was seen of it before precedes that
+-- what was seen of the partition's history now ends with the entry, and what was seen of it before precedes the
+-- entry
 pub record IsGiven (owner : ℕ → ℕ) (part : ℕ) (entry : Entry) (old new : List Event) : Type 0 where
   pub before : List Entry
   pub ends : history_of (owner part) new ≡ before ++ entry ∷ []
   pub begins : IsPrefix (history_of (owner part) old) before
 
--- the history of a partition has exactly the entries of a worker for which it received replies
-abbrev pub HasJustItsOwn : (ℕ → ℕ) → AskerState → WitnessedState → Type 0
+-- a partition's history has exactly the entries of a worker for which it received replies
+abbrev pub HasJustItsOwn : (ℕ → ℕ) → WorkerState → WitnessedState → Type 0
 HasJustItsOwn owner a w = calls_at owner w.part a.worker w.log ≡ calls_at owner w.part a.worker (slice_index_or a.fronts w.part [])
 
--- the part of a partition's history that a worker has seen is a prefix of it, and the history has exactly the worker's entries for which it received
--- replies
-pub record Agrees (owner : ℕ → ℕ) (a : AskerState) (w : WitnessedState) : Type 0 where
+-- what a worker has seen of a partition's history is a prefix of it, and the history has exactly the worker's
+-- entries for which it received replies
+pub record Agrees (owner : ℕ → ℕ) (a : WorkerState) (w : WitnessedState) : Type 0 where
   pub covered : IsPrefix (history_of (owner w.part) a.seen) (history_of (owner w.part) w.log)
   pub mine : calls_at owner w.part a.worker w.log ≡ calls_at owner w.part a.worker (slice_index_or a.fronts w.part [])
 
--- a partition's history has other entries of a worker than those for which it received replies, if each knows of the other
-abbrev pub Differs : (ℕ → ℕ) → AskerState → WitnessedState → Type 0
+-- a partition's history doesn't have exactly the entries of a worker for which it received replies, or one doesn't
+-- know of the other
+abbrev pub Differs : (ℕ → ℕ) → WorkerState → WitnessedState → Type 0
 Differs owner a w = w.part < length a.fronts → a.worker < w.workers → HasJustItsOwn owner a w → ⊥
 
--- the number of a worker's replies from the partition with this number
-abbrev pub replies_at : AskerState → ℕ → ℕ
+-- the number of a worker's replies from partition `part`
+abbrev pub replies_at : WorkerState → ℕ → ℕ
 replies_at a part = slice_index_or a.counts part 0
 
--- a partition has this number, and its history has as many entries of a worker as it received replies there
-abbrev pub Knows : (ℕ → ℕ) → AskerState → ℕ → WitnessedState → Type 0
+-- the partition has this number, and its history has as many entries of the worker as the worker received replies
+-- there
+abbrev pub Knows : (ℕ → ℕ) → WorkerState → ℕ → WitnessedState → Type 0
 Knows owner a part w = (w.part ≡ part) × IsInStep owner w a.worker (replies_at a part)
 
--- why a worker that asks for partition `part` may be refused by the partition that is passed to it: 5 if it knows of none with this number; 16 with
--- the number and the number of its replies there, if the partition doesn't know it; else for lack of memory, or as the partition refuses the command
-abbrev pub MayRefuseAt : (ℕ → ℕ) → WitnessedState → ℕ → Command → AskerState → Refusal → Type 0
+-- Why a worker that asks partition `part` may be refused by the partition that is passed: `NoSuchPartition` if it
+-- knows of none with this number; `StrangeReceipt`, with the number and the number of its replies there, if the
+-- partition doesn't know it; otherwise `OutOfMemory`, or as the partition refuses the command.
+abbrev pub MayRefuseAt : (ℕ → ℕ) → WitnessedState → ℕ → Command → WorkerState → Refusal → Type 0
 MayRefuseAt owner w part command a e =
     ((e ≡ NoSuchPartition) × (length a.fronts ≤ part))
     ⊎ (((e ≡ StrangeReceipt part (replies_at a part)) × (Knows owner a part w → ⊥))
     ⊎ ((e ≡ OutOfMemory) ⊎ (refusal_of w.held command ≡ Some e)))
 
 -- the number of a worker's replies
-abbrev pub replies_to : AskerState → ℕ
+abbrev pub replies_to : WorkerState → ℕ
 replies_to a = sum_by (λ (n : ℕ). n) a.counts
 
--- a worker's receipts: none without an audit
-abbrev pub receipts_in : AskerState → List Receipt
+-- a worker's receipts; none without an audit
+abbrev pub receipts_in : WorkerState → List Receipt
 receipts_in a = unwrap_or a.receipts []
 
--- why workers and partitions may not agree: 16, with the number of the first partition that differs from a worker, and the number of replies that it
--- gave such a worker
-pub record MayDiffer (owner : ℕ → ℕ) (askers : List AskerState) (parts : List WitnessedState) (e : Refusal) : Type 0 where
+-- why workers and partitions may not agree: `StrangeReceipt`, with the number of the first partition that differs
+-- from a worker, and the number of replies that such a worker received there
+pub record MayDiffer (owner : ℕ → ℕ) (workers : List WorkerState) (parts : List WitnessedState) (e : Refusal) : Type 0 where
   pub place : ℕ
   pub at : WitnessedState
   pub there : place < length parts
   pub is_at : slice_index_or parts place at ≡ at
-  pub earlier : All (λ (w : WitnessedState). All (λ (a : AskerState). Agrees owner a w) askers) (take place parts)
+  pub earlier : All (λ (w : WitnessedState). All (λ (a : WorkerState). Agrees owner a w) workers) (take place parts)
   pub position : ℕ
-  pub differs : Any (λ (a : AskerState). Differs owner a at × (position ≡ replies_at a at.part)) askers
+  pub differs : Any (λ (a : WorkerState). Differs owner a at × (position ≡ replies_at a at.part)) workers
   pub cause : e ≡ StrangeReceipt at.part position

@@ -1,12 +1,12 @@
-//! The book of a table: its events, the rule that they keep, and the steps that add to them. None of it has bytes
-//! except one word per partition.
+//! The book of a table: its events, the rule that they keep, and the steps that add events. None of it has bytes,
+//! except one word for each partition.
 ghost use Rattle.std.specs.Prelude.{◌≡◌};
 
 use crack_row::Entry;
 use logbook::{Gain, Offer, Opening, Plain, Play, Rule, Seen, Word};
 
-/// An event of a book: the entry of an owner, and the cell that the owner's next event brings home. It has no runtime
-/// values.
+/// An event of a book: an owner's entry, if any, and the cell that the owner's next event brings home. It has no
+/// runtime values.
 pub struct Event {
     pub owner: u64,
     pub next: u64,
@@ -35,7 +35,7 @@ impl Rule<Event, u64> for Law {
     ghost moves = { λ ask before after answer. Unit {0} };
 }
 
-/// Callers exchange nothing.
+/// What callers exchange: nothing.
 pub struct Nothing;
 
 impl Gain<Event, u64> for Nothing {
@@ -50,10 +50,10 @@ pub(crate) type Token = Seen<Event, u64, Law>;
 /// The word of a partition, which always holds 0.
 pub(crate) type Head = Word<Event, u64, Law>;
 
-/// The kinds of steps.
+/// The offer of a step.
 pub(crate) type Update = Offer<Event, u64, Law, Nothing>;
 
-/// The words of a new book.
+/// The first events of a new book.
 pub struct Row;
 
 impl Opening<u64, Event> for Row {
@@ -71,7 +71,7 @@ impl Play<Event, u64> for Make {
     ghost then = { Makes };
 }
 
-/// A step that opens an owner.
+/// A step that makes a new owner.
 pub struct Open;
 
 impl Play<Event, u64> for Open {
@@ -98,7 +98,7 @@ impl Play<Event, u64> for Add {
     ghost then = { Adds };
 }
 
-/// A step that shows that an owner has no event after the last one that was seen.
+/// A step that shows that the last event seen of an owner is its last one.
 pub struct Look;
 
 impl Play<Event, u64> for Look {

@@ -1,17 +1,19 @@
-//! A witness for each reply: one history of each partition, which every worker sees, and what a lock holds beside its
-//! partition.
+//! A witness for each reply: one history of each partition, which all workers see and which exists only in proofs. A
+//! lock holds a partition with its scribe.
 #![tactic(auto)]
 
-pub mod asker;
 pub mod closing;
 pub mod event;
 mod listing;
 pub mod opening;
+pub mod receipt;
 pub mod scribe;
 pub mod witnessed;
+pub mod worker;
 
-pub use asker::Asker;
 pub use closing::compare;
 pub use opening::{Naming, Opened};
+pub use receipt::Receipt;
 pub use scribe::Front;
 pub use witnessed::Witnessed;
+pub use worker::Worker;

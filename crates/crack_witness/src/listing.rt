@@ -7,13 +7,13 @@ ghost use Rattle.crack_part.specs.Upkeep.{answered};
 ghost use Rattle.crack_witness.specs.Audits.{listed, empty_list, and_one};
 ghost use Rattle.crack_witness.specs.Keeps.{HasRoom};
 
-use crack_kept::Receipt;
+use crate::receipt::Receipt;
 use crack_part::Partition;
 use crack_row::{Command, Entry, Policy, Refusal, Reply};
 use std::alloc::{AllocError, Global};
 
-/// How many items a list has room for at first: a block of memory of this size is mapped separately, so that it grows
-/// without being copied, and its unused part takes no memory.
+/// How many items a list first has room for. A block of memory this large is mapped separately, so it grows without
+/// being copied, and its unused part takes no memory.
 const FIRST_ITEMS: usize = 2048;
 
 /// An empty list, if there is an audit. Takes no memory.
@@ -28,8 +28,8 @@ pub(crate) fn list_for<T: Drop>(alloc: Global, is_audited: bool) -> Option<Vec<T
 }
 
 /// Answers a command as `Partition::apply` does, and adds the entry to the partition's list and the receipt to the
-/// worker's, where there are such lists: amortised O(1) beyond `apply`, and the copies of a select's list. The memory
-/// is allocated before anything changes, after what the partition refuses.
+/// worker's, if there are such lists. Costs O(1), amortised, beyond `apply`, and the copies of a select's list.
+/// Memory is allocated after the partition's own refusals and before anything changes.
 pub(crate) fn apply_listed(
     partition: &mut Partition,
     entries: &mut Option<Vec<Entry>>,
@@ -89,8 +89,8 @@ pub(crate) fn apply_listed(
     Ok(copies.reply)
 }
 
-/// Makes room for the entry and the receipt of a command, unless the partition refuses it. Returns how many commands it
-/// accepted before.
+/// Makes room for the entry and the receipt of a command, unless the partition refuses the command. Returns how many
+/// commands the partition accepted before.
 fn make_room(
     partition: &Partition,
     entries: &mut Option<Vec<Entry>>,

@@ -1,4 +1,4 @@
-//! The opening of a book, with an owner for each partition.
+//! Opening a book, with an owner for each partition.
 ghost use Rattle.std.specs.Prelude.{◌≡◌, ◌+◌, ◌<◌, ◌≤◌, ◌^◌, [], length, map, All, true, IfOk, vec_len};
 ghost use mathlib.Core.List.{IsPrefix};
 ghost use Rattle.crack_part.specs.Parts.{Part, table_of};
@@ -15,8 +15,8 @@ use logbook::{Pen, Pens, Start};
 use std::alloc::{AllocError, Global};
 use std::marker::{Brand, Model};
 
-/// The identity of a book, and the owner of each partition in it. A program chooses it once, for the book that it has
-/// opened.
+/// The identity of a book, and the number of each partition's owner in it. A program chooses it once, for the book
+/// that it opened.
 pub trait Naming {
     ghost use Rattle.std.specs.Prelude.{ℕ};
     ghost use Rattle.logbook.specs.Pages.{Book};
@@ -32,7 +32,7 @@ impl Naming for Brand {
     ghost owner = { λ part. 0 };
 }
 
-/// An owner in a book, which has no entry yet.
+/// An owner in a book: the writer of one partition's entries, with none yet.
 #[derive(Drop)]
 pub(crate) struct Owner {
     pub(crate) word: Head,
@@ -54,8 +54,8 @@ impl Model for Owner {
 }
 
 impl Owner {
-    /// Gives a word to an owner of its own, by one step on it. The owner had no event among those seen before, and has
-    /// one now.
+    /// Makes a new owner of this word, by one step on the word. The events seen before had none of the owner; those
+    /// seen now have one.
     fn open(word: Head, seen: &mut Token) -> Owner
         requires { (word.tracked ≡ true) × (seen.old.book ≡ word.book) × HasWord word.key seen.old.log }
         ensures book { (result.book ≡ seen.old.book) × (seen.new.book ≡ seen.old.book) }
@@ -104,7 +104,7 @@ impl Model for Opened {
 }
 
 impl Opened {
-    /// A new book with this many owners, for this many partitions. O(owners).
+    /// Opens a new book with this many owners, one for each partition. O(owners).
     pub fn new(alloc: Global, count: u32) -> Result<Opened, AllocError>
         ensures count { IfOk result (λ o. length o.ids ≡ count) }
         ensures distinct { IfOk result (λ o. AreDistinct o.ids) }
@@ -119,8 +119,8 @@ impl Opened {
         Ok(Opened { seen, owners })
     }
 
-    /// The partitions, each with its scribe, by their numbers, and the events that a worker begins with, once the book
-    /// has its name. Each partition counts the entries of this many workers, and lists them if there is an audit.
+    /// The events that a worker begins with, and the partitions with their scribes, in order, once the book has its
+    /// name. Each partition counts the entries of this many workers, and lists them if there is an audit.
     /// O(partitions × workers).
     pub fn witness<J: Naming>(
         self,
@@ -172,7 +172,7 @@ fn next_owner(pens: &mut Pens, seen: &mut Token) -> Owner
     Owner::open(word, seen)
 }
 
-/// Partitions with the scribes of these owners, by their numbers.
+/// Partitions with the scribes of these owners, in order.
 fn witness_each<J: Naming>(
     alloc: Global,
     owners: &mut Vec<Owner>,

@@ -1,4 +1,5 @@
-//! Scribes, which write the entries of a partition into its history, and the events that others have seen of it.
+//! Scribes, which write the entries of a partition into the book, and fronts, which say how much of the book was
+//! seen.
 ghost use Rattle.std.specs.Prelude.{◌≡◌, [], ◌∷◌, ◌++◌, true};
 ghost use mathlib.Core.List.{IsPrefix};
 ghost use Rattle.logbook.specs.Pages.{may_write};
@@ -12,7 +13,7 @@ use crack_row::{Command, Reply};
 use logbook::{Pen, Plain};
 use std::marker::{Model, PhantomData};
 
-/// A prefix of the book that was seen. It has no bytes. Contracts see its events.
+/// A prefix of the book: the events that someone has seen. It has no bytes. Contracts see the events.
 #[derive(Drop)]
 pub struct Front<J: Naming> {
     seen: Token,
@@ -32,7 +33,7 @@ impl<J: Naming> Model for Front<J> {
 }
 
 impl<J: Naming> Front<J> {
-    /// The events of the book that a token has seen.
+    /// The events that a token has seen.
     pub(crate) fn new(seen: Token) -> Front<J>
         requires book { seen.book ≡ J.book }
         requires legal { AreHistories seen.log }
@@ -54,7 +55,7 @@ impl<J: Naming> Front<J> {
         }
     }
 
-    /// Adds the events that the other has seen.
+    /// Adds the events that `other` has seen.
     pub fn learn(&mut self, other: &Front<J>)
         ensures { IsPrefix self.old self.new × IsPrefix other.now self.new }
     {
@@ -62,7 +63,7 @@ impl<J: Naming> Front<J> {
     }
 }
 
-/// An entry to be written: that of a partition, with the pen for the one that follows it.
+/// An entry of a partition that is to be written, and the pen for the entry after it.
 #[derive(Drop)]
 pub(crate) struct Asked<'a, J: Naming> {
     part: u32,
@@ -87,8 +88,8 @@ impl<'a, J: Naming> Plain<Asked<'a, J>, Event, u64> for Add {
     ghost state = { λ a. None };
 }
 
-/// Writes the entries of one partition into the book. Contracts see the partition's number, and the events that
-/// were seen.
+/// Writes the entries of one partition into the book. Contracts see the partition's number, and the events that the
+/// scribe has seen.
 #[derive(Drop)]
 pub(crate) struct Scribe<J: Naming> {
     part: u32,
@@ -112,7 +113,7 @@ impl<J: Naming> Model for Scribe<J> {
 }
 
 impl<J: Naming> Scribe<J> {
-    /// The scribe of a partition, which has no entry yet.
+    /// The scribe of a partition without entries.
     pub(crate) fn new(part: u32, owner: Owner) -> Scribe<J>
         requires { IsOwnerAt J.book J.owner part owner }
         ensures part { result.part ≡ part }
@@ -128,7 +129,7 @@ impl<J: Naming> Scribe<J> {
         }
     }
 
-    /// Which partition it writes for.
+    /// The number of the scribe's partition.
     pub(crate) fn part(&self) -> u32
         ensures part { result ≡ self.now.part }
         ensures legal { AreHistories self.now.log }
@@ -173,7 +174,7 @@ impl<J: Naming> Scribe<J> {
         me.seen = token;
     }
 
-    /// States that the part of its partition's history that anyone has seen is a prefix of its own. O(1).
+    /// States that what `front` has seen of the partition's history is a prefix of what the scribe has. O(1).
     pub(crate) fn covers(&mut self, front: &Front<J>)
         ensures same { self.new ≡ self.old }
         ensures begins { IsPrefix (history_of (J.owner self.old.part) front.now) (history_of (J.owner self.old.part)
@@ -187,7 +188,7 @@ impl<J: Naming> Scribe<J> {
     }
 }
 
-/// A pen that may write, made by one step on the word.
+/// Makes a pen that may write, by one step on the word.
 fn fresh(word: &Head, seen: &Token) -> Pen
     requires { (word.now.tracked ≡ true) × (seen.now.book ≡ word.now.book) × HasWord word.now.key seen.now.log }
     ensures { (result.book ≡ word.now.book) × (result.nib.right ≡ may_write) }

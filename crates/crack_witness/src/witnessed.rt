@@ -2,28 +2,28 @@
 ghost use Rattle.std.specs.Prelude.{◌≡◌, ◌⊎◌, ◌+◌, ◌<◌, ◌≤◌, [], ◌∷◌, ◌++◌, length, vec_len, IfOk, IfErr, IfSome};
 ghost use Rattle.std.specs.Prelude.{IsTrue, OnErr, OnOk, Err, None, ◌≢◌, ◌↔◌, ◌^◌, slice_index_or};
 ghost use mathlib.Core.List.{IsPrefix};
-ghost use Rattle.crack_plain.specs.Past.{folded, state_after};
+ghost use Rattle.crack_plain.specs.Past.{folded, no_past, state_after, with_entry};
 ghost use Rattle.std.specs.Prelude.{MatchOption, Some};
 ghost use Rattle.crack_plain.specs.Plain.{IsSmall, accepted_of, reply_to};
-ghost use Rattle.crack_part.specs.Parts.{IsSound, state_of, table_of, folded_part, Serves, Spares};
+ghost use Rattle.crack_part.specs.Parts.{IsSound, IsFaithful, state_of, table_of, folded_part, Serves, Spares};
 ghost use Rattle.crack_part.specs.Refusals.{refusal_of};
 ghost use Rattle.crack_part.specs.Upkeep.{answered};
 ghost use Rattle.crack_witness.specs.Audits.{listed, and_one};
-ghost use Rattle.crack_witness.specs.Histories.{history_of, calls_by, AreHistories, IsPastOf, past_in};
-ghost use Rattle.crack_witness.specs.Witnesses.{IsWhole, IsNewAt, IsInStep, MayRefuseIt};
+ghost use Rattle.crack_witness.specs.Histories.{history_of, calls_by, AreHistories, IsPastOf, upkept_past};
+ghost use Rattle.crack_witness.specs.Witnesses.{IsWhole, IsNewAt, IsInStep, MayRefuseIt, HasTotals, past_of};
 ghost use Rattle.crack_witness.specs.Keeps.{IsOwnerAt};
 
 use crate::listing::{apply_listed, list_for};
 use crate::opening::{Naming, Owner};
+use crate::receipt::Receipt;
 use crate::scribe::{Front, Scribe};
-use crack_kept::Receipt;
 use crack_part::Partition;
 use crack_row::{Command, Entry, Policy, Refusal, Reply};
 use std::alloc::{AllocError, Global};
 use std::marker::Model;
 
-/// A partition with the scribe of its history since it was opened, and a count of each worker's entries there. The
-/// history has no bytes, except the list of an audit, which grows with it: 80 bytes for each entry. Contracts see the
+/// A partition, the scribe of its history since it was opened, and the number of each worker's entries there. The
+/// history has no bytes, except the list of an audit, which grows by 80 bytes for each entry. Contracts see the
 /// partition, its number, the events that the scribe has seen, and that list.
 pub struct Witnessed<J: Naming> {
     partition: Partition,
@@ -32,7 +32,7 @@ pub struct Witnessed<J: Naming> {
     entries: Option<Vec<Entry>>,
 }
 
-// (Written out, so that the crates above call this function, and prove nothing about the fields.)
+// Written out so that the crates above call this function and prove nothing about the fields.
 impl<J: Naming> Drop for Witnessed<J> {
     fn drop(self) {
         let Witnessed {
@@ -55,7 +55,7 @@ impl<J: Naming> Model for Witnessed<J> {
     ghost use Rattle.crack_witness.specs.Audits.{listed};
     ghost use Rattle.crack_witness.specs.Histories.{history_of, IsPastOf};
     ghost use Rattle.crack_witness.specs.Witnesses.{WitnessedState};
-    ghost use Rattle.crack_witness.specs.Keeps.{AreCounts};
+    ghost use Rattle.crack_witness.specs.Keeps.{AreCounts, AreWithin};
 
     ghost Value = { WitnessedState };
 
@@ -70,11 +70,12 @@ impl<J: Naming> Model for Witnessed<J> {
     ghost invariant = { λ w. IsPastOf (history_of (J.owner w.scribe.part) w.scribe.log) (table_of w.partition) ×
         AreCounts w.answered.items (history_of (J.owner w.scribe.part) w.scribe.log) ×
         All (λ (e : Entry). e.worker < length w.answered.items) (history_of (J.owner w.scribe.part) w.scribe.log) ×
-        IfSome (listed w.entries) (λ entries. entries ≡ history_of (J.owner w.scribe.part) w.scribe.log) };
+        IfSome (listed w.entries) (λ entries. entries ≡ history_of (J.owner w.scribe.part) w.scribe.log) ×
+        AreWithin w.partition.keys (history_of (J.owner w.scribe.part) w.scribe.log) };
 }
 
 impl<J: Naming> Witnessed<J> {
-    /// A partition that has answered nothing, and its scribe, with an empty list of its entries, if there is an audit.
+    /// A partition that has answered nothing, and its scribe; with an audit also an empty list of its entries.
     pub(crate) fn new(
         alloc: Global,
         partition: Partition,
@@ -102,7 +103,7 @@ impl<J: Naming> Witnessed<J> {
         }
     }
 
-    /// Which partition it is.
+    /// The partition's number.
     pub fn part(&self) -> u32
         ensures { result ≡ self.now.part }
     {
@@ -116,14 +117,14 @@ impl<J: Naming> Witnessed<J> {
         &self.partition
     }
 
-    /// The number of workers whose entries it counts.
+    /// The number of workers whose entries are counted.
     pub fn workers(&self) -> usize
         ensures { result ≡ self.now.workers }
     {
         self.answered.len()
     }
 
-    /// The list of its entries since it was opened, if there is an audit.
+    /// The list of the partition's entries since it was opened, if there is an audit.
     pub fn entries(&self) -> Option<&[Entry]>
         ensures { MatchOption result (self.now.entries ≡ None) (λ list. self.now.entries ≡ Some list.now) }
     {
@@ -133,20 +134,23 @@ impl<J: Naming> Witnessed<J> {
         }
     }
 
-    /// States the invariants of each, and does nothing: its history is legal, the partition's plain rows are those
-    /// after it and as many commands were accepted as it has entries, each entry is one of its workers', and the list
-    /// of an audit is this history.
+    /// States the invariants of every witnessed partition, and does nothing: its history is legal, its plain rows
+    /// are those after the history, it has accepted as many commands as the history has entries, each entry is by
+    /// one of its workers, the list of an audit is the history, and the past obeys the keys and the limits. The live
+    /// rows of the store are the plain rows after the past, which is empty if the history is.
     pub fn facts(&self)
         ensures whole { IsWhole J.owner self.now }
         ensures sound { IsSound self.now.held }
-        ensures divided { state_after (past_in (history_of (J.owner self.now.part) self.now.log)
-            (table_of self.now.held)) ≡ state_of self.now.held }
+        ensures faithful { IsFaithful self.now.held.store self.now.held.next (state_after (past_of J.owner self.now)) }
+        ensures fresh { history_of (J.owner self.now.part) self.now.log ≡ [] → past_of J.owner self.now ≡ no_past }
+        ensures divided { state_after (past_of J.owner self.now) ≡ state_of self.now.held }
+        ensures totals { HasTotals (past_of J.owner self.now) self.now.held }
     {
         let _part = self.scribe.part();
         self.partition.facts();
     }
 
-    /// How many entries of a worker are in its history: O(1). `None` if it isn't a worker of the table.
+    /// How many of a worker's entries the history has: O(1). `None` if this isn't a worker of the table.
     pub fn answered(&self, worker: u32) -> Option<u64>
         ensures some { IfSome result (λ n. (worker < self.now.workers) ×
             (n ≡ length (calls_by worker (history_of (J.owner self.now.part) self.now.log)))) }
@@ -155,11 +159,12 @@ impl<J: Naming> Witnessed<J> {
         count_at(self.answered.as_slice(), worker)
     }
 
-    /// Answers a command of a worker that has received `count` replies from this partition before, and writes it into
-    /// the history: O(1) beyond `Partition::apply`, and no memory; with an audit also the entry into its list, and the
-    /// receipt into the worker's. Refused with 16, with the partition's number and that count, if the history doesn't
-    /// have exactly as many entries of the worker, or the worker isn't one of the table's; then nothing has changed.
-    /// Otherwise refused as `Partition::apply` is, with 8 also for the lists of an audit, and nothing is written.
+    /// Answers a command of a worker that has received `count` replies from this partition so far, and writes the
+    /// entry into the history. Costs O(1) beyond `Partition::apply` and takes no memory; with an audit it adds the
+    /// entry to the partition's list, and the receipt to the worker's. Refused with `StrangeReceipt`, which carries
+    /// the partition's number and `count`, if the history has another number of the worker's entries, or this isn't
+    /// a worker of the table: then nothing has changed. Otherwise refused as `Partition::apply` is, with
+    /// `OutOfMemory` also for an audit's lists: then nothing is written.
     pub fn ask(
         &mut self,
         me: &mut Front<J>,
@@ -189,6 +194,12 @@ impl<J: Naming> Witnessed<J> {
           command = command;
           reply = reply;
         })) }
+        ensures divides { IfOk result (λ reply. past_of J.owner self.new ≡ with_entry (upkept_past
+            self.old.held.limits (past_of J.owner self.old)) (record {
+              worker = worker;
+              command = command;
+              reply = reply;
+            })) }
         ensures table { OnOk result (table_of self.new.held ≡ answered self.old.held.limits (table_of self.old.held)
             command) }
         ensures store { OnOk result (Serves policy self.old.held command self.new.held.store) }
@@ -207,8 +218,7 @@ impl<J: Naming> Witnessed<J> {
             (me.new ≡ me.old)) }
         ensures unlisted { OnErr result ((self.new.entries ≡ self.old.entries) ×
             (listed receipts.new ≡ listed receipts.old)) }
-        ensures spared { IsInStep J.owner self.old worker count → OnErr result (Spares policy self.old.held command
-            self.new.held.store) }
+        ensures spared { OnErr result (Spares policy self.old.held command self.new.held.store) }
         ensures refused { IsInStep J.owner self.old worker count → IfSome (refusal_of self.old.held command) (λ e.
             (result ≡ Err e) × (self.new ≡ self.old)) }
         ensures causes { IfErr result (MayRefuseIt J.owner self.old worker count command) }
@@ -238,21 +248,19 @@ impl<J: Naming> Witnessed<J> {
         Ok(reply)
     }
 
-    /// Makes a checkpoint of the partition as `Partition::checkpoint` does, and returns how many commands there were
-    /// since the last one; no row changes. The history stays whole: the checkpoint divides it at its end, so that its
-    /// entries since the last one are now of the base.
+    /// Makes a checkpoint as `Partition::checkpoint` does, and returns how many commands were answered since the
+    /// last one. No row changes. The history stays whole, but all of its entries now belong to the base.
     pub fn checkpoint(&mut self) -> u64
         ensures since { result ≡ self.old.held.since }
         ensures folded { self.new.held ≡ folded_part self.old.held }
         ensures witness { (self.new.part ≡ self.old.part) × (self.new.log ≡ self.old.log) ×
             (self.new.workers ≡ self.old.workers) × (self.new.entries ≡ self.old.entries) }
-        ensures divides { past_in (history_of (J.owner self.new.part) self.new.log) (table_of self.new.held) ≡
-            folded (past_in (history_of (J.owner self.old.part) self.old.log) (table_of self.old.held)) }
+        ensures divides { past_of J.owner self.new ≡ folded (past_of J.owner self.old) }
     {
         self.partition.checkpoint()
     }
 
-    /// States that the part of the partition's history that anyone has seen is a prefix of it. O(1).
+    /// States that what `front` has seen of the partition's history is a prefix of it. O(1).
     pub fn covers(&mut self, front: &Front<J>)
         ensures same { self.new ≡ self.old }
         ensures begins { IsPrefix (history_of (J.owner self.old.part) front.now) (history_of (J.owner self.old.part)
@@ -260,25 +268,9 @@ impl<J: Naming> Witnessed<J> {
     {
         self.scribe.covers(front);
     }
-
-    /// The partition, without its scribe.
-    pub fn into_partition(self) -> Partition
-        ensures { result ≡ self.held }
-    {
-        let Witnessed {
-            partition,
-            scribe,
-            answered,
-            entries,
-        } = self;
-        drop(scribe);
-        drop(answered);
-        drop(entries);
-        partition
-    }
 }
 
-/// The count at a place, if there is one.
+/// The count at an index, if there is one.
 pub(crate) fn count_at(counts: &[u64], place: u32) -> Option<u64>
     ensures some { IfSome result (λ n. (place < length counts.now) × (n ≡ slice_index_or counts.now place 0)) }
     ensures none { place < length counts.now → result ≢ None }
@@ -290,7 +282,7 @@ pub(crate) fn count_at(counts: &[u64], place: u32) -> Option<u64>
     }
 }
 
-/// Whether this count is at a place.
+/// Whether this is the count at an index.
 fn is_at(counts: &[u64], place: u32, count: u64) -> bool
     ensures { IsTrue result ↔ ((place < length counts.now) × (slice_index_or counts.now place 0 ≡ count)) }
 {

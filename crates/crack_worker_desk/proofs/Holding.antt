@@ -1,19 +1,14 @@
 -- A desk's calls are its worker's.
 use Rattle.std.proofs.Common.{◌≡◌, ℕ, List, [], ◌∷◌, ap, ◌∙◌, subst}
 use Rattle.crack_session.specs.Calls.{Call, Calls}
-use Rattle.crack_kept.specs.Receipts.{BookState}
-use Rattle.crack_table.specs.Tables.{TableState, AsksTable}
-use Rattle.crack_witness.specs.Witnesses.{AskerState}
-use Rattle.crack_witness_table.specs.Asking.{AsksWitnessed}
+use Rattle.crack_table.specs.Asking.{AsksTable}
+use Rattle.crack_table.specs.Tables.{TableState}
+use Rattle.crack_witness.specs.Witnesses.{WorkerState}
 use Rattle.crack_worker_desk.specs.Leads.{table_leads}
 
--- what a call does to a worker: its book gains a receipt of an answer
-abbrev pub worker_leads : TableState → (ℕ → ℕ → Type 0) → BookState → Call → BookState → Type 0
-worker_leads table may_refuse = table_leads table (λ part. AsksTable table (may_refuse part) part)
-
--- the same of a worker that keeps no receipts: an answer is at the end of its partition's one history, as the worker then sees it
-abbrev pub witnessed_leads : (ℕ → ℕ) → TableState → (ℕ → ℕ → Type 0) → AskerState → Call → AskerState → Type 0
-witnessed_leads owner table may_refuse = table_leads table (λ part. AsksWitnessed owner table (may_refuse part) part)
+-- what a call does to a worker: an answer is at the end of its partition's one history, as the worker then sees it
+abbrev pub worker_leads : (ℕ → ℕ) → TableState → (ℕ → ℕ → Type 0) → WorkerState → Call → WorkerState → Type 0
+worker_leads owner table may_refuse = table_leads table (λ part. AsksTable owner table (may_refuse part) part)
 
 module _ {D G S : Type 0} (stands : TableState → G → S → Call → S → Type 0) (leads : D → Call → D → Type 0) (table : D → TableState) (gate : D → G) (worker : D → S) where
   -- what a call does to a desk over its table, with its gate

@@ -1,6 +1,6 @@
 -- The answers to a worker are in the histories, once it is gathered.
-use Rattle.std.proofs.Common.{slice_index_or, ◌≡◌, ◌≢◌, ℕ, ◌+◌, ◌<◌, ◌≤◌, ◌==◌, Bool, true, false, nat_lt, List, [], ◌∷◌, ◌++◌, length, get_or, Some, Ok, Err, refl, sym, ap, ◌∙◌, subst, arith, append_assoc, append-nil, length-append}
-use Rattle.std.specs.Prelude.{All, map}
+use Rattle.std.proofs.Common.{slice_index_or, ◌≡◌, ◌≢◌, ℕ, ◌<◌, ◌≤◌, ◌==◌, Bool, true, false, nat_lt, List, [], ◌∷◌, ◌++◌, length, get_or, Some, Ok, Err, refl, sym, ap, ◌∙◌, subst, arith, append_assoc, append-nil, length-append}
+use Rattle.std.specs.Prelude.{All}
 use Rattle.std.specs.List.{slice_get}
 use Rattle.std.proofs.lemmas.Bool.Decides.{nat_tests}
 use Rattle.std.proofs.lemmas.List.{get_or-set_same, get_or-set_other, get_or_past, length-set, length-map, get_or-map, get_or_default}
@@ -11,16 +11,17 @@ use Rattle.crack_row.specs.declared.command.Command.{Command}
 use Rattle.crack_row.specs.declared.command.Entry.{Entry}
 use Rattle.crack_row.specs.declared.command.Policy.{Policy}
 use Rattle.crack_row.specs.declared.command.Reply.{Reply}
-use Rattle.crack_session.specs.Calls.{Call, Asked, Checkpointed, Looked, Calls}
+use Rattle.crack_session.specs.Calls.{Call, Asked, Checkpointed, Looked, Measured, Surveyed, Calls}
 use Rattle.crack_table.specs.Tables.{TableState}
 use Rattle.crack_witness.specs.declared.event.Event.{Event}
 use Rattle.crack_plain.specs.Plain.{AreReplies, no_rows}
 use Rattle.crack_witness.specs.Histories.{history_of, calls_by, calls_at}
-use Rattle.crack_witness.specs.Witnesses.{AskerState, WitnessedState, Agrees}
+use Rattle.crack_witness.specs.Witnesses.{WorkerState, WitnessedState, Agrees}
 use Rattle.crack_witness.proofs.Lists.{history_append, prefix_trans}
-use Rattle.crack_witness_table.specs.Asking.{AsksWitnessed}
-use Rattle.crack_worker_desk.specs.Histories.{histories, entries_at, StandIn, IsGathered}
-use Rattle.crack_worker_desk.proofs.Holding.{witnessed_leads}
+use Rattle.crack_table.specs.Asking.{AsksTable}
+use Rattle.crack_table.specs.Audits.{histories_of}
+use Rattle.crack_worker_desk.specs.Histories.{entries_at, StandIn, IsGathered}
+use Rattle.crack_worker_desk.proofs.Holding.{worker_leads}
 
 -- an answer of a partition is the next entry for it, and none for another
 entries_own : (worker p part : ℕ) (c : Command) (r : Reply) (policy : Policy) (calls : List Call) → (p == part) ≡ true → entries_at worker part (Asked p c policy (Ok r) ∷ calls) ≡ record { worker = worker; command = c; reply = r } ∷ entries_at worker part calls
@@ -48,23 +49,27 @@ longer : (xs ys zs : List Entry) → zs ≡ xs ++ ys → 0 < length xs → 0 < l
 longer xs ys zs e some = let l = ap length e in let m = length-append xs ys in omega (arith, l, m, some)
 
 module _ (owner : ℕ → ℕ) (table : TableState) (may : ℕ → ℕ → Type 0) where
-  abbrev Led : AskerState → List Call → AskerState → Type 0
-  Led old calls new = Calls (witnessed_leads owner table may) old calls new
+  abbrev Led : WorkerState → List Call → WorkerState → Type 0
+  Led old calls new = Calls (worker_leads owner table may) old calls new
 
-  pub worker-stays : (calls : List Call) (old new : AskerState) → Led old calls new → new.worker ≡ old.worker
-  worker-stays [] old new were = ap (λ (a : AskerState). a.worker) were
+  pub worker-stays : (calls : List Call) (old new : WorkerState) → Led old calls new → new.worker ≡ old.worker
+  worker-stays [] old new were = ap (λ (a : WorkerState). a.worker) were
   worker-stays (Asked part command policy outcome ∷ calls) old new were = worker-stays calls were.0 new were.2 ∙ were.1.worker
-  worker-stays (Checkpointed part outcome ∷ calls) old new were = worker-stays calls were.0 new were.2 ∙ ap (λ (a : AskerState). a.worker) were.1.1
-  worker-stays (Looked part outcome ∷ calls) old new were = worker-stays calls were.0 new were.2 ∙ ap (λ (a : AskerState). a.worker) were.1.1
+  worker-stays (Checkpointed part outcome ∷ calls) old new were = worker-stays calls were.0 new were.2 ∙ ap (λ (a : WorkerState). a.worker) were.1.1
+  worker-stays (Looked part outcome ∷ calls) old new were = worker-stays calls were.0 new were.2 ∙ ap (λ (a : WorkerState). a.worker) were.1.1
+  worker-stays (Measured part outcome ∷ calls) old new were = worker-stays calls were.0 new were.2 ∙ ap (λ (a : WorkerState). a.worker) were.1.1
+  worker-stays (Surveyed traffic ∷ calls) old new were = worker-stays calls were.0 new were.2 ∙ ap (λ (a : WorkerState). a.worker) were.1.1
 
-  pub seen-grows : (calls : List Call) (old new : AskerState) → Led old calls new → IsPrefix old.seen new.seen
-  seen-grows [] old new were = ([], append-nil old.seen ∙ ap (λ (a : AskerState). a.seen) (sym were))
+  pub seen-grows : (calls : List Call) (old new : WorkerState) → Led old calls new → IsPrefix old.seen new.seen
+  seen-grows [] old new were = ([], append-nil old.seen ∙ ap (λ (a : WorkerState). a.seen) (sym were))
   seen-grows (Asked part command policy outcome ∷ calls) old new were = prefix_trans old.seen were.0.seen new.seen were.1.seen (seen-grows calls were.0 new were.2)
-  seen-grows (Checkpointed part outcome ∷ calls) old new were = subst (λ (a : AskerState). IsPrefix a.seen new.seen) were.1.1 (seen-grows calls were.0 new were.2)
-  seen-grows (Looked part outcome ∷ calls) old new were = subst (λ (a : AskerState). IsPrefix a.seen new.seen) were.1.1 (seen-grows calls were.0 new were.2)
+  seen-grows (Checkpointed part outcome ∷ calls) old new were = subst (λ (a : WorkerState). IsPrefix a.seen new.seen) were.1.1 (seen-grows calls were.0 new were.2)
+  seen-grows (Looked part outcome ∷ calls) old new were = subst (λ (a : WorkerState). IsPrefix a.seen new.seen) were.1.1 (seen-grows calls were.0 new were.2)
+  seen-grows (Measured part outcome ∷ calls) old new were = subst (λ (a : WorkerState). IsPrefix a.seen new.seen) were.1.1 (seen-grows calls were.0 new were.2)
+  seen-grows (Surveyed traffic ∷ calls) old new were = subst (λ (a : WorkerState). IsPrefix a.seen new.seen) were.1.1 (seen-grows calls were.0 new were.2)
 
   -- only partitions of the table answer
-  pub answers-there : (part worker : ℕ) (calls : List Call) (old new : AskerState) → Led old calls new → 0 < length (entries_at worker part calls) → part ≤ length table.splits
+  pub answers-there : (part worker : ℕ) (calls : List Call) (old new : WorkerState) → Led old calls new → 0 < length (entries_at worker part calls) → part ≤ length table.splits
   answers-there part worker [] old new were some = absurd (omega (arith, some))
   answers-there part worker (Asked p command policy (Err e) ∷ calls) old new were some = answers-there part worker calls were.0 new were.2 some
   answers-there part worker (Asked p command policy (Ok reply) ∷ calls) old new were some = either (p == part)
@@ -72,9 +77,11 @@ module _ (owner : ℕ → ℕ) (table : TableState) (may : ℕ → ℕ → Type 
       (λ is. answers-there part worker calls were.0 new were.2 (subst (λ (l : List Entry). 0 < length l) (entries_other worker p part command reply policy calls is) some))
   answers-there part worker (Checkpointed p outcome ∷ calls) old new were some = answers-there part worker calls were.0 new were.2 some
   answers-there part worker (Looked p outcome ∷ calls) old new were some = answers-there part worker calls were.0 new were.2 some
+  answers-there part worker (Measured p outcome ∷ calls) old new were some = answers-there part worker calls were.0 new were.2 some
+  answers-there part worker (Surveyed traffic ∷ calls) old new were some = answers-there part worker calls were.0 new were.2 some
 
   -- the answers of a partition are in the part of its history that was seen
-  pub answers-seen : (part : ℕ) (calls : List Call) (old new : AskerState) → Led old calls new → 0 < length (entries_at old.worker part calls) → 0 < length (calls_at owner part old.worker new.seen)
+  pub answers-seen : (part : ℕ) (calls : List Call) (old new : WorkerState) → Led old calls new → 0 < length (entries_at old.worker part calls) → 0 < length (calls_at owner part old.worker new.seen)
   answers-seen part [] old new were some = absurd (omega (arith, some))
   answers-seen part (Asked p command policy (Err e) ∷ calls) old new were some =
       subst (λ (n : ℕ). 0 < length (calls_at owner part n new.seen)) were.1.worker (answers-seen part calls were.0 new were.2 (subst (λ (n : ℕ). 0 < length (entries_at n part calls)) (sym were.1.worker) some))
@@ -89,42 +96,48 @@ module _ (owner : ℕ → ℕ) (table : TableState) (may : ℕ → ℕ → Type 
       longer (calls_at owner part old.worker were.0.seen) more.0 (calls_at owner part old.worker new.seen) more.1 (omega (arith, l, m)))
       (λ is. subst (λ (n : ℕ). 0 < length (calls_at owner part n new.seen)) were.1.worker (answers-seen part calls were.0 new were.2 (subst (λ (n : ℕ). 0 < length (entries_at n part calls)) (sym were.1.worker) (subst (λ (l : List Entry). 0 < length l) (entries_other old.worker p part command reply policy calls is) some))))
   answers-seen part (Checkpointed p outcome ∷ calls) old new were some =
-      subst (λ (a : AskerState). 0 < length (calls_at owner part a.worker new.seen)) were.1.1 (answers-seen part calls were.0 new were.2 (subst (λ (a : AskerState). 0 < length (entries_at a.worker part calls)) (sym were.1.1) some))
+      subst (λ (a : WorkerState). 0 < length (calls_at owner part a.worker new.seen)) were.1.1 (answers-seen part calls were.0 new were.2 (subst (λ (a : WorkerState). 0 < length (entries_at a.worker part calls)) (sym were.1.1) some))
   answers-seen part (Looked p outcome ∷ calls) old new were some =
-      subst (λ (a : AskerState). 0 < length (calls_at owner part a.worker new.seen)) were.1.1 (answers-seen part calls were.0 new were.2 (subst (λ (a : AskerState). 0 < length (entries_at a.worker part calls)) (sym were.1.1) some))
+      subst (λ (a : WorkerState). 0 < length (calls_at owner part a.worker new.seen)) were.1.1 (answers-seen part calls were.0 new were.2 (subst (λ (a : WorkerState). 0 < length (entries_at a.worker part calls)) (sym were.1.1) some))
+  answers-seen part (Measured p outcome ∷ calls) old new were some =
+      subst (λ (a : WorkerState). 0 < length (calls_at owner part a.worker new.seen)) were.1.1 (answers-seen part calls were.0 new were.2 (subst (λ (a : WorkerState). 0 < length (entries_at a.worker part calls)) (sym were.1.1) some))
+  answers-seen part (Surveyed traffic ∷ calls) old new were some =
+      subst (λ (a : WorkerState). 0 < length (calls_at owner part a.worker new.seen)) were.1.1 (answers-seen part calls were.0 new were.2 (subst (λ (a : WorkerState). 0 < length (entries_at a.worker part calls)) (sym were.1.1) some))
 
   -- the entries of a partition that a worker knows: those seen after its last reply there
-  abbrev pub at_front : ℕ → AskerState → List Entry
+  abbrev pub at_front : ℕ → WorkerState → List Entry
   at_front part a = calls_at owner part a.worker (slice_index_or a.fronts part [])
 
   -- an answer is one more entry there, and nothing for another partition
-  front-own : (part p : ℕ) (command : Command) (reply : Reply) (old new : AskerState) → part < length old.fronts → p ≡ part → AsksWitnessed owner table (may p) p command (Ok reply) old new → at_front part new ≡ at_front part old ++ record { worker = old.worker; command = command; reply = reply } ∷ []
+  front-own : (part p : ℕ) (command : Command) (reply : Reply) (old new : WorkerState) → part < length old.fronts → p ≡ part → AsksTable owner table (may p) p command (Ok reply) old new → at_front part new ≡ at_front part old ++ record { worker = old.worker; command = command; reply = reply } ∷ []
   front-own part p command reply old new known same asks =
       let there : slice_index_or new.fronts p [] ≡ new.seen = ap (λ (l : List (List Event)). slice_index_or l p []) asks.fronts ∙ get_or-set_same old.fronts p new.seen [] (subst (λ (q : ℕ). q < length old.fronts) (sym same) known) in
       subst (λ (q : ℕ). at_front q new ≡ at_front q old ++ record { worker = old.worker; command = command; reply = reply } ∷ []) same
       (ap (λ (l : List Event). calls_at owner p new.worker l) there ∙ ap (λ (n : ℕ). calls_at owner p n new.seen) asks.worker ∙ asks.mine)
 
-  front-other : (part p : ℕ) (command : Command) (reply : Reply) (old new : AskerState) → part ≢ p → AsksWitnessed owner table (may p) p command (Ok reply) old new → at_front part new ≡ at_front part old
+  front-other : (part p : ℕ) (command : Command) (reply : Reply) (old new : WorkerState) → part ≢ p → AsksTable owner table (may p) p command (Ok reply) old new → at_front part new ≡ at_front part old
   front-other part p command reply old new apart asks =
       ap (λ (n : ℕ). calls_at owner part n (slice_index_or new.fronts part [])) asks.worker
       ∙ ap (λ (l : List (List Event)). calls_at owner part old.worker (slice_index_or l part [])) asks.fronts
       ∙ ap (λ (l : List Event). calls_at owner part old.worker l) (get_or-set_other old.fronts p part new.seen [] apart)
 
-  unknown : (part : ℕ) (a : AskerState) → length a.fronts ≤ part → at_front part a ≡ []
+  unknown : (part : ℕ) (a : WorkerState) → length a.fronts ≤ part → at_front part a ≡ []
   unknown part a past = ap (calls_at owner part a.worker) (get_or_past a.fronts part [] past)
 
-  fronts-many : (p : ℕ) (command : Command) (reply : Reply) (old new : AskerState) → AsksWitnessed owner table (may p) p command (Ok reply) old new → length new.fronts ≡ length old.fronts
+  fronts-many : (p : ℕ) (command : Command) (reply : Reply) (old new : WorkerState) → AsksTable owner table (may p) p command (Ok reply) old new → length new.fronts ≡ length old.fronts
   fronts-many p command reply old new asks = ap length asks.fronts ∙ length-set old.fronts p new.seen
 
-  pub fronts-stay : (calls : List Call) (old new : AskerState) → Led old calls new → length new.fronts ≡ length old.fronts
-  fronts-stay [] old new were = ap (λ (a : AskerState). length a.fronts) were
+  pub fronts-stay : (calls : List Call) (old new : WorkerState) → Led old calls new → length new.fronts ≡ length old.fronts
+  fronts-stay [] old new were = ap (λ (a : WorkerState). length a.fronts) were
   fronts-stay (Asked p command policy (Ok reply) ∷ calls) old new were = fronts-stay calls were.0 new were.2 ∙ fronts-many p command reply old were.0 were.1
-  fronts-stay (Asked p command policy (Err e) ∷ calls) old new were = fronts-stay calls were.0 new were.2 ∙ ap (λ (a : AskerState). length a.fronts) were.1.err
-  fronts-stay (Checkpointed p outcome ∷ calls) old new were = fronts-stay calls were.0 new were.2 ∙ ap (λ (a : AskerState). length a.fronts) were.1.1
-  fronts-stay (Looked p outcome ∷ calls) old new were = fronts-stay calls were.0 new were.2 ∙ ap (λ (a : AskerState). length a.fronts) were.1.1
+  fronts-stay (Asked p command policy (Err e) ∷ calls) old new were = fronts-stay calls were.0 new were.2 ∙ ap (λ (a : WorkerState). length a.fronts) were.1.err
+  fronts-stay (Checkpointed p outcome ∷ calls) old new were = fronts-stay calls were.0 new were.2 ∙ ap (λ (a : WorkerState). length a.fronts) were.1.1
+  fronts-stay (Looked p outcome ∷ calls) old new were = fronts-stay calls were.0 new were.2 ∙ ap (λ (a : WorkerState). length a.fronts) were.1.1
+  fronts-stay (Measured p outcome ∷ calls) old new were = fronts-stay calls were.0 new were.2 ∙ ap (λ (a : WorkerState). length a.fronts) were.1.1
+  fronts-stay (Surveyed traffic ∷ calls) old new were = fronts-stay calls were.0 new were.2 ∙ ap (λ (a : WorkerState). length a.fronts) were.1.1
 
   -- a worker's entries there are those before, and then exactly its answers
-  pub fronts-go : (part : ℕ) (calls : List Call) (old new : AskerState) → Led old calls new → part < length old.fronts → at_front part new ≡ at_front part old ++ entries_at old.worker part calls
+  pub fronts-go : (part : ℕ) (calls : List Call) (old new : WorkerState) → Led old calls new → part < length old.fronts → at_front part new ≡ at_front part old ++ entries_at old.worker part calls
   fronts-go part [] old new were known = ap (at_front part) were ∙ sym (append-nil (at_front part old))
   fronts-go part (Asked p command policy (Ok reply) ∷ calls) old new were known =
       let more : at_front part new ≡ at_front part were.0 ++ entries_at old.worker part calls = subst (λ (n : ℕ). at_front part new ≡ at_front part were.0 ++ entries_at n part calls) were.1.worker (fronts-go part calls were.0 new were.2 (subst (λ (n : ℕ). part < n) (sym (fronts-many p command reply old were.0 were.1)) known)) in
@@ -135,19 +148,23 @@ module _ (owner : ℕ → ℕ) (table : TableState) (may : ℕ → ℕ → Type 
       (λ is. more ∙ ap (λ (l : List Entry). l ++ entries_at old.worker part calls) (front-other part p command reply old were.0 (grind (arith, nat_tests)) were.1)
       ∙ ap (λ (l : List Entry). at_front part old ++ l) (sym (entries_other old.worker p part command reply policy calls is)))
   fronts-go part (Asked p command policy (Err e) ∷ calls) old new were known =
-      subst (λ (a : AskerState). at_front part new ≡ at_front part a ++ entries_at a.worker part calls) were.1.err (fronts-go part calls were.0 new were.2 (subst (λ (a : AskerState). part < length a.fronts) (sym were.1.err) known))
+      subst (λ (a : WorkerState). at_front part new ≡ at_front part a ++ entries_at a.worker part calls) were.1.err (fronts-go part calls were.0 new were.2 (subst (λ (a : WorkerState). part < length a.fronts) (sym were.1.err) known))
   fronts-go part (Checkpointed p outcome ∷ calls) old new were known =
-      subst (λ (a : AskerState). at_front part new ≡ at_front part a ++ entries_at a.worker part calls) were.1.1 (fronts-go part calls were.0 new were.2 (subst (λ (a : AskerState). part < length a.fronts) (sym were.1.1) known))
+      subst (λ (a : WorkerState). at_front part new ≡ at_front part a ++ entries_at a.worker part calls) were.1.1 (fronts-go part calls were.0 new were.2 (subst (λ (a : WorkerState). part < length a.fronts) (sym were.1.1) known))
   fronts-go part (Looked p outcome ∷ calls) old new were known =
-      subst (λ (a : AskerState). at_front part new ≡ at_front part a ++ entries_at a.worker part calls) were.1.1 (fronts-go part calls were.0 new were.2 (subst (λ (a : AskerState). part < length a.fronts) (sym were.1.1) known))
+      subst (λ (a : WorkerState). at_front part new ≡ at_front part a ++ entries_at a.worker part calls) were.1.1 (fronts-go part calls were.0 new were.2 (subst (λ (a : WorkerState). part < length a.fronts) (sym were.1.1) known))
+  fronts-go part (Measured p outcome ∷ calls) old new were known =
+      subst (λ (a : WorkerState). at_front part new ≡ at_front part a ++ entries_at a.worker part calls) were.1.1 (fronts-go part calls were.0 new were.2 (subst (λ (a : WorkerState). part < length a.fronts) (sym were.1.1) known))
+  fronts-go part (Surveyed traffic ∷ calls) old new were known =
+      subst (λ (a : WorkerState). at_front part new ≡ at_front part a ++ entries_at a.worker part calls) were.1.1 (fronts-go part calls were.0 new were.2 (subst (λ (a : WorkerState). part < length a.fronts) (sym were.1.1) known))
 
   first_of : (parts : List WitnessedState) (k : ℕ) → k < length parts → WitnessedState
   first_of [] k less = absurd (omega (arith, less))
   first_of (w ∷ ws) k less = w
 
-  module _ (parts : List WitnessedState) (last : AskerState) (gathered : IsGathered owner table parts last) where
+  module _ (parts : List WitnessedState) (last : WorkerState) (gathered : IsGathered owner table parts last) where
     -- a partition of the table, and its history, as they were gathered
-    found : (part : ℕ) → part ≤ length table.splits → (w : WitnessedState) × (w.part ≡ part) × (slice_index_or (histories owner parts) part [] ≡ history_of (owner w.part) w.log) × Agrees owner last w
+    found : (part : ℕ) → part ≤ length table.splits → (w : WitnessedState) × (w.part ≡ part) × (slice_index_or (histories_of owner parts) part [] ≡ history_of (owner w.part) w.log) × Agrees owner last w
     found part there =
         let count = gathered.2.tables.count in
         let less : part < length parts = omega (arith, there, count, length-map parts (λ (w : WitnessedState). w.held)) in
@@ -156,14 +173,14 @@ module _ (owner : ℕ → ℕ) (table : TableState) (may : ℕ → ℕ → Type 
           w,
           (gathered.2.numbered part w is).0,
           get_or-map (λ (v : WitnessedState). history_of (owner v.part) v.log) parts part (first_of parts part less) [] less,
-          All-contains (λ (a : AskerState). Agrees owner a w) gathered.0 last (gathered.2.agree part (first_of parts part less) less) gathered.1,
+          All-contains (λ (a : WorkerState). Agrees owner a w) gathered.0 last (gathered.2.agree part (first_of parts part less) less) gathered.1,
         )
 
-    legal : All (AreReplies no_rows) (histories owner parts)
+    legal : All (AreReplies no_rows) (histories_of owner parts)
     legal = All-map (AreReplies no_rows) (λ (v : WitnessedState). history_of (owner v.part) v.log) parts (λ k d less. (gathered.2.whole k d less).legal (owner (get_or parts k d).part))
 
-    stand-some : (calls later : List Call) (old new : AskerState) → Led old calls new → Led new later last → (part : ℕ) → 0 < length (entries_at old.worker part calls)
-        → calls_by old.worker (slice_index_or (histories owner parts) part []) ≡ at_front part old ++ entries_at old.worker part calls ++ entries_at old.worker part later
+    stand-some : (calls later : List Call) (old new : WorkerState) → Led old calls new → Led new later last → (part : ℕ) → 0 < length (entries_at old.worker part calls)
+        → calls_by old.worker (slice_index_or (histories_of owner parts) part []) ≡ at_front part old ++ entries_at old.worker part calls ++ entries_at old.worker part later
     stand-some calls later old new were goes part some =
         let one = found part (answers-there part old.worker calls old new were some) in
         let same : last.worker ≡ old.worker = worker-stays later new last goes ∙ worker-stays calls old new were in
@@ -182,13 +199,13 @@ module _ (owner : ℕ → ℕ) (table : TableState) (may : ℕ → ℕ → Type 
         ∙ ap (λ (n : ℕ). at_front part new ++ entries_at n part later) (worker-stays calls old new were)
         ∙ ap (λ (l : List Entry). l ++ entries_at old.worker part later) (fronts-go part calls old new were known)
 
-    pub stands : (calls later : List Call) (old new : AskerState) → Led old calls new → Led new later last → StandIn owner parts old.worker calls
+    pub stands : (calls later : List Call) (old new : WorkerState) → Led old calls new → Led new later last → StandIn owner parts old.worker calls
     stands calls later old new were goes = record {
       legal = legal;
       stand = λ part. either (nat_lt 0 (length (entries_at old.worker part calls)))
           (λ is. (at_front part old, entries_at old.worker part later, stand-some calls later old new were goes part (grind (arith, nat_tests))))
           (λ is.
-          let here = calls_by old.worker (slice_index_or (histories owner parts) part []) in
+          let here = calls_by old.worker (slice_index_or (histories_of owner parts) part []) in
           let none : entries_at old.worker part calls ≡ [] = empty (entries_at old.worker part calls) (grind (arith, nat_tests)) in
           (here, [], sym (append-nil here) ∙ sym (append-nil (here ++ [])) ∙ ap (λ (l : List Entry). here ++ l ++ []) (sym none)));
     }

@@ -1,24 +1,35 @@
-//! A worker of a table as a desk.
-ghost use Rattle.std.specs.Prelude.{◌≡◌, ◌+◌, length, is_ok, if◌then◌else◌};
-ghost use Rattle.crack_table.specs.Tables.{AnswersAt, AsksTable, LooksAt};
+//! A worker of a table as a `Desk`.
+ghost use Rattle.std.specs.Prelude.{◌≡◌, ◌+◌, is_ok, None, if◌then◌else◌};
+ghost use Rattle.crack_witness.specs.Witnesses.{replies_to};
+ghost use Rattle.crack_table.specs.Asking.{AsksTable};
+ghost use Rattle.crack_table.specs.Tables.{AnswersAt, LooksAt, MeasuresAt};
 
+use crack_commands::Traffic;
+use crack_plain::Statistics;
 use crack_row::{Bound, Command, Layout, Policy, Refusal, Reply};
 use crack_session::Desk;
-use crack_table::{Gate, Table, Worker};
+use crack_table::{Gate, Table};
+use crack_witness::{Naming, Worker};
 use std::sync::Wait;
 
-/// A worker at its table, with a gate. Each call may wait for the lock of the partition that it asks.
+/// A `Desk` at which a worker asks its table, with a gate. Each call may wait for the lock of the partition that it
+/// asks.
 #[derive(Drop)]
-pub struct WorkerDesk<'a, R: Wait, G: Gate> {
+pub struct WorkerDesk<'a, R: Wait, G: Gate, J: Naming> {
     rt: &'a R,
-    table: &'a Table,
+    table: &'a Table<J>,
     gate: &'a G,
-    worker: Worker,
+    worker: Worker<J>,
 }
 
-impl<'a, R: Wait, G: Gate> WorkerDesk<'a, R, G> {
+impl<'a, R: Wait, G: Gate, J: Naming> WorkerDesk<'a, R, G, J> {
     /// A desk at which this worker asks this table. Takes no lock and no memory.
-    pub fn new(rt: &'a R, table: &'a Table, gate: &'a G, worker: Worker) -> WorkerDesk<'a, R, G>
+    pub fn new(
+        rt: &'a R,
+        table: &'a Table<J>,
+        gate: &'a G,
+        worker: Worker<J>,
+    ) -> WorkerDesk<'a, R, G, J>
         ensures worker { result.worker ≡ worker }
         ensures table { result.table.now ≡ table.now }
         ensures gate { result.gate.now ≡ gate.now }
@@ -31,8 +42,9 @@ impl<'a, R: Wait, G: Gate> WorkerDesk<'a, R, G> {
         }
     }
 
-    /// The worker, with the receipts of all accepted commands. Takes no lock and no memory.
-    pub fn into_worker(self) -> Worker
+    /// The worker, with the events that it has seen, the number of its replies and, with an audit, its receipts.
+    /// Takes no lock and no memory.
+    pub fn into_worker(self) -> Worker<J>
         ensures { result ≡ self.entry.worker }
     {
         let WorkerDesk { worker, .. } = self;
@@ -40,10 +52,11 @@ impl<'a, R: Wait, G: Gate> WorkerDesk<'a, R, G> {
     }
 }
 
-impl<'a, R: Wait, G: Gate> Desk for WorkerDesk<'a, R, G> {
-    ghost use Rattle.std.specs.Prelude.{◌≡◌, None, length};
+impl<'a, R: Wait, G: Gate, J: Naming> Desk for WorkerDesk<'a, R, G, J> {
+    ghost use Rattle.std.specs.Prelude.{◌≡◌, None};
     ghost use Rattle.crack_core.specs.Steps.{bounds_of};
-    ghost use Rattle.crack_table.specs.Tables.{AsksTable};
+    ghost use Rattle.std.specs.List.{sum};
+    ghost use Rattle.crack_table.specs.Asking.{AsksTable};
     ghost use Rattle.crack_worker_desk.specs.Leads.{table_leads};
 
     ghost tables = { λ d. None };
@@ -52,43 +65,55 @@ impl<'a, R: Wait, G: Gate> Desk for WorkerDesk<'a, R, G> {
 
     ghost splits = { λ d. d.table.now.splits };
 
-    ghost accepted = { λ d. length d.worker.receipts };
+    ghost accepted = { λ d. sum d.worker.counts };
 
     ghost leads = { λ d call e. (e.table.now ≡ d.table.now) × (e.gate.now ≡ d.gate.now) × table_leads d.table.now
-        (λ part. AsksTable d.table.now (G.may_refuse d.gate.now part) part) d.worker call e.worker };
+        (λ part. AsksTable J.owner d.table.now (G.may_refuse d.gate.now part) part) d.worker call e.worker };
 
     fn ask(&mut self, part: u32, command: Command, policy: Policy) -> Result<Reply, Refusal>
-        // The worker asks its table; nothing is known of a reply except that it is small.
-        ensures asks { AsksTable self.old.table.now (G.may_refuse self.old.gate.now part) part command result
-            self.old.worker self.new.worker }
-        ensures accepted { length self.new.worker.receipts ≡ (if is_ok result then length self.old.worker.receipts + 1
-            else length self.old.worker.receipts) }
+        // The worker asks its table. The reply ends the partition's one history, as far as the worker now sees it.
+        ensures asks { AsksTable J.owner self.old.table.now (G.may_refuse self.old.gate.now part) part command
+            result self.old.worker self.new.worker }
+        ensures replies { replies_to self.new.worker ≡ (if is_ok result then replies_to self.old.worker + 1 else
+            replies_to self.old.worker) }
         ensures table { (self.new.table.now ≡ self.old.table.now) × (self.new.gate.now ≡ self.old.gate.now) }
     {
-        self.worker
-            .ask(self.rt, self.table, self.gate, part, command, policy)
+        self.table.ask(self.rt, self.gate, &mut self.worker, part, command, policy)
     }
 
     fn checkpoint(&mut self, part: u32) -> Result<u64, Refusal>
-        // The worker makes a checkpoint of a partition of its table, for all workers; nothing is known of its entries.
-        ensures folds { AnswersAt self.old.table.now part (λ e. e ≡ Refusal.OutOfMemory) result }
+        // Makes a checkpoint of a partition for all workers. Its history stays whole.
+        ensures folds { AnswersAt self.old.table.now part (λ e. ⊥) result }
         ensures worker { self.new.worker ≡ self.old.worker }
         ensures table { (self.new.table.now ≡ self.old.table.now) × (self.new.gate.now ≡ self.old.gate.now) }
     {
-        self.worker.checkpoint(self.rt, self.table, part)
+        self.table.checkpoint(self.rt, part)
     }
 
     fn layout(&self, part: u32) -> Result<Layout, Refusal>
         ensures looks { LooksAt self.now.table.now part result }
     {
-        self.worker.layout(self.rt, self.table, part)
+        self.table.layout(self.rt, part)
+    }
+
+    fn statistics(&self, part: u32) -> Result<Statistics, Refusal>
+        ensures measures { MeasuresAt self.now.table.now part result }
+    {
+        self.table.statistics(self.rt, part)
+    }
+
+    fn service(&self) -> Option<Traffic>
+        ensures none { result ≡ None }
+    {
+        None
     }
 
     fn splits(&self) -> &[Bound] {
         self.table.splits()
     }
 
+    /// O(partitions).
     fn accepted(&self) -> u64 {
-        self.worker.book().accepted()
+        self.worker.replies()
     }
 }

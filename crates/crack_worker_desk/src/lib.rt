@@ -4,9 +4,7 @@
 pub mod desk;
 pub mod histories;
 pub mod receipts;
-pub mod witnessed;
 
 pub use desk::WorkerDesk;
 pub use histories::lines_stand_in_histories;
 pub use receipts::answers_are_receipts;
-pub use witnessed::WitnessedDesk;

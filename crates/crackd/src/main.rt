@@ -1,4 +1,4 @@
-//! The program `crackd`: reads its command line, and runs the request.
+//! The program `crackd`: parses its command line, and runs the request.
 #![tactic(auto)]
 
 ghost use Rattle.crack_witness.specs.Witnesses.{AreNames};
@@ -8,12 +8,11 @@ use crack_core::Core;
 use crack_csv::{export_csv, load_csv};
 use crack_loop::{Ending, Terms};
 use crack_row::{Policy, Refusal, Upkeep, Watched};
-use crack_server::{run_batch, run_service, run_witnessed_service};
+use crack_server::{run_batch, run_service};
 use crack_service::{Host, Notice, REPLY_BYTES};
 use crack_session::serve;
-use crack_table::{MOST_WORKERS, OpenGate, Table};
+use crack_table::{MOST_WORKERS, OpenGate, UnnamedTable};
 use crack_witness::Naming;
-use crack_witness_table::UnnamedTable;
 use jiff::Timestamp;
 use std::io::{BufWriter, ErrorKind, Write};
 use std::marker::Brand;
@@ -38,7 +37,7 @@ fn request(rt: &HostRuntime) -> (Result<Request, ArgumentsError>, bool) {
     }
 }
 
-/// The words of the command line, the program's name first. A word that isn't text is an error.
+/// The words of the command line, starting with the program's name. A word that isn't text is an error.
 fn words(rt: &HostRuntime) -> io::Result<Vec<String>> {
     let words: Vec<String> = env::args(rt)?.collect(rt.alloc())?;
     Ok(words)
@@ -52,7 +51,7 @@ fn script(rt: &HostRuntime, opening: &Opening) -> Result<(), Refusal> {
     served
 }
 
-/// Answers the statements of standard input over a core.
+/// Answers the statements of standard input over a core, on standard output.
 fn serve_input(rt: &HostRuntime, core: &mut Core, policy: Policy) -> Result<(), Refusal> {
     let mut reader = Watched::new(rt.stdin());
     let mut writer = Watched::new(rt.stdout());
@@ -83,7 +82,7 @@ fn copy_csv(rt: &HostRuntime, core: &mut Core, policy: Policy) -> Result<(), Ref
     }
 }
 
-/// Has workers serve the lines of standard input.
+/// Lets workers serve the lines of standard input. They keep receipts if an audit is requested.
 fn batch<H: Threads + Wait + Sync>(
     handle: &H,
     rt: &HostRuntime,
@@ -100,38 +99,39 @@ fn batch<H: Threads + Wait + Sync>(
         opening.limits,
         opening.policy,
         staffed.workers,
+        staffed.is_audited,
         &OpenGate,
         &mut rt.stdin(),
         &mut writer,
     )
 }
 
-/// Has workers serve connections to a port. They keep receipts if an audit is asked for.
+/// Lets workers serve connections to a port. They keep receipts if an audit is requested.
 fn serve_port<H: Threads + Wait + Net<Listener = TcpListener, Stream = TcpStream> + Sync>(
     handle: &H,
     rt: &HostRuntime,
     service: &Service,
 ) -> Result<(), Refusal> {
-    if service.is_audited {
-        return serve_audited(handle, rt, service);
-    }
     let opening = &service.opening;
     let workers = workers_of(handle, service);
-    let splits = opening.splits.as_slice();
-    let table = UnnamedTable::open(rt.alloc(), splits, opening.limits, workers, false)?;
+    let table = UnnamedTable::open(
+        rt.alloc(),
+        opening.splits.as_slice(),
+        opening.limits,
+        workers,
+        service.is_audited,
+    )?;
     serve_named::<Brand, H>(handle, rt, service, table)
 }
 
-/// Has workers that keep receipts serve connections to a port.
-fn serve_audited<H: Threads + Wait + Net<Listener = TcpListener, Stream = TcpStream> + Sync>(
-    handle: &H,
-    rt: &HostRuntime,
-    service: &Service,
-) -> Result<(), Refusal> {
-    let opening = &service.opening;
-    let workers = workers_of(handle, service);
-    let splits = opening.splits.as_slice();
-    let (table, workers) = Table::open_with(rt.alloc(), splits, opening.limits, workers)?;
+/// Lets the workers of a table serve connections, once the table's book has its name `J`.
+fn serve_named<
+    J: Naming + Send + Sync,
+    H: Threads + Wait + Net<Listener = TcpListener, Stream = TcpStream> + Sync,
+>(handle: &H, rt: &HostRuntime, service: &Service, table: UnnamedTable) -> Result<(), Refusal>
+    requires { AreNames J.book J.owner table.opened }
+{
+    let (table, workers) = table.named::<J>(rt.alloc())?;
     let mut writer = rt.stdout();
     let host = console_of(rt, service);
     match listen(handle, &host, &mut writer) {
@@ -155,38 +155,7 @@ fn serve_audited<H: Threads + Wait + Net<Listener = TcpListener, Stream = TcpStr
     }
 }
 
-/// Has the workers of a table serve connections, once its book has its name.
-fn serve_named<
-    J: Naming + Send + Sync,
-    H: Threads + Wait + Net<Listener = TcpListener, Stream = TcpStream> + Sync,
->(handle: &H, rt: &HostRuntime, service: &Service, table: UnnamedTable) -> Result<(), Refusal>
-    requires { AreNames J.book J.owner table.opened }
-{
-    let (table, askers) = table.named::<J>(rt.alloc())?;
-    let mut writer = rt.stdout();
-    let host = console_of(rt, service);
-    match listen(handle, &host, &mut writer) {
-        Ok(listener) => run_witnessed_service(
-            handle,
-            rt.alloc(),
-            &listener,
-            table,
-            askers,
-            terms_of(service),
-            &OpenGate,
-            &host,
-            &mut rt.stdin(),
-            &mut writer,
-        ),
-        Err(refusal) => {
-            drop(askers);
-            drop(table);
-            Err(refusal)
-        }
-    }
-}
-
-/// How many workers a server has: as many as there are processors, unless the command line says otherwise.
+/// The number of workers of a server: by default the number of processors, at most `MOST_WORKERS`.
 fn workers_of<H: Threads>(handle: &H, service: &Service) -> u64 {
     match service.workers {
         Some(workers) => workers,
@@ -197,7 +166,7 @@ fn workers_of<H: Threads>(handle: &H, service: &Service) -> u64 {
     }
 }
 
-/// How a server serves.
+/// The options of a server.
 fn terms_of(service: &Service) -> Terms {
     let opening = &service.opening;
     Terms {
@@ -218,7 +187,7 @@ fn has_upkeep(opening: &Opening) -> bool {
     matches!(opening.limits.upkeep, Upkeep::Automatic)
 }
 
-/// The program as a server's host. Its notices are lines of standard error.
+/// The host of a server: writes notices as lines to standard error.
 #[derive(Drop)]
 struct Console<'a> {
     rt: &'a HostRuntime,
@@ -226,7 +195,7 @@ struct Console<'a> {
     is_quiet: bool,
 }
 
-/// The console of a server with these options.
+/// The host of a server with these options.
 fn console_of<'a>(rt: &'a HostRuntime, service: &Service) -> Console<'a> {
     Console {
         rt,
@@ -253,10 +222,17 @@ impl<'a> Host for Console<'a> {
             Err(_) => 0,
         }
     }
+
+    fn micros(&self) -> u64 {
+        match self.rt.monotonic() {
+            Ok(time) => u64::try_from(time.as_micros()).unwrap_or(u64::MAX),
+            Err(_) => 0,
+        }
+    }
 }
 
 impl<'a> Console<'a> {
-    /// The time of day, in seconds. A clock that can't be read shows the first second of 1970.
+    /// The time of day, in seconds, or the first second of 1970 if the clock can't be read.
     fn time(&self) -> Timestamp {
         let seconds = match self.rt.since_1970() {
             Ok(time) => i64::try_from(time.as_secs()).unwrap_or(0),
@@ -266,7 +242,7 @@ impl<'a> Console<'a> {
     }
 }
 
-/// Listens on the host's port, and reports it.
+/// Listens on the host's port of 127.0.0.1, and reports the port.
 fn listen<H: Net<Listener = TcpListener, Stream = TcpStream>, W: Write>(
     handle: &H,
     host: &Console<'_>,
@@ -280,7 +256,7 @@ fn listen<H: Net<Listener = TcpListener, Stream = TcpStream>, W: Write>(
     Ok(listener)
 }
 
-/// Reports the port on which the server listens.
+/// Writes the port on which the server listens.
 fn announce<W: Write>(port: u16, writer: &mut W) -> Result<(), Refusal> {
     let line = writeln!(writer, "listening {port}");
     if line.is_err() || writer.flush().is_err() {
@@ -289,7 +265,7 @@ fn announce<W: Write>(port: u16, writer: &mut W) -> Result<(), Refusal> {
     Ok(())
 }
 
-/// Runs the request. The handle provides threads, waiting and sockets.
+/// Runs the request. `handle` provides threads, waiting and sockets.
 fn run_request<H: Threads + Wait + Net<Listener = TcpListener, Stream = TcpStream> + Sync>(
     handle: &H,
     rt: &HostRuntime,
@@ -304,7 +280,7 @@ fn run_request<H: Threads + Wait + Net<Listener = TcpListener, Stream = TcpStrea
     }
 }
 
-/// Writes a refusal to standard error, followed by its cause if words are asked for.
+/// Writes a refusal to standard error, followed by its cause if `in_words`.
 fn complain(rt: &HostRuntime, refusal: Refusal, in_words: bool) -> ExitCode {
     let _ = if in_words {
         eprintln!(rt; "crackd: {refusal}: {}", refusal.cause())

@@ -1,4 +1,4 @@
-//! A core that C code holds.
+//! The handle by which C code holds a table.
 ghost use Rattle.std.specs.Prelude.{◌≡◌, ℕ, true, false};
 ghost use Rattle.crack_core.specs.Cores.{CoreState};
 ghost use Rattle.crackd_c.specs.Handles.{core_coded, handle_owns};
@@ -10,7 +10,7 @@ use std::alloc::Global;
 use std::marker::{Model, Send};
 use std::{mem, ptr};
 
-/// A table that C code holds, or none. A handle whose bytes are all zero holds none.
+/// A handle by which C code holds a table, or none. A handle whose bytes are all zero holds none.
 #[repr(C)]
 #[derive(Drop)]
 pub struct Handle {
@@ -26,7 +26,7 @@ impl Model for Handle {
 impl Handle {
     ghost use Rattle.crackd_c.specs.Lends.{core_follows};
 
-    /// Whether it holds a table.
+    /// Whether the handle holds a table.
     pub fn is_open(&mut self) -> bool
         ensures { (result ≡ self.old.is_open) × (self.new ≡ self.old) }
     {
@@ -40,7 +40,7 @@ impl Handle {
         Handle::of_parts(Parts::of(core))
     }
 
-    /// Takes the table out, and leaves none.
+    /// Takes the table out of the handle, which then holds none.
     pub fn take(&mut self, alloc: Global) -> Box<Core>
         requires { self.old.is_open ≡ true }
         ensures value { result.value ≡ self.old.core }
@@ -81,7 +81,7 @@ impl Handle {
         }
     }
 
-    /// The table, for calls.
+    /// Borrows the table that the handle holds.
     pub fn core(&mut self) -> &mut Core
         requires { self.old.is_open ≡ true }
         ensures* writes_back { sem 𝓛 (core_follows self.entry result) }

@@ -1,13 +1,13 @@
-//! The partitions of one thread, for C: one call at a time on a handle.
+//! The C interface of a table with one thread: one call at a time on a handle.
 #![tactic(auto)]
 
 ghost use Rattle.std.specs.Prelude.{◌≡◌, true, false, MatchOption, length, [], ◌∷◌};
-ghost use Rattle.crack_core.specs.Asking.{Inserts, Deletes, Updates, Counts, Sums};
+ghost use Rattle.crack_core.specs.Asking.{Inserts, Deletes, Updates, CountsRange, Sums};
 ghost use Rattle.crack_core.specs.Bulk.{OverKeys, of_halves, flag, row_number};
 ghost use Rattle.crack_core.specs.Bulk.{InsertsAt, DeletesAt, UpdatesAt, CountsAt, SumsAt};
 ghost use Rattle.crack_core.specs.Listing.{Selects};
 ghost use Rattle.crack_core.specs.Steps.{accepted_by};
-ghost use Rattle.crackd_c.specs.Calls.{OnTable, OnLists, ByPolicy, ComesOut, GoesOn, Shows, FoldsOne, OpensHandle};
+ghost use Rattle.crackd_c.specs.Calls.{OnTable, OnLists, ByPolicy, ComesOut, GoesThrough, Shows, FoldsOne, OpensHandle};
 
 pub mod handle;
 pub mod opening;
@@ -23,8 +23,8 @@ use status::{
 };
 use std::alloc::Global;
 
-/// Opens a table in a handle that holds none. Its partitions make the checkpoints that are due, and free the cells of
-/// deleted rows once none is free.
+/// Opens a table in a handle that holds none. Its partitions make the checkpoints that are due, and free the cells
+/// of deleted rows once no cell is free.
 #[unsafe(no_mangle)]
 pub extern "C" fn crackd_open(
     alloc: Global,
@@ -56,7 +56,7 @@ pub extern "C" fn crackd_open(
     }
 }
 
-/// Frees all that a table took. Then the handle holds none.
+/// Frees the table of a handle, which then holds none.
 #[unsafe(no_mangle)]
 pub extern "C" fn crackd_close(alloc: Global, handle: &mut Handle) -> u32
     ensures closed { handle.old.is_open ≡ false → (result ≡ CLOSED) × (handle.new ≡ handle.old) }
@@ -69,7 +69,7 @@ pub extern "C" fn crackd_close(alloc: Global, handle: &mut Handle) -> u32
     ANSWERED
 }
 
-/// Places a row, and writes its number.
+/// Inserts a row, and writes its row number: partition and serial.
 #[unsafe(no_mangle)]
 pub extern "C" fn crackd_insert(
     handle: &mut Handle,
@@ -98,7 +98,7 @@ pub extern "C" fn crackd_insert(
     }
 }
 
-/// Removes a row, and writes whether it existed, and what it was.
+/// Deletes a row, and writes whether it existed and, if so, its key and payload.
 #[unsafe(no_mangle)]
 pub extern "C" fn crackd_delete(
     handle: &mut Handle,
@@ -135,7 +135,7 @@ pub extern "C" fn crackd_delete(
     }
 }
 
-/// Replaces the key and the payload of a row, and writes whether it exists.
+/// Replaces the key and the payload of a row, and writes whether the row exists.
 #[unsafe(no_mangle)]
 pub extern "C" fn crackd_update(
     handle: &mut Handle,
@@ -178,7 +178,7 @@ pub extern "C" fn crackd_count(
     count: &mut u64,
 ) -> u32
     ensures counts { OnTable handle.old handle.new result (count.new ≡ count.old) (ByPolicy policy (λ policy. ComesOut
-        (λ limits splits. OverKeys (Counts limits splits policy) first last) (λ rows. count.new ≡ rows))) }
+        (λ limits splits. OverKeys (CountsRange limits splits policy) first last) (λ rows. count.new ≡ rows))) }
 {
     if !handle.is_open() {
         return CLOSED;
@@ -195,8 +195,8 @@ pub extern "C" fn crackd_count(
     }
 }
 
-/// Adds up the payloads of the rows whose keys are `first` to `last`, both included: the low 64 bits of the sum, and
-/// those above them.
+/// Sums the payloads of the rows whose keys are `first` to `last`, both included. Writes the low 64 bits of the
+/// sum, and the bits above them.
 #[unsafe(no_mangle)]
 pub extern "C" fn crackd_sum(
     handle: &mut Handle,
@@ -227,8 +227,8 @@ pub extern "C" fn crackd_sum(
     }
 }
 
-/// Lists the rows whose keys are `first` to `last`, both included, as far as the lists have room, and writes how many
-/// there are.
+/// Lists the rows whose keys are `first` to `last`, both included, as far as the lists have room, and writes how
+/// many rows the range has.
 #[unsafe(no_mangle)]
 pub extern "C" fn crackd_select(
     handle: &mut Handle,
@@ -269,8 +269,8 @@ pub extern "C" fn crackd_select(
     }
 }
 
-/// Writes the layout of a partition: the totals, and the least key and the size of each piece, as far as there is room
-/// in the lists.
+/// Writes the layout of a partition: its totals, and the least key and the size of each piece as far as the lists
+/// have room.
 #[unsafe(no_mangle)]
 pub extern "C" fn crackd_layout(
     handle: &mut Handle,
@@ -298,7 +298,8 @@ pub extern "C" fn crackd_layout(
     }
 }
 
-/// Makes a checkpoint of a partition, and writes how many commands it had answered since its last one.
+/// Makes a checkpoint of a partition, and writes how many commands the partition had accepted since its previous
+/// one.
 #[unsafe(no_mangle)]
 pub extern "C" fn crackd_checkpoint(handle: &mut Handle, part: u32, folded: &mut u64) -> u32
     ensures folds { OnTable handle.old handle.new result (folded.new ≡ folded.old) (FoldsOne part folded.new) }
@@ -315,7 +316,7 @@ pub extern "C" fn crackd_checkpoint(handle: &mut Handle, part: u32, folded: &mut
     }
 }
 
-/// Writes how many commands the partitions have answered since they were opened.
+/// Writes how many commands the partitions have accepted since they were opened.
 #[unsafe(no_mangle)]
 pub extern "C" fn crackd_accepted(handle: &mut Handle, accepted: &mut u64) -> u32
     ensures accepted { OnTable handle.old handle.new result (accepted.new ≡ accepted.old) (λ old new status unwritten.
@@ -328,7 +329,8 @@ pub extern "C" fn crackd_accepted(handle: &mut Handle, accepted: &mut u64) -> u3
     ANSWERED
 }
 
-/// Places a row for each key and payload, and writes their numbers.
+/// Inserts a row for each key and payload, and writes the row numbers. Stops at the first refusal, as all calls
+/// with lists do.
 #[unsafe(no_mangle)]
 pub extern "C" fn crackd_insert_many(
     handle: &mut Handle,
@@ -340,7 +342,7 @@ pub extern "C" fn crackd_insert_many(
 ) -> u32
     ensures inserts { OnTable handle.old handle.new result ((parts.new ≡ parts.old) × (serials.new ≡ serials.old) ×
         (done.new ≡ done.old)) (OnLists (length keys.now) (length payloads.now ∷ length parts.old ∷ length serials.old ∷
-        []) (GoesOn (λ limits splits. InsertsAt limits splits keys.now payloads.now parts.new serials.new) (length
+        []) (GoesThrough (λ limits splits. InsertsAt limits splits keys.now payloads.now parts.new serials.new) (length
         keys.now) done.new)) }
 {
     if !handle.is_open() {
@@ -354,7 +356,7 @@ pub extern "C" fn crackd_insert_many(
     close_list(progress, done)
 }
 
-/// Removes rows, and writes for each whether it existed.
+/// Deletes rows, and writes for each whether it existed.
 #[unsafe(no_mangle)]
 pub extern "C" fn crackd_delete_many(
     handle: &mut Handle,
@@ -364,8 +366,8 @@ pub extern "C" fn crackd_delete_many(
     done: &mut u64,
 ) -> u32
     ensures deletes { OnTable handle.old handle.new result ((gone.new ≡ gone.old) × (done.new ≡ done.old)) (OnLists
-        (length parts.now) (length serials.now ∷ length gone.old ∷ []) (GoesOn (λ limits splits. DeletesAt limits splits
-        parts.now serials.now gone.new) (length parts.now) done.new)) }
+        (length parts.now) (length serials.now ∷ length gone.old ∷ []) (GoesThrough (λ limits splits. DeletesAt limits
+        splits parts.now serials.now gone.new) (length parts.now) done.new)) }
 {
     if !handle.is_open() {
         return CLOSED;
@@ -378,7 +380,7 @@ pub extern "C" fn crackd_delete_many(
     close_list(progress, done)
 }
 
-/// Replaces keys and payloads of rows, and writes for each whether it exists.
+/// Replaces the keys and the payloads of rows, and writes for each whether the row exists.
 #[unsafe(no_mangle)]
 pub extern "C" fn crackd_update_many(
     handle: &mut Handle,
@@ -390,9 +392,9 @@ pub extern "C" fn crackd_update_many(
     done: &mut u64,
 ) -> u32
     ensures updates { OnTable handle.old handle.new result ((found.new ≡ found.old) × (done.new ≡ done.old)) (OnLists
-        (length parts.now) (length serials.now ∷ length keys.now ∷ length payloads.now ∷ length found.old ∷ []) (GoesOn
-        (λ limits splits. UpdatesAt limits splits parts.now serials.now keys.now payloads.now found.new) (length
-        parts.now) done.new)) }
+        (length parts.now) (length serials.now ∷ length keys.now ∷ length payloads.now ∷ length found.old ∷ [])
+        (GoesThrough (λ limits splits. UpdatesAt limits splits parts.now serials.now keys.now payloads.now
+        found.new) (length parts.now) done.new)) }
 {
     if !handle.is_open() {
         return CLOSED;
@@ -410,7 +412,7 @@ pub extern "C" fn crackd_update_many(
     close_list(progress, done)
 }
 
-/// Counts the rows of each range, from its first key to its last, both included.
+/// Counts the rows of each range, given by its first and last key, both included.
 #[unsafe(no_mangle)]
 pub extern "C" fn crackd_count_many(
     handle: &mut Handle,
@@ -421,8 +423,8 @@ pub extern "C" fn crackd_count_many(
     done: &mut u64,
 ) -> u32
     ensures counts { OnTable handle.old handle.new result ((counts.new ≡ counts.old) × (done.new ≡ done.old)) (OnLists
-        (length firsts.now) (length lasts.now ∷ length counts.old ∷ []) (ByPolicy policy (λ policy. GoesOn (λ limits
-        splits. CountsAt limits splits policy firsts.now lasts.now counts.new) (length firsts.now) done.new))) }
+        (length firsts.now) (length lasts.now ∷ length counts.old ∷ []) (ByPolicy policy (λ policy. GoesThrough (λ
+        limits splits. CountsAt limits splits policy firsts.now lasts.now counts.new) (length firsts.now) done.new))) }
 {
     if !handle.is_open() {
         return CLOSED;
@@ -438,8 +440,8 @@ pub extern "C" fn crackd_count_many(
     close_list(progress, done)
 }
 
-/// Adds up the payloads of each range, from its first key to its last, both included: the low 64 bits of each sum, and
-/// those above them.
+/// Sums the payloads of each range, given by its first and last key, both included. Writes the low 64 bits of each
+/// sum, and the bits above them.
 #[unsafe(no_mangle)]
 pub extern "C" fn crackd_sum_many(
     handle: &mut Handle,
@@ -452,8 +454,8 @@ pub extern "C" fn crackd_sum_many(
 ) -> u32
     ensures sums { OnTable handle.old handle.new result ((lows.new ≡ lows.old) × (highs.new ≡ highs.old) × (done.new ≡
         done.old)) (OnLists (length firsts.now) (length lasts.now ∷ length lows.old ∷ length highs.old ∷ []) (ByPolicy
-        policy (λ policy. GoesOn (λ limits splits. SumsAt limits splits policy firsts.now lasts.now lows.new highs.new)
-        (length firsts.now) done.new))) }
+        policy (λ policy. GoesThrough (λ limits splits. SumsAt limits splits policy firsts.now lasts.now lows.new
+        highs.new) (length firsts.now) done.new))) }
 {
     if !handle.is_open() {
         return CLOSED;

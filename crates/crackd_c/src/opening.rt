@@ -1,4 +1,4 @@
-//! Opens partitions between splits that are numbers.
+//! Opens a table whose splits are given as numbers.
 ghost use Rattle.std.specs.Prelude.{◌≡◌, ◌⊎◌, All, map, None, IfOk, IfErr, OnOk};
 ghost use Rattle.crack_row.specs.declared.Bound.{Bound};
 ghost use Rattle.crack_core.specs.Opening.{opening_fault, MayFault};
@@ -10,8 +10,8 @@ use crack_core::Core;
 use crack_row::{Bound, BoundNumber, Limits, Refusal};
 use std::alloc::Global;
 
-/// Partitions between these splits, on the heap. Refused as `Core::open_with` is, and with 8 if the splits find no
-/// memory.
+/// Opens a table with these splits, in a box. Refused as `Core::open_with` is, and with `OutOfMemory` if the list
+/// of bounds or the box finds no memory.
 pub fn open(alloc: Global, splits: &[u64], limits: Limits) -> Result<Box<Core>, Refusal>
     ensures opened { IfOk result (λ core. (core.value.splits ≡ bounds_at splits.now) × (core.value.limits ≡ limits)) }
     ensures fresh { IfOk result (λ core. All (λ (part : Part). table_of part ≡ fresh_table) core.value.parts) }
@@ -25,7 +25,7 @@ pub fn open(alloc: Global, splits: &[u64], limits: Limits) -> Result<Box<Core>, 
     Ok(held)
 }
 
-/// Splits as bounds.
+/// The splits as bounds.
 fn bounds_of(alloc: Global, splits: &[u64]) -> Result<Vec<Bound>, Refusal>
     ensures ok { IfOk result (λ bounds. bounds.items ≡ bounds_at splits.now) }
     ensures err { IfErr result (λ e. e ≡ Refusal.OutOfMemory) }

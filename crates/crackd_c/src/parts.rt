@@ -1,4 +1,4 @@
-//! A `Box` whose fields the module above can see.
+//! The fields of a `Box`, visible to the parent module.
 ghost use Rattle.std.specs.Prelude.{◌≡◌};
 ghost use Rattle.std.specs.Box.Ownership.{box_owns};
 

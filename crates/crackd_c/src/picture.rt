@@ -4,7 +4,8 @@ ghost use Rattle.crackd_c.specs.Calls.{totals_in, PiecesIn};
 
 use crack_row::{Bound, GREATEST_KEY, Layout, PieceSize};
 
-/// How many rows, column places, pending deletions, pending insertions, cells, free cells and pieces a partition has.
+/// The numbers of a partition's rows, column places, pending deletions, pending insertions, cells, free cells and
+/// pieces.
 #[repr(C)]
 #[derive(Clone, Copy)]
 pub struct Totals {
@@ -32,7 +33,7 @@ pub fn totals_of(layout: &Layout) -> Totals
     }
 }
 
-/// Writes the least key and the size of each piece, as far as there is room.
+/// Writes the least key and the size of each piece, as far as the lists have room.
 pub fn list_pieces(pieces: &[PieceSize], lows: &mut [u64], sizes: &mut [u64])
     requires { length sizes.old ≡ length lows.old }
     ensures { PiecesIn pieces.now lows.new sizes.new }
@@ -47,7 +48,7 @@ pub fn list_pieces(pieces: &[PieceSize], lows: &mut [u64], sizes: &mut [u64])
     }
 }
 
-/// The least key that isn't below a bound.
+/// The least key at or above a bound, or 0 if there is none.
 fn least_in(bound: Bound) -> u64
     ensures { bound.0 ≤ GREATEST_KEY → result ≡ bound.0 }
 {

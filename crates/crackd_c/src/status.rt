@@ -12,16 +12,16 @@ pub const ANSWERED: u32 = 0;
 /// The handle holds no table.
 pub const CLOSED: u32 = 101;
 
-/// The handle holds a table already.
+/// The handle already holds a table.
 pub const ALREADY_OPEN: u32 = 102;
 
-/// Lists that must be equally long aren't.
+/// The lists of a call differ in length.
 pub const LENGTHS_DIFFER: u32 = 103;
 
 /// There is no policy with this number.
 pub const NO_SUCH_POLICY: u32 = 104;
 
-/// The policy with a number.
+/// The policy with this number.
 pub fn policy_of(number: u32) -> Option<Policy>
     ensures { result ≡ policy_at number }
 {
@@ -34,7 +34,7 @@ pub fn policy_of(number: u32) -> Option<Policy>
     }
 }
 
-/// The result of a list of calls: its number, and how many were answered.
+/// Writes how many calls of a list were answered, and returns the number of the refusal that stopped them, or 0.
 pub fn close_list(progress: Progress, done: &mut u64) -> u32
     ensures done { done.new ≡ progress.done }
     ensures status { result ≡ status_of progress.refusal }
@@ -46,7 +46,7 @@ pub fn close_list(progress: Progress, done: &mut u64) -> u32
     }
 }
 
-/// A flag as a number.
+/// 1 if `is`, else 0.
 pub fn flag(is: bool) -> u8
     ensures { result ≡ flag is }
 {

@@ -1,4 +1,4 @@
-//! The next command of a worker, drawn from a seed.
+//! The next question of a worker, drawn from a seed.
 
 use crack_row::{
     BoundNumber, Command, GREATEST_BOUND, GREATEST_PAYLOAD, Key, KeyNumber, KeyRange,
@@ -8,19 +8,19 @@ use crack_row::{
 /// How many partitions there are.
 pub const PARTS: usize = 3;
 
-/// The least key of each partition. The last one has the greatest keys that there are.
+/// The least key of each partition. The last partition has the greatest 1000 keys that there are.
 pub const FIRST_KEYS: [KeyNumber; PARTS] = [0, 9223372036854775808, 18446744073709550616];
 
-/// How many keys of a partition are drawn, from its least one on.
+/// How many keys of a partition may be drawn, from its least key up.
 const DRAWN_KEYS: u32 = 1000;
 
-/// How far from the least or the greatest payload one is drawn that is next to it.
+/// Payloads near the least or the greatest one are less than this far from it.
 const NEAR: u32 = 3;
 
-/// How wide the range of a query is, at most, if it isn't of all keys.
+/// The range of a query is narrower than this, unless it is of all keys.
 const WIDEST: u32 = 64;
 
-/// How many serials back the row of a deletion or an update is, at most.
+/// The row of a deletion or an update is fewer than this many serials back.
 const BACK: u32 = 64;
 
 /// A question to a partition.
@@ -28,7 +28,7 @@ const BACK: u32 = 64;
 pub enum Asked {
     /// To answer a command.
     Command(Command),
-    /// To checkpoint its history.
+    /// To make a checkpoint.
     Checkpoint,
 }
 
@@ -39,11 +39,11 @@ pub struct Question {
     pub asked: Asked,
 }
 
-/// The questions of one worker: they depend on its seed, and on the serials in its replies.
+/// The questions of one worker. They depend on its seed, and on the serials in the replies.
 #[derive(Clone, Copy)]
 pub struct Draws {
     state: u64,
-    /// The serial of the last row that it placed in each partition.
+    /// The serial of the last row that the worker inserted into each partition.
     last: [u64; PARTS],
 }
 
@@ -58,7 +58,7 @@ impl Draws {
         draws
     }
 
-    /// The next number, which looks random (SplitMix64).
+    /// The next pseudorandom number (SplitMix64).
     fn number(&mut self) -> u64 {
         self.state = self.state.wrapping_add(11400714819323198485);
         let mixed = (self.state ^ (self.state >> 30)).wrapping_mul(13787848793156543929);
@@ -66,13 +66,13 @@ impl Draws {
         mixed ^ (mixed >> 31)
     }
 
-    /// The next number, below this one.
+    /// The next number below this bound.
     fn below(&mut self, most: u32) -> u32 {
         ((self.number() >> 32) as u32) % most.max(1)
     }
 
-    /// The next question. One of 64 asks a partition that isn't there, and one of 32 that bring a key may bring one of
-    /// another partition.
+    /// The next question. One in 64 asks a partition that doesn't exist, and one in 32 keys is drawn from any
+    /// partition.
     pub fn next(&mut self) -> Question {
         let part = match self.below(64) {
             0 => PARTS as u32,
@@ -85,7 +85,7 @@ impl Draws {
         Question { part, asked }
     }
 
-    /// A command of the kind that has this number of a hundred.
+    /// A command; `number`, below 99, chooses its kind.
     fn command(&mut self, part: u32, number: u32) -> Command {
         match number {
             0..28 => Command::Insert {
@@ -106,7 +106,7 @@ impl Draws {
         }
     }
 
-    /// Remembers the serial of a row that was placed in a partition.
+    /// Notes the serial of a row that was inserted into a partition.
     pub fn learn(&mut self, part: u32, answer: &Result<Reply, Refusal>) {
         if let (Some(last), Ok(Reply::Placed(serial))) = (
             self.last.get_mut(part as usize),
@@ -124,13 +124,13 @@ impl Draws {
         Key::from_number(self.key_of(part))
     }
 
-    /// The number of a key of a partition; of one that isn't there, of a key of the first.
+    /// The number of a key of a partition, or of the first partition if this one doesn't exist.
     fn key_of(&mut self, part: u32) -> KeyNumber {
         let first = FIRST_KEYS.get(part as usize).copied().unwrap_or(0);
         first.saturating_add(KeyNumber::from(self.below(DRAWN_KEYS)))
     }
 
-    /// A payload: of four one next to the least or the greatest that there is, and of the others each second below 0.
+    /// A payload. One in four is near the least or the greatest payload; half of the others are negative.
     fn payload(&mut self) -> Payload {
         let near = PayloadNumber::from(self.below(NEAR));
         let number = PayloadNumber::from(self.below(u32::MAX));
@@ -142,13 +142,13 @@ impl Draws {
         })
     }
 
-    /// The serial of a row that may be there: one of the last that were placed.
+    /// The serial of one of the last rows that were inserted, which may be deleted already.
     fn serial(&mut self, part: u32) -> Serial {
         let last = self.last.get(part as usize).copied().unwrap_or(0);
         Serial(last.saturating_sub(u64::from(self.below(BACK))))
     }
 
-    /// A narrow range that begins in the partition; one of 32 is that of all keys.
+    /// A narrow range that begins in the partition; one in 32 is the range of all keys.
     fn range(&mut self, part: u32) -> KeyRange {
         let low = BoundNumber::from(self.key_of(part));
         let wide = BoundNumber::from(self.below(WIDEST));

@@ -1,30 +1,31 @@
-//! Helpers that make threads meet: they begin together, and a gate under the locks yields and refuses now and then.
+//! A gate under the locks that yields and refuses now and then, and makes threads begin together.
 
 use crate::histories::draws::PARTS;
 use crack_table::Gate;
 use std::sync::atomic::{AtomicU32, Ordering};
 use std::thread;
 
-/// Of each partition's commands one of this many is refused.
+/// One in this many commands of each partition is refused.
 const REFUSED: u32 = 50;
 
-/// Of each partition's commands one of this many yields to other threads under its lock, and comes at the second turn.
+/// One in this many commands of each partition yields to other threads under its lock, and goes on at the second
+/// turn.
 const GIVES_WAY: u32 = 3;
 
 /// How often a thread that waits for the others to begin yields, at most.
 const PATIENCE: u32 = 100000;
 
-/// A gate that counts the commands of each partition, and by that number yields or refuses at every turn.
+/// A gate that numbers the commands of each partition, and by this number yields, or refuses at every turn.
 #[derive(Drop)]
 pub struct Restless {
     /// How many threads have begun.
     pub begun: AtomicU32,
-    /// How many commands each partition's lock was taken for.
+    /// How many commands of each partition came to the gate.
     pub entered: [AtomicU32; PARTS],
 }
 
 impl Restless {
-    /// Waits, not forever, until this many threads have come here.
+    /// Waits until this many threads have called this, or it has yielded `PATIENCE` times.
     pub fn begin_together(&self, threads: u64) {
         self.begun.fetch_add(1, Ordering::SeqCst);
         'others: for _ in 0..PATIENCE {

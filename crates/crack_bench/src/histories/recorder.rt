@@ -5,8 +5,8 @@ use crate::histories::gate::Restless;
 use crate::histories::texts::{write_answer, write_checkpoint, write_receipt, written};
 use crate::seats::{Questions, Works};
 use crack_commands::send;
-use crack_kept::Book;
 use crack_row::{Command, Refusal, Watched};
+use crack_witness::{Naming, Worker};
 use std::io::Write;
 
 /// Draws the questions of a worker, and records them with their answers.
@@ -17,7 +17,7 @@ pub struct Recorder<'a> {
     /// How many workers begin together.
     pub workers: u64,
     pub text: Vec<u8>,
-    /// Whether there was no memory for some of the text.
+    /// Whether some of the text is missing for lack of memory.
     pub cut: bool,
 }
 
@@ -35,16 +35,20 @@ impl Recorder<'_> {
         write_answer(part, part, &command, answer.as_ref(), &mut text)
     }
 
-    /// Writes the questions and answers, and then the receipts.
-    pub fn write<W: Write>(&self, book: &Book, writer: &mut Watched<W>) -> Result<(), Refusal> {
+    /// Writes the questions and answers, and then the receipts. Refused with `OutOfMemory` if some text is missing.
+    pub fn write<J: Naming, W: Write>(
+        &self,
+        worker: &Worker<J>,
+        writer: &mut Watched<W>,
+    ) -> Result<(), Refusal> {
         if self.cut {
             return Err(Refusal::OutOfMemory);
         }
-        let worker = book.worker();
-        written(writeln!(writer, "worker {worker}"))?;
+        let number = worker.number();
+        written(writeln!(writer, "worker {number}"))?;
         send(writer, self.text.as_slice())?;
-        written(writeln!(writer, "receipts {worker}"))?;
-        'receipts: for receipt in book.receipts() {
+        written(writeln!(writer, "receipts {number}"))?;
+        'receipts: for receipt in worker.receipts() {
             write_receipt(receipt, writer)?;
         }
         Ok(())
@@ -52,7 +56,7 @@ impl Recorder<'_> {
 }
 
 impl Questions for Recorder<'_> {
-    /// The workers begin together.
+    /// Begins together with the other workers.
     fn ask_next<A: Works>(&mut self, worker: &mut A, count: u64) {
         self.gate.begin_together(self.workers);
         'questions: for _ in 0..count {

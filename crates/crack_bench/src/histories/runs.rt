@@ -1,16 +1,18 @@
-//! A table with its workers, each on a thread of its own.
+//! A table and its workers, each worker on its own thread.
+ghost use Rattle.crack_witness.specs.Witnesses.{AreNames};
 
 use crate::histories::draws::{Draws, FIRST_KEYS};
 use crate::histories::gate::Restless;
 use crate::histories::recorder::Recorder;
-use crate::histories::texts::{write_answer, write_base, written};
+use crate::histories::texts::{write_answer, write_part, written};
 use crate::report::Host;
 use crate::seats::{Hand, Seated, leave, work_on_threads};
-use crack_kept::Kept as Partition;
-use crack_row::{Key, Limits, Policy, Refusal, Watched};
-use crack_table::{Closed, Table, Worker, gather};
+use crack_row::{Entry, Key, Limits, Policy, Refusal, Watched};
+use crack_table::{Gathered, Table, UnnamedTable, gather};
+use crack_witness::{Naming, Worker};
 use std::alloc::Global;
 use std::io::Write;
+use std::marker::Brand;
 use std::sync::atomic::AtomicU32;
 
 /// The parameters of a run.
@@ -26,24 +28,36 @@ pub struct Plan {
 }
 
 /// A worker at the table, and its questions.
-type Asking<'a, R> = Hand<Seated<'a, R, Restless, Table, Worker>, Recorder<'a>>;
+type Asking<'a, R, J> = Hand<Seated<'a, R, Restless, J>, Recorder<'a>>;
 
-/// Has the workers ask, and writes their replies and the histories.
+/// Has the workers ask a table with an audit, and writes their replies and the histories.
 pub fn carry_out<R: Host, W: Write>(
     rt: &R,
     plan: Plan,
     writer: &mut Watched<W>,
 ) -> Result<(), Refusal> {
-    let alloc = rt.alloc();
     let [_, second, third] = FIRST_KEYS;
     let splits = [
         Key::from_number(second).bound(),
         Key::from_number(third).bound(),
     ];
-    let (table, workers) = Table::open_with(alloc, &splits, plan.limits, plan.workers)?;
-    let mut left = Vec::new(alloc);
+    let table = UnnamedTable::open(rt.alloc(), &splits, plan.limits, plan.workers, true)?;
+    carry_out_named::<Brand, R, W>(rt, plan, table, writer)
+}
+
+/// The same, when the table's book has its name.
+fn carry_out_named<J: Naming + Send + Sync, R: Host, W: Write>(
+    rt: &R,
+    plan: Plan,
+    table: UnnamedTable,
+    writer: &mut Watched<W>,
+) -> Result<(), Refusal>
+    requires { AreNames J.book J.owner table.opened }
+{
+    let (table, workers) = table.named::<J>(rt.alloc())?;
+    let mut left = Vec::new(rt.alloc());
     match ask_and_write(rt, plan, &table, workers, &mut left, writer) {
-        Ok(()) => gather_and_write(alloc, table, left, writer),
+        Ok(()) => gather_and_write(rt.alloc(), table, left, writer),
         Err(refusal) => {
             drop(left);
             drop(table);
@@ -52,13 +66,13 @@ pub fn carry_out<R: Host, W: Write>(
     }
 }
 
-/// Has the workers ask, and writes their questions and answers. Then they are added to `left`.
-fn ask_and_write<R: Host + Sync, W: Write>(
+/// Has the workers ask, and writes their questions and answers. Then moves the workers to `left`.
+fn ask_and_write<J: Naming + Send + Sync, R: Host + Sync, W: Write>(
     rt: &R,
     plan: Plan,
-    table: &Table,
-    workers: Vec<Worker>,
-    left: &mut Vec<Worker>,
+    table: &Table<J>,
+    workers: Vec<Worker<J>>,
+    left: &mut Vec<Worker<J>>,
     writer: &mut Watched<W>,
 ) -> Result<(), Refusal> {
     let gate = Restless {
@@ -75,18 +89,18 @@ fn ask_and_write<R: Host + Sync, W: Write>(
     }
 }
 
-fn work<'a, R: Host + Sync, W: Write>(
+fn work<'a, J: Naming + Send + Sync, R: Host + Sync, W: Write>(
     rt: &'a R,
     gate: &'a Restless,
     plan: Plan,
-    table: &'a Table,
-    workers: Vec<Worker>,
-    hands: &mut Vec<Asking<'a, R>>,
+    table: &'a Table<J>,
+    workers: Vec<Worker<J>>,
+    hands: &mut Vec<Asking<'a, R, J>>,
     writer: &mut Watched<W>,
 ) -> Result<(), Refusal> {
     'workers: for worker in workers {
         let questions = Recorder {
-            draws: Draws::new(plan.seed, worker.book().worker()),
+            draws: Draws::new(plan.seed, worker.number()),
             gate,
             workers: plan.workers,
             text: Vec::new(rt.alloc()),
@@ -105,28 +119,28 @@ fn work<'a, R: Host + Sync, W: Write>(
     write_hands(hands, writer)
 }
 
-/// Writes the questions and answers of the workers, one worker after the other.
-fn write_hands<R: Host, W: Write>(
-    hands: &[Asking<'_, R>],
+/// Writes the questions and answers of the workers, one worker after another.
+fn write_hands<J: Naming, R: Host, W: Write>(
+    hands: &[Asking<'_, R, J>],
     writer: &mut Watched<W>,
 ) -> Result<(), Refusal> {
     'hands: for hand in hands {
-        hand.questions.write(hand.worker.worker.book(), writer)?;
+        hand.questions.write(&hand.worker.worker, writer)?;
     }
     Ok(())
 }
 
 /// Gathers the workers, and writes the histories. Refused as the gathering is.
-fn gather_and_write<W: Write>(
+fn gather_and_write<J: Naming, W: Write>(
     alloc: Global,
-    table: Table,
-    workers: Vec<Worker>,
+    table: Table<J>,
+    workers: Vec<Worker<J>>,
     writer: &mut Watched<W>,
 ) -> Result<(), Refusal> {
     match gather(alloc, table, workers) {
-        Ok(closed) => {
-            let written = write_closed(&closed, writer);
-            drop(closed);
+        Ok(gathered) => {
+            let written = write_gathered(&gathered, writer);
+            drop(gathered);
             written
         }
         Err(refused) => {
@@ -137,29 +151,30 @@ fn gather_and_write<W: Write>(
     }
 }
 
-/// Writes the histories, one partition after the other, and the totals.
-fn write_closed<W: Write>(closed: &Closed, writer: &mut Watched<W>) -> Result<(), Refusal> {
-    let mut part = 0u32;
-    'parts: for partition in closed.parts.iter() {
-        write_history(part, partition, writer)?;
-        part = part.wrapping_add(1);
+/// Writes the histories, one partition after another, and the totals.
+fn write_gathered<J: Naming, W: Write>(
+    gathered: &Gathered<J>,
+    writer: &mut Watched<W>,
+) -> Result<(), Refusal> {
+    'parts: for part in gathered.parts.iter() {
+        write_part(part.part(), part.partition(), writer)?;
+        write_entries(part.part(), part.entries().unwrap_or(&[]), writer)?;
     }
-    let (accepted, inserted) = (closed.accepted, closed.inserted);
-    let (deleted, held) = (closed.deleted, closed.held);
+    let (accepted, inserted) = (gathered.accepted, gathered.inserted);
+    let (deleted, held) = (gathered.deleted, gathered.held);
     written(write!(writer, "accepted {accepted} inserted {inserted} "))?;
     written(writeln!(writer, "deleted {deleted} held {held}"))?;
     written(writer.flush())
 }
 
-fn write_history<W: Write>(
+/// Writes the entries of a partition.
+fn write_entries<W: Write>(
     part: u32,
-    partition: &Partition,
+    entries: &[Entry],
     writer: &mut Watched<W>,
 ) -> Result<(), Refusal> {
-    write_base(part, partition, writer)?;
-    'entries: for entry in partition.history() {
-        let reply = Ok(&entry.reply);
-        write_answer(entry.worker, part, &entry.command, reply, writer)?;
+    'entries: for entry in entries {
+        write_answer(entry.worker, part, &entry.command, Ok(&entry.reply), writer)?;
     }
     Ok(())
 }

@@ -1,13 +1,14 @@
-//! Questions and answers as lines: a statement, and after it the lines of its reply. Refused with 18 if the writer
-//! fails.
+//! Questions and answers as lines: a statement, and then the lines of its reply. Refused with `WriteFault` if the
+//! writer fails.
 
-use crack_commands::{send, write_each_row, write_folded, write_refusal, write_reply, write_row};
-use crack_kept::{Kept as Partition, Receipt};
+use crack_commands::{send, write_folded, write_refusal, write_reply, write_row};
+use crack_part::Partition;
 use crack_row::{Command, Key, KeyRange, Payload, Refusal, Reply, Row, Watched};
+use crack_witness::Receipt;
 use std::io;
 use std::io::Write;
 
-/// The outcome of a writing.
+/// The outcome of writing, as a refusal.
 pub fn written(line: io::Result<()>) -> Result<(), Refusal> {
     match line {
         Ok(()) => Ok(()),
@@ -15,7 +16,7 @@ pub fn written(line: io::Result<()>) -> Result<(), Refusal> {
     }
 }
 
-/// Writes a command as a session has it.
+/// Writes a command as a session's statement.
 fn write_command<W: Write>(
     part: u32,
     command: &Command,
@@ -61,7 +62,7 @@ fn write_query<W: Write>(
     written(writeln!(writer, "{name} {low} {high}"))
 }
 
-/// Writes a number, a command to a partition, and its answer.
+/// Writes a number, a command to a partition, and the answer.
 pub fn write_answer<W: Write>(
     number: u32,
     part: u32,
@@ -77,7 +78,7 @@ pub fn write_answer<W: Write>(
     }
 }
 
-/// Writes a checkpoint of a partition, and its result.
+/// Writes a checkpoint of a partition, and its outcome.
 pub fn write_checkpoint<W: Write>(
     part: u32,
     outcome: &Result<u64, Refusal>,
@@ -90,24 +91,16 @@ pub fn write_checkpoint<W: Write>(
     }
 }
 
-/// Writes a partition's number, and its base if something was checkpointed: how many entries were removed, how many of
-/// them placed a row and removed one, and the rows.
-pub fn write_base<W: Write>(
+/// Writes a partition's number, and how many of its commands are checkpointed, if any.
+pub fn write_part<W: Write>(
     part: u32,
     partition: &Partition,
     writer: &mut Watched<W>,
 ) -> Result<(), Refusal> {
-    let folded = partition.folded();
-    if folded == 0 {
-        return written(writeln!(writer, "partition {part}"));
+    match partition.folded() {
+        0 => written(writeln!(writer, "partition {part}")),
+        folded => written(writeln!(writer, "partition {part} folded {folded}")),
     }
-    let (inserted, deleted) = (partition.folded_insertions(), partition.folded_deletions());
-    let rows = partition.base_rows();
-    let count = rows.len();
-    written(write!(writer, "partition {part} folded {folded} "))?;
-    written(write!(writer, "inserted {inserted} deleted {deleted} "))?;
-    written(writeln!(writer, "rows {count}"))?;
-    write_each_row(part, rows, writer)
 }
 
 /// Writes a receipt: its partition, position and worker, and the command and its reply.

@@ -1,12 +1,12 @@
-//! Puts, gets and frees on the arena.
+//! Insertions, reads and frees of the arena.
 
 use crate::report::{Outcome, Output, report};
 use crate::single::numbers::{Numbers, mixed};
-use crack_arena::{Arena, Handle};
+use crack_arena::{Arena, Handle, MOST_CELLS, MOST_FREED};
 use crack_row::{Key, KeyNumber, Payload, Refusal, Row, Serial};
 use std::time::Instant;
 
-/// Steps at random handles.
+/// Measures steps at random handles.
 pub fn measure<R: Output>(rt: &R, steps: u64, rows: u32) -> Outcome {
     let mut arena = Arena::new(rt.alloc());
     let mut handles = Vec::new(rt.alloc());
@@ -34,7 +34,7 @@ fn measure_steps<R: Output>(
     Ok(())
 }
 
-/// Puts this many rows of random keys, and keeps their handles in order.
+/// Inserts this many rows with random keys, and keeps their handles in order.
 pub fn fill(
     arena: &mut Arena<Row>,
     handles: &mut Vec<Handle<Row>>,
@@ -55,16 +55,17 @@ pub fn fill(
     Ok(())
 }
 
-/// Puts a row, and keeps its handle.
+/// Inserts a row, and keeps its handle. Refused with `OutOfMemory` also if there are `MOST_CELLS` cells.
 fn put(arena: &mut Arena<Row>, handles: &mut Vec<Handle<Row>>, row: Row) -> Result<(), Refusal> {
-    if arena.cells() >= 4294967295 {
+    if arena.cells() as u64 >= MOST_CELLS {
         return Err(Refusal::OutOfMemory);
     }
     handles.push(arena.put(row)?)?;
     Ok(())
 }
 
-/// One step: a put, a get of the row of a random handle, or a free of it, a third each; a put if there is no handle.
+/// One step, by equal chances: inserts a row, reads the row of a random handle, or frees it. Inserts a row if there
+/// is no handle; frees nothing after `MOST_FREED` frees.
 fn step(
     arena: &mut Arena<Row>,
     handles: &mut Vec<Handle<Row>>,
@@ -86,13 +87,13 @@ fn step(
     if which == 1 {
         return Ok(arena.get(handles[at]).copied());
     }
-    if arena.freed() == u64::MAX {
+    if arena.freed() >= MOST_FREED {
         return Ok(None);
     }
     Ok(arena.free(handles.swap_remove(at)))
 }
 
-/// As many steps. Returns a checksum of the rows that they read.
+/// Takes `count` steps. Returns a checksum of the rows that they read or freed.
 fn steps(
     arena: &mut Arena<Row>,
     handles: &mut Vec<Handle<Row>>,

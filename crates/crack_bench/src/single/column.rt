@@ -10,16 +10,16 @@ use crack_column::{CrackerColumn, MOST_PLACES};
 use crack_row::{InnerBound, Key, KeyNumber, Refusal, Row};
 use std::time::Instant;
 
-/// The number of the bound of the first crack, which reads each key through the arena.
+/// The number of the first crack's bound. This crack reads each key through the arena.
 const FIRST: u32 = 1073741824;
 
-/// How many later cracks there are, over rows that are remembered.
+/// How many later cracks there are. Their rows are remembered.
 const LATER_CRACKS: u32 = 16;
 
-/// The distance between their bounds.
+/// The distance between the later bounds.
 const LATER_STEP: u32 = 134217728;
 
-/// Cracks of a column of random rows.
+/// Measures cracks of a column of random rows.
 pub fn measure<R: Output>(rt: &R, rows: u32) -> Outcome {
     let mut arena = Arena::new(rt.alloc());
     let mut handles = Vec::new(rt.alloc());
@@ -60,7 +60,7 @@ fn measure_cracks<R: Output>(rt: &R, column: &mut CrackerColumn, arena: &Arena<R
     Ok(())
 }
 
-/// Puts the handles into random order.
+/// Shuffles the handles.
 fn shuffle(handles: &mut [Handle<Row>], numbers: &mut Numbers) {
     'places: for i in 1..handles.len() {
         let other = numbers.below(i as u64 + 1) as usize;
@@ -68,7 +68,7 @@ fn shuffle(handles: &mut [Handle<Row>], numbers: &mut Numbers) {
     }
 }
 
-/// Appends the handles, in their order, as far as there is room for them. No row is known.
+/// Appends the handles in order, at most `MOST_PLACES` of them. No row is remembered yet.
 fn append_all(
     column: &mut CrackerColumn,
     handles: &[Handle<Row>],
@@ -85,8 +85,8 @@ fn append_all(
     Ok(())
 }
 
-/// Cracks the whole column at the bound with this number, at the least between two keys if the number is 0. Returns the
-/// place of the bound.
+/// Cracks the whole column at the bound with this number, or at the least inner bound if the number is 0. Returns
+/// the place of the bound.
 fn crack(column: &mut CrackerColumn, number: u32, arena: &Arena<Row>) -> usize
     requires { Remembers arena.now.cells column.old.handles column.old.remembered }
     ensures { Remembers arena.now.cells column.new.handles column.new.remembered }
@@ -96,7 +96,7 @@ fn crack(column: &mut CrackerColumn, number: u32, arena: &Arena<Row>) -> usize
     column.crack_two(0, len, bound.unwrap_or(InnerBound::least()), arena)
 }
 
-/// Cracks the whole column at bounds that rise. Returns a checksum of their places.
+/// Cracks the whole column at rising bounds. Returns a checksum of their places.
 fn crack_on(column: &mut CrackerColumn, arena: &Arena<Row>) -> u64
     requires { Remembers arena.now.cells column.old.handles column.old.remembered }
 {

@@ -1,14 +1,14 @@
-//! The numbers that steer a run, the same in each language.
+//! The pseudorandom numbers of a run, the same in each language.
 ghost use Rattle.std.specs.Prelude.{◌<◌};
 
-/// A linear congruential generator (Knuth's MMIX), of which the high bits are used.
+/// A linear congruential generator (Knuth's MMIX). Only the high bits are used.
 #[derive(Clone, Copy)]
 pub struct Numbers {
     pub state: u64,
 }
 
 impl Numbers {
-    /// The next number below `bound`, which is at most 2^31.
+    /// The next number below `bound`, which must be at most 2^31.
     pub fn below(&mut self, bound: u64) -> u64
         requires { 0 < bound }
         ensures { result < bound }
@@ -16,7 +16,7 @@ impl Numbers {
         u64::from(self.word() >> 1) % bound
     }
 
-    /// The next number of 32 bits.
+    /// The next 32-bit number.
     pub fn word(&mut self) -> u32 {
         self.state = self
             .state
@@ -26,7 +26,7 @@ impl Numbers {
     }
 }
 
-/// A checksum: order matters.
+/// Mixes a value into a checksum, in which order matters.
 pub fn mixed(sum: u64, value: u64) -> u64 {
     (sum ^ value).wrapping_mul(1099511628211)
 }

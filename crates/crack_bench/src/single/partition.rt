@@ -1,4 +1,4 @@
-//! A partition that is asked commands of random keys, rows and ranges.
+//! A partition that is asked commands with random keys, rows and ranges.
 ghost use Rattle.std.specs.Prelude.{◌<◌};
 
 use crate::seats::number_of;
@@ -13,10 +13,10 @@ use std::alloc::Global;
 /// The end of the random keys, which have 32 bits.
 const KEYS_END: BoundNumber = 4294967296;
 
-/// The width of a random range: a hundredth of these keys.
+/// The width of a random range: a hundredth of the keys.
 const WIDTH: BoundNumber = 42949672;
 
-/// The width of a narrow range: a thousandth.
+/// The width of a narrow range: a thousandth of the keys.
 const NARROW_WIDTH: BoundNumber = 4294967;
 
 /// What a partition is asked.
@@ -24,13 +24,13 @@ const NARROW_WIDTH: BoundNumber = 4294967;
 pub enum Ask {
     /// To insert a row with a random key.
     Insert,
-    /// The same, with a key in the lower half.
+    /// To insert a row with a random key in the lower half.
     InsertLow,
     /// To delete a random row of the list.
     Delete,
-    /// To delete a random row of the first ones, which may be gone.
+    /// To delete a random one of the first rows, which may be deleted already.
     DeleteAny,
-    /// To delete a random row of the list, and then to insert another.
+    /// To delete a random row of the list, and then to insert one in its place.
     Update,
     Count(Keys),
     Sum(Keys),
@@ -44,38 +44,38 @@ pub enum Keys {
     Random,
     /// A narrow range at a random place.
     Narrow,
-    /// The next one of as many neighbouring ranges of one width, from the lowest up.
+    /// The next of `Sizes::first` adjacent ranges of equal width, from the lowest up.
     Rising,
-    /// One range in the upper half.
+    /// One fixed range in the upper half.
     Upper,
-    /// A random range of half the width in the upper half.
+    /// A random range of half the width, in the upper half.
     RandomUpper,
-    /// The keys below the end of the next piece, of as many pieces of one width.
+    /// All keys below the end of the next of `Sizes::first` pieces of equal width.
     Below,
 }
 
-/// The numbers of a measurement. What they count depends on it.
+/// The numbers of a measurement, which says what they count.
 #[derive(Clone, Copy)]
 pub struct Sizes {
     pub rows: u32,
     /// How many ranges, changes, batches or pieces there are.
     pub first: u32,
-    /// How many updates a batch has, or rows are pending or deleted.
+    /// How many updates a batch has, or how many rows are pending or deleted.
     pub second: u32,
 }
 
-/// A partition that merges by one policy, the numbers that steer what it is asked, and what it replied.
+/// A partition that merges by one policy, the random numbers for its questions, and its replies.
 #[derive(Drop)]
 pub struct Measured {
     pub partition: Partition,
     policy: Policy,
     pub sizes: Sizes,
     pub numbers: Numbers,
-    /// The numbers that there were when the last part began.
+    /// The state of `numbers` when the last part began.
     pub begun: Numbers,
-    /// The serials of the rows that are to be deleted.
+    /// The serials of the rows that may be deleted.
     rows: Vec<u64>,
-    /// The number in the last reply; 0 if it has none.
+    /// The number in the last reply, or 0 if it has none.
     pub last: u64,
     /// A checksum of the counts and sums in the replies.
     pub sum: u64,
@@ -102,7 +102,7 @@ impl Measured {
         Ok(())
     }
 
-    /// Carries out a command, and keeps the number in the reply.
+    /// Applies a command, and keeps the number in the reply.
     fn apply(&mut self, command: Command) -> Result<(), Refusal> {
         self.last = number_of(&self.partition.apply(command, self.policy)?);
         if matches!(command, Command::Count(_) | Command::Sum(_)) {
@@ -111,7 +111,7 @@ impl Measured {
         Ok(())
     }
 
-    /// The range of a query; of several queries the one with this number.
+    /// The range of query `at` in a series.
     fn range(&mut self, keys: Keys, at: u32) -> Result<KeyRange, Refusal> {
         let (low, width) = match keys {
             Keys::All => (0, GREATEST_BOUND),
@@ -131,14 +131,14 @@ impl Measured {
         KeyRange::new(low, low.saturating_add(width))
     }
 
-    /// Where a random range begins.
+    /// The low end of a random range.
     fn place(&mut self) -> BoundNumber
         ensures { result < 4294967296 }
     {
         BoundNumber::from(self.numbers.word()) % (KEYS_END - WIDTH)
     }
 
-    /// Takes a random row out of the list; none if it is empty.
+    /// Removes a random row from the list. `None` if the list is empty.
     fn take_row(&mut self) -> Option<Serial> {
         if self.rows.is_empty() {
             return None;
@@ -147,7 +147,7 @@ impl Measured {
         Some(Serial(self.rows.swap_remove(at)))
     }
 
-    /// Deletes a random row of the list, and inserts one whose serial takes its place.
+    /// Deletes a random row of the list, inserts another, and replaces its serial in the list.
     fn update(&mut self) -> Result<(), Refusal> {
         if self.rows.is_empty() {
             return Ok(());
@@ -163,7 +163,7 @@ impl Measured {
         Ok(())
     }
 
-    /// Asks once. Of several questions it is the one with this number.
+    /// Asks question `at` in a series.
     fn ask(&mut self, ask: Ask, at: u32) -> Result<(), Refusal> {
         let command = match ask {
             Ask::Insert => insertion(self.numbers.word(), at),
@@ -182,7 +182,7 @@ impl Measured {
         self.apply(command)
     }
 
-    /// Asks the same as often.
+    /// Asks this many times.
     pub fn repeat(&mut self, ask: Ask, times: u32) -> Result<(), Refusal> {
         'times: for at in 0..times {
             self.ask(ask, at)?;
@@ -190,7 +190,7 @@ impl Measured {
         Ok(())
     }
 
-    /// As many batches of updates, each with the sum of such a range after it.
+    /// Makes this many batches of updates, and after each batch asks for the sum of a range.
     pub fn update_in_batches(&mut self, batches: u32, keys: Keys) -> Result<(), Refusal> {
         'batches: for at in 0..batches {
             self.repeat(Ask::Update, self.sizes.second)?;
@@ -200,7 +200,7 @@ impl Measured {
     }
 }
 
-/// An insert of a row.
+/// A command that inserts a row.
 fn insertion(key: u32, payload: u32) -> Command {
     Command::Insert {
         key: Key::from_number(KeyNumber::from(key)),

@@ -10,25 +10,25 @@ use std::time::Instant;
 /// How many commands of one kind are measured before a checkpoint, and after it.
 const NEXT: u32 = 1000;
 
-/// How often something is asked.
+/// How often a question is asked.
 #[derive(Clone, Copy)]
 enum Times {
     Once,
-    /// As often as commands are measured before a checkpoint, and after it.
+    /// `NEXT` times.
     Next,
-    /// For each row.
+    /// Once for each row.
     Rows,
-    /// For each of half the rows.
+    /// Once for each of half the rows.
     Half,
-    /// For each of the others.
+    /// Once for each of the other rows.
     OtherHalf,
-    /// For each bound between as many pieces.
+    /// Once for each bound between `Sizes::first` pieces.
     Bounds,
     First,
     Second,
-    /// For a tenth of the first number.
+    /// A tenth of `Sizes::first`.
     Tenth,
-    /// For the first number less two tenths.
+    /// `Sizes::first` less two tenths.
     EightTenths,
 }
 
@@ -36,25 +36,25 @@ enum Times {
 #[derive(Clone, Copy)]
 enum Step {
     Ask(Ask, Times),
-    /// Asks as often. Writes the time of each under this name.
+    /// Asks this many times. Writes the time of each under this name.
     Each(Ask, Times, &'static str),
-    /// As many batches of updates, with a sum of such a range after each.
+    /// Makes this many batches of updates, with the sum of a range after each.
     Batches(Times, Keys),
-    /// Lists the rows from which updates and deletions choose.
+    /// Lists the rows that updates and deletions choose from.
     List,
-    /// Begins a part: its time, its checksum and its numbers.
+    /// Begins a part: its time, its checksum and its random numbers.
     Begin,
-    /// Goes back to the numbers at which the part began.
+    /// Goes back to the random numbers at which the part began.
     Again,
-    /// Writes the time since the part began, or since the last time that was written.
+    /// Writes the time since the part began, or since the last written time.
     Time(&'static str),
     /// Writes the number in the last reply.
     Last(&'static str),
     /// Writes the checksum.
     Sum(&'static str),
-    /// Counts everything. Writes the checksum of the replies before that, and the count.
+    /// Counts all keys. Writes the checksum of the earlier replies, and the count.
     Next,
-    /// Makes a checkpoint. Writes its time, how many commands it counted, and the rows.
+    /// Makes a checkpoint. Writes its time, how many commands it counted, and the rows, with a checksum.
     Checkpoint(&'static str),
     /// Writes the counts of the merges.
     Tally,
@@ -63,7 +63,7 @@ enum Step {
 /// A measurement of a partition.
 #[derive(Clone, Copy)]
 pub struct Kind {
-    /// How many numbers it has besides the rows.
+    /// How many numbers it takes besides the rows.
     pub numbers: usize,
     /// How the rows are inserted.
     load: &'static [Step],
@@ -93,7 +93,7 @@ const COUNTED: &[Step] = &[
     Step::Last("rows"),
 ];
 
-/// Sums with every row pending.
+/// Sums while every row is pending.
 const COLD: Kind = Kind {
     numbers: 1,
     load: PENDING,
@@ -106,7 +106,7 @@ const COLD: Kind = Kind {
     ],
 };
 
-/// Sums with every row pending, and none in a range.
+/// Sums while every row is pending, of ranges without rows.
 const PASS: Kind = Kind {
     numbers: 1,
     load: LOW,
@@ -130,7 +130,7 @@ const COUNTS: Kind = Kind {
     ],
 };
 
-/// Sums, and the same ones again.
+/// Sums of random ranges, and the same sums again.
 const SUMS: Kind = Kind {
     numbers: 1,
     load: COUNTED,
@@ -145,7 +145,7 @@ const SUMS: Kind = Kind {
     ],
 };
 
-/// Sums, and the time of each.
+/// Sums of random ranges, each with its time.
 const EACH: Kind = Kind {
     numbers: 1,
     load: COUNTED,
@@ -156,7 +156,7 @@ const EACH: Kind = Kind {
     ],
 };
 
-/// Batches of updates.
+/// Batches of updates, each with the sum of a random range.
 const UPDATES: Kind = Kind {
     numbers: 2,
     load: COUNTED,
@@ -170,7 +170,7 @@ const UPDATES: Kind = Kind {
     ],
 };
 
-/// Batches of updates, each with the sum of a thousandth: the first tenth, and the last one.
+/// Batches of updates, each with the sum of a narrow range. Times the first tenth, the middle and the last tenth.
 const AGEING: Kind = Kind {
     numbers: 2,
     load: COUNTED,
@@ -188,7 +188,7 @@ const AGEING: Kind = Kind {
     ],
 };
 
-/// Batches of updates, each with the sum of the next of as many neighbouring ranges, from the lowest up.
+/// Batches of updates, each with the sum of the next adjacent range, from the lowest up.
 const CLIMB: Kind = Kind {
     numbers: 2,
     load: COUNTED,
@@ -201,7 +201,7 @@ const CLIMB: Kind = Kind {
     ],
 };
 
-/// Sums of neighbouring ranges, from the lowest up.
+/// Sums of adjacent ranges, from the lowest up.
 const RISING: Kind = Kind {
     numbers: 1,
     load: COUNTED,
@@ -213,7 +213,7 @@ const RISING: Kind = Kind {
     ],
 };
 
-/// Sums of random ranges of a thousandth.
+/// Sums of random narrow ranges.
 const NARROW: Kind = Kind {
     numbers: 1,
     load: COUNTED,
@@ -225,7 +225,7 @@ const NARROW: Kind = Kind {
     ],
 };
 
-/// A count of everything that merges inserts into pieces.
+/// A count of all keys that merges pending insertions into pieces.
 const MERGE: Kind = Kind {
     numbers: 2,
     load: COUNTED,
@@ -240,7 +240,7 @@ const MERGE: Kind = Kind {
     ],
 };
 
-/// A count of everything that takes deleted rows out of pieces.
+/// A count of all keys that merges pending deletions out of pieces.
 const PULLS: Kind = Kind {
     numbers: 2,
     load: COUNTED,
@@ -255,8 +255,8 @@ const PULLS: Kind = Kind {
     ],
 };
 
-/// A checkpoint of the inserts, and one after as many deletes and inserts, which put rows into freed cells, with
-/// nothing pending. Counts of one range and inserts are measured before and after it.
+/// A checkpoint after the insertions, and one after deletions and as many insertions, which reuse freed cells, with
+/// nothing pending. Counts of one range, and insertions, are measured before and after the second one.
 const FOLD: Kind = Kind {
     numbers: 1,
     load: PARTLY,
@@ -324,7 +324,7 @@ fn take_all<R: Output>(rt: &R, table: &mut Measured, steps: &[Step]) -> Outcome 
     Ok(())
 }
 
-/// Takes a step of a part that began at `start`. Returns when the next step's part began.
+/// Takes a step of a part that began at `start`. Returns when the part of the next step began.
 fn take<R: Output>(
     rt: &R,
     table: &mut Measured,
@@ -366,7 +366,7 @@ fn carry_out<R: Output>(rt: &R, table: &mut Measured, step: Step) -> Outcome {
     }
 }
 
-/// Asks as often, and writes the time of each.
+/// Asks this many times, and writes the time of each.
 fn measure_each<R: Output>(
     rt: &R,
     table: &mut Measured,
@@ -382,7 +382,7 @@ fn measure_each<R: Output>(
     Ok(())
 }
 
-/// How often that is.
+/// How many times that is.
 fn number_of(times: Times, sizes: Sizes) -> u32 {
     match times {
         Times::Once => 1,
@@ -433,7 +433,7 @@ fn measure_checkpoint<R: Output>(rt: &R, table: &mut Measured, name: &str) -> Ou
     Ok(())
 }
 
-/// A checksum of rows, in their order.
+/// A checksum of rows, which depends on their order.
 fn sum_of(rows: &[Row]) -> u64 {
     let mut sum = 0;
     'rows: for row in rows {

@@ -1,4 +1,4 @@
-//! Partitions that are asked directly: no lock, and no receipt.
+//! Partitions that are asked directly, without locks and receipts.
 
 use crate::report::{Host, Outcome};
 use crate::seats::Asks;
@@ -17,7 +17,7 @@ impl Asks for Vec<Partition> {
     }
 }
 
-/// Asks the steps of one worker.
+/// Takes the steps of one worker.
 pub fn run<R: Host>(rt: &R, rows: u32, steps: u32) -> Outcome {
     let mut partitions = opened(rt.alloc())?;
     let parts = Parts {
@@ -43,7 +43,7 @@ fn opened(alloc: Global) -> Result<Vec<Partition>, Refusal> {
     Ok(partitions)
 }
 
-/// Inserts the rows, counts them, and makes the steps. Returns the count, and the sum of all sums.
+/// Inserts the rows, counts them, and takes the steps. Returns the count, and the sum of all sums.
 fn ask(
     mix: &mut Mix,
     partitions: &mut Vec<Partition>,

@@ -1,15 +1,16 @@
 //! The measurements of a table's workers, and their times.
 
 use crate::report::{Host, Outcome, Output, report};
-use crate::seats::{AskedBy, Hand, Seated, Works, leave, work_on_threads};
+use crate::seats::{Hand, Seated, Works, leave, work_on_threads};
 use crate::workers::mix::{Mix, PARTS_EACH, Parts, count_all};
 use crack_row::{Policy, Refusal};
-use crack_table::OpenGate;
+use crack_table::{OpenGate, Table, gather};
+use crack_witness::{Naming, Worker};
 use std::alloc::Global;
 use std::io;
 use std::time::Instant;
 
-/// The distance between the numbers at which the workers' mixes begin.
+/// The distance between the first numbers of two workers' mixes.
 const APART: u32 = 50000000;
 
 /// The policy of each command.
@@ -18,25 +19,25 @@ pub const POLICY: Policy = Policy::Gradual;
 /// Which partitions each worker asks.
 #[derive(Clone, Copy)]
 pub enum Sharing {
-    /// Some that no other asks.
+    /// Partitions that no other worker asks.
     Own,
-    /// All of them.
+    /// All partitions.
     Shared,
 }
 
-/// The work of the workers of a table, once their rows are there.
+/// What the workers of a table do after their rows are inserted.
 #[derive(Clone, Copy)]
 pub enum Work {
-    /// Everything is counted, and then each worker makes steps on a thread of its own.
+    /// Counts all rows, and then each worker takes steps on its own thread.
     Threads { steps: u32 },
-    /// The same, by one worker alone.
+    /// The same, by the first worker alone.
     Alone { steps: u32 },
     /// A checkpoint of each partition.
     Checkpoint,
     Nothing,
 }
 
-/// The work at the end.
+/// What happens at the end.
 #[derive(Clone, Copy)]
 pub enum End {
     Gather,
@@ -75,22 +76,16 @@ impl Run {
     }
 }
 
-/// A table whose workers are gathered at the end of a run.
-pub trait Gathers<W>: AskedBy<W> {
-    /// Gathers the workers, and writes how long that took, and their totals.
-    fn gather<R: Output>(self, rt: &R, workers: Vec<W>) -> Outcome;
-}
-
 /// Carries out a run over a table and its workers.
-pub fn run_over<R: Host, T: Gathers<W> + Sync + Drop, W: Send + Drop>(
+pub fn run_over<J: Naming + Send + Sync, R: Host>(
     rt: &R,
-    table: T,
-    workers: Vec<W>,
+    table: Table<J>,
+    workers: Vec<Worker<J>>,
     run: Run,
 ) -> Outcome {
     let mut left = Vec::new(rt.alloc());
     match carry_out(rt, &table, workers, run, &mut left) {
-        Ok(()) if matches!(run.end, End::Gather) => table.gather(rt, left),
+        Ok(()) if matches!(run.end, End::Gather) => gather_all(rt, table, left),
         outcome => {
             drop(left);
             drop(table);
@@ -99,13 +94,13 @@ pub fn run_over<R: Host, T: Gathers<W> + Sync + Drop, W: Send + Drop>(
     }
 }
 
-/// Has the workers carry out a run. Those that are left after it are added to `left`.
-fn carry_out<R: Host + Sync, T: AskedBy<W> + Sync, W: Send + Drop>(
+/// Has the workers carry out a run, and then moves them to `left`.
+fn carry_out<J: Naming + Send + Sync, R: Host + Sync>(
     rt: &R,
-    table: &T,
-    workers: Vec<W>,
+    table: &Table<J>,
+    workers: Vec<Worker<J>>,
     run: Run,
-    left: &mut Vec<W>,
+    left: &mut Vec<Worker<J>>,
 ) -> Outcome {
     let gate = OpenGate;
     let mut hands = Vec::new(rt.alloc());
@@ -123,17 +118,16 @@ fn carry_out<R: Host + Sync, T: AskedBy<W> + Sync, W: Send + Drop>(
 }
 
 /// Seats the workers at the table, each with its commands.
-fn seat<'a, R: Host + Sync, T: AskedBy<W> + Sync, W: Send + Drop>(
+fn seat<'a, J: Naming, R: Host + Sync>(
     rt: &'a R,
     gate: &'a OpenGate,
-    table: &'a T,
-    workers: Vec<W>,
+    table: &'a Table<J>,
+    workers: Vec<Worker<J>>,
     run: Run,
-    hands: &mut Vec<Hand<Seated<'a, R, OpenGate, T, W>, Mix>>,
+    hands: &mut Vec<Hand<Seated<'a, R, OpenGate, J>, Mix>>,
 ) -> Result<(), Refusal> {
-    let mut number = 0u32;
     'workers: for worker in workers {
-        let questions = run.mix(rt.alloc(), number);
+        let questions = run.mix(rt.alloc(), worker.number());
         let worker = Seated {
             rt,
             gate,
@@ -142,12 +136,11 @@ fn seat<'a, R: Host + Sync, T: AskedBy<W> + Sync, W: Send + Drop>(
             worker,
         };
         hands.push(Hand { worker, questions })?;
-        number = number.wrapping_add(1);
     }
     Ok(())
 }
 
-/// Loads the rows, and has the workers carry out the run.
+/// Inserts the rows, and has the workers carry out the run.
 fn measure<R: Host, A: Works + Send + Drop>(
     rt: &R,
     hands: &mut Vec<Hand<A, Mix>>,
@@ -164,7 +157,7 @@ fn measure<R: Host, A: Works + Send + Drop>(
     }
 }
 
-/// Inserts as many rows for each partition, a worker after the other.
+/// Inserts this many rows for each partition, one worker after another.
 fn load<A: Works>(hands: &mut [Hand<A, Mix>], rows: u32) -> Result<(), Refusal> {
     'hands: for hand in hands.iter_mut() {
         hand.questions
@@ -173,7 +166,8 @@ fn load<A: Works>(hands: &mut [Hand<A, Mix>], rows: u32) -> Result<(), Refusal> 
     Ok(())
 }
 
-/// The sums of workers that share partitions depend on which comes first, so they aren't written.
+/// Counts all rows, and measures the workers' steps. The sums of shared partitions depend on the workers' order, so
+/// they aren't written.
 fn measure_threads<R: Host, A: Works + Send + Drop>(
     rt: &R,
     hands: &mut Vec<Hand<A, Mix>>,
@@ -195,7 +189,7 @@ fn measure_threads<R: Host, A: Works + Send + Drop>(
     Ok(())
 }
 
-/// The sum of all that the workers' steps returned.
+/// The total of the sums of the workers' steps.
 fn sum_of<A>(hands: &[Hand<A, Mix>]) -> Result<u64, Refusal> {
     let mut total = 0u64;
     'hands: for hand in hands {
@@ -217,7 +211,7 @@ fn measure_alone<R: Output, A: Works>(rt: &R, hands: &mut [Hand<A, Mix>], steps:
     Ok(())
 }
 
-/// Makes a checkpoint of each partition, by the first worker.
+/// Makes a checkpoint of each partition, through the first worker.
 fn checkpoint_all<A: Works>(hands: &mut [Hand<A, Mix>], parts: u32) -> Result<(), Refusal> {
     let Some(hand) = hands.first_mut() else {
         return Ok(());
@@ -228,8 +222,28 @@ fn checkpoint_all<A: Works>(hands: &mut [Hand<A, Mix>], parts: u32) -> Result<()
     Ok(())
 }
 
+/// Gathers the workers. Writes how long that took, before and after the partitions are dropped, and the totals.
+fn gather_all<J: Naming, R: Output>(rt: &R, table: Table<J>, workers: Vec<Worker<J>>) -> Outcome {
+    let start = Instant::now(rt)?;
+    match gather(rt.alloc(), table, workers) {
+        Ok(gathered) => {
+            let reported = report(rt, "settle", start);
+            let (accepted, inserted) = (gathered.accepted, gathered.inserted);
+            let (deleted, held) = (gathered.deleted, gathered.held);
+            drop(gathered);
+            reported?;
+            Ok(print_totals(rt, start, [accepted, inserted, deleted, held])?)
+        }
+        Err(refused) => {
+            let refusal = refused.refusal;
+            drop(refused);
+            Err(refusal.into())
+        }
+    }
+}
+
 /// Writes the totals of gathered workers, and how long the gathering took.
-pub fn print_totals<R: Output>(rt: &R, start: Instant, totals: [u64; 4]) -> io::Result<()> {
+fn print_totals<R: Output>(rt: &R, start: Instant, totals: [u64; 4]) -> io::Result<()> {
     report(rt, "gather", start)?;
     let [accepted, inserted, deleted, held] = totals;
     print!(rt; "accepted {accepted} inserted {inserted} ")?;

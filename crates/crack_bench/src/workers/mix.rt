@@ -1,5 +1,5 @@
-//! The commands of each worker: half sums of a hundredth of a partition's keys, a quarter deletes, and a quarter
-//! inserts; and the keys of the partitions.
+//! The commands of each worker (half are sums of a hundredth of a partition's keys, a quarter deletes, a quarter
+//! inserts), and the keys of the partitions.
 
 use crate::seats::{Asks, Questions, Works, number_of};
 use crack_row::{
@@ -10,33 +10,33 @@ use std::alloc::Global;
 /// How many partitions there are for each worker.
 pub const PARTS_EACH: u32 = 2;
 
-/// The width of a partition's keys.
+/// How many keys a partition has.
 pub const PART_WIDTH: u32 = 67108864;
 
-/// The width of the range of a sum.
+/// How many keys the range of a sum has.
 const RANGE_WIDTH: u32 = PART_WIDTH / 100;
 
-/// Partitions that are adjacent.
+/// Adjacent partitions.
 #[derive(Clone, Copy)]
 pub struct Parts {
     pub first: u32,
     pub count: u32,
 }
 
-/// A row that was placed.
+/// A row that was inserted.
 #[derive(Clone, Copy)]
 struct Placed {
     part: u32,
     serial: Serial,
 }
 
-/// The next commands of one worker, and the rows that it placed.
+/// The next commands of one worker, and the rows that it inserted.
 #[derive(Drop)]
 pub struct Mix {
     parts: Parts,
     rows: Vec<Placed>,
     number: u32,
-    /// The sum that its last steps returned.
+    /// The total of the sums of its last steps.
     pub sums: Result<u64, Refusal>,
 }
 
@@ -57,7 +57,7 @@ impl Mix {
         }
     }
 
-    /// The next number, which looks random (the end of MurmurHash3 for numbers that rise by 1).
+    /// The next pseudorandom number (MurmurHash3's finalizer of a counter).
     fn next(&mut self) -> u32 {
         self.number = self.number.wrapping_add(1);
         let mixed = (self.number ^ (self.number >> 16)).wrapping_mul(2246822507);
@@ -65,7 +65,7 @@ impl Mix {
         mixed ^ (mixed >> 16)
     }
 
-    /// One of the partitions.
+    /// A random one of the partitions.
     fn next_part(&mut self) -> u32 {
         let place = self.next() % self.parts.count.max(1);
         self.parts.first.wrapping_add(place)
@@ -88,7 +88,7 @@ impl Mix {
         })
     }
 
-    /// The sum of a range of one of the partitions.
+    /// Asks for the sum of a range of one of the partitions.
     fn sum<A: Asks>(&mut self, asked: &mut A) -> Result<u64, Refusal> {
         let part = self.next_part();
         let low = part
@@ -100,7 +100,7 @@ impl Mix {
         Ok(number_of(&reply))
     }
 
-    /// Deletes one of the rows. Returns its place; 0 if there is no row.
+    /// Deletes one of the rows. Returns its index, or 0 if there is no row.
     fn delete<A: Asks>(&mut self, asked: &mut A) -> Result<usize, Refusal> {
         let number = self.next() as usize;
         if self.rows.is_empty() {
@@ -112,7 +112,7 @@ impl Mix {
         Ok(at)
     }
 
-    /// Inserts as many rows.
+    /// Inserts this many rows.
     pub fn load<A: Asks>(&mut self, asked: &mut A, rows: u32) -> Result<(), Refusal> {
         'rows: for _ in 0..rows {
             let placed = self.insert(asked)?;
@@ -121,7 +121,8 @@ impl Mix {
         Ok(())
     }
 
-    /// A sum, a delete, a sum and an insert, of a row for the one that was deleted. Returns the sum of both sums.
+    /// Asks for a sum, a delete, a sum and an insert, whose row replaces the deleted one. Returns the total of both
+    /// sums.
     fn step<A: Asks>(&mut self, asked: &mut A) -> Result<u64, Refusal> {
         let first = self.sum(asked)?;
         let at = self.delete(asked)?;
@@ -133,7 +134,7 @@ impl Mix {
         Ok(first.wrapping_add(second))
     }
 
-    /// As many steps of four statements each. Returns the sum of all sums.
+    /// Takes this many steps of four statements each. Returns the total of all sums.
     pub fn steps<A: Asks>(&mut self, asked: &mut A, count: u64) -> Result<u64, Refusal> {
         let mut total = 0u64;
         'steps: for _ in 0..count {
@@ -143,7 +144,7 @@ impl Mix {
     }
 }
 
-/// Counts every row of as many partitions, from the first on.
+/// Counts the rows of the first `parts` partitions.
 pub fn count_all<A: Asks>(asked: &mut A, parts: u32) -> Result<u64, Refusal> {
     let mut total = 0u64;
     'parts: for part in 0..parts {
@@ -153,7 +154,7 @@ pub fn count_all<A: Asks>(asked: &mut A, parts: u32) -> Result<u64, Refusal> {
     Ok(total)
 }
 
-/// Where the partitions meet.
+/// The splits between `parts` partitions.
 pub fn splits(alloc: Global, parts: u32) -> Result<Vec<Bound>, Refusal> {
     let mut splits = Vec::new(alloc);
     'parts: for part in 1..parts {

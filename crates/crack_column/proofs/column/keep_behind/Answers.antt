@@ -54,4 +54,4 @@ returns-else-len-clause-aside c =
     let ts = c.args.tags.now.items in
     let last : c.args.len ≡ length ts = omega (arith, c.requires.are.within) in
     let are : AreDrawn gs ts (length ts) = rw last at c.requires.are in
-    rw (c.draw.ensures.generations, c.draw.ensures.tags, last) (aside-draw gs ts c.args.handle c.args.remembered are)
+    rw (c.draw.ensures.generations, c.draw.ensures.tags, last) (aside-draw gs ts c.args.handle c.args.remembered are c.draw.ensures.fits)

@@ -1,7 +1,6 @@
-use Rattle.std.proofs.Common.{◌≡◌, [], length, map, take}
-use Rattle.crack_table.specs.Cover.{told}
-use Rattle.crack_table.specs.Coverage.{AreStatesOf}
+use Rattle.std.proofs.Common.{[], map, take}
+use Rattle.crack_table.specs.Coverage.{IsCoverage}
 use Rattle.crack_table.proofs.covering.blank_states.Given as goal
 
 abbrev pub invariant-parts : goal.invariant-parts
-invariant-parts l = (length l.states.items ≡ l.each-index) × AreStatesOf (map told (take l.each-index l.kept)) l.states.items []
+invariant-parts l = IsCoverage (map (λ l. l.now) (take l.list-index l.lists)) l.states.items []

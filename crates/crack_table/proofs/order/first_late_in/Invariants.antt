@@ -1,6 +1,6 @@
 use Rattle.std.proofs.Common.{◌≡◌, List, ◌++◌, take, drop}
 use Rattle.std.specs.BTreeMap.{get}
-use Rattle.crack_kept.specs.declared.receipt.Receipt.{Receipt}
+use Rattle.crack_witness.specs.declared.receipt.Receipt.{Receipt}
 use Rattle.crack_table.specs.Cover.{first_late}
 use Rattle.crack_table.specs.Coverage.{Tracks, pair_cmp}
 use Rattle.crack_table.proofs.order.first_late_in.Given as goal

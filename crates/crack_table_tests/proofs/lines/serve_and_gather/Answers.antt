@@ -2,13 +2,12 @@ use Rattle.std.proofs.Common.{◌≡◌, ◌∙◌, ℕ, List, [], ◌∷◌, �
 use Rattle.std.specs.Prelude.{Contains}
 use Rattle.std.specs.Result.{result_ok}
 use Rattle.std.proofs.lemmas.List.{get_or_push}
-use Rattle.crack_row.specs.Devices.{device}
 use Rattle.crack_row.specs.declared.command.Policy.TheVariants.{Complete}
 use Rattle.crack_session.specs.Calls.{Call, Calls}
 use Rattle.crack_session.specs.Readings.{statements}
 use Rattle.crack_session.proofs.Known.{told_if_known}
 use Rattle.crack_table.specs.Tables.{TableState}
-use Rattle.crack_witness.specs.Witnesses.{AskerState}
+use Rattle.crack_witness.specs.Witnesses.{WorkerState}
 use Rattle.crack_worker_desk.specs.Histories.{IsGathered, AreOfHistories}
 use Rattle.crack_table_tests.proofs.lines.serve_and_gather.Goals as goal
 
@@ -41,21 +40,21 @@ returns g c =
     let old = c.new-desk.result in
     let last = c.serve-ended.new.desk in
     let parts = c.expect-gathered.result.parts.items in
-    let askers = c.push.new.self.items in
+    let workers = c.push.new.self.items in
     let read = c.args.input.now in
-    let pushed : askers ≡ c.args.others.items ++ c.into_asker.result ∷ [] = rw c.expect.ensures at c.push.ensures.items in
-    let held : Contains askers last.asker = subst (Contains askers) c.into_asker.ensures (pushed_last c.args.others.items askers c.into_asker.result pushed) in
+    let pushed : workers ≡ c.args.others.items ++ c.into_worker.result ∷ [] = rw c.expect.ensures at c.push.ensures.items in
+    let held : Contains workers last.worker = subst (Contains workers) c.into_worker.ensures (pushed_last c.args.others.items workers c.into_worker.result pushed) in
     let told = told_if_known _ _ _ _ Complete old last _ _ _ c.expect-end.result (rw c.expect-end.ensures at c.serve-ended.ensures.ends) read [] (rw c.new-reader.ensures.device refl) (rw (c.new-writer.ensures.device, c.new.ensures.items) refl) in
     let answers = told.answers in
     let made = told.are.made in
     let table : last.table.now ≡ c.args.table = same_table _ (λ d. d.table.now) (λ d call e led. led.0) made.0 old last made.1 ∙ c.new-desk.ensures.table in
     let whole = of_value _ c.gather.result c.ok.result c.expect-gathered.result c.ok.ensures.value c.expect-gathered.ensures c.gather.ensures.gathered in
-    let gathered : IsGathered own last.table.now parts last.asker = subst (λ (t : TableState). IsGathered own t parts last.asker) (sym table) (askers, held, whole) in
-    let stand : AreOfHistories own parts old.asker.worker old.table.now.splits Complete (statements read) answers =
+    let gathered : IsGathered own last.table.now parts last.worker = subst (λ (t : TableState). IsGathered own t parts last.worker) (sym table) (workers, held, whole) in
+    let stand : AreOfHistories own parts old.worker.worker old.table.now.splits Complete (statements read) answers =
     c.lines_stand_in_histories.ensures old last [] parts Complete (statements read) answers refl gathered made in
     rw c.into_inner.ensures (
       answers,
       subst (λ (t : TableState). AreOfHistories own parts c.args.worker.worker t.splits Complete (statements read) answers) c.new-desk.ensures.table
-          (subst (λ (a : AskerState). AreOfHistories own parts a.worker old.table.now.splits Complete (statements read) answers) c.new-desk.ensures.asker stand),
+          (subst (λ (a : WorkerState). AreOfHistories own parts a.worker old.table.now.splits Complete (statements read) answers) c.new-desk.ensures.worker stand),
       some_same told.written_is,
     )

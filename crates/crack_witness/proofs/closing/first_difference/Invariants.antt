@@ -1,10 +1,10 @@
 use Rattle.std.proofs.Common.{◌≡◌, take}
 use Rattle.std.specs.Prelude.{All}
-use Rattle.crack_witness.specs.Witnesses.{AskerState, Agrees}
+use Rattle.crack_witness.specs.Witnesses.{WorkerState, Agrees}
 use Rattle.crack_witness.proofs.closing.first_difference.Given as goal
 
-abbrev pub invariant-askers : goal.invariant-askers
-invariant-askers g l = record {
+abbrev pub invariant-workers : goal.invariant-workers
+invariant-workers g l = record {
   same : l.part ≡ l.initial.part;
-  agree : All (λ (a : AskerState). Agrees g.J.Naming.owner a l.initial.part) (take l.asker-index l.askers.items);
+  agree : All (λ (a : WorkerState). Agrees g.J.Naming.owner a l.initial.part) (take l.worker-index l.workers.items);
 }

@@ -1,31 +1,39 @@
 use Rattle.std.proofs.Common.{◌≡◌, is_some, true, sym, ap, subst, List}
 use Rattle.crack_arena.specs.Arena.{read, Handle, Cell, Arena, KeepsSpent, IsSpent}
+use Rattle.crack_arena.specs.declared.cells.Cell.{Cell as Stored}
+use Rattle.crack_arena.specs.Links.{cells_of, words_of}
 use Rattle.crack_arena.proofs.Laws.{KeepsSpent-freed_at, IsSpent-freed_at, read_spent_after}
-use Rattle.crack_arena.specs.Links.{cells_of}
-use Rattle.crack_arena.proofs.ArenaLemmas.{IsLinked-free, full_from_read, freed_view}
+use Rattle.crack_arena.proofs.ArenaLemmas.{IsLinked-free, head_is_other, words-set, full_from_read, freed_view}
 use Rattle.crack_arena.proofs.arena.Arena.free.Goals as goal
 
-pub replace-content-requires : goal.replace-content-requires
-replace-content-requires g c =
+pub numbers_between-next-requires-clause-head : goal.numbers_between-next-requires-clause-head
+numbers_between-next-requires-clause-head g c =
     let h : Handle = record { slot = c.slot-slot.result; generation = c.generation-generation.result } in
     let reads : is_some (read (cells_of c.self.inside.cells.items) h) ≡ true = rw (← c.self.view_is) at (sym c.if-not-reads.ensures) in
     let full = full_from_read c.self.inside.cells.items h reads in
-    full.within
+    head_is_other (words_of c.self.inside.cells.items) h.slot c.self.inside.head c.self.inside.free c.self.inside.freed full.inside full.full c.self.invariant
 
 pub invariant_of-self : goal.invariant_of-self
 invariant_of-self g c =
     let h : Handle = record { slot = c.slot-slot.result; generation = c.generation-generation.result } in
     let reads : is_some (read (cells_of c.self.inside.cells.items) h) ≡ true = rw (← c.self.view_is) at (sym c.if-not-reads.ensures) in
     let full = full_from_read c.self.inside.cells.items h reads in
-    rw c.replace-content.ensures.after (IsLinked-free c.self.inside.cells.items c.self.inside.head c.slot-slot.result c.self.inside.free c.self.inside.freed c.generation-generation.result full.within full.full full.generation c.self.invariant)
+    let stored = c.self.inside.cells.items in
+    let new : Stored g.row.T.Denot = record { word = c.new.result; value = c.at.result.now.value } in
+    rw (c.replace.ensures.after, words-set stored h.slot new, c.new.ensures) (IsLinked-free (words_of stored) c.self.inside.head h.slot c.self.inside.free c.self.inside.freed h.generation c.numbers_between-next.result full.inside full.full full.generation c.numbers_between-next.ensures.few c.numbers_between-next.ensures.next c.self.invariant)
 
 pub returns-clause-after : goal.returns-clause-after
 returns-clause-after g c =
     let h : Handle = record { slot = c.slot-slot.result; generation = c.generation-generation.result } in
     let reads : is_some (read (cells_of c.self.inside.cells.items) h) ≡ true = rw (← c.self.view_is) at (sym c.if-not-reads.ensures) in
     let full = full_from_read c.self.inside.cells.items h reads in
-    let after = freed_view c.self.inside.cells.items c.self.inside.head c.slot-slot.result c.self.inside.free c.self.inside.freed c.self.inside.cells.room c.generation-generation.result full.within full.full c.self.invariant in
-    rw (← c.self.view_is, c.replace-content.ensures.after, ← c.slot-slot.ensures, ← c.generation-generation.ensures) (sym after)
+    let stored = c.self.inside.cells.items in
+    let new : Stored g.row.T.Denot = record { word = c.new.result; value = c.at.result.now.value } in
+    let number = ap (λ (w : Handle). w.slot) c.new.ensures in
+    let few = rw (← number) at c.numbers_between-next.ensures.few in
+    let leads = rw (← number) at c.numbers_between-next.ensures.next in
+    let after = freed_view stored c.self.inside.head h.slot c.self.inside.free c.self.inside.freed c.self.inside.cells.room h.generation new full.inside full.full (ap (λ (w : Handle). w.generation) c.new.ensures) few leads c.self.invariant in
+    rw (← c.self.view_is, c.replace.ensures.after, ← c.slot-slot.ensures, ← c.generation-generation.ensures) (sym after)
 
 pub returns-clause-keeps_spent : goal.returns-clause-keeps_spent
 returns-clause-keeps_spent g c =

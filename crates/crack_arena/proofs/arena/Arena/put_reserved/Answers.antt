@@ -1,52 +1,108 @@
-use Rattle.std.proofs.Common.{◌≡◌, sym, ap, ◌∙◌, arith, refl, subst, List}
+use Rattle.std.proofs.Common.{◌≡◌, ◌<◌, ◌+◌, ◌%◌, sym, ap, ◌∙◌, arith, refl, subst, List}
 use Rattle.crack_arena.specs.Arena.{Cell, Arena, KeepsSpent}
+use Rattle.crack_arena.specs.declared.cells.Cell.{Cell as Stored}
+use Rattle.crack_arena.specs.Links.{words_of, next_after}
 use Rattle.crack_arena.proofs.Laws.{KeepsSpent-put_in}
-use Rattle.crack_arena.specs.Links.{content_link, link_at}
-use Rattle.crack_arena.proofs.ArenaLemmas.{IsLinked-push, IsLinked-fill, head_is_vacant, room_to_push, read_content, full_is_not_head, handle_for_head, put_filled}
+use Rattle.crack_arena.proofs.ArenaLemmas.{IsLinked-fill, head_within, word_read, words-set, handle_for_head, vacant_head, put_filled}
 use Rattle.crack_arena.proofs.arena.Arena.put_reserved.Goals as goal
 
-pub invariant_of-self : goal.invariant_of-self
-invariant_of-self g c =
-    let sound = rw c.in_default.is at c.self.invariant in
-    let room = rw (← c.self.view_is) at c.requires.cells in
-    rw (c.push_reserved.ensures.items, c.in_default.is) (IsLinked-push c.self.inside.cells.items c.self.inside.free c.self.inside.freed _ refl refl (room_to_push c.self.inside.cells.items c.self.inside.head c.self.inside.free c.self.inside.freed c.in_default.is c.self.invariant room) sound)
-
-pub push_reserved-requires-clause-few : goal.push_reserved-requires-clause-few
-push_reserved-requires-clause-few g c =
-    let room = rw (← c.self.view_is) at c.requires.cells in
-    omega (arith, room_to_push c.self.inside.cells.items c.self.inside.head c.self.inside.free c.self.inside.freed c.in_default.is c.self.invariant room)
-
 pub at-requires : goal.at-requires
-at-requires g c = omega (arith, (head_is_vacant c.self.inside.cells.items c.in-Some.slot c.self.inside.free c.self.inside.freed (rw c.in-Some.is at c.self.invariant)).within)
+at-requires g c =
+    let stored = c.self.inside.cells.items in
+    let k = c.self.inside.head in
+    let free = c.self.inside.free in
+    let freed = c.self.inside.freed in
+    let some : 0 < free = let none = c.if-self-eq0.false in omega (arith, none) in
+    let within = head_within stored k free freed some c.self.invariant in
+    within.0
 
-pub replace-content-requires : goal.replace-content-requires
-replace-content-requires g c = omega (arith, (head_is_vacant c.self.inside.cells.items c.in-Some.slot c.self.inside.free c.self.inside.freed (rw c.in-Some.is at c.self.invariant)).within)
+pub replace-requires : goal.replace-requires
+replace-requires g c =
+    let stored = c.self.inside.cells.items in
+    let k = c.self.inside.head in
+    let free = c.self.inside.free in
+    let freed = c.self.inside.freed in
+    let some : 0 < free = let none = c.if-self-eq0.false in omega (arith, none) in
+    let within = head_within stored k free freed some c.self.invariant in
+    within.0
 
-pub invariant_of-self-in-Free : goal.invariant_of-self-in-Free
-invariant_of-self-in-Free g c =
-    let sound = rw c.in-Some.is at c.self.invariant in
-    let head = head_is_vacant c.self.inside.cells.items c.in-Some.slot c.self.inside.free c.self.inside.freed sound in
-    let content = read_content c.self.inside.cells.items c.in-Some.slot c.at.result.now head.within c.at.ensures in
-    let old = read_content c.self.inside.cells.items c.in-Some.slot c.replace-content.result head.within c.replace-content.ensures.value in
-    let link : link_at c.self.inside.cells.items c.in-Some.slot ≡ c.in-Free.next = ap (λ x. content_link x.content) old ∙ ap content_link c.in-Free.is in
-    rw (c.replace-content.ensures.after, ← link) (IsLinked-fill c.self.inside.cells.items c.in-Some.slot c.self.inside.free c.self.inside.freed _ refl (sym (ap (λ x. x.generation) content)) sound)
+pub overflow_add-self : goal.overflow_add-self
+overflow_add-self g c =
+    let stored = c.self.inside.cells.items in
+    let k = c.self.inside.head in
+    let free = c.self.inside.free in
+    let freed = c.self.inside.freed in
+    let some : 0 < free = let none = c.if-self-eq0.false in omega (arith, none) in
+    let within = head_within stored k free freed some c.self.invariant in
+    grind (arith, within.1)
 
-pub unreachable-requires : goal.unreachable-requires
-unreachable-requires g c =
-    full_is_not_head c.self.inside.cells.items c.in-Some.slot c.self.inside.free c.self.inside.freed c.replace-content.result c.in-Full.field-0 (rw c.in-Some.is at c.self.invariant) c.replace-content.ensures.value c.in-Full.is
+pub overflow_add-self-2 : goal.overflow_add-self-2
+overflow_add-self-2 g c =
+    let stored = c.self.inside.cells.items in
+    let k = c.self.inside.head in
+    let free = c.self.inside.free in
+    let freed = c.self.inside.freed in
+    let some : 0 < free = let none = c.if-self-eq0.false in omega (arith, none) in
+    let within = head_within stored k free freed some c.self.invariant in
+    grind (arith, within.1, c.number.ensures.few)
+
+pub with_number-requires-3 : goal.with_number-requires-3
+with_number-requires-3 g c =
+    let stored = c.self.inside.cells.items in
+    let k = c.self.inside.head in
+    let free = c.self.inside.free in
+    let freed = c.self.inside.freed in
+    let some : 0 < free = let none = c.if-self-eq0.false in omega (arith, none) in
+    let within = head_within stored k free freed some c.self.invariant in
+    within.1
+
+pub invariant_of-self-2 : goal.invariant_of-self-2
+invariant_of-self-2 g c =
+    let stored = c.self.inside.cells.items in
+    let k = c.self.inside.head in
+    let free = c.self.inside.free in
+    let freed = c.self.inside.freed in
+    let some : 0 < free = let none = c.if-self-eq0.false in omega (arith, none) in
+    let within = head_within stored k free freed some c.self.invariant in
+    let word = word_read stored k c.at.result.now within.0 c.at.ensures in
+    let next : (k + 1 + c.number.result) % 16777216 ≡ next_after (words_of stored) k = ap (λ n. (k + 1 + n) % 16777216) (c.number.ensures.value ∙ ap (λ w. w.slot) (sym word)) in
+    let full = c.with_number-2.ensures in
+    rw (c.replace.ensures.after, words-set stored k (record { word = c.with_number-2.result; value = c.args.value }), next) (IsLinked-fill (words_of stored) k free freed c.with_number-2.result some (rw full refl) (ap (λ w. w.generation) full ∙ ap (λ w. w.generation) (sym word)) c.self.invariant)
 
 pub returns-clause-handle : goal.returns-clause-handle
 returns-clause-handle g c =
-    rw (← c.self.view_is, c.in-Some.is) (c.new-2.ensures ∙ sym (handle_for_head c.self.inside.cells.items c.in-Some.slot c.self.inside.free c.self.inside.freed c.at.result.now (rw c.in-Some.is at c.self.invariant) c.at.ensures))
+    let stored = c.self.inside.cells.items in
+    let k = c.self.inside.head in
+    let free = c.self.inside.free in
+    let freed = c.self.inside.freed in
+    let some : 0 < free = let none = c.if-self-eq0.false in omega (arith, none) in
+    let within = head_within stored k free freed some c.self.invariant in
+    let made = handle_for_head stored k free freed c.at.result.now some c.self.invariant c.at.ensures in
+    rw (← c.self.view_is) (c.of-2.ensures ∙ c.with_number-3.ensures ∙ sym made)
+
+pub returns-clause-vacant : goal.returns-clause-vacant
+returns-clause-vacant g c =
+    let stored = c.self.inside.cells.items in
+    let k = c.self.inside.head in
+    let free = c.self.inside.free in
+    let freed = c.self.inside.freed in
+    let some : 0 < free = let none = c.if-self-eq0.false in omega (arith, none) in
+    let within = head_within stored k free freed some c.self.invariant in
+    let at : c.of-2.result.slot ≡ k = ap (λ w. w.slot) (c.of-2.ensures ∙ c.with_number-3.ensures) in
+    rw (← c.self.view_is, at) (vacant_head stored k free freed c.at.result.now some c.self.invariant c.at.ensures)
 
 pub returns-clause-after : goal.returns-clause-after
 returns-clause-after g c =
-    let sound = rw c.in-Some.is at c.self.invariant in
-    let head = head_is_vacant c.self.inside.cells.items c.in-Some.slot c.self.inside.free c.self.inside.freed sound in
-    let old = read_content c.self.inside.cells.items c.in-Some.slot c.replace-content.result head.within c.replace-content.ensures.value in
-    let link : link_at c.self.inside.cells.items c.in-Some.slot ≡ c.in-Free.next = ap (λ x. content_link x.content) old ∙ ap content_link c.in-Free.is in
-    let filled = put_filled c.self.inside.cells.items c.in-Some.slot c.self.inside.free c.self.inside.freed c.self.inside.cells.room c.at.result.now c.args.value sound c.at.ensures in
-    rw (← c.self.view_is, c.in-Some.is, ← link, c.replace-content.ensures.after) (sym filled)
+    let stored = c.self.inside.cells.items in
+    let k = c.self.inside.head in
+    let free = c.self.inside.free in
+    let freed = c.self.inside.freed in
+    let some : 0 < free = let none = c.if-self-eq0.false in omega (arith, none) in
+    let within = head_within stored k free freed some c.self.invariant in
+    let full : Stored g.row.T.Denot = record { word = c.with_number-2.result; value = c.args.value } in
+    let is : full ≡ record { word = record { slot = 16777215; generation = c.at.result.now.word.generation }; value = c.args.value } = rw c.with_number-2.ensures refl in
+    let filled = put_filled stored k free freed c.self.inside.cells.room c.at.result.now full c.args.value some c.self.invariant c.at.ensures is in
+    rw (← c.self.view_is, c.replace.ensures.after, c.number.ensures.value) (sym filled)
 
 pub returns-clause-keeps_spent : goal.returns-clause-keeps_spent
 returns-clause-keeps_spent g c =

@@ -1,11 +1,12 @@
 use denote.Param.Send.{sendable}
 use Rattle.std.proofs.Crossing.{crosses}
-use Rattle.crack_table.proofs.Crosses.{table-sync, worker-send}
+use Rattle.crack_witness.proofs.Crosses.{worker-send}
+use Rattle.crack_table.proofs.Crosses.{table-sync}
 use Rattle.crack_bench.proofs.histories.runs.work.Goals as goal
 
 pub work_on_threads-requires-send-A : goal.work_on_threads-requires-send-A
 work_on_threads-requires-send-A g c κs within =
     let runtime = c.type_bounds.sync-R in
-    let table = table-sync in
-    let worker = worker-send in
+    let table = table-sync _ g.J.Naming c.type_bounds.send-J in
+    let worker = worker-send _ g.J.Naming c.type_bounds.send-J in
     search (sendable, crosses) depth 40

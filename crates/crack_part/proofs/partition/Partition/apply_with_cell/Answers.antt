@@ -18,7 +18,7 @@ answer-requires-clause-admissible c =
     let at = c.self.inside in
     let part : Part = record { keys = at.keys; limits = at.limits; next = at.next; folded = at.folded; since = at.since; store = at.store } in
     let kept = may-keep part c.args.command (rw (← c.self.view_is) at c.in_ok-may_keep.ensures.ok) in
-    λ ready prepared. MayPerform-prepared c.args.policy part c.args.command ready c.self.invariant.sound kept.within prepared
+    λ ready prepared. MayPerform-prepared c.args.policy part c.args.command ready c.self.invariant.sound kept.lives kept.within prepared
 
 pub answer-requires-clause-small : goal.answer-requires-clause-small
 answer-requires-clause-small c = let next = next-le-life _ c.self.invariant.sound in omega (arith, next)
@@ -45,7 +45,7 @@ invariant_of-self-2 c =
     let kept = may-keep part c.args.command (rw (← c.self.view_is) at c.in_ok-may_keep.ensures.ok) in
     let own = IsFaithful-own part in
     let faithful = c.in_ok-reply.ensures.faithful (state_of part) own in
-    let spends = Spends-served c.args.policy part c.args.command c.answer.new.store sound kept.within c.in_ok-reply.ensures.served in
+    let spends = Spends-served c.args.policy part c.args.command c.answer.new.store sound kept.lives kept.within c.in_ok-reply.ensures.served in
     let cell : lacks_cell at.limits.cells at.store (change_of c.args.command) ≡ false = rw (← c.self.view_is) at c.requires.cell in
     let fits = fits-served c.args.policy at.keys _ at.next c.args.command at.store c.answer.new.store sound.cells cell c.in_ok-reply.ensures.served in
     let knows = c.in_ok-reply.ensures.knows (state_of part) sound.numbered own c.self.invariant.knows in

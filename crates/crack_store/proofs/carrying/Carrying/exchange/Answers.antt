@@ -3,7 +3,7 @@ use Rattle.crack_state.specs.State.{Carried}
 use Rattle.crack_state.specs.Steps.{hand_key, piece_start, piece_end, exchanged}
 use Rattle.crack_state.proofs.PieceLaws.{piece_end-le}
 use Rattle.crack_state.proofs.PullLaws.{IsIntact-exchanged}
-use Rattle.crack_state.proofs.NearLaws.{next-exchanged, last-exchanged}
+use Rattle.crack_state.proofs.NearLaws.{next-exchanged}
 use Rattle.crack_store.specs.Hand.{carried_of}
 use Rattle.crack_store.proofs.HandLemmas.{IsMade, exchanged_to}
 use Rattle.crack_store.proofs.NextLemmas.{IsNear-same}
@@ -29,7 +29,7 @@ made c =
     let from : piece_start carried.store (hand_key carried) ≤ place = rw (← c.self.view_is) at c.requires.from in
     let to : place < piece_end carried.store (hand_key carried) = rw (← c.self.view_is) at c.requires.to in
     let intact = c.self.invariant.has.kept.intact in
-    exchanged_to c.self.inside.inside c.exchange.new.self _ c.note_if_doomed.new.notes _ place _ _ c.self.invariant.has c.exchange.ensures.after (within (goal.at.returns-clause-after c).After-note_if_doomed) (rw c.saturating_add-self-inside.ensures refl) (IsIntact-exchanged place carried from to intact) (IsNear-same carried.store.marks (hand_key carried) (hand_key (exchanged place carried)) c.self.inside.near (next-exchanged place carried from to intact) (last-exchanged place carried from to intact) c.self.invariant.is_near)
+    exchanged_to c.self.inside.inside c.exchange.new.self _ c.note_if_doomed.new.notes _ place _ _ c.self.invariant.has c.exchange.ensures.after (within (goal.at.returns-clause-after c).After-note_if_doomed) (rw c.saturating_add-self-inside.ensures refl) (IsIntact-exchanged place carried from to intact) (IsNear-same carried.store.marks (hand_key carried) (hand_key (exchanged place carried)) c.self.inside.near (next-exchanged place carried from to intact) c.self.invariant.is_near)
 
 pub invariant_of-self : goal.invariant_of-self
 invariant_of-self c = (made c).keeps

@@ -5,16 +5,20 @@ use Rattle.std.proofs.lemmas.List.Elements.{All-push}
 use Rattle.crack_row.specs.declared.command.Entry.{Entry}
 use Rattle.crack_plain.specs.Plain.{PlainState, PlainView, no_rows, reply_to}
 use Rattle.crack_plain.proofs.Words.{replay_from}
-use Rattle.crack_plain.proofs.Laws.{AreReplies-push}
+use Rattle.crack_plain.proofs.Laws.{AreReplies-push, BringWithin-push}
 use Rattle.crack_part.specs.Parts.{Part, table_of}
 use Rattle.crack_part.specs.Refusals.{refusal_of}
+use Rattle.crack_part.specs.Upkeep.{answered}
+use Rattle.crack_row.specs.Ranges.{Range}
+use Rattle.crack_part.proofs.ClearLaws.{Spares-unchanged}
 use Rattle.crack_part.proofs.RefusalLaws.{if_refused}
 use Rattle.crack_witness.proofs.Keeping.{refused-for, replied-for}
-use Rattle.crack_witness.specs.Histories.{history_of, calls_by, IsPastOf}
+use Rattle.crack_witness.specs.Histories.{history_of, calls_by, IsPastOf, past_in}
 use Rattle.crack_witness.specs.Witnesses.{WitnessedState}
-use Rattle.crack_witness.specs.Keeps.{AreCounts}
+use Rattle.crack_witness.specs.Keeps.{AreCounts, AreWithin}
 use Rattle.crack_witness.specs.Audits.{listed}
 use Rattle.crack_witness.proofs.Keeping.{IsPastOf-push, calls-le-accepted, listed_more}
+use Rattle.crack_witness.proofs.Pasts.{within-kept, divided-answered}
 use Rattle.crack_witness.proofs.Counting.{counts_set}
 use Rattle.crack_witness.proofs.Lists.{prefix_self}
 use Rattle.crack_witness.proofs.witnessed.Witnessed.ask.Goals as goal
@@ -57,7 +61,11 @@ invariant_of-self-2 g c =
     let all = All-push (λ (x : Entry). x.worker < length c.self.inside.answered.items) h e c.self.invariant.2 less in
     let are_below : ℕ → List Entry → Type 0 = λ n es. All (λ (x : Entry). x.worker < n) es in
     let own_all : are_below (length (slice_set c.self.inside.answered.items c.args.worker (c.args.count + 1))) (h ++ e ∷ []) = subst (λ (n : ℕ). are_below n (h ++ e ∷ [])) (sym (length-set c.self.inside.answered.items c.args.worker (c.args.count + 1))) all in
-    (subst (λ (l : List Entry). IsPastOf l (table_of c.apply_listed.new.partition)) (sym new) past, subst (AreCounts (slice_set c.self.inside.answered.items c.args.worker (c.args.count + 1))) (sym new) counts, subst (are_below (length (slice_set c.self.inside.answered.items c.args.worker (c.args.count + 1)))) (sym new) own_all, listed_more (listed c.self.inside.entries) (listed c.apply_listed.new.entries) h (history_of (own c.write.new.self.part) c.write.new.self.log) e c.self.invariant.3 c.in_ok-reply.ensures.entries new)
+    let p = c.self.inside.partition in
+    let none : refusal_of p c.args.command ≡ None = replied-for (refusal_of p c.args.command) c.in_ok-reply.reply (c.apply_listed.new.partition ≡ p) c.in_ok-reply.ensures.refused in
+    let keyed : AreWithin p.keys (h ++ e ∷ []) = BringWithin-push p.keys h e c.self.invariant.4 (within-kept p c.args.command none) in
+    let within : AreWithin c.apply_listed.new.partition.keys (h ++ e ∷ []) = subst (λ (keys : Range). AreWithin keys (h ++ e ∷ [])) (sym c.in_ok-reply.ensures.opened.0) keyed in
+    (subst (λ (l : List Entry). IsPastOf l (table_of c.apply_listed.new.partition)) (sym new) past, subst (AreCounts (slice_set c.self.inside.answered.items c.args.worker (c.args.count + 1))) (sym new) counts, subst (are_below (length (slice_set c.self.inside.answered.items c.args.worker (c.args.count + 1)))) (sym new) own_all, listed_more (listed c.self.inside.entries) (listed c.apply_listed.new.entries) h (history_of (own c.write.new.self.part) c.write.new.self.log) e c.self.invariant.3 c.in_ok-reply.ensures.entries new, subst (AreWithin c.apply_listed.new.partition.keys) (sym new) within)
 
 pub returns-clause-few : goal.returns-clause-few
 returns-clause-few g c =
@@ -176,3 +184,27 @@ returns-then-not-is_at-clause-unlisted g c = (refl, refl)
 
 pub returns-in_err-reply-clause-unlisted : goal.returns-in_err-reply-clause-unlisted
 returns-in_err-reply-clause-unlisted g c = rw (given g c, ← c.self.view_is) c.in_err-reply.ensures.unlisted
+
+pub returns-in_err-reply-clause-spared : goal.returns-in_err-reply-clause-spared
+returns-in_err-reply-clause-spared g c = rw (given g c, ← c.self.view_is) c.in_err-reply.ensures.spared
+
+pub returns-then-not-is_at-clause-spared : goal.returns-then-not-is_at-clause-spared
+returns-then-not-is_at-clause-spared g c = Spares-unchanged c.args.policy c.args.self.now.held c.args.command
+
+pub returns-clause-divides : goal.returns-clause-divides
+returns-clause-divides g c =
+    let own : ℕ → ℕ = g.J.Naming.owner in
+    let h = history_of (own c.self.inside.scribe.part) c.self.inside.scribe.log in
+    let p = c.self.inside.partition in
+    let now = c.apply_listed.new.partition in
+    let e : Entry = record { worker = c.args.worker; command = c.args.command; reply = c.in_ok-reply.reply } in
+    let new : history_of (own c.write.new.self.part) c.write.new.self.log ≡ h ++ e ∷ [] = ap (λ (n : ℕ). history_of (own n) c.write.new.self.log) c.write.ensures.part ∙ c.write.ensures.history in
+    let table : table_of now ≡ answered p.limits (table_of p) c.args.command = c.in_ok-reply.ensures.table in
+    let is = ap (λ (l : List Entry). past_in l (table_of now)) new ∙ (ap (past_in (h ++ e ∷ [])) table ∙ divided-answered h p.limits (table_of p) e c.self.invariant.0) in
+    rw (← c.self.view_is) is
+
+pub returns-then-not-is_at-clause-divides : goal.returns-then-not-is_at-clause-divides
+returns-then-not-is_at-clause-divides g c = tt
+
+pub returns-in_err-reply-clause-divides : goal.returns-in_err-reply-clause-divides
+returns-in_err-reply-clause-divides g c = rw (given g c) tt

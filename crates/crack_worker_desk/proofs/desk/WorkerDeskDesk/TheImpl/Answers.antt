@@ -1,9 +1,9 @@
 -- A desk's clauses about a known table are empty here: the table isn't known.
-use Rattle.std.proofs.Common.{◌≡◌, length, Some, None, is_some, ap, refl}
+use Rattle.std.proofs.Common.{◌≡◌, Some, None, is_some, ap, refl}
 use Rattle.std.proofs.lemmas.Bool.{false≢true}
-use Rattle.crack_kept.specs.Receipts.{BookState}
 use Rattle.crack_core.specs.Steps.{bounds_of}
 use Rattle.crack_table.specs.Tables.{TableState}
+use Rattle.crack_witness.specs.Witnesses.{WorkerState, replies_to}
 use Rattle.crack_worker_desk.proofs.desk.WorkerDeskDesk.TheImpl.Goals as goal
 
 unknown : {X : Type 0} {P : Type 0} (x : X) → None ≡ Some x → P
@@ -16,7 +16,7 @@ ask-tells g c = record {
   small = c.ensures.asks.small;
   splits = ap (λ t. t.splits) c.ensures.table.0;
   bounds = ap (λ (t : TableState). bounds_of t.limits) c.ensures.table.0;
-  accepted = c.ensures.accepted;
+  accepted = c.ensures.replies;
   leads = (c.ensures.table.0, c.ensures.table.1, c.ensures.asks);
 }
 
@@ -26,9 +26,15 @@ checkpoint-tells g c = record {
   after = λ tables known. unknown tables known;
   splits = ap (λ (t : TableState). t.splits) c.ensures.table.0;
   bounds = ap (λ (t : TableState). bounds_of t.limits) c.ensures.table.0;
-  accepted = ap (λ (w : BookState). length w.receipts) c.ensures.worker;
+  accepted = ap (λ (a : WorkerState). replies_to a) c.ensures.worker;
   leads = (c.ensures.table.0, c.ensures.table.1, (c.ensures.folds, c.ensures.worker));
 }
 
 pub layout-tells : goal.layout-tells
 layout-tells g c = record { outcome = λ tables known. unknown tables known; leads = (refl, refl, (c.ensures.looks, refl)) }
+
+pub statistics-tells : goal.statistics-tells
+statistics-tells g c = record { outcome = λ tables known. unknown tables known; leads = (refl, refl, (c.ensures.measures, refl)) }
+
+pub service-tells : goal.service-tells
+service-tells g c = record { leads = (refl, refl, (c.ensures.none, refl)) }

@@ -1,6 +1,6 @@
 use denote.Param.Send.{sendable}
 use Rattle.std.proofs.Crossing.{crosses}
-use Rattle.crack_loop.proofs.Crosses.{post-send, admission-sync}
+use Rattle.crack_loop.proofs.Crosses.{post-send, admission-sync, pace-send}
 use Rattle.crack_loop.proofs.server.fn.serve_posts.scope.Goals as goal
 
 pub spawn-requires-send-F : goal.spawn-requires-send-F
@@ -10,6 +10,7 @@ spawn-requires-send-F g c κs within =
     let host = c.requires.1.1.1.1.2 in
     let post = post-send in
     let admission = admission-sync in
+    let pace = pace-send in
     search (sendable, crosses) depth 60
 
 pub spawn-requires-send-T : goal.spawn-requires-send-T

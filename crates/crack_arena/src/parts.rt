@@ -1,0 +1,143 @@
+//! The two numbers of a handle, for code that stores them separately.
+ghost use Rattle.std.specs.Prelude.{◌≡◌, ◌%◌, ◌<◌, ◌≤◌, ◌^◌, ⊤, MatchOption};
+
+use crate::words::{NUMBERS, Word};
+use std::alloc::AllocError;
+use std::marker::Model;
+
+/// The number of generations.
+const GENERATIONS: u64 = 1099511627776;
+
+/// The number of a cell, below 2^24.
+pub struct Slot {
+    number: u32,
+}
+
+impl Model for Slot {
+    ghost use Rattle.std.specs.Prelude.{ℕ, ◌<◌};
+    ghost use Rattle.std.specs.Coded.{coded_ℕ};
+
+    ghost Value = { ℕ };
+
+    ghost coded = { coded_ℕ };
+
+    ghost view = { λ s. s.number };
+
+    ghost invariant = { λ s. s.number < 16777216 };
+
+    ghost inverse = { λ n. record { number = n } };
+}
+
+impl Copy for Slot {}
+
+impl Clone for Slot {
+    ghost is_clone = { λ slot copy. copy ≡ slot };
+
+    ghost is_infallible = { λ _. ⊤ };
+
+    fn clone(&self) -> Result<Self, AllocError> {
+        Ok(*self)
+    }
+}
+
+impl Slot {
+    /// The slot with this number, if 24 bits hold it.
+    pub fn from_number(number: u32) -> Option<Slot>
+        ensures { MatchOption result (2 ^ 24 ≤ number) (λ slot. slot ≡ number) }
+    {
+        if number < NUMBERS {
+            Some(Slot { number })
+        } else {
+            None
+        }
+    }
+
+    /// The slot with the lowest 24 bits of this number.
+    #[inline(always)]
+    pub fn lowest(number: u32) -> Slot
+        ensures { result ≡ number % 16777216 }
+    {
+        Slot {
+            number: number % NUMBERS,
+        }
+    }
+
+    #[inline(always)]
+    pub(crate) fn of(word: Word) -> Slot
+        ensures { result ≡ word.slot }
+    {
+        let number = word.number();
+        Slot { number }
+    }
+
+    /// The slot's number.
+    #[inline(always)]
+    pub fn number(&self) -> u32
+        ensures value { result ≡ self.now }
+        ensures few { result < 2 ^ 24 }
+    {
+        self.number
+    }
+}
+
+/// The generation of a cell, below 2^40.
+pub struct Generation {
+    number: u64,
+}
+
+impl Model for Generation {
+    ghost use Rattle.std.specs.Prelude.{ℕ, ◌<◌, ◌^◌};
+    ghost use Rattle.std.specs.Coded.{coded_ℕ};
+
+    ghost Value = { ℕ };
+
+    ghost coded = { coded_ℕ };
+
+    ghost view = { λ g. g.number };
+
+    ghost invariant = { λ g. g.number < 2 ^ 40 };
+
+    ghost inverse = { λ n. record { number = n } };
+}
+
+impl Copy for Generation {}
+
+impl Clone for Generation {
+    ghost is_clone = { λ generation copy. copy ≡ generation };
+
+    ghost is_infallible = { λ _. ⊤ };
+
+    fn clone(&self) -> Result<Self, AllocError> {
+        Ok(*self)
+    }
+}
+
+impl Generation {
+    /// The generation with this number, if 40 bits hold it.
+    pub fn from_number(number: u64) -> Option<Generation>
+        ensures { MatchOption result (2 ^ 40 ≤ number) (λ generation. generation ≡ number) }
+    {
+        if number < GENERATIONS {
+            Some(Generation { number })
+        } else {
+            None
+        }
+    }
+
+    #[inline(always)]
+    pub(crate) fn of(word: Word) -> Generation
+        ensures { result ≡ word.generation }
+    {
+        let number = word.generation();
+        Generation { number }
+    }
+
+    /// The generation's number.
+    #[inline(always)]
+    pub fn number(&self) -> u64
+        ensures value { result ≡ self.now }
+        ensures few { result < 2 ^ 40 }
+    {
+        self.number
+    }
+}

@@ -1,0 +1,33 @@
+//! Opening the table of a run.
+ghost use Rattle.crack_witness.specs.Witnesses.{AreNames};
+
+use crate::report::{Host, Outcome};
+use crate::workers::measuring::{Run, run_over};
+use crate::workers::mix::splits;
+use crack_row::{GREATEST_LIMIT, Limits};
+use crack_table::UnnamedTable;
+use crack_witness::Naming;
+use std::marker::Brand;
+
+/// Opens a table, with an audit or without, and carries out the run.
+pub fn run<R: Host>(rt: &R, is_audited: bool, run: Run) -> Outcome {
+    let splits = splits(rt.alloc(), run.parts())?;
+    let limits = Limits::of_history(GREATEST_LIMIT);
+    let workers = u64::from(run.workers);
+    let opened = UnnamedTable::open(rt.alloc(), splits.as_slice(), limits, workers, is_audited);
+    drop(splits);
+    match opened {
+        Ok(table) => run_named::<Brand, R>(rt, table, run),
+        Err(refusal) => Err(refusal.into()),
+    }
+}
+
+/// The same, when the table's book has its name.
+fn run_named<J: Naming + Send + Sync, R: Host>(rt: &R, table: UnnamedTable, run: Run) -> Outcome
+    requires { AreNames J.book J.owner table.opened }
+{
+    match table.named::<J>(rt.alloc()) {
+        Ok((table, workers)) => run_over(rt, table, workers, run),
+        Err(refusal) => Err(refusal.into()),
+    }
+}

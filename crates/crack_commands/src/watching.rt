@@ -1,0 +1,130 @@
+//! The texts of statistics, for monitoring.
+ghost use Rattle.std.specs.Prelude.{◌≡◌, ◌+◌, ◌≤◌, ◌++◌, length, codes, decimal};
+ghost use Rattle.crack_commands.specs.Watching.{named_text, numbers_text, row_numbers, cell_numbers};
+ghost use Rattle.crack_commands.specs.Watching.{traffic_text, client_numbers, time_numbers};
+ghost use Rattle.crack_commands.specs.Texts.{line_text};
+
+use crate::text::{LONGEST_TEXT, push, push_number};
+use arrayvec::ArrayVec;
+use crack_plain::Statistics;
+
+/// The traffic of a server: how many clients are connected, how many sessions have begun, how many statements were
+/// answered a second and the longest time that those of one read took, both over the last minute, and how many
+/// seconds ago the server started.
+#[derive(Clone, Copy, PartialEq, Eq, Debug)]
+pub struct Traffic {
+    pub clients: u64,
+    pub sessions: u64,
+    pub statements_per_second: u64,
+    pub longest_microseconds: u64,
+    pub uptime_seconds: u64,
+}
+
+/// Adds the lines of the statistics of a table or a partition, and then those of the server's traffic, if there is one.
+pub fn push_numbers<const ROOM: usize>(
+    text: &mut ArrayVec<u8, ROOM>,
+    statistics: &Statistics,
+    traffic: Option<Traffic>,
+)
+    requires { length text.old.items + LONGEST_TEXT ≤ ROOM }
+    ensures { text.new.items ≡ text.old.items ++ numbers_text statistics.now traffic }
+{
+    match traffic {
+        None => {
+            push_count_of_numbers(text, 8);
+            push_row_numbers(text, statistics);
+            push_cell_numbers(text, statistics);
+        }
+        Some(traffic) => {
+            push_count_of_numbers(text, 13);
+            push_row_numbers(text, statistics);
+            push_cell_numbers(text, statistics);
+            push_traffic(text, &traffic);
+        }
+    }
+}
+
+/// Adds the line that says how many numbers follow.
+fn push_count_of_numbers<const ROOM: usize>(text: &mut ArrayVec<u8, ROOM>, count: u64)
+    requires room { length text.old.items + 60 ≤ ROOM }
+    ensures value { text.new.items ≡ text.old.items ++ line_text (codes "stats ") (decimal count) }
+    ensures few { length text.new.items ≤ length text.old.items + 60 }
+{
+    push(text, b"stats ");
+    push_number(text, count);
+    push(text, b"\n");
+}
+
+/// Adds the lines about rows and pieces.
+fn push_row_numbers<const ROOM: usize>(text: &mut ArrayVec<u8, ROOM>, statistics: &Statistics)
+    requires room { length text.old.items + 240 ≤ ROOM }
+    ensures value { text.new.items ≡ text.old.items ++ row_numbers statistics.now }
+    ensures few { length text.new.items ≤ length text.old.items + 240 }
+{
+    push_named(text, b"rows ", statistics.rows);
+    push_named(text, b"pending_insertions ", statistics.pending_insertions);
+    push_named(text, b"pending_deletions ", statistics.pending_deletions);
+    push_named(text, b"pieces ", statistics.pieces);
+}
+
+/// Adds the lines about cells and commands.
+fn push_cell_numbers<const ROOM: usize>(text: &mut ArrayVec<u8, ROOM>, statistics: &Statistics)
+    requires room { length text.old.items + 240 ≤ ROOM }
+    ensures value { text.new.items ≡ text.old.items ++ cell_numbers statistics.now }
+    ensures few { length text.new.items ≤ length text.old.items + 240 }
+{
+    push_named(text, b"cells ", statistics.cells);
+    push_named(text, b"free_cells ", statistics.free_cells);
+    push_named(text, b"commands_accepted ", statistics.commands_accepted);
+    push_named(
+        text,
+        b"commands_since_checkpoint ",
+        statistics.commands_since_checkpoint,
+    );
+}
+
+/// Adds the lines of a server's traffic.
+fn push_traffic<const ROOM: usize>(text: &mut ArrayVec<u8, ROOM>, traffic: &Traffic)
+    requires room { length text.old.items + 300 ≤ ROOM }
+    ensures value { text.new.items ≡ text.old.items ++ traffic_text traffic.now }
+{
+    push_client_numbers(text, traffic);
+    push_time_numbers(text, traffic);
+}
+
+/// Adds the lines about clients and sessions.
+fn push_client_numbers<const ROOM: usize>(text: &mut ArrayVec<u8, ROOM>, traffic: &Traffic)
+    requires room { length text.old.items + 120 ≤ ROOM }
+    ensures value { text.new.items ≡ text.old.items ++ client_numbers traffic.now }
+    ensures few { length text.new.items ≤ length text.old.items + 120 }
+{
+    push_named(text, b"clients ", traffic.clients);
+    push_named(text, b"sessions ", traffic.sessions);
+}
+
+/// Adds the lines about statements and times.
+fn push_time_numbers<const ROOM: usize>(text: &mut ArrayVec<u8, ROOM>, traffic: &Traffic)
+    requires room { length text.old.items + 180 ≤ ROOM }
+    ensures value { text.new.items ≡ text.old.items ++ time_numbers traffic.now }
+    ensures few { length text.new.items ≤ length text.old.items + 180 }
+{
+    push_named(
+        text,
+        b"statements_per_second ",
+        traffic.statements_per_second,
+    );
+    push_named(text, b"longest_microseconds ", traffic.longest_microseconds);
+    push_named(text, b"uptime_seconds ", traffic.uptime_seconds);
+}
+
+/// Adds a line of a name, which ends with a space, and its number.
+fn push_named<const ROOM: usize>(text: &mut ArrayVec<u8, ROOM>, name: &[u8], number: u64)
+    requires short { length name.now ≤ 30 }
+    requires room { length text.old.items + 60 ≤ ROOM }
+    ensures value { text.new.items ≡ text.old.items ++ named_text name.now number }
+    ensures few { length text.new.items ≤ length text.old.items + 60 }
+{
+    push(text, name);
+    push_number(text, number);
+    push(text, b"\n");
+}

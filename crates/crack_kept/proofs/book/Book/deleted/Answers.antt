@@ -1,5 +1,0 @@
-use Rattle.std.proofs.Common.{rules}
-use Rattle.crack_kept.proofs.book.Book.deleted.Goals as goal
-
-pub returns : goal.returns
-returns c = search rules

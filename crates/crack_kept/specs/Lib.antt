@@ -1,5 +1,0 @@
-pub mod Inside
-pub mod Parts
-pub mod Receipts
-pub mod Refusals
-pub mod Upkeep

@@ -1,0 +1,75 @@
+//! How many statements a server answered in the last minute, and the longest time that one turn took.
+
+/// How many seconds are remembered.
+pub(crate) const SECONDS: u64 = 60;
+
+/// The statements of the last seconds. The index of a second is its number modulo `SECONDS`.
+#[derive(Drop)]
+pub(crate) struct Pace {
+    answered: [u64; 60],
+    longest: [u64; 60],
+    /// The last second that was recorded.
+    second: u64,
+}
+
+impl Pace {
+    /// No statement was answered before this second.
+    pub(crate) fn new(second: u64) -> Pace {
+        Pace {
+            answered: [0; 60],
+            longest: [0; 60],
+            second,
+        }
+    }
+
+    /// Records statements that were answered in this second or shortly before it, and the longest time of one turn.
+    pub(crate) fn note(&mut self, second: u64, answered: u64, longest: u64) {
+        self.go_on(second);
+        let place = (self.second % SECONDS) as usize;
+        if let Some(sum) = self.answered.get_mut(place) {
+            *sum = sum.saturating_add(answered);
+        }
+        if let Some(most) = self.longest.get_mut(place) {
+            *most = (*most).max(longest);
+        }
+    }
+
+    /// How many statements were answered in the last minute, up to this second, and the longest time of one turn.
+    pub(crate) fn last_minute(&mut self, second: u64) -> (u64, u64) {
+        self.go_on(second);
+        (sum_of(&self.answered), greatest_of(&self.longest))
+    }
+
+    /// Clears the seconds between the last recorded one and this one.
+    fn go_on(&mut self, second: u64) {
+        let passed = second.saturating_sub(self.second).min(SECONDS);
+        'seconds: for back in 0..passed {
+            let place = (second.saturating_sub(back) % SECONDS) as usize;
+            if let Some(sum) = self.answered.get_mut(place) {
+                *sum = 0;
+            }
+            if let Some(most) = self.longest.get_mut(place) {
+                *most = 0;
+            }
+        }
+        self.second = self.second.max(second);
+    }
+}
+
+/// The sum of numbers, which saturates at `u64::MAX`.
+fn sum_of(numbers: &[u64]) -> u64 {
+    let mut sum = 0u64;
+    'numbers: for number in numbers {
+        sum = sum.saturating_add(*number);
+    }
+    sum
+}
+
+/// The greatest of numbers, or 0 if there are none.
+fn greatest_of(numbers: &[u64]) -> u64 {
+    let mut greatest = 0u64;
+    'numbers: for number in numbers {
+        greatest = greatest.max(*number);
+    }
+    greatest
+}

@@ -1,5 +1,0 @@
-use Rattle.std.proofs.Common.{rules}
-use Rattle.crack_session.proofs.answer.write_list.Goals as goal
-
-pub returns : goal.returns
-returns g c = record { ok = search rules; unfailed = search rules; err = search rules; front = search rules }

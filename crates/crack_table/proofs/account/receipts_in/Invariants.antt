@@ -1,7 +1,0 @@
-use Rattle.std.proofs.Common.{◌≡◌, take}
-use Rattle.std.specs.List.{flat_map}
-use Rattle.crack_table.specs.Gather.{receipts_of}
-use Rattle.crack_table.proofs.account.receipts_in.Given as goal
-
-abbrev pub invariant-workers : goal.invariant-workers
-invariant-workers l = flat_map (λ r. r.now) l.receipts.items ≡ receipts_of (take l.worker-index l.workers.items)

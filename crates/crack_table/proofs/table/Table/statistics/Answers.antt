@@ -1,0 +1,5 @@
+use Rattle.std.proofs.Common.{rules}
+use Rattle.crack_table.proofs.table.Table.statistics.Goals as goal
+
+pub returns : goal.returns
+returns g c = record { numbers = search rules; at = record { there = search rules; nowhere = search rules; causes = search rules } }

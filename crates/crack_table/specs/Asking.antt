@@ -1,0 +1,43 @@
+-- What a table answers to a worker.
+use Rattle.std.specs.Prelude.{◌≡◌, ℕ, ◌+◌, ◌<◌, ◌≤◌, ◌⊎◌, [], ◌∷◌, ◌++◌, length, Some, Result, IfOk, OnOk, OnErr, slice_index_or, slice_set}
+use Rattle.std.specs.List.{sum}
+use mathlib.Core.List.{IsPrefix}
+use Rattle.crack_row.specs.declared.command.Command.{Command}
+use Rattle.crack_row.specs.declared.command.Reply.{Reply}
+use Rattle.crack_row.specs.declared.refusal.Refusal.{Refusal}
+use Rattle.crack_row.specs.declared.refusal.Refusal.TheVariants.{NoSuchPartition, GateGaveUp, OutOfMemory, StrangeReceipt}
+use Rattle.crack_plain.specs.Plain.{IsSmall}
+use Rattle.crack_part.specs.Parts.{Part}
+use Rattle.crack_part.specs.Refusals.{refusal_of}
+use Rattle.crack_witness.specs.Audits.{and_one}
+use Rattle.crack_witness.specs.Histories.{calls_at, AreHistories}
+use Rattle.crack_witness.specs.Witnesses.{WorkerState, IsGiven}
+use Rattle.crack_table.specs.Tables.{TableState, AnswersAt, with_limit}
+use Rattle.crack_table.specs.declared.TheConstants.{GATE_TURNS}
+
+-- why an existing partition may refuse a worker's command: the gate may refuse at each turn; no memory was found; a
+-- partition refuses the command for this cause, with the table's limit of a history; `StrangeReceipt`, with the
+-- partition and the number of the worker's replies there; or `NoSuchPartition` if the worker knows of no such
+-- partition
+abbrev pub MayRefuse : TableState → (ℕ → Type 0) → ℕ → Command → WorkerState → Refusal → Type 0
+MayRefuse table may_refuse part command worker e =
+    ((e ≡ GateGaveUp) × ((turn : ℕ) → turn < GATE_TURNS → may_refuse turn))
+    ⊎ ((e ≡ OutOfMemory)
+    ⊎ (((p : Part) × (cause : Refusal) × (refusal_of p command ≡ Some cause) × (e ≡ with_limit table.limits.history cause))
+    ⊎ ((e ≡ StrangeReceipt part (slice_index_or worker.counts part 0)) ⊎ ((e ≡ NoSuchPartition) × (length worker.fronts ≤ part)))))
+
+-- A worker asks one partition. If it is answered, what it now sees of the partition's history ends with its entry,
+-- after all that it had seen before; every history is legal, the worker's entries there are those of its replies,
+-- and with an audit it has one more receipt. If it is refused, there is a cause, and the worker is unchanged.
+pub record AsksTable (owner : ℕ → ℕ) (table : TableState) (may_refuse : ℕ → Type 0) (part : ℕ) (command : Command) (result : Result Reply Refusal) (old new : WorkerState) : Type 0 where
+  pub given : IfOk result (λ reply. IsGiven owner part (record { worker = old.worker; command = command; reply = reply }) old.seen new.seen)
+  pub mine : IfOk result (λ reply. calls_at owner part old.worker new.seen ≡ calls_at owner part old.worker (slice_index_or old.fronts part []) ++ record { worker = old.worker; command = command; reply = reply } ∷ [])
+  pub receipts : IfOk result (λ reply. (position : ℕ) × (new.receipts ≡ and_one old.receipts (record { part = part; position = position; worker = old.worker; command = command; reply = reply })))
+  pub fronts : OnOk result (new.fronts ≡ slice_set old.fronts part new.seen)
+  pub legal : OnOk result (AreHistories new.seen)
+  pub small : IfOk result IsSmall
+  pub at : AnswersAt table part (MayRefuse table may_refuse part command old) result
+  pub seen : IsPrefix old.seen new.seen
+  pub replies : OnOk result (sum new.counts ≡ sum old.counts + 1)
+  pub worker : new.worker ≡ old.worker
+  pub err : OnErr result (new ≡ old)

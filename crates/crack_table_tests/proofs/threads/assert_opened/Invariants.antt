@@ -1,0 +1,6 @@
+use Rattle.std.proofs.Common.{slice_index_or}
+use Rattle.crack_table_tests.proofs.threads.assert_opened.Given as goal
+
+-- the book that was just opened, and its owners
+abbrev pub ghosts-assert_named : goal.ghosts-assert_named
+ghosts-assert_named g a = record { book = a.table.opened.book; owner = λ part. slice_index_or a.table.opened.ids part 0 }

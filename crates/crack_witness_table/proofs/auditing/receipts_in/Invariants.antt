@@ -1,7 +1,0 @@
-use Rattle.std.proofs.Common.{◌≡◌, take}
-use Rattle.std.specs.List.{flat_map}
-use Rattle.crack_witness_table.specs.Audits.{receipts_of}
-use Rattle.crack_witness_table.proofs.auditing.receipts_in.Given as goal
-
-abbrev pub invariant-askers : goal.invariant-askers
-invariant-askers g l = flat_map (λ r. r.now) l.receipts.items ≡ receipts_of (take l.asker-index l.askers.items)

@@ -1,5 +1,0 @@
-use Rattle.std.proofs.Common.{rules}
-use Rattle.crack_witness_table.proofs.table.WitnessedTable.checkpoint.Goals as goal
-
-pub returns : goal.returns
-returns g c = record { there = search rules; nowhere = search rules; causes = search rules }

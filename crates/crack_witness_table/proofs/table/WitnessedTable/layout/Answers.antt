@@ -1,5 +1,0 @@
-use Rattle.std.proofs.Common.{rules}
-use Rattle.crack_witness_table.proofs.table.WitnessedTable.layout.Goals as goal
-
-pub returns : goal.returns
-returns g c = record { equations = search rules; at = record { there = search rules; nowhere = search rules; causes = search rules } }
